@@ -1,0 +1,3 @@
+pub mod HookRows
+pub mod NextEntry
+pub mod Numbered

@@ -1,0 +1,5 @@
+pub mod Decimals
+pub mod Escapes
+pub mod Moments
+pub mod Names
+pub mod Padded

@@ -1,0 +1,60 @@
+ghost use Rattle.std.specs.Prelude.{◌≡◌, IfOk, bytes_eq};
+ghost use Rattle.press_text.specs.Names.{NameGives, IsName};
+
+use crate::class::fault_of;
+use crate::name_fault::NameFault;
+use std::alloc::{AllocError, Global};
+use std::marker::Model;
+
+/// The name of an action or a filter: 1 to 64 bytes of `[A-Za-z0-9_-]` (Plugin Handbook, Hooks).
+#[derive(Debug, Drop)]
+pub struct HookName {
+    inside: String,
+}
+
+impl Model for HookName {
+    ghost use Rattle.std.specs.Prelude.{ℕ, List, string_bytes};
+    ghost use Rattle.press_text.specs.Names.{IsName};
+
+    ghost Value = { List ℕ };
+
+    ghost view = { λ n. string_bytes n.inside };
+
+    ghost invariant = { λ n. IsName 64 (string_bytes n.inside) };
+}
+
+impl HookName {
+    /// Refuses by BadName (empty), then TooLong (over 64 bytes), then BadName (a byte outside the class).
+    pub fn new(alloc: Global, text: &str) -> Result<HookName, NameFault>
+        ensures { NameGives 64 result text.now }
+    {
+        if let Some(fault) = fault_of(64, text.as_bytes()) {
+            return Err(fault);
+        }
+        let inside = String::from_str(alloc, text)?;
+        Ok(HookName { inside })
+    }
+
+    /// The name's bytes, which are ASCII.
+    pub fn as_str(&self) -> &str
+        ensures value { result.now ≡ self.now }
+        ensures class { IsName 64 result.now }
+    {
+        self.inside.as_str()
+    }
+
+    /// The same name once more.
+    pub fn copy(&self, alloc: Global) -> Result<HookName, AllocError>
+        ensures { IfOk result (λ n. n ≡ self.now) }
+    {
+        let inside = String::from_str(alloc, self.inside.as_str())?;
+        Ok(HookName { inside })
+    }
+
+    /// Whether the two names are the same, byte by byte.
+    pub fn is(&self, other: &HookName) -> bool
+        ensures { result ≡ bytes_eq self.now other.now }
+    {
+        self.inside.as_str() == other.inside.as_str()
+    }
+}

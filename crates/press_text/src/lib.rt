@@ -1,0 +1,34 @@
+//! Texts, lists and names that contracts see as plain lists, escaping, decimal numbers and moments.
+//!
+//! Every other crate stands on these types: a contract compares them by what they hold and never by capacity.
+#![tactic(auto)]
+
+mod callback_id;
+mod class;
+mod decimal;
+mod escape;
+mod every;
+mod hook_name;
+mod items;
+mod moment;
+mod name;
+mod name_fault;
+mod opt_name;
+mod tag;
+mod text;
+
+pub use callback_id::CallbackId;
+pub use decimal::dec_u64;
+pub use escape::esc_html;
+pub use every::Every;
+pub use hook_name::HookName;
+pub use items::Items;
+pub use moment::Moment;
+pub use name::Name;
+pub use name_fault::NameFault;
+pub use opt_name::OptName;
+pub use tag::Tag;
+pub use text::Text;
+
+#[cfg(test)]
+mod tests;
