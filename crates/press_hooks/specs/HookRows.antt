@@ -9,54 +9,8 @@ use Rattle.std.specs.List.{list_any}
 use Rattle.press_hooks.specs.declared.row.Row.{Row}
 use Rattle.press_hooks.specs.declared.entry.Entry.{Entry}
 
--- ---- edits
-
--- add: a row of this hook, priority and callback that stands changes `accepted` alone; otherwise a new row is put in where there is room
-abbrev pub add_row : List ℕ → List ℕ → ℤ → ℕ → List Row → List Row
-add_row hook callback priority accepted rows =
-    cond (list_any (is_row hook priority callback) rows) (map (accepted_as hook priority callback accepted) rows)
-    (cond (ltb (length rows) most_rows) (put_row (record { hook = hook; priority = priority; callback = callback; accepted = accepted }) rows) rows)
-
--- whether the row then stands
-abbrev pub adds_row : List ℕ → List ℕ → ℤ → List Row → Bool
-adds_row hook callback priority rows = list_any (is_row hook priority callback) rows || ltb (length rows) most_rows
-
--- remove: the row of this hook, priority and callback goes
-abbrev pub remove_row : List ℕ → List ℕ → ℤ → List Row → List Row
-remove_row hook callback priority rows = filter (λ r. not (is_row hook priority callback r)) rows
-
--- remove all: the rows of the hook at a priority go, or at every one
-abbrev pub remove_rows : List ℕ → Option ℤ → List Row → List Row
-remove_rows hook priority rows = filter (λ r. not (is_at_any hook priority r)) rows
-
--- has: the least priority with that hook and callback
-abbrev pub priority_of : List ℕ → List ℕ → List Row → Option ℤ
-priority_of hook callback rows = least_priority (is_of_callback hook callback) rows
-
--- whether the hook has a row
-abbrev pub has_rows : List ℕ → List Row → Bool
-has_rows hook rows = list_any (is_of_hook hook) rows
-
--- ---- which rows an edit names
-
-abbrev pub is_of_hook : List ℕ → Row → Bool
-is_of_hook hook r = bytes_eq r.hook hook
-
 abbrev pub is_row : List ℕ → ℤ → List ℕ → Row → Bool
 is_row hook priority callback r = bytes_eq r.hook hook && (int_eq r.priority priority && bytes_eq r.callback callback)
-
-abbrev pub is_at : List ℕ → ℤ → Row → Bool
-is_at hook priority r = bytes_eq r.hook hook && int_eq r.priority priority
-
--- at that priority, or at any
-abbrev pub is_at_any : List ℕ → Option ℤ → Row → Bool
-is_at_any hook None r = bytes_eq r.hook hook
-is_at_any hook (Some p) r = is_at hook p r
-
-abbrev pub is_of_callback : List ℕ → List ℕ → Row → Bool
-is_of_callback hook callback r = bytes_eq r.hook hook && bytes_eq r.callback callback
-
--- ---- what an edit does to them
 
 -- the number of rows that a table holds at most
 abbrev pub most_rows : ℕ
@@ -77,7 +31,34 @@ place_in hook priority rows = unwrap_or (position (stands_after hook priority) r
 abbrev pub put_row : Row → List Row → List Row
 put_row r rows = insert rows (place_in r.hook r.priority rows) r
 
--- ---- least priorities
+-- add: a row of this hook, priority and callback that stands changes `accepted` alone; otherwise a new row is put in where there is room
+abbrev pub add_row : List ℕ → List ℕ → ℤ → ℕ → List Row → List Row
+add_row hook callback priority accepted rows =
+    cond (list_any (is_row hook priority callback) rows) (map (accepted_as hook priority callback accepted) rows)
+    (cond (ltb (length rows) most_rows) (put_row (record { hook = hook; priority = priority; callback = callback; accepted = accepted }) rows) rows)
+
+-- whether the row then stands
+abbrev pub adds_row : List ℕ → List ℕ → ℤ → List Row → Bool
+adds_row hook callback priority rows = list_any (is_row hook priority callback) rows || ltb (length rows) most_rows
+
+-- remove: the row of this hook, priority and callback goes
+abbrev pub remove_row : List ℕ → List ℕ → ℤ → List Row → List Row
+remove_row hook callback priority rows = filter (λ r. not (is_row hook priority callback r)) rows
+
+abbrev pub is_at : List ℕ → ℤ → Row → Bool
+is_at hook priority r = bytes_eq r.hook hook && int_eq r.priority priority
+
+-- at that priority, or at any
+abbrev pub is_at_any : List ℕ → Option ℤ → Row → Bool
+is_at_any hook None r = bytes_eq r.hook hook
+is_at_any hook (Some p) r = is_at hook p r
+
+-- remove all: the rows of the hook at a priority go, or at every one
+abbrev pub remove_rows : List ℕ → Option ℤ → List Row → List Row
+remove_rows hook priority rows = filter (λ r. not (is_at_any hook priority r)) rows
+
+abbrev pub is_of_callback : List ℕ → List ℕ → Row → Bool
+is_of_callback hook callback r = bytes_eq r.hook hook && bytes_eq r.callback callback
 
 -- the lesser of a number and perhaps another
 abbrev pub lesser : ℤ → Option ℤ → ℤ
@@ -92,6 +73,17 @@ least_with test r o = cond (test r) (Some (lesser r.priority o)) o
 abbrev pub least_priority : (Row → Bool) → List Row → Option ℤ
 least_priority test [] = None
 least_priority test (r ∷ rs) = least_with test r (least_priority test rs)
+
+-- has: the least priority with that hook and callback
+abbrev pub priority_of : List ℕ → List ℕ → List Row → Option ℤ
+priority_of hook callback rows = least_priority (is_of_callback hook callback) rows
+
+abbrev pub is_of_hook : List ℕ → Row → Bool
+is_of_hook hook r = bytes_eq r.hook hook
+
+-- whether the hook has a row
+abbrev pub has_rows : List ℕ → List Row → Bool
+has_rows hook rows = list_any (is_of_hook hook) rows
 
 -- what is handed out of a row
 abbrev pub entry_of : Row → Entry

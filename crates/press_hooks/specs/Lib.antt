@@ -1,3 +1,2 @@
 pub mod HookRows
 pub mod NextEntry
-pub mod Numbered

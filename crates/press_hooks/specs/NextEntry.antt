@@ -7,59 +7,55 @@ use Rattle.press_hooks.specs.declared.entry.Entry.{Entry}
 use Rattle.press_hooks.specs.declared.open_run.OpenRun.{OpenRun}
 use Rattle.press_hooks.specs.HookRows.{is_of_hook, is_at, least_priority, entry_of}
 
--- ---- one run
-
 -- a run that begins
 abbrev pub begun : List ℕ → OpenRun
 begun hook = record { hook = hook; reached = None; rest = [] }
 
--- the next entry of a run, and the run after it
-abbrev pub next_entry : List Row → OpenRun → Option Entry
-next_entry rows run = first_of (refilled rows run).rest
-
-abbrev pub next_run : List Row → OpenRun → OpenRun
-next_run rows run = let r = refilled rows run in record r { rest = without_first r.rest }
-
--- the run with entries to hand out, where there are any
-abbrev pub refilled : List Row → OpenRun → OpenRun
-refilled rows run = refilled_by rows run run.rest
-
-abbrev pub refilled_by : List Row → OpenRun → List Entry → OpenRun
-refilled_by rows run [] = moved_to rows run (next_priority rows run)
-refilled_by rows run (e ∷ es) = run
+abbrev pub entries_at : List Row → List ℕ → ℤ → List Entry
+entries_at rows hook p = map entry_of (filter (is_at hook p) rows)
 
 -- the run at its next priority, where there is one
 abbrev pub moved_to : List Row → OpenRun → Option ℤ → OpenRun
 moved_to rows run None = run
 moved_to rows run (Some p) = record { hook = run.hook; reached = Some p; rest = entries_at rows run.hook p }
 
-abbrev pub entries_at : List Row → List ℕ → ℤ → List Entry
-entries_at rows hook p = map entry_of (filter (is_at hook p) rows)
+abbrev pub is_past : Option ℤ → ℤ → Bool
+is_past None p = true
+is_past (Some q) p = int_lt q p
+
+abbrev pub is_ahead : List ℕ → Option ℤ → Row → Bool
+is_ahead hook reached r = is_of_hook hook r && is_past reached r.priority
 
 -- the least priority of the hook's rows greater than the one reached
 abbrev pub next_priority : List Row → OpenRun → Option ℤ
 next_priority rows run = least_priority (is_ahead run.hook run.reached) rows
 
-abbrev pub is_ahead : List ℕ → Option ℤ → Row → Bool
-is_ahead hook reached r = is_of_hook hook r && is_past reached r.priority
+abbrev pub refilled_by : List Row → OpenRun → List Entry → OpenRun
+refilled_by rows run [] = moved_to rows run (next_priority rows run)
+refilled_by rows run (e ∷ es) = run
 
-abbrev pub is_past : Option ℤ → ℤ → Bool
-is_past None p = true
-is_past (Some q) p = int_lt q p
+-- the run with entries to hand out, where there are any
+abbrev pub refilled : List Row → OpenRun → OpenRun
+refilled rows run = refilled_by rows run run.rest
 
 abbrev pub first_of : List Entry → Option Entry
 first_of [] = None
 first_of (e ∷ es) = Some e
 
+-- the next entry of a run, and the run after it
+abbrev pub next_entry : List Row → OpenRun → Option Entry
+next_entry rows run = first_of (refilled rows run).rest
+
 abbrev pub without_first : List Entry → List Entry
 without_first [] = []
 without_first (e ∷ es) = es
 
+abbrev pub next_run : List Row → OpenRun → OpenRun
+next_run rows run = let r = refilled rows run in record r { rest = without_first r.rest }
+
 abbrev pub is_done : List Entry → Bool
 is_done [] = true
 is_done (e ∷ es) = false
-
--- ---- a table: its rows, and its open runs, the innermost first
 
 pub record Table : Type 0 where
   pub rows : List Row
@@ -80,21 +76,21 @@ is_innermost id (r ∷ rs) = nat_eq id (length rs)
 abbrev pub run_begun : List ℕ → Table → Table
 run_begun hook t = record t { open_runs = begun hook ∷ t.open_runs }
 
-abbrev pub run_ended : Table → Table
-run_ended t = record t { open_runs = without_innermost t.open_runs }
-
 abbrev pub without_innermost : List OpenRun → List OpenRun
 without_innermost [] = []
 without_innermost (r ∷ rs) = rs
+
+abbrev pub run_ended : Table → Table
+run_ended t = record t { open_runs = without_innermost t.open_runs }
 
 -- what the innermost run hands out next, and the open runs after it
 abbrev pub entry_next : List Row → List OpenRun → Option Entry
 entry_next rows [] = None
 entry_next rows (r ∷ rs) = next_entry rows r
 
-abbrev pub run_advanced : Table → Table
-run_advanced t = record t { open_runs = runs_next t.rows t.open_runs }
-
 abbrev pub runs_next : List Row → List OpenRun → List OpenRun
 runs_next rows [] = []
 runs_next rows (r ∷ rs) = next_run rows r ∷ rs
+
+abbrev pub run_advanced : Table → Table
+run_advanced t = record t { open_runs = runs_next t.rows t.open_runs }

@@ -1,4 +1,4 @@
-ghost use Rattle.std.specs.Prelude.{◌≡◌, ℕ, IfOk, OnErr, IsTrue, length, map, filter, position, IfSome, not, ◌<◌, ◌≤◌};
+ghost use Rattle.std.specs.Prelude.{◌≡◌, ℕ, IfOk, OnOk, OnErr, IsTrue, length, map, filter, position, IfSome, not, ◌<◌, ◌≤◌};
 ghost use Rattle.std.specs.List.{list_any};
 ghost use Rattle.press_hooks.specs.HookRows.{is_row, is_at_any, stands_after, place_in, accepted_as, add_row, adds_row, remove_row, remove_rows, has_rows, priority_of, is_of_callback, least_priority, least_with};
 ghost use Rattle.press_hooks.specs.NextEntry.{no_rows, with_rows, is_innermost, run_begun, run_ended, entry_next, run_advanced};
@@ -73,22 +73,7 @@ impl HookTable {
         ensures rows { IfOk result (λ b. self.new ≡ with_rows (add_row hook.now callback priority accepted self.old.rows) self.old) }
         ensures refused { OnErr result (self.new ≡ self.old) }
     {
-        if has_row(&self.rows, hook, priority, callback) {
-            accept_row(&mut self.rows, hook, priority, callback, accepted);
-            return Ok(true);
-        }
-        if self.rows.len() >= MOST_ROWS {
-            return Ok(false);
-        }
-        let place = place_of(&self.rows, hook, priority);
-        let row = Row {
-            hook: hook.copy(self.alloc)?,
-            priority,
-            callback,
-            accepted,
-        };
-        self.rows.insert(place, row)?;
-        Ok(true)
+        add_row(self.alloc, &mut self.rows, hook, callback, priority, accepted)
     }
 
     /// Takes out the entry of that callback at that priority; whether one stood there (`remove_filter`).
@@ -163,6 +148,37 @@ impl HookTable {
     {
         !self.runs.is_empty() && run.depth == self.runs.len() - 1
     }
+}
+
+// Sets `accepted` of the row that stands, or puts in a new one where there is room.
+fn add_row(
+    alloc: Global,
+    rows: &mut Vec<Row>,
+    hook: &HookName,
+    callback: CallbackId,
+    priority: i64,
+    accepted: u32,
+) -> Result<bool, AllocError>
+    ensures answer { IfOk result (λ b. b ≡ adds_row hook.now callback priority rows.old.items) }
+    ensures rows { OnOk result (rows.new.items ≡ add_row hook.now callback priority accepted rows.old.items) }
+    ensures refused { OnErr result (rows.new.items ≡ rows.old.items) }
+{
+    if has_row(rows, hook, priority, callback) {
+        accept_row(rows, hook, priority, callback, accepted);
+        return Ok(true);
+    }
+    if rows.len() >= MOST_ROWS {
+        return Ok(false);
+    }
+    let place = place_of(rows, hook, priority);
+    let row = Row {
+        hook: hook.copy(alloc)?,
+        priority,
+        callback,
+        accepted,
+    };
+    rows.insert(place, row)?;
+    Ok(true)
 }
 
 fn has_row(rows: &[Row], hook: &HookName, priority: i64, callback: CallbackId) -> bool
