@@ -1,0 +1,47 @@
+-- The first thing of a name, as a list is walked.
+use Rattle.std.proofs.Common.{◌≡◌, refl, sym, ◌∙◌, ap, ℕ, zero, suc, ◌+◌, ◌<◌, ◌≤◌, Bool, true, false, cond, bytes_eq, List, [], ◌∷◌, map, length, get_or, drop, take, Option, Some, None, arith, add-one, drop-cons}
+use Rattle.std.specs.Prelude.{option_map, slice_get, sum_by, nat_lt, ◌||◌}
+use Rattle.std.specs.List.{list_any}
+use Rattle.std.proofs.lemmas.Bool.Decides.{nat_tests}
+use Rattle.press_callbacks.specs.declared.script.Op.{Op}
+use Rattle.press_callbacks.specs.declared.plugin.Plugin.{Plugin}
+use Rattle.press_callbacks.specs.Kits.{script_of, script_at, plugin_of, has_two, hook_loads, most_hook_loads}
+
+script_step : {A : Type 0} (f : A → List ℕ × List Op) (id : List ℕ) (xs : List A) (i : ℕ) (x : A) → i < length xs → x ≡ get_or xs i x → script_of id (drop i (map f xs)) ≡ cond (bytes_eq (f x).0 id) (Some (f x).1) (script_of id (drop (i + 1) (map f xs)))
+script_step f id [] i x h e = absurd (omega arith)
+script_step f id (y ∷ ys) zero x h e = ap (λ z. cond (bytes_eq (f z).0 id) (Some (f z).1) (script_of id (map f ys))) (sym e)
+script_step f id (y ∷ ys) (suc i) x h e =
+    let k : suc i + 1 ≡ suc (i + 1) = omega arith in
+    let lt : i < length ys = omega arith in
+    rw k (script_step f id ys i x lt e)
+
+pub found : {A : Type 0} (f : A → List ℕ × List Op) (id : List ℕ) (xs : List A) (i : ℕ) (x : A) → i < length xs → x ≡ get_or xs i x → bytes_eq (f x).0 id ≡ true → Some (f x).1 ≡ script_of id (drop i (map f xs))
+found f id xs i x h e t = sym (script_step f id xs i x h e ∙ ap (λ b. cond b (Some (f x).1) (script_of id (drop (i + 1) (map f xs)))) t)
+
+pub passed : {A : Type 0} (f : A → List ℕ × List Op) (id : List ℕ) (xs : List A) (i : ℕ) (x : A) → i < length xs → x ≡ get_or xs i x → bytes_eq (f x).0 id ≡ false → script_of id (drop (i + 1) (map f xs)) ≡ script_of id (drop i (map f xs))
+passed f id xs i x h e t = sym (script_step f id xs i x h e ∙ ap (λ b. cond b (Some (f x).1) (script_of id (drop (i + 1) (map f xs)))) t)
+
+-- what stands at a place
+pub placed : {A : Type 0} (f : A → List ℕ × List Op) (xs : List A) (i : ℕ) (x : A) → i < length xs → x ≡ get_or xs i x → script_at (Some i) (map f xs) ≡ Some (f x).1
+placed f [] i x h e = absurd (omega arith)
+placed f (y ∷ ys) zero x h e = ap (λ z. Some (f z).1) (sym e)
+placed f (y ∷ ys) (suc i) x h e = let lt : i < length ys = omega arith in placed f ys i x lt e
+
+plugin_step : (name : List ℕ) (xs : List Plugin) (i : ℕ) (x : Plugin) → i < length xs → x ≡ get_or xs i x → plugin_of name (drop i xs) ≡ cond (bytes_eq x.name name) (Some x) (plugin_of name (drop (i + 1) xs))
+plugin_step name xs i x h e = rw (add-one, drop-cons xs i x h, ← e) refl
+
+pub plugin_found : (name : List ℕ) (xs : List Plugin) (i : ℕ) (x : Plugin) → i < length xs → x ≡ get_or xs i x → bytes_eq x.name name ≡ true → Some x ≡ plugin_of name (drop i xs)
+plugin_found name xs i x h e t = sym (plugin_step name xs i x h e ∙ ap (λ b. cond b (Some x) (plugin_of name (drop (i + 1) xs))) t)
+
+pub plugin_passed : (name : List ℕ) (xs : List Plugin) (i : ℕ) (x : Plugin) → i < length xs → x ≡ get_or xs i x → bytes_eq x.name name ≡ false → plugin_of name (drop (i + 1) xs) ≡ plugin_of name (drop i xs)
+plugin_passed name xs i x h e t = sym (plugin_step name xs i x h e ∙ ap (λ b. cond b (Some x) (plugin_of name (drop (i + 1) xs))) t)
+
+-- a name that stands once more further on, or not
+two_step : {A : Type 0} (name : A → List ℕ) (xs : List A) (i : ℕ) (x : A) → i < length xs → x ≡ get_or xs i x → has_two name (drop i xs) ≡ (list_any (λ y. bytes_eq (name y) (name x)) (drop (i + 1) xs) || has_two name (drop (i + 1) xs))
+two_step name xs i x h e = rw (add-one, drop-cons xs i x h, ← e) refl
+
+pub two_found : {A : Type 0} (name : A → List ℕ) (xs : List A) (i : ℕ) (x : A) → i < length xs → x ≡ get_or xs i x → list_any (λ y. bytes_eq (name y) (name x)) (drop (i + 1) xs) ≡ true → has_two name (drop i xs) ≡ true
+two_found name xs i x h e t = two_step name xs i x h e ∙ ap (λ b. b || has_two name (drop (i + 1) xs)) t
+
+pub two_passed : {A : Type 0} (name : A → List ℕ) (xs : List A) (i : ℕ) (x : A) → i < length xs → x ≡ get_or xs i x → list_any (λ y. bytes_eq (name y) (name x)) (drop (i + 1) xs) ≡ false → has_two name (drop (i + 1) xs) ≡ has_two name (drop i xs)
+two_passed name xs i x h e t = sym (two_step name xs i x h e ∙ ap (λ b. b || has_two name (drop (i + 1) xs)) t)

@@ -1,0 +1,144 @@
+-- A kit as plain data, by name: each callback's script and each plugin's loads, in the order of the names.
+-- A kit is refused where a name stands twice, where a load or a script names a callback that the kit lacks, or for too many loads (own).
+use Rattle.std.specs.Prelude.{ℕ, List, [], ◌∷◌, length, Bool, true, false, not, ◌||◌, ◌&&◌, cond, if◌then◌else◌, nat_lt, bytes_eq, map, insert, position, unwrap_or, sum_by, Option, Some, None, option_map, slice_get, ◌≡◌, Result, Ok, Err}
+use Rattle.std.specs.List.{list_any, list_all}
+use Rattle.std.specs.Cmp.Lexicographic.{slice_cmp}
+use Rattle.std.specs.Ordering.{nat_cmp}
+use Rattle.std.specs.declared.cmp.Ordering.TheVariants.{Less, Equal, Greater}
+use Rattle.press_callbacks.specs.declared.script.Op.{Op}
+use Rattle.press_callbacks.specs.declared.script.Op.TheVariants.{Set, AddHook, RemoveHook, RemoveAll, SkipIf, Apply, Do, Ask, Echo, Return}
+use Rattle.press_callbacks.specs.declared.script.Ask.TheVariants as ask
+use Rattle.press_callbacks.specs.declared.script.Ask as asked
+use Rattle.press_callbacks.specs.declared.plugin.Plugin.{Plugin}
+use Rattle.press_callbacks.specs.declared.plugin.Load.{Load}
+use Rattle.press_callbacks.specs.declared.plugin.Load.TheVariants.{Hook}
+use Rattle.press_callbacks.specs.declared.kit_fault.KitFault.{KitFault}
+use Rattle.press_callbacks.specs.declared.kit_fault.KitFault.TheVariants.{NoMemory, TwoNames, UnknownCallback, BadLoad}
+use Rattle.press_callbacks.specs.declared.stored.Stored.{Stored}
+use Rattle.press_callbacks.specs.declared.kit.Kit.{Kit}
+
+-- a callback's name, and the script that stands for it
+abbrev pub Scripts : Type 0
+Scripts = List (List ℕ × List Op)
+
+pub record KitView : Type 0 where
+  pub scripts : Scripts
+  pub plugins : List Plugin
+
+-- the script of that name
+abbrev pub script_of : List ℕ → Scripts → Option (List Op)
+script_of id [] = None
+script_of id (c ∷ cs) = cond (bytes_eq c.0 id) (Some c.1) (script_of id cs)
+
+-- the plugin of that name
+abbrev pub plugin_of : List ℕ → List Plugin → Option Plugin
+plugin_of name [] = None
+plugin_of name (p ∷ ps) = cond (bytes_eq p.name name) (Some p) (plugin_of name ps)
+
+-- ---- the order of names
+
+abbrev pub is_before : List ℕ → List ℕ → Bool
+is_before a b = elim (slice_cmp nat_cmp a b) [ Less ↦ true | Equal ↦ false | Greater ↦ false ]
+
+-- before the first of a later name, or last
+abbrev pub place_by_name : {T : Type 0} → (T → List ℕ) → T → List T → ℕ
+place_by_name name x xs = unwrap_or (position (λ y. is_before (name x) (name y)) xs) (length xs)
+
+abbrev pub put_by_name : {T : Type 0} → (T → List ℕ) → T → List T → List T
+put_by_name name x xs = insert xs (place_by_name name x xs) x
+
+abbrev pub by_name : {T : Type 0} → (T → List ℕ) → List T → List T
+by_name name [] = []
+by_name name (x ∷ xs) = put_by_name name x (by_name name xs)
+
+-- ---- what a kit shows
+
+abbrev pub id_of : {t : _} {F : _} {g : _} → Stored t F g → List ℕ
+id_of c = c.id
+
+abbrev pub script_in : {t : _} {F : _} {g : _} → Stored t F g → List Op
+script_in c = c.script
+
+abbrev pub scripts_in : {t : _} {F : _} {g : _} → Kit t F g → Scripts
+scripts_in kit = map (λ c. (c.id, c.script)) kit.callbacks.items
+
+abbrev pub plugins_in : {t : _} {F : _} {g : _} → Kit t F g → List Plugin
+plugins_in kit = kit.plugins.items
+
+abbrev pub kit_view : {t : _} {F : _} {g : _} → Kit t F g → KitView
+kit_view kit = record { scripts = scripts_in kit; plugins = plugins_in kit }
+
+-- the view of callbacks and plugins in whatever order
+abbrev pub view_of : {C : Type 0} → (C → List ℕ) → (C → List Op) → List C → List Plugin → KitView
+view_of id script callbacks plugins = record { scripts = map (λ c. (id c, script c)) (by_name id callbacks); plugins = by_name (λ p. p.name) plugins }
+
+-- ---- refusals, in their order
+
+-- whether a name stands twice
+abbrev pub has_two : {T : Type 0} → (T → List ℕ) → List T → Bool
+has_two name [] = false
+has_two name (x ∷ xs) = list_any (λ y. bytes_eq (name y) (name x)) xs || has_two name xs
+
+-- the callback that an op names
+abbrev pub callback_asked : asked.Ask → Option (List ℕ)
+callback_asked (ask.Did hook) = None
+callback_asked (ask.Doing hook) = None
+callback_asked (ask.Has hook callback) = Some callback
+
+abbrev pub callback_named : Op → Option (List ℕ)
+callback_named (Set ps) = None
+callback_named (AddHook h c p a) = Some c
+callback_named (RemoveHook h c p) = Some c
+callback_named (RemoveAll h p) = None
+callback_named (SkipIf l r n) = None
+callback_named (Apply h v more) = None
+callback_named (Do h args) = None
+callback_named (Ask a) = callback_asked a
+callback_named (Echo ps) = None
+callback_named (Return ps) = None
+
+abbrev pub callback_loaded : Load → List ℕ
+callback_loaded (Hook h p c a) = c
+
+abbrev pub is_known : {C : Type 0} → (C → List ℕ) → List C → List ℕ → Bool
+is_known id callbacks name = list_any (λ c. bytes_eq (id c) name) callbacks
+
+abbrev pub is_known_where : {C : Type 0} → (C → List ℕ) → List C → Option (List ℕ) → Bool
+is_known_where id callbacks None = true
+is_known_where id callbacks (Some name) = is_known id callbacks name
+
+abbrev pub knows_script : {C : Type 0} → (C → List ℕ) → List C → List Op → Bool
+knows_script id callbacks script = list_all (λ o. is_known_where id callbacks (callback_named o)) script
+
+abbrev pub knows_plugin : {C : Type 0} → (C → List ℕ) → List C → Plugin → Bool
+knows_plugin id callbacks p = list_all (λ l. is_known id callbacks (callback_loaded l)) p.load
+
+abbrev pub knows_all : {C : Type 0} → (C → List ℕ) → (C → List Op) → List C → List Plugin → Bool
+knows_all id script callbacks plugins = list_all (λ c. knows_script id callbacks (script c)) callbacks && list_all (knows_plugin id callbacks) plugins
+
+abbrev pub most_hook_loads : ℕ
+most_hook_loads = 1000
+
+abbrev pub hook_loads : List Plugin → ℕ
+hook_loads plugins = sum_by (λ p. length p.load) plugins
+
+abbrev pub kit_fault : {C : Type 0} → (C → List ℕ) → (C → List Op) → List C → List Plugin → Option KitFault
+kit_fault id script callbacks plugins =
+    if has_two id callbacks || has_two (λ p. p.name) plugins then Some TwoNames else
+    (if not (knows_all id script callbacks plugins) then Some UnknownCallback else
+    (if nat_lt most_hook_loads (hook_loads plugins) then Some BadLoad else None))
+
+-- what `build` answers: a kit where there is no fault, else the first; want of memory may come at any time
+abbrev pub Builds : {K : Type 0} → (K → KitView) → Result K KitFault → Option KitFault → KitView → Type 0
+Builds show (Ok kit) fault view = (fault ≡ None) × (show kit ≡ view)
+Builds show (Err NoMemory) fault view = Unit {0}
+Builds show (Err TwoNames) fault view = fault ≡ Some TwoNames
+Builds show (Err UnknownCallback) fault view = fault ≡ Some UnknownCallback
+Builds show (Err BadLoad) fault view = fault ≡ Some BadLoad
+
+-- ---- places in a kit
+
+-- the script at a place, where one stands there
+abbrev pub script_at : Option ℕ → Scripts → Option (List Op)
+script_at None cs = None
+script_at (Some place) cs = option_map (λ c. c.1) (slice_get cs place)

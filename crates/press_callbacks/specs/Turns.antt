@@ -1,0 +1,52 @@
+-- The turn of a script on a call: that of the op at place `turn`, and past the last op Return of the value (own).
+-- A text of parts is their concatenation; a missing argument is the empty text.
+use Rattle.std.specs.Prelude.{ℕ, List, [], ◌∷◌, ◌++◌, Option, Some, None, slice_get, map, ◌≡◌, Result, Ok, bytes_eq, cond}
+use Rattle.std.specs.List.{flat_map}
+use Rattle.std.specs.declared.alloc.AllocError.{AllocError}
+use Rattle.press_callbacks.specs.declared.script.Part.{Part}
+use Rattle.press_callbacks.specs.declared.script.Part.TheVariants.{Lit, Arg, Value, Last}
+use Rattle.press_callbacks.specs.declared.script.Op.{Op}
+use Rattle.press_callbacks.specs.declared.script.Op.TheVariants as op
+use Rattle.press_callbacks.specs.declared.script.Turn.{Turn}
+use Rattle.press_callbacks.specs.declared.script.Turn.TheVariants as turn
+use Rattle.press_callbacks.specs.declared.script.CallIn.{CallIn}
+
+abbrev pub text_or_empty : Option (List ℕ) → List ℕ
+text_or_empty None = []
+text_or_empty (Some t) = t
+
+abbrev pub part_text : CallIn → Part → List ℕ
+part_text call (Lit t) = t
+part_text call (Arg n) = text_or_empty (slice_get call.args n)
+part_text call Value = call.value
+part_text call Last = call.last
+
+abbrev pub text_of : CallIn → List Part → List ℕ
+text_of call parts = flat_map (part_text call) parts
+
+-- how many ops are passed over: n where the two texts are equal
+abbrev pub skipped : List ℕ → List ℕ → ℕ → ℕ
+skipped left right n = cond (bytes_eq left right) n 0
+
+abbrev pub turn_of_op : CallIn → Op → Turn
+turn_of_op call (op.Set ps) = turn.Go (text_of call ps)
+turn_of_op call (op.AddHook h c p a) = turn.AddHook h c p a
+turn_of_op call (op.RemoveHook h c p) = turn.RemoveHook h c p
+turn_of_op call (op.RemoveAll h p) = turn.RemoveAll h p
+turn_of_op call (op.SkipIf l r n) = turn.Skip (skipped (text_of call l) (text_of call r) n)
+turn_of_op call (op.Apply h v more) = turn.Apply h (text_of call v ∷ map (text_of call) more)
+turn_of_op call (op.Do h args) = turn.Do h (map (text_of call) args)
+turn_of_op call (op.Ask a) = turn.Ask a
+turn_of_op call (op.Echo ps) = turn.Echo (text_of call ps)
+turn_of_op call (op.Return ps) = turn.Return (text_of call ps)
+
+abbrev pub turn_at : CallIn → Option Op → Turn
+turn_at call None = turn.Return call.value
+turn_at call (Some o) = turn_of_op call o
+
+abbrev pub turn_of : List Op → CallIn → Turn
+turn_of script call = turn_at call (slice_get script call.turn)
+
+-- each turn that such calls may give is the script's
+abbrev pub PlaysScript : (CallIn → Result Turn AllocError → Type 0) → List Op → Type 0
+PlaysScript may script = (call : CallIn) (turn : Turn) → may call (Ok turn) → turn ≡ turn_of script call

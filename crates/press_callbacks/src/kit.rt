@@ -1,0 +1,86 @@
+ghost use Rattle.std.specs.Prelude.{◌≡◌, IfSome, option_map, slice_get};
+ghost use Rattle.press_callbacks.specs.Kits.{id_of, script_in, scripts_in, plugins_in, kit_view, view_of, kit_fault, Builds, script_of, script_at, plugin_of};
+
+use crate::kit_fault::KitFault;
+use crate::known::{has_many_loads, knows_all};
+use crate::named::{has_two, sorted_by_name};
+use crate::plugin::Plugin;
+use crate::stored::Stored;
+use press_text::{CallbackId, Name};
+use std::alloc::Global;
+
+/// The callbacks and plugins of a program, in the order of their names.
+#[derive(Drop)]
+pub struct Kit {
+    callbacks: Vec<Stored>,
+    plugins: Vec<Plugin>,
+}
+
+impl Kit {
+    /// Refuses by TwoNames (two callbacks or two plugins of one name), then UnknownCallback (a load or a script names a callback
+    /// that is not there), then BadLoad (more than 1,000 hook loads in all plugins together).
+    pub fn build(
+        alloc: Global,
+        callbacks: Vec<Stored>,
+        plugins: Vec<Plugin>,
+    ) -> Result<Kit, KitFault>
+        ensures { Builds kit_view result (kit_fault id_of script_in callbacks.items plugins.items) (view_of id_of script_in callbacks.items plugins.items) }
+    {
+        if has_two(callbacks.as_slice()) || has_two(plugins.as_slice()) {
+            return Err(KitFault::TwoNames);
+        }
+        if !knows_all(callbacks.as_slice(), plugins.as_slice()) {
+            return Err(KitFault::UnknownCallback);
+        }
+        if has_many_loads(plugins.as_slice()) {
+            return Err(KitFault::BadLoad);
+        }
+        let callbacks = sorted_by_name(alloc, callbacks)?;
+        let plugins = sorted_by_name(alloc, plugins)?;
+        Ok(Kit { callbacks, plugins })
+    }
+
+    /// The callback of that name.
+    pub fn callback(&self, id: CallbackId) -> Option<&Stored>
+        ensures found { option_map (λ c. script_in c.now) result ≡ script_of id (scripts_in self.now) }
+        ensures named { IfSome result (λ c. id_of c.now ≡ id) }
+    {
+        for c in self.callbacks.as_slice() {
+            if c.id().is(id) {
+                return Some(c);
+            }
+        }
+        None
+    }
+
+    /// The place of the callback of that name, which serves for many turns.
+    pub fn place(&self, id: CallbackId) -> Option<usize>
+        ensures { script_at result (scripts_in self.now) ≡ script_of id (scripts_in self.now) }
+    {
+        for (i, c) in self.callbacks.as_slice().iter().enumerate() {
+            if c.id().is(id) {
+                return Some(i);
+            }
+        }
+        None
+    }
+
+    /// The callback at a place.
+    pub fn at(&self, place: usize) -> Option<&Stored>
+        ensures { option_map (λ c. (id_of c.now, script_in c.now)) result ≡ slice_get (scripts_in self.now) place }
+    {
+        self.callbacks.as_slice().get(place)
+    }
+
+    /// The plugin of that name.
+    pub fn plugin(&self, name: &Name) -> Option<&Plugin>
+        ensures { option_map (λ p. p.now) result ≡ plugin_of name.now (plugins_in self.now) }
+    {
+        for p in self.plugins.as_slice() {
+            if p.name.is(name) {
+                return Some(p);
+            }
+        }
+        None
+    }
+}

@@ -1,0 +1,25 @@
+//! Scripts and their turns, closures kept beside the scripts that they play, and kits of callbacks and plugins.
+//!
+//! Contracts see a kit as plain data, by name; no public call hands out a callback's script or plays it.
+#![tactic(auto)]
+
+mod callback;
+mod kit;
+mod kit_fault;
+mod known;
+mod named;
+mod plugin;
+mod script;
+mod stored;
+mod turns;
+
+pub use callback::Callback;
+pub use kit::Kit;
+pub use kit_fault::KitFault;
+pub use plugin::{Load, Plugin};
+pub use script::{Ask, CallIn, Op, Part, Parts, Script, Turn};
+pub use stored::{BoxedTurns, Stored};
+pub use turns::script_turn;
+
+#[cfg(test)]
+mod tests;

@@ -1,0 +1,19 @@
+use press_text::{CallbackId, HookName, Items, Name};
+
+/// What a plugin puts into the tables at a boot.
+#[derive(Debug, Drop)]
+pub enum Load {
+    Hook {
+        hook: HookName,
+        priority: i64,
+        callback: CallbackId,
+        accepted: u32,
+    },
+}
+
+/// A plugin: its name and its loads, in order.
+#[derive(Debug, Drop)]
+pub struct Plugin {
+    pub name: Name,
+    pub load: Items<Load>,
+}

@@ -1,0 +1,108 @@
+use press_text::{CallbackId, HookName, Items, Text};
+
+/// A piece of a text that a script makes. A missing argument is the empty text.
+#[derive(Debug, Drop)]
+pub enum Part {
+    Lit(Text),
+    Arg(usize),
+    Value,
+    Last,
+}
+
+/// A text, as the concatenation of its parts.
+pub type Parts = Items<Part>;
+
+/// What a callback may ask of the machine.
+#[derive(Debug, Drop)]
+pub enum Ask {
+    /// How often the action was started, in decimal (`did_action`).
+    Did(HookName),
+    /// `1` while the hook is running, else empty (`doing_filter`).
+    Doing(HookName),
+    /// The least priority of the callback on the hook in decimal, or empty (`has_filter`).
+    Has(HookName, CallbackId),
+}
+
+/// One step of a script.
+#[derive(Debug, Drop)]
+pub enum Op {
+    Set(Parts),
+    AddHook {
+        hook: HookName,
+        callback: CallbackId,
+        priority: i64,
+        accepted: u32,
+    },
+    RemoveHook {
+        hook: HookName,
+        callback: CallbackId,
+        priority: i64,
+    },
+    RemoveAll {
+        hook: HookName,
+        priority: Option<i64>,
+    },
+    /// Goes on n ops further where the two texts are equal.
+    SkipIf {
+        left: Parts,
+        right: Parts,
+        n: u16,
+    },
+    Apply {
+        hook: HookName,
+        value: Parts,
+        more: Items<Parts>,
+    },
+    Do {
+        hook: HookName,
+        args: Items<Parts>,
+    },
+    Ask(Ask),
+    Echo(Parts),
+    Return(Parts),
+}
+
+/// The steps of a callback, in order; past the last it returns its value.
+pub type Script = Items<Op>;
+
+/// What a callback sees at one turn: at its start `value` is the first argument and `last` is empty.
+#[derive(Debug, Drop)]
+pub struct CallIn {
+    pub args: Items<Text>,
+    pub value: Text,
+    pub last: Text,
+    pub turn: usize,
+}
+
+/// What a callback asks for at one turn.
+#[derive(Debug, Drop)]
+pub enum Turn {
+    Go(Text),
+    AddHook {
+        hook: HookName,
+        callback: CallbackId,
+        priority: i64,
+        accepted: u32,
+    },
+    RemoveHook {
+        hook: HookName,
+        callback: CallbackId,
+        priority: i64,
+    },
+    RemoveAll {
+        hook: HookName,
+        priority: Option<i64>,
+    },
+    Skip(u16),
+    Apply {
+        hook: HookName,
+        texts: Items<Text>,
+    },
+    Do {
+        hook: HookName,
+        texts: Items<Text>,
+    },
+    Ask(Ask),
+    Echo(Text),
+    Return(Text),
+}

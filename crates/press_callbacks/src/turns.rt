@@ -1,0 +1,154 @@
+ghost use Rattle.std.specs.Prelude.{◌≡◌, ◌∷◌, ◌++◌, map, IfOk, OnOk, bytes_eq};
+ghost use Rattle.press_callbacks.specs.Turns.{part_text, text_of, turn_of_op, turn_of, skipped};
+
+use crate::script::{Ask, CallIn, Op, Part, Parts, Script, Turn};
+use press_text::{Items, Text};
+use std::alloc::{AllocError, Global};
+
+/// What one turn of a script asks for: that of the op at place `turn`, and past the last op Return of the value.
+/// It may serve as a closure's body.
+pub fn script_turn(alloc: Global, script: &Script, call: &CallIn) -> Result<Turn, AllocError>
+    ensures { IfOk result (λ t. t ≡ turn_of script.now call.now) }
+{
+    match script.as_slice().get(call.turn) {
+        None => Ok(Turn::Return(call.value.copy(alloc)?)),
+        Some(op) => op_turn(alloc, op, call),
+    }
+}
+
+fn op_turn(alloc: Global, op: &Op, call: &CallIn) -> Result<Turn, AllocError>
+    ensures { IfOk result (λ t. t ≡ turn_of_op call.now op.now) }
+{
+    match op {
+        Op::Set(parts) => Ok(Turn::Go(text_of(alloc, parts, call)?)),
+        Op::AddHook {
+            hook,
+            callback,
+            priority,
+            accepted,
+        } => Ok(Turn::AddHook {
+            hook: hook.copy(alloc)?,
+            callback: *callback,
+            priority: *priority,
+            accepted: *accepted,
+        }),
+        Op::RemoveHook {
+            hook,
+            callback,
+            priority,
+        } => Ok(Turn::RemoveHook {
+            hook: hook.copy(alloc)?,
+            callback: *callback,
+            priority: *priority,
+        }),
+        Op::RemoveAll { hook, priority } => Ok(Turn::RemoveAll {
+            hook: hook.copy(alloc)?,
+            priority: *priority,
+        }),
+        Op::SkipIf { left, right, n } => Ok(Turn::Skip(skipped(alloc, left, right, *n, call)?)),
+        Op::Apply { hook, value, more } => {
+            let hook = hook.copy(alloc)?;
+            let texts = value_and_more(alloc, value, more, call)?;
+            Ok(Turn::Apply { hook, texts })
+        }
+        Op::Do { hook, args } => {
+            let hook = hook.copy(alloc)?;
+            let texts = texts_of(alloc, args, call)?;
+            Ok(Turn::Do { hook, texts })
+        }
+        Op::Ask(ask) => Ok(Turn::Ask(ask.copy(alloc)?)),
+        Op::Echo(parts) => Ok(Turn::Echo(text_of(alloc, parts, call)?)),
+        Op::Return(parts) => Ok(Turn::Return(text_of(alloc, parts, call)?)),
+    }
+}
+
+impl Ask {
+    fn copy(&self, alloc: Global) -> Result<Ask, AllocError>
+        ensures { IfOk result (λ a. a ≡ self.now) }
+    {
+        match self {
+            Ask::Did(hook) => Ok(Ask::Did(hook.copy(alloc)?)),
+            Ask::Doing(hook) => Ok(Ask::Doing(hook.copy(alloc)?)),
+            Ask::Has(hook, callback) => Ok(Ask::Has(hook.copy(alloc)?, *callback)),
+        }
+    }
+}
+
+// How many ops a SkipIf passes over.
+fn skipped(
+    alloc: Global,
+    left: &Parts,
+    right: &Parts,
+    n: u16,
+    call: &CallIn,
+) -> Result<u16, AllocError>
+    ensures { IfOk result (λ k. k ≡ skipped (text_of call.now left.now) (text_of call.now right.now) n) }
+{
+    let left = text_of(alloc, left, call)?;
+    let right = text_of(alloc, right, call)?;
+    if left.as_str() == right.as_str() {
+        Ok(n)
+    } else {
+        Ok(0)
+    }
+}
+
+fn value_and_more(
+    alloc: Global,
+    value: &Parts,
+    more: &Items<Parts>,
+    call: &CallIn,
+) -> Result<Items<Text>, AllocError>
+    ensures { IfOk result (λ ts. ts ≡ text_of call.now value.now ∷ map (text_of call.now) more.now) }
+{
+    let mut texts = Vec::new(alloc);
+    texts.push(text_of(alloc, value, call)?)?;
+    push_texts(alloc, &mut texts, more, call)?;
+    Ok(Items::from_vec(texts))
+}
+
+fn texts_of(alloc: Global, all: &Items<Parts>, call: &CallIn) -> Result<Items<Text>, AllocError>
+    ensures { IfOk result (λ ts. ts ≡ map (text_of call.now) all.now) }
+{
+    let mut texts = Vec::new(alloc);
+    push_texts(alloc, &mut texts, all, call)?;
+    Ok(Items::from_vec(texts))
+}
+
+fn push_texts(
+    alloc: Global,
+    texts: &mut Vec<Text>,
+    all: &Items<Parts>,
+    call: &CallIn,
+) -> Result<(), AllocError>
+    ensures { OnOk result (texts.new.items ≡ texts.old.items ++ map (text_of call.now) all.now) }
+{
+    for parts in all.as_slice() {
+        texts.push(text_of(alloc, parts, call)?)?;
+    }
+    Ok(())
+}
+
+fn text_of(alloc: Global, parts: &Parts, call: &CallIn) -> Result<Text, AllocError>
+    ensures { IfOk result (λ t. t ≡ text_of call.now parts.now) }
+{
+    let mut text = Text::new(alloc);
+    for part in parts.as_slice() {
+        push_part(&mut text, part, call)?;
+    }
+    Ok(text)
+}
+
+fn push_part(text: &mut Text, part: &Part, call: &CallIn) -> Result<(), AllocError>
+    ensures { OnOk result (text.new ≡ text.old ++ part_text call.now part.now) }
+{
+    match part {
+        Part::Lit(t) => text.push_str(t.as_str()),
+        Part::Arg(n) => match call.args.as_slice().get(*n) {
+            None => Ok(()),
+            Some(t) => text.push_str(t.as_str()),
+        },
+        Part::Value => text.push_str(call.value.as_str()),
+        Part::Last => text.push_str(call.last.as_str()),
+    }
+}
