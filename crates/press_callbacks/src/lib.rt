@@ -11,6 +11,7 @@ mod named;
 mod plugin;
 mod script;
 mod stored;
+mod tables;
 mod turns;
 
 pub use callback::Callback;
@@ -19,6 +20,7 @@ pub use kit_fault::KitFault;
 pub use plugin::{Load, Plugin};
 pub use script::{Ask, CallIn, Op, Part, Parts, Script, Turn};
 pub use stored::{BoxedTurns, Stored};
+pub use tables::Tables;
 pub use turns::script_turn;
 
 #[cfg(test)]

@@ -1,2 +1,3 @@
 pub mod HookRows
 pub mod NextEntry
+pub mod Numbered

@@ -4,11 +4,13 @@
 #![tactic(auto)]
 
 mod entry;
+mod laws;
 mod open_run;
 mod row;
 mod table;
 
 pub use entry::Entry;
+pub use laws::numbered_rows_agree;
 pub use open_run::{OpenRun, Rest};
 pub use row::Row;
 pub use table::{HookTable, RunId};

@@ -1,0 +1,164 @@
+-- One step of each recursion of the meaning, as the machine takes it.
+use Rattle.std.proofs.Common.{◌≡◌, refl, sym, ◌∙◌, ap, subst, ℕ, zero, suc, ◌+◌, ◌-◌, ◌<◌, ◌≤◌, Bool, true, false, List, [], ◌∷◌, ◌++◌, take, drop, get_or, length, Option, add-one, drop-cons, Some, None, Err, arith}
+use Rattle.std.proofs.Math.ListN.{drop_of_length-le}
+use Rattle.std.proofs.Math.Seq.{take-append_seam}
+use Rattle.std.proofs.lemmas.List.{length-append}
+use Rattle.press_hooks.specs.declared.entry.Entry.{Entry}
+use Rattle.press_hooks.specs.declared.row.Row.{Row}
+use Rattle.press_hooks.specs.declared.open_run.OpenRun.{OpenRun}
+use Rattle.press_hooks.specs.NextEntry.{Table, is_innermost, without_innermost, entry_next, next_entry, next_run, runs_next, run_advanced, run_begun, run_ended, begun}
+use Rattle.press_hooks.specs.HookRows.{has_rows}
+use Rattle.press_callbacks.specs.declared.script.CallIn.{CallIn}
+use Rattle.press_callbacks.specs.declared.script.Op.{Op}
+use Rattle.press_callbacks.specs.declared.script.Turn.{Turn}
+use Rattle.press_callbacks.specs.Turns.{turn_of}
+use Rattle.press_callbacks.specs.Kits.{Scripts, script_of}
+use Rattle.press_run.specs.declared.step.Kind.{Kind}
+use Rattle.press_run.specs.declared.job.Fire.{Fire}
+use Rattle.press_run.specs.Counts.{Counts}
+use Rattle.press_run.specs.Run.{◌>>=◌, State, Answer, answer, Meaning, Stepped, Goes, Ends, run_entries, run_where, run_hook, do_hook, do_fires, play, at_depth, call_entry, after_step, counted_step, first_text, handed_on, hook_call, fuel, or_empty, without_last}
+use Rattle.press_run.specs.Outcome.{Stage, Around, around, around_innermost, innermost, state_of, Gives, GivesWithin, GivesStep}
+use Rattle.press_run.specs.declared.run_fault.RunFault.{RunFault}
+use Rattle.press_run.specs.declared.run_fault.RunFault.TheVariants.{Limit, NoMemory}
+
+pub no_depth : (scripts : Scripts) (id : List ℕ) (call : CallIn) (s : State) → at_depth 0 scripts id call s ≡ None
+unfolding at_depth
+no_depth scripts id call s = refl
+
+pub some_depth : (d : ℕ) (scripts : Scripts) (id : List ℕ) (call : CallIn) (s : State) → at_depth (suc d) scripts id call s ≡ play (at_depth d scripts) (or_empty (script_of id scripts)) fuel call s
+unfolding at_depth
+some_depth d scripts id call s = refl
+
+pub no_entries : (m : Meaning) (kind : Kind) (args : List (List ℕ)) (run : OpenRun) (s : State) → run_entries m kind 0 args run s ≡ None
+unfolding run_entries
+no_entries m kind args run s = refl
+
+pub more_entries : (m : Meaning) (kind : Kind) (n : ℕ) (args : List (List ℕ)) (run : OpenRun) (s : State) → run_entries m kind (suc n) args run s ≡ call_entry m (λ t s'. run_entries m kind n (handed_on kind t args) (next_run s.rows run) s') args s (next_entry s.rows run)
+unfolding run_entries
+more_entries m kind n args run s = refl
+
+pub no_turns : (m : Meaning) (script : List Op) (call : CallIn) (s : State) → play m script 0 call s ≡ None
+unfolding play
+no_turns m script call s = refl
+
+abbrev pub played_on : Meaning → List Op → ℕ → Stepped → Option Answer
+played_on m script n step = after_step (λ call' s'. play m script n call' s') step
+
+pub more_turns : (m : Meaning) (script : List Op) (n : ℕ) (call : CallIn) (s : State) → play m script (suc n) call s ≡ (counted_step m call (turn_of script call) s >>= played_on m script n)
+unfolding play
+more_turns m script n call s = refl
+
+pub no_fires : (m : Meaning) (s : State) → do_fires m [] s ≡ answer [] s
+unfolding do_fires
+no_fires m s = refl
+
+pub more_fires : (m : Meaning) (f : Fire) (fs : List Fire) (s : State) → do_fires m (f ∷ fs) s ≡ (do_hook m f.hook f.args s >>= λ a. do_fires m fs a.state)
+unfolding do_fires
+more_fires m f fs s = refl
+
+-- ---- the innermost run of an advanced table
+
+innermost_advanced : (rows : List Row) (runs : List OpenRun) (id : ℕ) → is_innermost id runs ≡ true → innermost (runs_next rows runs) ≡ next_run rows (innermost runs)
+innermost_advanced rows [] id h = cc
+innermost_advanced rows (r ∷ rs) id h = refl
+
+still_innermost : (rows : List Row) (runs : List OpenRun) (id : ℕ) → is_innermost id runs ≡ true → is_innermost id (runs_next rows runs) ≡ true
+still_innermost rows [] id h = h
+still_innermost rows (r ∷ rs) id h = h
+
+same_around : (rows : List Row) (runs : List OpenRun) → without_innermost (runs_next rows runs) ≡ without_innermost runs
+same_around rows [] = refl
+same_around rows (r ∷ rs) = refl
+
+innermost_entry : (rows : List Row) (runs : List OpenRun) (id : ℕ) → is_innermost id runs ≡ true → entry_next rows runs ≡ next_entry rows (innermost runs)
+innermost_entry rows [] id h = cc
+innermost_entry rows (r ∷ rs) id h = refl
+
+abbrev pub at_table : Table → Counts → List ℕ → Stage
+at_table t counts output = record { hooks = t; counts = counts; output = output }
+
+-- ---- the entries of a run, from a table t on to t'
+
+module _ (m : Meaning) (kind : Kind) (args : List (List ℕ)) (id : ℕ) (t t' : Table) (counts : Counts) (output : List ℕ) (k n : ℕ) (long : k ≡ suc n) (open_run : is_innermost id t.open_runs ≡ true) (on : t' ≡ run_advanced t) where
+  private_step : (o : Option Entry) → o ≡ entry_next t.rows t.open_runs → run_entries m kind k args (innermost t.open_runs) (state_of (at_table t counts output)) ≡ call_entry m (λ text s'. run_entries m kind n (handed_on kind text args) (innermost t'.open_runs) s') args (state_of (at_table t' counts output)) o
+  private_step o e =
+      let inner : innermost t'.open_runs ≡ next_run t.rows (innermost t.open_runs) = ap (λ (w : Table). innermost w.open_runs) on ∙ innermost_advanced t.rows t.open_runs id open_run in
+      let state : state_of (at_table t' counts output) ≡ state_of (at_table t counts output) = ap (λ (w : Table). state_of (at_table w counts output)) on in
+      let next : o ≡ next_entry t.rows (innermost t.open_runs) = e ∙ innermost_entry t.rows t.open_runs id open_run in
+      rw (long, inner, state, next) (more_entries m kind n args (innermost t.open_runs) (state_of (at_table t counts output)))
+
+  pub entries_end : None ≡ entry_next t.rows t.open_runs → run_entries m kind k args (innermost t.open_runs) (state_of (at_table t counts output)) ≡ answer (first_text args) (state_of (at_table t' counts output))
+  entries_end e = private_step None e
+
+  pub entries_limit : (e : Entry) → Some e ≡ entry_next t.rows t.open_runs → m e.callback (hook_call (take e.accepted args)) (state_of (at_table t' counts output)) ≡ None → run_entries m kind k args (innermost t.open_runs) (state_of (at_table t counts output)) ≡ None
+  entries_limit e q none = private_step (Some e) q ∙ ap (λ o. o >>= λ a. run_entries m kind n (handed_on kind a.text args) (innermost t'.open_runs) a.state) none
+
+  pub entries_more : (e : Entry) (a : Answer) → Some e ≡ entry_next t.rows t.open_runs → m e.callback (hook_call (take e.accepted args)) (state_of (at_table t' counts output)) ≡ Some a → run_entries m kind k args (innermost t.open_runs) (state_of (at_table t counts output)) ≡ run_entries m kind n (handed_on kind a.text args) (innermost t'.open_runs) a.state
+  entries_more e a q some = private_step (Some e) q ∙ ap (λ o. o >>= λ a. run_entries m kind n (handed_on kind a.text args) (innermost t'.open_runs) a.state) some
+
+  pub around_kept : without_innermost t'.open_runs ≡ without_innermost t.open_runs
+  around_kept = ap (λ (w : Table). without_innermost w.open_runs) on ∙ same_around t.rows t.open_runs
+
+  pub open_kept : is_innermost id t'.open_runs ≡ true
+  open_kept = ap (λ (w : Table). is_innermost id w.open_runs) on ∙ still_innermost t.rows t.open_runs id open_run
+
+-- ---- the turns of a script
+
+module _ (m : Meaning) (script : List Op) (k n : ℕ) (call : CallIn) (s : State) (turn : Turn) (long : k ≡ suc n) (is : turn ≡ turn_of script call) where
+  one_turn : play m script k call s ≡ (counted_step m call turn s >>= played_on m script n)
+  one_turn = rw (long, is) (more_turns m script n call s)
+
+  pub turns_end : (text : List ℕ) (s' : State) → counted_step m call turn s ≡ Some (Ends text s') → play m script k call s ≡ answer text s'
+  turns_end text s' e = one_turn ∙ ap (λ o. o >>= played_on m script n) e
+
+  pub turns_more : (call' : CallIn) (s' : State) → counted_step m call turn s ≡ Some (Goes call' s') → play m script k call s ≡ play m script n call' s'
+  turns_more call' s' e = one_turn ∙ ap (λ o. o >>= played_on m script n) e
+
+  pub turns_limit : counted_step m call turn s ≡ None → play m script k call s ≡ None
+  turns_limit e = one_turn ∙ ap (λ o. o >>= played_on m script n) e
+
+-- ---- faults are handed on
+
+pub within_err : (p q : Option Answer) (a b : Around) (w : Stage) (f : RunFault) → (p ≡ None → q ≡ None) → Gives p a w (Err f) → GivesWithin q b w (Err f)
+within_err p q a b w Limit h e = h e
+within_err p q a b w NoMemory h e = tt
+
+pub gives_err : (p q : Option Answer) (a b : Around) (w v : Stage) (f : RunFault) → (p ≡ None → q ≡ None) → Gives p a w (Err f) → Gives q b v (Err f)
+gives_err p q a b w v Limit h e = h e
+gives_err p q a b w v NoMemory h e = tt
+
+pub run_err : (p q : Option Answer) (a b : Around) (w v : Stage) (f : RunFault) → (p ≡ None → q ≡ None) → GivesWithin p a w (Err f) → Gives q b v (Err f)
+run_err p q a b w v Limit h e = h e
+run_err p q a b w v NoMemory h e = tt
+
+pub step_err : (p : Option Stepped) (q : Option Answer) (a b : Around) (w v : Stage) (f : RunFault) → (p ≡ None → q ≡ None) → GivesStep p a w (Err f) → Gives q b v (Err f)
+step_err p q a b w v Limit h e = h e
+step_err p q a b w v NoMemory h e = tt
+
+pub turn_err : (p : Option Answer) (q : Option Stepped) (a b : Around) (w v : Stage) (f : RunFault) → (p ≡ None → q ≡ None) → Gives p a w (Err f) → GivesStep q b v (Err f)
+turn_err p q a b w v Limit h e = h e
+turn_err p q a b w v NoMemory h e = tt
+
+-- a stack with one more, without its last
+pub without-last : (stack : List (List ℕ)) (hook : List ℕ) → without_last (stack ++ hook ∷ []) ≡ stack
+without-last stack hook =
+    let n : length (stack ++ hook ∷ []) - 1 ≡ length stack = omega (arith, length-append stack (hook ∷ [])) in
+    ap (λ k. take k (stack ++ hook ∷ [])) n ∙ take-append_seam stack (hook ∷ [])
+
+-- ---- fires, one after the other
+
+one_fire : (m : Meaning) (fires : List Fire) (i : ℕ) (f : Fire) (s : State) → i < length fires → f ≡ get_or fires i f → do_fires m (drop i fires) s ≡ (do_hook m f.hook f.args s >>= λ a. do_fires m (drop (i + 1) fires) a.state)
+one_fire m fires i f s lt at =
+    let cut : drop i fires ≡ f ∷ drop (i + 1) fires = rw (add-one, drop-cons fires i f lt, ← at) refl in
+    rw cut (more_fires m f (drop (i + 1) fires) s)
+
+pub fires_more : (m : Meaning) (fires : List Fire) (i : ℕ) (f : Fire) (args : List (List ℕ)) (s : State) (a : Answer) → i < length fires → f ≡ get_or fires i f → args ≡ f.args → do_hook m f.hook args s ≡ Some a → do_fires m (drop i fires) s ≡ do_fires m (drop (i + 1) fires) a.state
+fires_more m fires i f args s a lt at same e =
+    one_fire m fires i f s lt at ∙ ap (λ o. o >>= λ b. do_fires m (drop (i + 1) fires) b.state) (ap (λ x. do_hook m f.hook x s) (sym same) ∙ e)
+
+pub fires_limit : (m : Meaning) (fires : List Fire) (i : ℕ) (f : Fire) (args : List (List ℕ)) (s : State) → i < length fires → f ≡ get_or fires i f → args ≡ f.args → do_hook m f.hook args s ≡ None → do_fires m (drop i fires) s ≡ None
+fires_limit m fires i f args s lt at same e =
+    one_fire m fires i f s lt at ∙ ap (λ o. o >>= λ b. do_fires m (drop (i + 1) fires) b.state) (ap (λ x. do_hook m f.hook x s) (sym same) ∙ e)
+
+pub fires_end : (m : Meaning) (fires : List Fire) (i : ℕ) (s : State) → length fires ≤ i → do_fires m (drop i fires) s ≡ answer [] s
+fires_end m fires i s le = rw (drop_of_length-le fires le) (no_fires m s)

@@ -1,0 +1,87 @@
+use Rattle.std.proofs.Common.{◌≡◌, ◌∙◌, refl, sym, ap, subst, ℕ, ◌-◌, ◌+◌, ◌*◌, ◌≤◌, suc, List, take, Option, Some, None, arith}
+use Rattle.std.proofs.lemmas.Result.{err_from_is_err_and}
+use Rattle.press_hooks.specs.declared.entry.Entry.{Entry}
+use Rattle.press_hooks.specs.NextEntry.{entry_next, without_innermost}
+use Rattle.press_callbacks.specs.declared.script.CallIn.{CallIn}
+use Rattle.press_callbacks.specs.declared.script.Op.{Op}
+use Rattle.press_callbacks.specs.Kits.{script_of, script_at}
+use Rattle.press_run.specs.Run.{Answer, answer, State, at_depth, play, fuel, hook_call, first_text, or_empty, handed_on}
+use Rattle.press_run.specs.Outcome.{Gives, Around, around, around_innermost, stage, state_of}
+use Rattle.press_run.proofs.Steps.{no_depth, some_depth, no_entries, no_turns, at_table, entries_end, entries_limit, entries_more, around_kept, open_kept, turns_end, turns_more, turns_limit, within_err, step_err}
+use Rattle.press_run.proofs.machine.Machine.+run.Goals as goal
+
+pub callback-returns-then-depth-eq0 : goal.callback-returns-then-depth-eq0
+callback-returns-then-depth-eq0 g t c = rw c.if-depth-eq0.true (no_depth _ _ _ _)
+
+pub callback-returns : goal.callback-returns
+callback-returns g t c =
+    let d : c.args.depth ≡ suc (c.args.depth - 1) = omega arith in
+    let s = state_of (stage c.args.tables.now c.args.self.now c.args.out.now) in
+    let opened : at_depth c.args.depth (g.K.Callbacks.scripts c.args.kit.now) c.args.id c.args.call s ≡ play (at_depth (c.args.depth - 1) (g.K.Callbacks.scripts c.args.kit.now)) (or_empty (script_at c.place-place.result (g.K.Callbacks.scripts c.args.kit.now))) fuel c.args.call s
+    = ap (λ n. at_depth n (g.K.Callbacks.scripts c.args.kit.now) c.args.id c.args.call s) d ∙ some_depth (c.args.depth - 1) _ _ _ _
+        ∙ ap (λ (o : Option (List Op)). play (at_depth (c.args.depth - 1) (g.K.Callbacks.scripts c.args.kit.now)) (or_empty o) fuel c.args.call s) (sym c.place-place.ensures) in
+    subst (λ (m : Option Answer). Gives m (around (stage c.args.tables.now c.args.self.now c.args.out.now)) (stage c.play.new.tables c.play.new.self c.play.new.out) c.play.result) (sym opened) c.play.ensures
+
+pub entries-returns-in_default-clause-given : goal.entries-returns-in_default-clause-given
+entries-returns-in_default-clause-given g t c =
+    let f : fuel - c.loop-entry._entry ≡ suc (fuel - (c.loop-entry._entry + 1)) = omega arith in
+    let none : None ≡ entry_next c.loop-entry.tables.hooks.rows c.loop-entry.tables.hooks.open_runs = sym c.in_default.is ∙ c.in_ok-entry.ensures.given in (
+      sym c.loop-entry.invariant.meaning
+          ∙ (entries_end (at_depth c.args.depth (g.K.Callbacks.scripts c.args.kit.now)) c.args.kind c.loop-entry.args c.args.run c.loop-entry.tables.hooks c.next.new.self c.loop-entry.self c.loop-entry.out _ _ f c.loop-entry.invariant.is_open c.in_ok-entry.ensures.advanced none
+          ∙ ap (λ (x : List ℕ). answer x (state_of (at_table c.next.new.self c.loop-entry.self c.loop-entry.out))) (sym c.in_ok-first_text.ensures)),
+      ap (λ r. record { open_runs = r; doing = c.loop-entry.self.doing }) (around_kept (at_depth c.args.depth (g.K.Callbacks.scripts c.args.kit.now)) c.args.kind c.loop-entry.args c.args.run c.loop-entry.tables.hooks c.next.new.self c.loop-entry.self c.loop-entry.out _ _ f c.loop-entry.invariant.is_open c.in_ok-entry.ensures.advanced) ∙ c.loop-entry.invariant.around,
+    )
+
+pub entries-returns-in_err-text-clause-given : goal.entries-returns-in_err-text-clause-given
+entries-returns-in_err-text-clause-given g t c =
+    let p = err_from_is_err_and c.from_residual-in_err-text.result c.from_residual-in_err-text.ensures.1 in
+    let f : fuel - c.loop-entry._entry ≡ suc (fuel - (c.loop-entry._entry + 1)) = omega arith in
+    let some : Some c.in-Some.entry ≡ entry_next c.loop-entry.tables.hooks.rows c.loop-entry.tables.hooks.open_runs = sym c.in-Some.is ∙ c.in_ok-entry.ensures.given in
+    rw (p.1, p.2) (within_err _ _ (around (at_table c.next.new.self c.loop-entry.self c.loop-entry.out)) (around_innermost (stage c.args.tables.now c.args.self.now c.args.out.now)) (stage c.callback.new.tables c.callback.new.self c.callback.new.out) c.in_err-text.field-0.0 (λ none. sym c.loop-entry.invariant.meaning ∙ entries_limit (at_depth c.args.depth (g.K.Callbacks.scripts c.args.kit.now)) c.args.kind c.loop-entry.args c.args.run c.loop-entry.tables.hooks c.next.new.self c.loop-entry.self c.loop-entry.out _ _ f c.loop-entry.invariant.is_open c.in_ok-entry.ensures.advanced c.in-Some.entry some (ap (λ (x : CallIn). at_depth c.args.depth (g.K.Callbacks.scripts c.args.kit.now) c.in-Some.entry.callback x (state_of (at_table c.next.new.self c.loop-entry.self c.loop-entry.out))) (sym c.in_ok-call.ensures) ∙ none)) c.in_err-text.ensures)
+
+pub entries-loop-entry-preserved : goal.entries-loop-entry-preserved
+entries-loop-entry-preserved g t c =
+    let f : fuel - c.loop-entry._entry ≡ suc (fuel - (c.loop-entry._entry + 1)) = omega arith in
+    let some : Some c.in-Some.entry ≡ entry_next c.loop-entry.tables.hooks.rows c.loop-entry.tables.hooks.open_runs = sym c.in-Some.is ∙ c.in_ok-entry.ensures.given in
+    let gave : at_depth c.args.depth (g.K.Callbacks.scripts c.args.kit.now) c.in-Some.entry.callback (hook_call (take c.in-Some.entry.accepted c.loop-entry.args)) (state_of (at_table c.next.new.self c.loop-entry.self c.loop-entry.out)) ≡ answer c.in_ok-text.text (state_of (stage c.callback.new.tables c.callback.new.self c.callback.new.out))
+    = ap (λ (x : CallIn). at_depth c.args.depth (g.K.Callbacks.scripts c.args.kit.now) c.in-Some.entry.callback x (state_of (at_table c.next.new.self c.loop-entry.self c.loop-entry.out))) (sym c.in_ok-call.ensures) ∙ c.in_ok-text.ensures.0 in
+    let runs = ap (λ (a : Around). a.open_runs) c.in_ok-text.ensures.1 in
+    let doing = ap (λ (a : Around). a.doing) c.in_ok-text.ensures.1 in
+    record {
+      meaning = rw (c.in_ok-args.ensures, runs) (sym (entries_more (at_depth c.args.depth (g.K.Callbacks.scripts c.args.kit.now)) c.args.kind c.loop-entry.args c.args.run c.loop-entry.tables.hooks c.next.new.self c.loop-entry.self c.loop-entry.out _ _ f c.loop-entry.invariant.is_open c.in_ok-entry.ensures.advanced c.in-Some.entry (record { text = c.in_ok-text.text; state = state_of (stage c.callback.new.tables c.callback.new.self c.callback.new.out) }) some gave) ∙ c.loop-entry.invariant.meaning);
+      is_open = rw runs (open_kept (at_depth c.args.depth (g.K.Callbacks.scripts c.args.kit.now)) c.args.kind c.loop-entry.args c.args.run c.loop-entry.tables.hooks c.next.new.self c.loop-entry.self c.loop-entry.out _ _ f c.loop-entry.invariant.is_open c.in_ok-entry.ensures.advanced);
+      around = rw (runs, doing) (ap (λ r. record { open_runs = r; doing = c.loop-entry.self.doing }) (around_kept (at_depth c.args.depth (g.K.Callbacks.scripts c.args.kit.now)) c.args.kind c.loop-entry.args c.args.run c.loop-entry.tables.hooks c.next.new.self c.loop-entry.self c.loop-entry.out _ _ f c.loop-entry.invariant.is_open c.in_ok-entry.ensures.advanced) ∙ c.loop-entry.invariant.around);
+    }
+
+pub entries-returns-clause-given : goal.entries-returns-clause-given
+entries-returns-clause-given g t c =
+    let z : fuel - c.loop-entry._entry ≡ 0 = omega arith in
+    sym c.loop-entry.invariant.meaning ∙ rw z (no_entries _ _ _ _ _)
+
+pub play-returns-in_err-text : goal.play-returns-in_err-text
+play-returns-in_err-text g t c =
+    let p = err_from_is_err_and c.from_residual-in_err-text.result c.from_residual-in_err-text.ensures.1 in
+    let f : fuel - c.loop-turn._turn ≡ suc (fuel - (c.loop-turn._turn + 1)) = omega arith in
+    rw (p.1, p.2) (step_err _ _ (around (stage c.loop-turn.tables c.loop-turn.self c.loop-turn.out)) (around (stage c.args.tables.now c.args.self.now c.args.out.now)) (stage c.step.new.tables c.step.new.self c.step.new.out) (stage c.step.new.tables c.step.new.self c.step.new.out) c.in_err-text.field-0.0 (λ limit. sym c.loop-turn.invariant.meaning ∙ turns_limit _ _ _ _ _ _ _ f c.in_ok-turn.ensures limit) c.in_err-text.ensures.given)
+
+pub play-returns-in-Ends : goal.play-returns-in-Ends
+play-returns-in-Ends g t c =
+    let f : fuel - c.loop-turn._turn ≡ suc (fuel - (c.loop-turn._turn + 1)) = omega arith in
+    let h = rw c.in-Ends.is at c.in_ok-text.ensures.given in
+    (sym c.loop-turn.invariant.meaning ∙ turns_end _ _ _ _ _ _ _ f c.in_ok-turn.ensures _ _ h.0, h.1 ∙ c.loop-turn.invariant.around)
+
+pub play-loop-turn-preserved : goal.play-loop-turn-preserved
+play-loop-turn-preserved g t c =
+    let f : fuel - c.loop-turn._turn ≡ suc (fuel - (c.loop-turn._turn + 1)) = omega arith in
+    let h = rw c.in-Goes.is at c.in_ok-text.ensures.given in
+    let few = rw c.in-Goes.is at c.in_ok-text.ensures.few in
+    record {
+      meaning = sym (turns_more _ _ _ _ _ _ _ f c.in_ok-turn.ensures _ _ h.0) ∙ c.loop-turn.invariant.meaning;
+      turn = omega (arith, few, c.loop-turn.invariant.turn);
+      around = h.1 ∙ c.loop-turn.invariant.around;
+    }
+
+pub play-returns : goal.play-returns
+play-returns g t c =
+    let z : fuel - c.loop-turn._turn ≡ 0 = omega arith in
+    sym c.loop-turn.invariant.meaning ∙ rw z (no_turns _ _ _ _)

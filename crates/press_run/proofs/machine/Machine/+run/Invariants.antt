@@ -1,0 +1,44 @@
+use Rattle.std.proofs.Common.{◌≡◌, IsTrue, ◌+◌, ◌-◌, ◌*◌, ◌≤◌}
+use Rattle.press_hooks.specs.NextEntry.{is_innermost}
+use Rattle.press_callbacks.specs.Kits.{script_at}
+use Rattle.press_run.specs.Run.{at_depth, run_entries, play, fuel, or_empty}
+use Rattle.press_run.specs.Outcome.{innermost, stage, state_of, around, around_innermost}
+use Rattle.press_run.proofs.machine.Machine.+run.Given as goal
+
+-- callback, then entries, run_hook, do_hook, turn_step, step and play, each of which calls some before it, and callback calls play at a lesser depth
+abbrev pub decreases-callback : goal.decreases-callback
+decreases-callback g l = 7 * l.depth
+
+abbrev pub decreases-entries : goal.decreases-entries
+decreases-entries g l = 7 * l.depth + 1
+
+abbrev pub decreases-run_hook : goal.decreases-run_hook
+decreases-run_hook g l = 7 * l.depth + 2
+
+abbrev pub decreases-do_hook : goal.decreases-do_hook
+decreases-do_hook g l = 7 * l.depth + 3
+
+abbrev pub decreases-turn_step : goal.decreases-turn_step
+decreases-turn_step g l = 7 * l.depth + 4
+
+abbrev pub decreases-step : goal.decreases-step
+decreases-step g l = 7 * l.depth + 5
+
+abbrev pub decreases-play : goal.decreases-play
+decreases-play g l = 7 * l.depth + 6
+
+abbrev pub invariant-entries-loop-entry : goal.invariant-entries-loop-entry
+invariant-entries-loop-entry g l = record {
+  meaning : run_entries (at_depth l.depth (g.K.Callbacks.scripts l.kit)) l.kind (fuel - l._entry) l.args (innermost l.tables.hooks.open_runs) (state_of (stage l.tables l.self l.out))
+      ≡ run_entries (at_depth l.depth (g.K.Callbacks.scripts l.kit)) l.kind fuel l.fn.args (innermost l.fn.tables.hooks.open_runs) (state_of (stage l.fn.tables l.fn.self l.fn.out));
+  is_open : IsTrue (is_innermost l.run l.tables.hooks.open_runs);
+  around : around_innermost (stage l.tables l.self l.out) ≡ around_innermost (stage l.fn.tables l.fn.self l.fn.out);
+}
+
+abbrev pub invariant-play-loop-turn : goal.invariant-play-loop-turn
+invariant-play-loop-turn g l = record {
+  meaning : play (at_depth l.depth (g.K.Callbacks.scripts l.kit)) (or_empty (script_at l.place (g.K.Callbacks.scripts l.kit))) (fuel - l._turn) l.call (state_of (stage l.tables l.self l.out))
+      ≡ play (at_depth l.depth (g.K.Callbacks.scripts l.kit)) (or_empty (script_at l.place (g.K.Callbacks.scripts l.kit))) fuel l.fn.call (state_of (stage l.fn.tables l.fn.self l.fn.out));
+  turn : l.call.turn ≤ 65536 * l._turn;
+  around : around (stage l.tables l.self l.out) ≡ around (stage l.fn.tables l.fn.self l.fn.out);
+}

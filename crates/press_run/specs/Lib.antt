@@ -1,0 +1,4 @@
+pub mod Boot
+pub mod Counts
+pub mod Outcome
+pub mod Run

@@ -1,0 +1,89 @@
+-- What the machine's calls say of the meaning: an Ok is its answer, Limit stands exactly where there is none, and want of memory may come at any time.
+use Rattle.std.specs.Prelude.{◌≡◌, ℕ, ◌+◌, ◌≤◌, List, [], ◌∷◌, ◌++◌, Option, Some, None, Result, Ok, Err, Bool, true, false, ltb}
+use Rattle.press_hooks.specs.declared.open_run.OpenRun.{OpenRun}
+use Rattle.press_hooks.specs.NextEntry.{Table, begun, without_innermost}
+use Rattle.press_callbacks.specs.declared.tables.Tables.{Tables}
+use Rattle.press_run.specs.declared.run_fault.RunFault.{RunFault}
+use Rattle.press_run.specs.declared.run_fault.RunFault.TheVariants.{Limit, NoMemory}
+use Rattle.press_run.specs.declared.step.Step.{Step}
+use Rattle.press_run.specs.declared.step.Step.TheVariants as step
+use Rattle.press_run.specs.Counts.{Counts}
+use Rattle.press_run.specs.declared.job.Job.{Job}
+use Rattle.press_run.specs.declared.job.Job.TheVariants.{Fires, Apply}
+use Rattle.press_run.specs.Run.{Answer, answer, State, Stepped, Goes, Ends, within, one_turn, do_fires, apply_hook, callbacks_of, most_turns}
+use Rattle.press_callbacks.specs.Kits.{Scripts}
+use Rattle.std.specs.Prelude.{String, string_bytes}
+
+-- the tables, the counts of a machine and an output
+pub record Stage : Type 0 where
+  pub hooks : Table
+  pub counts : Counts
+  pub output : List ℕ
+
+abbrev pub stage : Tables → Counts → List ℕ → Stage
+stage tables counts output = record { hooks = tables.hooks; counts = counts; output = output }
+
+abbrev pub state_of : Stage → State
+state_of w = record { rows = w.hooks.rows; did = w.counts.did; doing = w.counts.doing; turns = w.counts.turns; output = w.output }
+
+-- what stands round a run: the open runs, and the stack of running hooks
+pub record Around : Type 0 where
+  pub open_runs : List OpenRun
+  pub doing : List (List ℕ)
+
+abbrev pub around : Stage → Around
+around w = record { open_runs = w.hooks.open_runs; doing = w.counts.doing }
+
+-- the same, with the innermost open run left out
+abbrev pub around_innermost : Stage → Around
+around_innermost w = record { open_runs = without_innermost w.hooks.open_runs; doing = w.counts.doing }
+
+-- the result is that of the meaning, and what stood round it stands as before
+abbrev pub Gives : Option Answer → Around → Stage → Result (List ℕ) RunFault → Type 0
+Gives meaning before after (Ok text) = (meaning ≡ answer text (state_of after)) × (around after ≡ before)
+Gives meaning before after (Err Limit) = meaning ≡ None
+Gives meaning before after (Err NoMemory) = Unit {0}
+
+abbrev pub GivesWithin : Option Answer → Around → Stage → Result (List ℕ) RunFault → Type 0
+GivesWithin meaning before after (Ok text) = (meaning ≡ answer text (state_of after)) × (around_innermost after ≡ before)
+GivesWithin meaning before after (Err Limit) = meaning ≡ None
+GivesWithin meaning before after (Err NoMemory) = Unit {0}
+
+-- the innermost open run
+abbrev pub innermost : List OpenRun → OpenRun
+innermost [] = begun []
+innermost (r ∷ rs) = r
+
+abbrev pub GivesStep : Option Stepped → Around → Stage → Result Step RunFault → Type 0
+GivesStep meaning before after (Ok (step.Goes call)) = (meaning ≡ Some (Goes call (state_of after))) × (around after ≡ before)
+GivesStep meaning before after (Ok (step.Ends text)) = (meaning ≡ Some (Ends text (state_of after))) × (around after ≡ before)
+GivesStep meaning before after (Err Limit) = meaning ≡ None
+GivesStep meaning before after (Err NoMemory) = Unit {0}
+
+-- a step goes so many ops further at most
+abbrev pub GoesAtMost : ℕ → Result Step RunFault → Type 0
+GoesAtMost n (Ok (step.Goes call)) = call.turn ≤ n
+GoesAtMost n (Ok (step.Ends text)) = Unit {0}
+GoesAtMost n (Err f) = Unit {0}
+
+-- a text is put at the end of an output where that stays within the bytes
+abbrev pub Pushes : List ℕ → List ℕ → List ℕ → Result Unit RunFault → Type 0
+Pushes old text new (Ok u) = within (old ++ text) ≡ Some new
+Pushes old text new (Err Limit) = (within (old ++ text) ≡ None) × (new ≡ old)
+Pushes old text new (Err NoMemory) = new ≡ old
+
+-- what a job comes to
+abbrev pub job_meaning : Scripts → Job → State → Option Answer
+job_meaning scripts (Fires fires) s = do_fires (callbacks_of scripts) fires s
+job_meaning scripts (Apply hook args) s = apply_hook (callbacks_of scripts) hook args s
+
+-- `Gives` at a string
+abbrev pub GivesJob : {A : Type 0} → Option Answer → Around → Stage → Result (String A) RunFault → Type 0
+GivesJob meaning before after (Ok text) = (meaning ≡ answer (string_bytes text) (state_of after)) × (around after ≡ before)
+GivesJob meaning before after (Err Limit) = meaning ≡ None
+GivesJob meaning before after (Err NoMemory) = Unit {0}
+
+-- whether one more turn is within the turns, which is then counted
+abbrev pub CountsTurn : Counts → Counts → Bool → Type 0
+CountsTurn old new true = (ltb old.turns most_turns ≡ true) × (new ≡ record old { turns = old.turns + 1 })
+CountsTurn old new false = (ltb old.turns most_turns ≡ false) × (new ≡ old)

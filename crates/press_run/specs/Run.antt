@@ -1,0 +1,238 @@
+-- The meaning of a run: what hooks and scripts give, and where a limit stops them (Plugin Handbook, Hooks; the limits are own).
+-- An Option is None at a limit, and a limit met anywhere is met by the whole.
+use Rattle.std.specs.Prelude.{ℕ, zero, suc, ◌+◌, ◌-◌, ℤ, List, [], ◌∷◌, ◌++◌, length, take, Bool, true, false, ltb, leb, bytes_eq, Option, Some, None, codes, decimal, count_by}
+use Rattle.std.specs.List.{list_any, list_all}
+use Rattle.std.specs.Fmt.{signed_decimal}
+use Rattle.press_hooks.specs.declared.row.Row.{Row}
+use Rattle.press_hooks.specs.declared.entry.Entry.{Entry}
+use Rattle.press_hooks.specs.declared.open_run.OpenRun.{OpenRun}
+use Rattle.press_hooks.specs.HookRows.{add_row, adds_row, remove_row, remove_rows, is_row, has_rows, priority_of}
+use Rattle.press_hooks.specs.NextEntry.{next_entry, next_run, begun}
+use Rattle.press_callbacks.specs.declared.script.Op.{Op}
+use Rattle.press_callbacks.specs.declared.script.CallIn.{CallIn}
+use Rattle.press_callbacks.specs.declared.script.Ask as asked
+use Rattle.press_callbacks.specs.declared.script.Ask.TheVariants.{Did, Doing, Has}
+use Rattle.press_callbacks.specs.declared.script.Turn.{Turn}
+use Rattle.press_callbacks.specs.declared.script.Turn.TheVariants.{Go, AddHook, RemoveHook, RemoveAll, Skip, Apply, Do, Ask, Echo, Return}
+use Rattle.press_callbacks.specs.Turns.{turn_of}
+use Rattle.press_callbacks.specs.Kits.{Scripts, script_of}
+use Rattle.press_run.specs.declared.job.Fire.{Fire}
+use Rattle.press_run.specs.declared.step.Kind.{Kind}
+use Rattle.press_run.specs.declared.step.Kind.TheVariants.{Filter, Action}
+
+infixl 10 ◌>>=◌
+abbrev pub ◌>>=◌ : {A B : Type 0} → Option A → (A → Option B) → Option B
+None >>= f = None
+(Some x) >>= f = f x
+
+abbrev pub only_if : {A : Type 0} → Bool → A → Option A
+only_if true x = Some x
+only_if false x = None
+
+-- ---- the three limits: open callbacks, turns, bytes of a text
+
+abbrev pub most_open : ℕ
+most_open = 32
+
+abbrev pub most_turns : ℕ
+most_turns = 10000
+
+abbrev pub most_bytes : ℕ
+most_bytes = 1048576
+
+abbrev pub is_short : List ℕ → Bool
+is_short text = leb (length text) most_bytes
+
+abbrev pub within : List ℕ → Option (List ℕ)
+within text = only_if (is_short text) text
+
+-- ---- states and answers
+
+-- what runs change: the hook rows, the starts of actions, the stack of running hooks, the turns played, the output
+pub record State : Type 0 where
+  pub rows : List Row
+  pub did : List (List ℕ)
+  pub doing : List (List ℕ)
+  pub turns : ℕ
+  pub output : List ℕ
+
+-- what is given, with the state after it
+pub record Answer : Type 0 where
+  pub text : List ℕ
+  pub state : State
+
+abbrev pub answer : List ℕ → State → Option Answer
+answer text s = Some (record { text = text; state = s })
+
+-- what a callback gives on a call in a state
+abbrev pub Meaning : Type 0
+Meaning = List ℕ → CallIn → State → Option Answer
+
+-- one more turn, where it is within the turns
+abbrev pub one_turn : State → Option State
+one_turn s = only_if (ltb s.turns most_turns) (record s { turns = s.turns + 1 })
+
+-- more than the turns of any run: each recursion below plays a turn at each step, so the limit of turns is met first
+abbrev pub fuel : ℕ
+fuel = 10001
+
+-- a stack without its last
+abbrev pub without_last : List (List ℕ) → List (List ℕ)
+without_last stack = take (length stack - 1) stack
+
+-- ---- hooks: a filter hands its answer on as the first argument, an action hands all callbacks the same
+
+abbrev pub first_text : List (List ℕ) → List ℕ
+first_text [] = []
+first_text (t ∷ ts) = t
+
+abbrev pub handed_on : Kind → List ℕ → List (List ℕ) → List (List ℕ)
+handed_on Action t args = args
+handed_on Filter t [] = t ∷ []
+handed_on Filter t (u ∷ us) = t ∷ us
+
+-- the call of a hook's callback on the arguments that it accepts
+abbrev pub hook_call : List (List ℕ) → CallIn
+hook_call args = record { args = args; value = first_text args; last = []; turn = 0 }
+
+-- the next entry is called and the rest goes on; without one the first argument is given
+abbrev pub call_entry : Meaning → (List ℕ → State → Option Answer) → List (List ℕ) → State → Option Entry → Option Answer
+call_entry callback rest args s None = answer (first_text args) s
+call_entry callback rest args s (Some e) = do
+  a ← callback e.callback (hook_call (take e.accepted args)) s
+  rest a.text a.state
+
+-- the entries of an open run in turn
+unfoldable pub run_entries : Meaning → Kind → ℕ → List (List ℕ) → OpenRun → State → Option Answer
+run_entries callback kind zero args run s = None
+run_entries callback kind (suc n) args run s =
+    call_entry callback (λ t s'. run_entries callback kind n (handed_on kind t args) (next_run s.rows run) s') args s (next_entry s.rows run)
+
+-- a hook without entries is not put on the stack of running hooks
+abbrev pub run_where : Meaning → Kind → List ℕ → List (List ℕ) → State → Bool → Option Answer
+run_where callback kind hook args s false = answer (first_text args) s
+run_where callback kind hook args s true = do
+  a ← run_entries callback kind fuel args (begun hook) (record s { doing = s.doing ++ hook ∷ [] })
+  answer a.text (record (a.state) { doing = s.doing })
+
+abbrev pub run_hook : Meaning → Kind → List ℕ → List (List ℕ) → State → Option Answer
+run_hook callback kind hook args s = run_where callback kind hook args s (has_rows hook s.rows)
+
+abbrev pub apply_hook : Meaning → List ℕ → List (List ℕ) → State → Option Answer
+apply_hook callback hook args s = run_hook callback Filter hook args s
+
+abbrev pub or_one_empty : List (List ℕ) → List (List ℕ)
+or_one_empty [] = [] ∷ []
+or_one_empty (t ∷ ts) = t ∷ ts
+
+-- the start is counted first, also without entries; the answers are ignored
+abbrev pub do_hook : Meaning → List ℕ → List (List ℕ) → State → Option Answer
+do_hook callback hook args s = do
+  a ← run_hook callback Action hook (or_one_empty args) (record s { did = s.did ++ hook ∷ [] })
+  answer [] a.state
+
+unfoldable pub do_fires : Meaning → List Fire → State → Option Answer
+do_fires callback [] s = answer [] s
+do_fires callback (f ∷ fs) s = do
+  a ← do_hook callback f.hook f.args s
+  do_fires callback fs a.state
+
+-- ---- one turn
+
+abbrev pub one_if : Bool → List ℕ
+one_if true = codes "1"
+one_if false = []
+
+abbrev pub decimal_or_empty : Option ℤ → List ℕ
+decimal_or_empty None = []
+decimal_or_empty (Some p) = signed_decimal p
+
+abbrev pub answer_of : asked.Ask → State → List ℕ
+answer_of (Did hook) s = decimal (count_by (bytes_eq hook) s.did)
+answer_of (Doing hook) s = one_if (list_any (bytes_eq hook) s.doing)
+answer_of (Has hook callback) s = decimal_or_empty (priority_of hook callback s.rows)
+
+-- the texts of a turn, which are to be within the bytes
+abbrev pub texts_of : Turn → List (List ℕ)
+texts_of (Go t) = t ∷ []
+texts_of (AddHook h c p n) = []
+texts_of (RemoveHook h c p) = []
+texts_of (RemoveAll h p) = []
+texts_of (Skip n) = []
+texts_of (Apply h ts) = ts
+texts_of (Do h ts) = ts
+texts_of (Ask a) = []
+texts_of (Echo t) = t ∷ []
+texts_of (Return t) = t ∷ []
+
+abbrev pub fits : Turn → Bool
+fits turn = list_all is_short (texts_of turn)
+
+-- what one turn comes to: the callback goes on with the next turn's call, or it ends
+pub data Stepped : Type 0 where
+  Goes : (call : CallIn) (state : State) → Stepped
+  Ends : (text : List ℕ) (state : State) → Stepped
+
+-- the next turn's call, with this value and last answer, so many ops further
+abbrev pub next_call : CallIn → List ℕ → List ℕ → ℕ → CallIn
+next_call call value last skipped = record call { value = value; last = last; turn = call.turn + (1 + skipped) }
+
+abbrev pub goes : CallIn → State → Option Stepped
+goes call s = Some (Goes call s)
+
+-- the last answer is this one
+abbrev pub answers : CallIn → List ℕ → State → Option Stepped
+answers call last s = goes (next_call call call.value last 0) s
+
+abbrev pub turn_step : Meaning → CallIn → State → Turn → Option Stepped
+turn_step callback call s (Go t) = goes (next_call call t call.last 0) s
+turn_step callback call s (AddHook h c p n) = answers call (one_if (adds_row h c p s.rows)) (record s { rows = add_row h c p n s.rows })
+turn_step callback call s (RemoveHook h c p) = answers call (one_if (list_any (is_row h p c) s.rows)) (record s { rows = remove_row h c p s.rows })
+turn_step callback call s (RemoveAll h p) = answers call (codes "1") (record s { rows = remove_rows h p s.rows })
+turn_step callback call s (Skip n) = goes (next_call call call.value call.last n) s
+turn_step callback call s (Apply h ts) = do
+  a ← apply_hook callback h ts s
+  answers call a.text a.state
+turn_step callback call s (Do h ts) = do
+  a ← do_hook callback h ts s
+  answers call [] a.state
+turn_step callback call s (Ask q) = answers call (answer_of q s) s
+turn_step callback call s (Echo t) = do
+  output ← within (s.output ++ t)
+  goes (next_call call call.value call.last 0) (record s { output = output })
+turn_step callback call s (Return t) = Some (Ends t s)
+
+-- a turn counts, and its texts are within the bytes
+abbrev pub counted_step : Meaning → CallIn → Turn → State → Option Stepped
+counted_step callback call turn s = do
+  s' ← one_turn s
+  turn' ← only_if (fits turn) turn
+  turn_step callback call s' turn'
+
+-- ---- callbacks
+
+abbrev pub after_step : (CallIn → State → Option Answer) → Stepped → Option Answer
+after_step rest (Goes call s) = rest call s
+after_step rest (Ends text s) = answer text s
+
+-- the turns of a script up to Return
+unfoldable pub play : Meaning → List Op → ℕ → CallIn → State → Option Answer
+play callback script zero call s = None
+play callback script (suc n) call s = do
+  step ← counted_step callback call (turn_of script call) s
+  after_step (λ call' s'. play callback script n call' s') step
+
+-- a callback that is not there returns its value, as an empty script does
+abbrev pub or_empty : Option (List Op) → List Op
+or_empty None = []
+or_empty (Some script) = script
+
+-- a callback, where so many may be open from it on
+unfoldable pub at_depth : ℕ → Scripts → Meaning
+at_depth zero scripts id call s = None
+at_depth (suc depth) scripts id call s = play (at_depth depth scripts) (or_empty (script_of id scripts)) fuel call s
+
+-- ---- the jobs of a page or a command
+
+abbrev pub callbacks_of : Scripts → Meaning
+callbacks_of scripts = at_depth most_open scripts

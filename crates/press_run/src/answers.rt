@@ -1,0 +1,54 @@
+//! What the machine answers to a question.
+
+ghost use Rattle.std.specs.Prelude.{◌≡◌, IfOk, decimal, count_by, bytes_eq, string_bytes};
+ghost use Rattle.std.specs.Fmt.{signed_decimal};
+ghost use Rattle.std.specs.List.{list_any};
+ghost use Rattle.press_run.specs.Run.{one_if, decimal_or_empty};
+
+use press_text::{HookName, Text};
+use std::alloc::{AllocError, Global};
+
+pub fn one_if(alloc: Global, is: bool) -> Result<Text, AllocError>
+    ensures { IfOk result (λ t. t ≡ one_if is) }
+{
+    if is {
+        Text::from_str(alloc, "1")
+    } else {
+        Ok(Text::new(alloc))
+    }
+}
+
+pub fn count_of(hooks: &[HookName], hook: &HookName) -> usize
+    ensures { result ≡ count_by (bytes_eq hook.now) hooks.now }
+{
+    hooks.iter().filter(|h| hook.is(h)).count()
+}
+
+pub fn has_hook(hooks: &[HookName], hook: &HookName) -> bool
+    ensures { result ≡ list_any (bytes_eq hook.now) hooks.now }
+{
+    hooks.iter().any(|h| hook.is(h))
+}
+
+pub fn decimal(alloc: Global, n: usize) -> Result<Text, AllocError>
+    ensures { IfOk result (λ t. t ≡ decimal n) }
+{
+    let text = format!(in alloc; "{n}")?;
+    Ok(Text::from_string(text))
+}
+
+pub fn decimal_or_empty(alloc: Global, priority: Option<i64>) -> Result<Text, AllocError>
+    ensures { IfOk result (λ t. t ≡ decimal_or_empty priority) }
+{
+    match priority {
+        None => Ok(Text::new(alloc)),
+        Some(p) => signed(alloc, p),
+    }
+}
+
+fn signed(alloc: Global, p: i64) -> Result<Text, AllocError>
+    ensures { IfOk result (λ t. t ≡ signed_decimal p) }
+{
+    let text = format!(in alloc; "{p}")?;
+    Ok(Text::from_string(text))
+}

@@ -1,0 +1,49 @@
+ghost use Rattle.std.specs.Prelude.{◌≡◌, IfOk};
+ghost use Rattle.press_callbacks.specs.Turns.{turn_of};
+ghost use Rattle.press_callbacks.specs.Kits.{Scripts, scripts_in, script_of, script_at};
+ghost use Rattle.press_run.specs.Run.{or_empty};
+
+use press_callbacks::{CallIn, Kit, Turn};
+use press_text::CallbackId;
+use std::alloc::{AllocError, Global};
+
+/// What the machine asks of a kit. (A cycle of calls may not have a boxed closure in its signatures, but a bound.)
+pub trait Callbacks {
+    ghost scripts: { Self → Scripts };
+
+    /// Where the callback of that name stands, if it is there.
+    fn place(&self, id: CallbackId) -> Option<usize>
+        ensures { script_at result (scripts self.now) ≡ script_of id (scripts self.now) };
+
+    /// What the closure of the callback at a place gives; without a place, the value is returned.
+    fn turn(
+        &self,
+        alloc: Global,
+        place: Option<usize>,
+        input: &CallIn,
+    ) -> Result<Turn, AllocError>
+        ensures { IfOk result (λ t. t ≡ turn_of (or_empty (script_at place (scripts self.now))) input.now) };
+}
+
+impl Callbacks for Kit {
+    ghost scripts = { scripts_in };
+
+    fn place(&self, id: CallbackId) -> Option<usize> {
+        Kit::place(self, id)
+    }
+
+    fn turn(
+        &self,
+        alloc: Global,
+        place: Option<usize>,
+        input: &CallIn,
+    ) -> Result<Turn, AllocError> {
+        let Some(place) = place else {
+            return Ok(Turn::Return(input.value.copy(alloc)?));
+        };
+        match self.at(place) {
+            Some(stored) => stored.turn(input),
+            None => Ok(Turn::Return(input.value.copy(alloc)?)),
+        }
+    }
+}

@@ -1,0 +1,25 @@
+//! The machine that runs hooks over a kit: callbacks edit the running tables, runs nest, and three limits hold.
+//!
+//! What it gives is a big-step meaning over scripts; what it calls are the kit's closures.
+#![tactic(auto)]
+
+mod answers;
+mod boots;
+mod callbacks;
+mod edits;
+mod job;
+mod machine;
+mod out;
+mod run_fault;
+mod step;
+mod texts;
+
+pub use boots::boot;
+pub use callbacks::Callbacks;
+pub use job::{Fire, Job};
+pub use machine::Machine;
+pub use out::Out;
+pub use run_fault::RunFault;
+
+#[cfg(test)]
+mod tests;

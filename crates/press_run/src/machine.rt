@@ -1,0 +1,363 @@
+ghost use Rattle.std.specs.Prelude.{◌≡◌, ◌+◌, ◌<◌, ◌^◌, ◌++◌, ◌∷◌, [], IsTrue, IfOk, OnOk, OnErr, string_bytes};
+ghost use Rattle.press_hooks.specs.NextEntry.{is_innermost};
+ghost use Rattle.press_callbacks.specs.Kits.{scripts_in, script_at};
+ghost use Rattle.press_run.specs.Counts.{no_counts};
+ghost use Rattle.press_run.specs.Run.{at_depth, callbacks_of, run_hook, do_hook, do_fires, run_entries, play, fuel, counted_step, turn_step, or_empty, answer_of, one_turn, without_last};
+ghost use Rattle.press_run.specs.Outcome.{Gives, GivesWithin, GivesStep, GivesJob, GoesAtMost, innermost, stage, state_of, around, around_innermost, job_meaning, CountsTurn};
+
+use crate::answers::{count_of, decimal, decimal_or_empty, has_hook, one_if};
+use crate::callbacks::Callbacks;
+use crate::edits;
+use crate::job::{Fire, Job};
+use crate::out::Out;
+use crate::run_fault::RunFault;
+use crate::step::{Kind, Step, further, with_last, with_value};
+use crate::texts;
+use press_callbacks::{Ask, CallIn, Kit, Tables, Turn};
+use press_hooks::RunId;
+use press_text::{CallbackId, HookName, Items, Text};
+use std::alloc::{AllocError, Global};
+use std::marker::Model;
+
+/// How many callbacks may be open at once.
+const MOST_OPEN: u32 = 32;
+
+/// How many turns one page or command may play.
+const MOST_TURNS: u32 = 10_000;
+
+// More than the turns of any run.
+const FUEL: u32 = 10_001;
+
+/// What one boot counts: the starts of actions, the hooks that are running, and the turns played.
+#[derive(Debug, Drop)]
+pub struct Machine {
+    alloc: Global,
+    did: Vec<HookName>,
+    doing: Vec<HookName>,
+    turns: u32,
+}
+
+impl Model for Machine {
+    ghost use Rattle.press_run.specs.Counts.{Counts};
+
+    ghost Value = { Counts };
+
+    ghost view = { λ m. record { did = m.did.items; doing = m.doing.items; turns = m.turns } };
+}
+
+impl Machine {
+    /// Nothing counted yet; takes no memory.
+    pub fn new(alloc: Global) -> Machine
+        ensures { result ≡ no_counts }
+    {
+        Machine {
+            alloc,
+            did: Vec::new(alloc),
+            doing: Vec::new(alloc),
+            turns: 0,
+        }
+    }
+
+    /// Does the job over the tables, which callbacks may edit, and the output, which they may write to.
+    /// Limit stands where a 33rd callback would be open at once, a 10,001st turn would be played, or a text would pass
+    /// 1,048,576 bytes. After a fault the machine, the tables and the output are in no stated state: drop them.
+    pub fn run(
+        &mut self,
+        kit: &Kit,
+        tables: &mut Tables,
+        job: Job,
+        out: &mut Out,
+    ) -> Result<String, RunFault>
+        ensures { GivesJob (job_meaning (scripts_in kit.now) job (state_of (stage tables.old self.old out.old))) (around (stage tables.old self.old out.old)) (stage tables.new self.new out.new) result }
+    {
+        let alloc = self.alloc;
+        let text = match job {
+            Job::Fires(fires) => self.do_fires(alloc, kit, tables, out, fires.as_slice())?,
+            Job::Apply { hook, args } => {
+                self.run_hook(alloc, kit, tables, out, MOST_OPEN, Kind::Filter, &hook, args)?
+            }
+        };
+        Ok(text.into_string())
+    }
+
+    // The actions, one after the other.
+    fn do_fires<K: Callbacks>(
+        &mut self,
+        alloc: Global,
+        kit: &K,
+        tables: &mut Tables,
+        out: &mut Out,
+        fires: &[Fire],
+    ) -> Result<Text, RunFault>
+        ensures { Gives (do_fires (callbacks_of (K.scripts kit.now)) fires.now (state_of (stage tables.old self.old out.old))) (around (stage tables.old self.old out.old)) (stage tables.new self.new out.new) result }
+    {
+        for fire in fires {
+            let args = texts::copied(alloc, fire.args.as_slice())?;
+            self.do_hook(alloc, kit, tables, out, MOST_OPEN, &fire.hook, args)?;
+        }
+        Ok(Text::new(alloc))
+    }
+
+    // An action: its start is counted, and its answers are ignored.
+    #[cycle(run)]
+    fn do_hook<K: Callbacks>(
+        &mut self,
+        alloc: Global,
+        kit: &K,
+        tables: &mut Tables,
+        out: &mut Out,
+        depth: u32,
+        hook: &HookName,
+        args: Items<Text>,
+    ) -> Result<Text, RunFault>
+        ensures { Gives (do_hook (at_depth depth (K.scripts kit.now)) hook.now args (state_of (stage tables.old self.old out.old))) (around (stage tables.old self.old out.old)) (stage tables.new self.new out.new) result }
+    {
+        self.start(hook)?;
+        let args = texts::or_one_empty(alloc, args)?;
+        self.run_hook(alloc, kit, tables, out, depth, Kind::Action, hook, args)?;
+        Ok(Text::new(alloc))
+    }
+
+    // The callbacks of a hook, where so many more callbacks may be open.
+    #[cycle(run)]
+    fn run_hook<K: Callbacks>(
+        &mut self,
+        alloc: Global,
+        kit: &K,
+        tables: &mut Tables,
+        out: &mut Out,
+        depth: u32,
+        kind: Kind,
+        hook: &HookName,
+        args: Items<Text>,
+    ) -> Result<Text, RunFault>
+        ensures { Gives (run_hook (at_depth depth (K.scripts kit.now)) kind hook.now args (state_of (stage tables.old self.old out.old))) (around (stage tables.old self.old out.old)) (stage tables.new self.new out.new) result }
+    {
+        if !tables.hooks.has_any(hook) {
+            return Ok(texts::first_text(alloc, &args)?);
+        }
+        self.enter(hook)?;
+        let run = tables.hooks.begin(hook)?;
+        let text = self.entries(alloc, kit, tables, out, depth, kind, run, args)?;
+        tables.hooks.end(run);
+        self.leave();
+        Ok(text)
+    }
+
+    // The entries that an open run has still to hand out.
+    #[cycle(run)]
+    fn entries<K: Callbacks>(
+        &mut self,
+        alloc: Global,
+        kit: &K,
+        tables: &mut Tables,
+        out: &mut Out,
+        depth: u32,
+        kind: Kind,
+        run: RunId,
+        mut args: Items<Text>,
+    ) -> Result<Text, RunFault>
+        requires { IsTrue (is_innermost run tables.old.hooks.open_runs) }
+        ensures given { GivesWithin (run_entries (at_depth depth (K.scripts kit.now)) kind fuel args (innermost tables.old.hooks.open_runs) (state_of (stage tables.old self.old out.old))) (around_innermost (stage tables.old self.old out.old)) (stage tables.new self.new out.new) result }
+        ensures open { IfOk result (λ _. IsTrue (is_innermost run tables.new.hooks.open_runs)) }
+    {
+        for _entry in 0..FUEL {
+            let Some(entry) = tables.hooks.next(run)? else {
+                return Ok(texts::first_text(alloc, &args)?);
+            };
+            let call = texts::hook_call(alloc, &args, entry.accepted)?;
+            let text = self.callback(alloc, kit, tables, out, depth, entry.callback, call)?;
+            args = texts::handed_on(kind, args, text)?;
+        }
+        Err(RunFault::Limit)
+    }
+
+    // A callback on its call, where so many may be open from it on.
+    #[cycle(run)]
+    fn callback<K: Callbacks>(
+        &mut self,
+        alloc: Global,
+        kit: &K,
+        tables: &mut Tables,
+        out: &mut Out,
+        depth: u32,
+        id: CallbackId,
+        call: CallIn,
+    ) -> Result<Text, RunFault>
+        requires { call.turn ≡ 0 }
+        ensures { Gives (at_depth depth (K.scripts kit.now) id call (state_of (stage tables.old self.old out.old))) (around (stage tables.old self.old out.old)) (stage tables.new self.new out.new) result }
+    {
+        if depth == 0 {
+            return Err(RunFault::Limit);
+        }
+        let place = kit.place(id);
+        self.play(alloc, kit, tables, out, depth - 1, place, call)
+    }
+
+    // The turns of a callback up to its answer.
+    #[cycle(run)]
+    fn play<K: Callbacks>(
+        &mut self,
+        alloc: Global,
+        kit: &K,
+        tables: &mut Tables,
+        out: &mut Out,
+        depth: u32,
+        place: Option<usize>,
+        mut call: CallIn,
+    ) -> Result<Text, RunFault>
+        requires { call.turn ≡ 0 }
+        ensures { Gives (play (at_depth depth (K.scripts kit.now)) (or_empty (script_at place (K.scripts kit.now))) fuel call (state_of (stage tables.old self.old out.old))) (around (stage tables.old self.old out.old)) (stage tables.new self.new out.new) result }
+    {
+        for _turn in 0..FUEL {
+            let turn = kit.turn(alloc, place, &call)?;
+            match self.step(alloc, kit, tables, out, depth, turn, call)? {
+                Step::Ends(text) => return Ok(text),
+                Step::Goes(next) => call = next,
+            }
+        }
+        Err(RunFault::Limit)
+    }
+
+    // One turn, counted, with texts that are within the bytes.
+    #[cycle(run)]
+    fn step<K: Callbacks>(
+        &mut self,
+        alloc: Global,
+        kit: &K,
+        tables: &mut Tables,
+        out: &mut Out,
+        depth: u32,
+        turn: Turn,
+        call: CallIn,
+    ) -> Result<Step, RunFault>
+        requires { call.turn < 2 ^ 40 }
+        ensures given { GivesStep (counted_step (at_depth depth (K.scripts kit.now)) call turn (state_of (stage tables.old self.old out.old))) (around (stage tables.old self.old out.old)) (stage tables.new self.new out.new) result }
+        ensures few { GoesAtMost (call.turn + 65536) result }
+    {
+        if !self.counts_turn() || !texts::fits(&turn) {
+            return Err(RunFault::Limit);
+        }
+        self.turn_step(alloc, kit, tables, out, depth, turn, call)
+    }
+
+    // What a turn asks for.
+    #[cycle(run)]
+    fn turn_step<K: Callbacks>(
+        &mut self,
+        alloc: Global,
+        kit: &K,
+        tables: &mut Tables,
+        out: &mut Out,
+        depth: u32,
+        turn: Turn,
+        call: CallIn,
+    ) -> Result<Step, RunFault>
+        requires { call.turn < 2 ^ 40 }
+        ensures given { GivesStep (turn_step (at_depth depth (K.scripts kit.now)) call (state_of (stage tables.old self.old out.old)) turn) (around (stage tables.old self.old out.old)) (stage tables.new self.new out.new) result }
+        ensures few { GoesAtMost (call.turn + 65536) result }
+    {
+        match turn {
+            Turn::Go(value) => Ok(Step::Goes(with_value(call, value))),
+            Turn::AddHook {
+                hook,
+                callback,
+                priority,
+                accepted,
+            } => {
+                let last = edits::add_hook(
+                    alloc,
+                    &mut tables.hooks,
+                    &hook,
+                    callback,
+                    priority,
+                    accepted,
+                )?;
+                Ok(Step::Goes(with_last(call, last)))
+            }
+            Turn::RemoveHook {
+                hook,
+                callback,
+                priority,
+            } => {
+                let last = edits::remove_hook(alloc, &mut tables.hooks, &hook, callback, priority)?;
+                Ok(Step::Goes(with_last(call, last)))
+            }
+            Turn::RemoveAll { hook, priority } => {
+                let last = edits::remove_all(alloc, &mut tables.hooks, &hook, priority)?;
+                Ok(Step::Goes(with_last(call, last)))
+            }
+            Turn::Skip(n) => Ok(Step::Goes(further(call, n))),
+            Turn::Apply { hook, texts } => {
+                let last = self.run_hook(
+                    alloc,
+                    kit,
+                    tables,
+                    out,
+                    depth,
+                    Kind::Filter,
+                    &hook,
+                    texts,
+                )?;
+                Ok(Step::Goes(with_last(call, last)))
+            }
+            Turn::Do { hook, texts } => {
+                let last = self.do_hook(alloc, kit, tables, out, depth, &hook, texts)?;
+                Ok(Step::Goes(with_last(call, last)))
+            }
+            Turn::Ask(ask) => {
+                let last = self.answer(alloc, tables, &ask)?;
+                Ok(Step::Goes(with_last(call, last)))
+            }
+            Turn::Echo(text) => {
+                out.push(text.as_str())?;
+                Ok(Step::Goes(further(call, 0)))
+            }
+            Turn::Return(text) => Ok(Step::Ends(text)),
+        }
+    }
+
+    // The answer to a question.
+    fn answer(&self, alloc: Global, tables: &Tables, ask: &Ask) -> Result<Text, AllocError>
+        ensures { IfOk result (λ t. t ≡ answer_of ask.now (state_of (stage tables.now self.now []))) }
+    {
+        match ask {
+            Ask::Did(hook) => decimal(alloc, count_of(self.did.as_slice(), hook)),
+            Ask::Doing(hook) => one_if(alloc, has_hook(self.doing.as_slice(), hook)),
+            Ask::Has(hook, callback) => decimal_or_empty(alloc, tables.hooks.has(hook, *callback)),
+        }
+    }
+
+    // Counts a turn, where it is within the turns.
+    fn counts_turn(&mut self) -> bool
+        ensures { CountsTurn self.old self.new result }
+    {
+        if self.turns >= MOST_TURNS {
+            return false;
+        }
+        self.turns += 1;
+        true
+    }
+
+    // Counts the start of an action.
+    fn start(&mut self, hook: &HookName) -> Result<(), AllocError>
+        ensures { OnOk result (self.new ≡ record self.old { did = self.old.did ++ hook.now ∷ [] }) }
+    {
+        self.did.push(hook.copy(self.alloc)?)?;
+        Ok(())
+    }
+
+    // Puts a hook on the stack of running hooks.
+    fn enter(&mut self, hook: &HookName) -> Result<(), AllocError>
+        ensures { OnOk result (self.new ≡ record self.old { doing = self.old.doing ++ hook.now ∷ [] }) }
+    {
+        self.doing.push(hook.copy(self.alloc)?)?;
+        Ok(())
+    }
+
+    fn leave(&mut self)
+        ensures { self.new ≡ record self.old { doing = without_last self.old.doing } }
+    {
+        self.doing.pop();
+    }
+}

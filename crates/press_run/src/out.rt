@@ -1,0 +1,61 @@
+ghost use Rattle.std.specs.Prelude.{◌≡◌, [], string_bytes};
+ghost use Rattle.press_run.specs.Outcome.{Pushes};
+
+use crate::run_fault::RunFault;
+use press_text::Text;
+use std::alloc::Global;
+use std::marker::Model;
+
+/// How many bytes a text may have.
+pub(crate) const MOST_BYTES: usize = 1_048_576;
+
+/// What a page or a command has written so far: at most 1,048,576 bytes.
+#[derive(Debug, Drop)]
+pub struct Out {
+    text: Text,
+}
+
+impl Model for Out {
+    ghost use Rattle.std.specs.Prelude.{ℕ, List, ◌≤◌, length};
+
+    ghost Value = { List ℕ };
+
+    ghost view = { λ o. o.text };
+
+    ghost invariant = { λ o. length o.text ≤ 1048576 };
+}
+
+impl Out {
+    /// Takes no memory.
+    pub fn new(alloc: Global) -> Out
+        ensures { result ≡ [] }
+    {
+        Out {
+            text: Text::new(alloc),
+        }
+    }
+
+    /// Limit where the text would pass 1,048,576 bytes; after a fault the output is as it was.
+    pub fn push(&mut self, text: &str) -> Result<(), RunFault>
+        ensures { Pushes self.old text.now self.new result }
+    {
+        if text.len() > MOST_BYTES - self.text.len() {
+            return Err(RunFault::Limit);
+        }
+        self.text.push_str(text)?;
+        Ok(())
+    }
+
+    pub fn as_str(&self) -> &str
+        ensures { result.now ≡ self.now }
+    {
+        self.text.as_str()
+    }
+
+    /// Takes no memory.
+    pub fn into_text(self) -> String
+        ensures { string_bytes result ≡ self }
+    {
+        self.text.into_string()
+    }
+}

@@ -1,0 +1,117 @@
+//! The texts of calls and turns.
+
+ghost use Rattle.std.specs.Prelude.{◌≡◌, take, length, IfOk, []};
+ghost use Rattle.std.specs.List.{list_all};
+ghost use Rattle.press_run.specs.Run.{first_text, handed_on, or_one_empty, hook_call, fits, is_short};
+
+use crate::out::MOST_BYTES;
+use crate::step::Kind;
+use press_callbacks::{CallIn, Turn};
+use press_text::{Items, Text};
+use std::alloc::{AllocError, Global};
+
+pub fn first_text(alloc: Global, texts: &Items<Text>) -> Result<Text, AllocError>
+    ensures { IfOk result (λ t. t ≡ first_text texts.now) }
+{
+    match texts.as_slice().first() {
+        None => Ok(Text::new(alloc)),
+        Some(t) => t.copy(alloc),
+    }
+}
+
+// The arguments of the next callback, after one has answered.
+pub fn handed_on(kind: Kind, args: Items<Text>, answer: Text) -> Result<Items<Text>, AllocError>
+    ensures { IfOk result (λ ts. ts ≡ handed_on kind answer args) }
+{
+    match kind {
+        Kind::Action => Ok(args),
+        Kind::Filter => with_first(args.into_vec(), answer),
+    }
+}
+
+fn with_first(mut args: Vec<Text>, first: Text) -> Result<Items<Text>, AllocError>
+    ensures { IfOk result (λ ts. ts ≡ handed_on Kind.Filter first args.items) }
+{
+    if args.is_empty() {
+        args.push(first)?;
+    } else {
+        args[0] = first;
+    }
+    Ok(Items::from_vec(args))
+}
+
+// An action without arguments hands over one empty text.
+pub fn or_one_empty(alloc: Global, args: Items<Text>) -> Result<Items<Text>, AllocError>
+    ensures { IfOk result (λ ts. ts ≡ or_one_empty args) }
+{
+    let mut args = args.into_vec();
+    if args.is_empty() {
+        args.push(Text::new(alloc))?;
+    }
+    Ok(Items::from_vec(args))
+}
+
+// The call of a hook's callback that accepts so many arguments.
+pub fn hook_call(alloc: Global, texts: &Items<Text>, accepted: u32) -> Result<CallIn, AllocError>
+    ensures { IfOk result (λ c. c ≡ hook_call (take accepted texts.now)) }
+{
+    let args = taken(alloc, texts, accepted)?;
+    let value = first_text(alloc, &args)?;
+    Ok(CallIn {
+        args,
+        value,
+        last: Text::new(alloc),
+        turn: 0,
+    })
+}
+
+fn taken(alloc: Global, texts: &Items<Text>, accepted: u32) -> Result<Items<Text>, AllocError>
+    ensures { IfOk result (λ ts. ts ≡ take accepted texts.now) }
+{
+    let all = texts.as_slice();
+    if (accepted as usize) < all.len() {
+        copied(alloc, &all[..accepted as usize])
+    } else {
+        copied(alloc, all)
+    }
+}
+
+pub fn copied(alloc: Global, texts: &[Text]) -> Result<Items<Text>, AllocError>
+    ensures { IfOk result (λ ts. ts ≡ texts.now) }
+{
+    let mut copies = Vec::new(alloc);
+    for t in texts {
+        copies.push(t.copy(alloc)?)?;
+    }
+    Ok(Items::from_vec(copies))
+}
+
+fn is_short(text: &Text) -> bool
+    ensures { result ≡ is_short text.now }
+{
+    text.len() <= MOST_BYTES
+}
+
+// Whether the texts of a turn are within the bytes.
+pub fn fits(turn: &Turn) -> bool
+    ensures { result ≡ fits turn.now }
+{
+    match turn {
+        Turn::Go(t) => is_short(t),
+        Turn::AddHook { .. } => true,
+        Turn::RemoveHook { .. } => true,
+        Turn::RemoveAll { .. } => true,
+        Turn::Skip(_) => true,
+        Turn::Apply { texts, .. } => are_short(texts.as_slice()),
+        Turn::Do { texts, .. } => are_short(texts.as_slice()),
+        Turn::Ask(_) => true,
+        Turn::Echo(t) => is_short(t),
+        Turn::Return(t) => is_short(t),
+    }
+}
+
+fn are_short(texts: &[Text]) -> bool
+    ensures { result ≡ list_all is_short texts.now }
+{
+    texts.iter().all(|t| is_short(t))
+}
