@@ -68,9 +68,13 @@ plugins_in kit = kit.plugins.items
 abbrev pub kit_view : {t : _} {F : _} {g : _} → Kit t F g → KitView
 kit_view kit = record { scripts = scripts_in kit; plugins = plugins_in kit }
 
+-- the names and scripts of callbacks, as they stand
+abbrev pub scripts_given : {t : _} {F : _} {g : _} → List (Stored t F g) → Scripts
+scripts_given callbacks = map (λ c. (c.id, c.script)) callbacks
+
 -- the view of callbacks and plugins in whatever order
-abbrev pub view_of : {C : Type 0} → (C → List ℕ) → (C → List Op) → List C → List Plugin → KitView
-view_of id script callbacks plugins = record { scripts = map (λ c. (id c, script c)) (by_name id callbacks); plugins = by_name (λ p. p.name) plugins }
+abbrev pub view_of : Scripts → List Plugin → KitView
+view_of scripts plugins = record { scripts = by_name (λ c. c.0) scripts; plugins = by_name (λ p. p.name) plugins }
 
 -- ---- refusals, in their order
 
@@ -122,19 +126,26 @@ most_hook_loads = 1000
 abbrev pub hook_loads : List Plugin → ℕ
 hook_loads plugins = sum_by (λ p. length p.load) plugins
 
-abbrev pub kit_fault : {C : Type 0} → (C → List ℕ) → (C → List Op) → List C → List Plugin → Option KitFault
-kit_fault id script callbacks plugins =
+abbrev pub kit_fault_by : {C : Type 0} → (C → List ℕ) → (C → List Op) → List C → List Plugin → Option KitFault
+kit_fault_by id script callbacks plugins =
     if has_two id callbacks || has_two (λ p. p.name) plugins then Some TwoNames else
     (if not (knows_all id script callbacks plugins) then Some UnknownCallback else
     (if nat_lt most_hook_loads (hook_loads plugins) then Some BadLoad else None))
 
--- what `build` answers: a kit where there is no fault, else the first; want of memory may come at any time
+abbrev pub kit_fault : Scripts → List Plugin → Option KitFault
+kit_fault scripts plugins = kit_fault_by (λ c. c.0) (λ c. c.1) scripts plugins
+
+-- the first fault; want of memory may come at any time
+abbrev pub IsFault : KitFault → Option KitFault → Type 0
+IsFault NoMemory fault = Unit {0}
+IsFault TwoNames fault = fault ≡ Some TwoNames
+IsFault UnknownCallback fault = fault ≡ Some UnknownCallback
+IsFault BadLoad fault = fault ≡ Some BadLoad
+
+-- what `build` answers: a kit where there is no fault, else the first
 abbrev pub Builds : {K : Type 0} → (K → KitView) → Result K KitFault → Option KitFault → KitView → Type 0
 Builds show (Ok kit) fault view = (fault ≡ None) × (show kit ≡ view)
-Builds show (Err NoMemory) fault view = Unit {0}
-Builds show (Err TwoNames) fault view = fault ≡ Some TwoNames
-Builds show (Err UnknownCallback) fault view = fault ≡ Some UnknownCallback
-Builds show (Err BadLoad) fault view = fault ≡ Some BadLoad
+Builds show (Err f) fault view = IsFault f fault
 
 -- ---- places in a kit
 

@@ -1,9 +1,9 @@
 ghost use Rattle.std.specs.Prelude.{◌≡◌, IfSome, option_map, slice_get};
-ghost use Rattle.press_callbacks.specs.Kits.{id_of, script_in, scripts_in, plugins_in, kit_view, view_of, kit_fault, Builds, script_of, script_at, plugin_of};
+ghost use Rattle.press_callbacks.specs.Kits.{id_of, script_in, scripts_in, plugins_in, kit_view, scripts_given, view_of, kit_fault, Builds, script_of, script_at, plugin_of};
 
 use crate::kit_fault::KitFault;
-use crate::known::{has_many_loads, knows_all};
-use crate::named::{has_two, sorted_by_name};
+use crate::known::fault_of;
+use crate::named::sorted_by_name;
 use crate::plugin::Plugin;
 use crate::stored::Stored;
 use press_text::{CallbackId, Name};
@@ -24,16 +24,10 @@ impl Kit {
         callbacks: Vec<Stored>,
         plugins: Vec<Plugin>,
     ) -> Result<Kit, KitFault>
-        ensures { Builds kit_view result (kit_fault id_of script_in callbacks.items plugins.items) (view_of id_of script_in callbacks.items plugins.items) }
+        ensures { Builds kit_view result (kit_fault (scripts_given callbacks.items) plugins.items) (view_of (scripts_given callbacks.items) plugins.items) }
     {
-        if has_two(callbacks.as_slice()) || has_two(plugins.as_slice()) {
-            return Err(KitFault::TwoNames);
-        }
-        if !knows_all(callbacks.as_slice(), plugins.as_slice()) {
-            return Err(KitFault::UnknownCallback);
-        }
-        if has_many_loads(plugins.as_slice()) {
-            return Err(KitFault::BadLoad);
+        if let Some(fault) = fault_of(callbacks.as_slice(), plugins.as_slice()) {
+            return Err(fault);
         }
         let callbacks = sorted_by_name(alloc, callbacks)?;
         let plugins = sorted_by_name(alloc, plugins)?;

@@ -1,11 +1,12 @@
-//! Whether every callback that a script or a load names is there.
+//! Why callbacks and plugins make no kit: whether every callback that a script or a load names is there.
 
 ghost use Rattle.std.specs.Prelude.{◌≡◌, ◌+◌, List, nat_lt};
 ghost use Rattle.std.specs.List.{list_all};
 ghost use Rattle.press_callbacks.specs.declared.script.Op.{Op};
-ghost use Rattle.press_callbacks.specs.Kits.{knows_all, knows_script, knows_plugin, is_known_where, is_known, callback_named, callback_loaded, most_hook_loads, hook_loads};
+ghost use Rattle.press_callbacks.specs.Kits.{kit_fault_by, knows_all, knows_script, knows_plugin, is_known_where, is_known, callback_named, callback_loaded, most_hook_loads, hook_loads};
 
-use crate::named::{Named, has_name};
+use crate::kit_fault::KitFault;
+use crate::named::{Named, has_name, has_two};
 use crate::plugin::{Load, Plugin};
 use crate::script::{Ask, Op};
 use crate::stored::Stored;
@@ -27,7 +28,23 @@ impl Scripted for Stored {
     }
 }
 
-pub fn knows_all<T: Scripted>(callbacks: &[T], plugins: &[Plugin]) -> bool
+/// The first reason why these make no kit.
+pub fn fault_of<T: Scripted>(callbacks: &[T], plugins: &[Plugin]) -> Option<KitFault>
+    ensures { result ≡ kit_fault_by T.name T.script callbacks.now plugins.now }
+{
+    if has_two(callbacks) || has_two(plugins) {
+        return Some(KitFault::TwoNames);
+    }
+    if !knows_all(callbacks, plugins) {
+        return Some(KitFault::UnknownCallback);
+    }
+    if has_many_loads(plugins) {
+        return Some(KitFault::BadLoad);
+    }
+    None
+}
+
+fn knows_all<T: Scripted>(callbacks: &[T], plugins: &[Plugin]) -> bool
     ensures { result ≡ knows_all T.name T.script callbacks.now plugins.now }
 {
     knows_scripts(callbacks, callbacks) && knows_plugins(callbacks, plugins)
@@ -84,8 +101,8 @@ fn knows_load<T: Named>(callbacks: &[T], load: &Load) -> bool
     }
 }
 
-/// Whether the plugins have more than 1,000 hook loads together.
-pub fn has_many_loads(plugins: &[Plugin]) -> bool
+// Whether the plugins have more than 1,000 hook loads together.
+fn has_many_loads(plugins: &[Plugin]) -> bool
     ensures { result ≡ nat_lt most_hook_loads (hook_loads plugins.now) }
 {
     let mut left = MOST_HOOK_LOADS;
