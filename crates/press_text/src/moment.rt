@@ -24,6 +24,13 @@ impl Model for Moment {
 }
 
 impl Moment {
+    /// The first moment.
+    pub fn zero() -> Moment
+        ensures { result ≡ 0 }
+    {
+        Moment { seconds: 0 }
+    }
+
     /// None past 2^40 seconds.
     pub fn new(seconds: u64) -> Option<Moment>
         ensures { result ≡ moment_of seconds }

@@ -1,0 +1,5 @@
+pub mod Loop
+pub mod Json
+pub mod Streams
+pub mod Pages
+pub mod Told

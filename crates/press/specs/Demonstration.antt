@@ -1,0 +1,46 @@
+-- The demonstration kit: filters that append a letter, and one that grows its own hook while it runs (own).
+use Rattle.std.specs.Prelude.{ℕ, pos, List, [], ◌∷◌, codes}
+use Rattle.press_callbacks.specs.declared.script.Part.TheVariants.{Lit, Value}
+use Rattle.press_callbacks.specs.declared.script.Op.{Op}
+use Rattle.press_callbacks.specs.declared.script.Op.TheVariants.{Set, AddHook}
+use Rattle.press_callbacks.specs.declared.plugin.Plugin.{Plugin}
+use Rattle.press_callbacks.specs.declared.plugin.Load.{Load}
+use Rattle.press_callbacks.specs.declared.plugin.Load.TheVariants.{Hook}
+use Rattle.press_callbacks.specs.Kits.{Scripts, KitView, view_of}
+
+-- the step that appends a text to the value, and the script of that step alone
+abbrev pub append : List ℕ → Op
+append text = Set (Value ∷ Lit text ∷ [])
+
+abbrev pub appending : List ℕ → List Op
+appending text = append text ∷ []
+
+abbrev pub the_title : List ℕ
+the_title = codes "the_title"
+
+-- adds d at its own priority, e above it and f below it, and appends a
+abbrev pub growing : List Op
+growing =
+    AddHook the_title (codes "add_d") (pos 10) 1
+    ∷ (AddHook the_title (codes "add_e") (pos 11) 1 ∷ (AddHook the_title (codes "add_f") (pos 9) 1 ∷ (append (codes "a") ∷ [])))
+
+abbrev pub letters : Scripts
+letters =
+    (codes "add_a", appending (codes "a"))
+    ∷ ((codes "add_b", appending (codes "b"))
+    ∷ ((codes "add_c", appending (codes "c"))
+    ∷ ((codes "add_d", appending (codes "d")) ∷ ((codes "add_e", appending (codes "e")) ∷ ((codes "add_f", appending (codes "f")) ∷ [])))))
+
+abbrev pub scripts : Scripts
+scripts = (codes "grow", growing) ∷ letters
+
+abbrev pub on_title : ℕ → List ℕ → Load
+on_title priority callback = Hook the_title (pos priority) callback 1
+
+abbrev pub plugins : List Plugin
+plugins =
+    record { name = codes "grow"; load = on_title 10 (codes "grow") ∷ [] }
+    ∷ (record { name = codes "letters"; load = on_title 10 (codes "add_a") ∷ (on_title 10 (codes "add_b") ∷ (on_title 5 (codes "add_c") ∷ [])) } ∷ [])
+
+abbrev pub demonstration : KitView
+demonstration = view_of scripts plugins

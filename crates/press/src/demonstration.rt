@@ -1,0 +1,214 @@
+//! The scripts and plugins of the demonstration kit. Their closures stand in boxes, which `run` makes.
+
+ghost use Rattle.std.specs.Prelude.{◌≡◌, ◌∷◌, ◌++◌, [], IfOk, None, pos, map, codes};
+ghost use Rattle.press_text.specs.Names.{name_fault};
+ghost use Rattle.press_callbacks.specs.Turns.{turn_of};
+ghost use Rattle.press.specs.Demonstration as spec;
+
+use press_callbacks::{CallIn, Load, Op, Part, Plugin, Script, Turn};
+use press_text::{CallbackId, HookName, Items, Name, NameFault, Text};
+use std::alloc::{AllocError, Global};
+
+/// A callback whose closure plays its script: its name, the script, and the same script once more for the closure.
+#[derive(Drop)]
+pub struct Scripted {
+    pub id: CallbackId,
+    pub script: Script,
+    pub own: Script,
+    ghost same: { own ≡ script },
+}
+
+/// What the demonstration kit is made of.
+#[derive(Drop)]
+pub struct DemonstrationParts {
+    pub growing: Script,
+    pub letters: Vec<Scripted>,
+    pub plugins: Vec<Plugin>,
+}
+
+pub fn parts(alloc: Global) -> Result<DemonstrationParts, AllocError>
+    ensures growing { IfOk result (λ p. p.growing ≡ spec.growing) }
+    ensures letters { IfOk result (λ p. map (λ s. (s.id, s.script)) p.letters.items ≡ spec.letters) }
+    ensures plugins { IfOk result (λ p. p.plugins.items ≡ spec.plugins) }
+{
+    Ok(DemonstrationParts {
+        growing: growing(alloc)?,
+        letters: letters(alloc)?,
+        plugins: plugins(alloc)?,
+    })
+}
+
+// The filters that append a letter.
+fn letters(alloc: Global) -> Result<Vec<Scripted>, AllocError>
+    ensures { IfOk result (λ v. map (λ s. (s.id, s.script)) v.items ≡ spec.letters) }
+{
+    Ok(vec![in alloc;
+        letter(alloc, "add_a", "a")?,
+        letter(alloc, "add_b", "b")?,
+        letter(alloc, "add_c", "c")?,
+        letter(alloc, "add_d", "d")?,
+        letter(alloc, "add_e", "e")?,
+        letter(alloc, "add_f", "f")?,
+    ]?)
+}
+
+fn letter(alloc: Global, name: &str, text: &str) -> Result<Scripted, AllocError>
+    requires { name_fault 32 name.now ≡ None }
+    ensures id { IfOk result (λ s. s.id ≡ name.now) }
+    ensures script { IfOk result (λ s. s.script ≡ spec.appending text.now) }
+{
+    let script = appending(alloc, text)?;
+    let own = appending(alloc, text)?;
+    Ok(Scripted {
+        id: callback_named(name),
+        script,
+        own,
+    })
+}
+
+// The script that appends a text to its value.
+fn appending(alloc: Global, text: &str) -> Result<Script, AllocError>
+    ensures { IfOk result (λ s. s ≡ spec.appending text.now) }
+{
+    let set = append(alloc, text)?;
+    Ok(Items::from_vec(vec![in alloc; set]?))
+}
+
+fn append(alloc: Global, text: &str) -> Result<Op, AllocError>
+    ensures { IfOk result (λ o. o ≡ spec.append text.now) }
+{
+    let lit = Text::from_str(alloc, text)?;
+    let parts = vec![in alloc; Part::Value, Part::Lit(lit)]?;
+    Ok(Op::Set(Items::from_vec(parts)))
+}
+
+/// The callback that grows the hook of titles while it runs.
+pub fn grow() -> CallbackId
+    ensures { result ≡ codes "grow" }
+{
+    callback_named("grow")
+}
+
+// The script of `grow`.
+fn growing(alloc: Global) -> Result<Script, AllocError>
+    ensures { IfOk result (λ s. s ≡ spec.growing) }
+{
+    let ops = vec![in alloc;
+        add_op(alloc, "add_d", 10)?,
+        add_op(alloc, "add_e", 11)?,
+        add_op(alloc, "add_f", 9)?,
+        append(alloc, "a")?,
+    ]?;
+    Ok(Items::from_vec(ops))
+}
+
+fn add_op(alloc: Global, callback: &str, priority: i64) -> Result<Op, AllocError>
+    requires { name_fault 32 callback.now ≡ None }
+    ensures { IfOk result (λ o. o ≡ Op.AddHook spec.the_title callback.now priority 1) }
+{
+    Ok(Op::AddHook {
+        hook: the_title(alloc)?,
+        callback: callback_named(callback),
+        priority,
+        accepted: 1,
+    })
+}
+
+fn add_turn(alloc: Global, callback: &str, priority: i64) -> Result<Turn, AllocError>
+    requires { name_fault 32 callback.now ≡ None }
+    ensures { IfOk result (λ t. t ≡ Turn.AddHook spec.the_title callback.now priority 1) }
+{
+    Ok(Turn::AddHook {
+        hook: the_title(alloc)?,
+        callback: callback_named(callback),
+        priority,
+        accepted: 1,
+    })
+}
+
+/// What the closure of `grow` gives, written out.
+pub fn grow_turn(alloc: Global, input: &CallIn) -> Result<Turn, AllocError>
+    ensures { IfOk result (λ t. t ≡ turn_of spec.growing input.now) }
+{
+    if input.turn == 0 {
+        return add_turn(alloc, "add_d", 10);
+    }
+    if input.turn == 1 {
+        return add_turn(alloc, "add_e", 11);
+    }
+    if input.turn == 2 {
+        return add_turn(alloc, "add_f", 9);
+    }
+    let mut text = input.value.copy(alloc)?;
+    if input.turn == 3 {
+        text.push_str("a")?;
+        return Ok(Turn::Go(text));
+    }
+    Ok(Turn::Return(text))
+}
+
+// The plugins `grow` and `letters`.
+fn plugins(alloc: Global) -> Result<Vec<Plugin>, AllocError>
+    ensures { IfOk result (λ v. v.items ≡ spec.plugins) }
+{
+    let grow = vec![in alloc; on_title(alloc, 10, "grow")?]?;
+    let letters = vec![in alloc;
+        on_title(alloc, 10, "add_a")?,
+        on_title(alloc, 10, "add_b")?,
+        on_title(alloc, 5, "add_c")?,
+    ]?;
+    Ok(vec![in alloc; plugin(alloc, "grow", grow)?, plugin(alloc, "letters", letters)?]?)
+}
+
+fn plugin(alloc: Global, name: &str, load: Vec<Load>) -> Result<Plugin, AllocError>
+    requires { name_fault 32 name.now ≡ None }
+    ensures { IfOk result (λ p. p ≡ record { name = name.now; load = load.items }) }
+{
+    Ok(Plugin {
+        name: plugin_named(alloc, name)?,
+        load: Items::from_vec(load),
+    })
+}
+
+fn on_title(alloc: Global, priority: i64, callback: &str) -> Result<Load, AllocError>
+    requires { name_fault 32 callback.now ≡ None }
+    ensures { IfOk result (λ l. l ≡ Load.Hook spec.the_title priority callback.now 1) }
+{
+    Ok(Load::Hook {
+        hook: the_title(alloc)?,
+        priority,
+        callback: callback_named(callback),
+        accepted: 1,
+    })
+}
+
+fn the_title(alloc: Global) -> Result<HookName, AllocError>
+    ensures { IfOk result (λ h. h ≡ spec.the_title) }
+{
+    match HookName::new(alloc, "the_title") {
+        Ok(hook) => Ok(hook),
+        Err(NameFault::NoMemory) => Err(AllocError),
+        Err(NameFault::BadName) | Err(NameFault::TooLong) => unreachable!(),
+    }
+}
+
+fn plugin_named(alloc: Global, name: &str) -> Result<Name, AllocError>
+    requires { name_fault 32 name.now ≡ None }
+    ensures { IfOk result (λ n. n ≡ name.now) }
+{
+    match Name::new(alloc, name) {
+        Ok(name) => Ok(name),
+        Err(NameFault::NoMemory) => Err(AllocError),
+        Err(NameFault::BadName) | Err(NameFault::TooLong) => unreachable!(),
+    }
+}
+
+fn callback_named(name: &str) -> CallbackId
+    requires { name_fault 32 name.now ≡ None }
+    ensures { result ≡ name.now }
+{
+    match CallbackId::new(name) {
+        Ok(id) => id,
+        Err(_) => unreachable!(),
+    }
+}

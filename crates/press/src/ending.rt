@@ -1,0 +1,64 @@
+//! How a run of the program ends.
+
+ghost use Rattle.std.specs.Prelude.{◌≡◌, ◌+◌, IfOk, IfErr, IfSome, Some};
+ghost use Rattle.press_callbacks.specs.Kits.{kit_view};
+ghost use Rattle.press.specs.SiteFile.{site_in, file_limit};
+ghost use Rattle.press.specs.Streams.{TakesAtMost};
+ghost use Rattle.press.specs.Endings.{page_ending, printed, EndsPage};
+
+use crate::apply::apply_all;
+use crate::command::Stamped;
+use crate::fault::ReplayFault;
+use crate::input::read_site;
+use crate::page::{Reply, Target, page};
+use crate::site::Site;
+use press_callbacks::Kit;
+use press_text::Text;
+use std::alloc::{AllocError, Global};
+use std::io::Read;
+
+/// A body with the program's status, or a fault.
+#[derive(Debug, Drop)]
+pub enum Ending {
+    Printed { status: u8, body: Text },
+    Fault(ReplayFault),
+}
+
+fn printed(reply: Reply) -> Ending
+    ensures { result ≡ printed reply }
+{
+    Ending::Printed {
+        status: if reply.status == 200 { 0 } else { 1 },
+        body: reply.body,
+    }
+}
+
+// The page of post 1 after the commands.
+fn page_after(alloc: Global, kit: &Kit, commands: Vec<Stamped>) -> Result<Ending, AllocError>
+    ensures { IfOk result (λ end. end ≡ page_ending (kit_view kit.now) (Some commands.items)) }
+{
+    let mut site = Site::new(alloc);
+    apply_all(&mut site, kit, commands)?;
+    let reply = page(alloc, &site, kit, Target::Post(1))?;
+    Ok(printed(reply))
+}
+
+fn try_page<R: Read>(alloc: Global, kit: &Kit, reader: &mut R) -> Result<Ending, ReplayFault>
+    ensures took { TakesAtMost (R.remaining reader.old) (R.remaining reader.new) (file_limit + 1) }
+    ensures ok { IfOk result (λ end. IfSome (R.remaining reader.old) (λ input. end ≡ page_ending (kit_view kit.now) (site_in input))) }
+    ensures err { IfErr result (λ e. IfSome (R.remaining reader.old) (λ input. EndsPage (kit_view kit.now) (Ending.Fault e) input)) }
+{
+    let commands = read_site(alloc, reader)?;
+    Ok(page_after(alloc, kit, commands)?)
+}
+
+/// The end of a run on the file that a reader has left.
+pub fn page_end<R: Read>(alloc: Global, kit: &Kit, reader: &mut R) -> Ending
+    ensures took { TakesAtMost (R.remaining reader.old) (R.remaining reader.new) (file_limit + 1) }
+    ensures ends { IfSome (R.remaining reader.old) (λ input. EndsPage (kit_view kit.now) result input) }
+{
+    match try_page(alloc, kit, reader) {
+        Ok(end) => end,
+        Err(fault) => Ending::Fault(fault),
+    }
+}

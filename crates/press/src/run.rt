@@ -1,0 +1,110 @@
+//! One run of the program over any reader and writers.
+
+ghost use Rattle.std.specs.Prelude.{◌≡◌, ◌+◌, map, string_bytes, IfSome};
+ghost use Rattle.std.specs.Io.KnownBytes.{Appends};
+ghost use Rattle.press.specs.SiteFile.{file_limit};
+ghost use Rattle.press.specs.Streams.{AppendsFront, TakesAtMost};
+ghost use Rattle.press.specs.Endings.{fault_line, usage_line, ending_of, EndsPage, Finishes, Runs};
+ghost use Rattle.press.specs.Demonstration.{demonstration};
+
+use crate::demonstration::{grow, grow_turn, parts};
+use crate::ending::{Ending, page_end};
+use crate::fault::ReplayFault;
+use crate::output::write_once;
+use press_callbacks::{BoxedTurns, CallIn, Kit, Stored, script_turn};
+use std::alloc::Global;
+use std::io::{Read, Write};
+
+fn line_of(fault: ReplayFault) -> &'static [u8]
+    ensures { result.now ≡ fault_line fault }
+{
+    match fault {
+        ReplayFault::NoMemory => b"press: fault 0\n",
+        ReplayFault::ReadFault => b"press: fault 40\n",
+        ReplayFault::WriteFault => b"press: fault 42\n",
+        ReplayFault::BadSchedule => b"press: fault 72\n",
+    }
+}
+
+// Where the line can't be written there is nobody to tell.
+fn tell<E: Write>(error: &mut E, line: &[u8])
+    ensures { AppendsFront (E.contents error.old) (E.contents error.new) line.now }
+{
+    let _ = write_once(error, line);
+}
+
+/// Refused words.
+pub fn refuse<E: Write>(error: &mut E) -> u8
+    ensures status { result ≡ 2 }
+    ensures told { AppendsFront (E.contents error.old) (E.contents error.new) usage_line }
+{
+    tell(error, b"press: usage\n");
+    2
+}
+
+fn fail<E: Write>(fault: ReplayFault, error: &mut E) -> u8
+    ensures status { result ≡ 2 }
+    ensures told { AppendsFront (E.contents error.old) (E.contents error.new) (fault_line fault) }
+{
+    tell(error, line_of(fault));
+    2
+}
+
+// Prints a body or a fault. A body that can't be written whole ends as a failed write.
+fn finish<W: Write, E: Write>(end: Ending, writer: &mut W, error: &mut E) -> u8
+    ensures { Finishes end result (W.contents writer.old) (W.contents writer.new) (E.contents error.old) (E.contents error.new) }
+{
+    match end {
+        Ending::Printed { status, body } => match write_once(writer, body.as_bytes()) {
+            Ok(()) => status,
+            Err(fault) => fail(fault, error),
+        },
+        Ending::Fault(fault) => fail(fault, error),
+    }
+}
+
+// The page of the input's commands on the demonstration kit, whose closures are boxed here: a box may not be handed out.
+fn demonstrated<R: Read>(alloc: Global, reader: &mut R) -> Result<Ending, ReplayFault>
+    ensures took { TakesAtMost (R.remaining reader.old) (R.remaining reader.new) (file_limit + 1) }
+    ensures ends { IfSome (R.remaining reader.old) (λ input. EndsPage demonstration (ending_of result) input) }
+{
+    let parts = parts(alloc)?;
+    let mut callbacks: Vec<Stored> = Vec::new(alloc);
+    let call: BoxedTurns = Box::new(alloc, move |input: &CallIn| grow_turn(alloc, input))?;
+    callbacks.push(Stored::new(grow(), parts.growing, call))?;
+    for letter in parts.letters {
+        let own = letter.own;
+        let call: BoxedTurns = Box::new(
+            alloc,
+            move |input: &CallIn| script_turn(alloc, &own, input),
+        )?;
+        callbacks.push(Stored::new(letter.id, letter.script, call))?;
+    }
+    match Kit::build(alloc, callbacks, parts.plugins) {
+        Ok(kit) => Ok(page_end(alloc, &kit, reader)),
+        Err(_) => Err(ReplayFault::NoMemory),
+    }
+}
+
+/// One run over an input and two outputs. Without words: the page of post 1 of the site file on the input, with status 0, or the fixed
+/// body of another reply, with status 1. A fault is a line `press: fault N` on the errors, and status 2; so is `press: usage` for any words.
+pub fn run<Rt: AllocGlobal, R: Read, W: Write, E: Write>(
+    rt: &Rt,
+    words: &[String],
+    reader: &mut R,
+    writer: &mut W,
+    error: &mut E,
+) -> u8
+    ensures read { TakesAtMost (R.remaining reader.old) (R.remaining reader.new) (file_limit + 1) }
+    ensures runs { IfSome (R.remaining reader.old) (λ input. Runs demonstration (map string_bytes words.now) input result
+        (W.contents writer.old) (W.contents writer.new) (E.contents error.old) (E.contents error.new)) }
+{
+    if !words.is_empty() {
+        return refuse(error);
+    }
+    let end = match demonstrated(rt.alloc(), reader) {
+        Ok(end) => end,
+        Err(fault) => Ending::Fault(fault),
+    };
+    finish(end, writer, error)
+}
