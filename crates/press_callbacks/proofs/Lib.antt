@@ -1,3 +1,4 @@
 pub mod Found
 pub mod Plays
 pub mod Popped
+pub mod Sames
