@@ -89,9 +89,7 @@ fn first_after<T: Named>(sorted: &[T], name: &[u8]) -> Option<usize>
     ensures place { result ≡ position (λ y. is_before name.now (T.name y)) sorted.now }
     ensures within { IfSome result (λ i. i < length sorted.now) }
 {
-    sorted
-        .iter()
-        .position(|y| is_before(name, y.name_bytes()))
+    sorted.iter().position(|y| is_before(name, y.name_bytes()))
 }
 
 fn is_before(a: &[u8], b: &[u8]) -> bool

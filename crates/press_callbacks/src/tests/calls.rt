@@ -44,10 +44,7 @@ fn plays_script_not_closure(rt: HostRuntime) -> Result<(), Fail> {
     let script = appending(alloc, "q")?;
     let own = appending(alloc, "q")?;
     assert!(rt; own.same(&script));
-    let call: BoxedTurns = Box::new(
-        alloc,
-        move |i: &CallIn| fails_once(alloc, &own, i),
-    )?;
+    let call: BoxedTurns = Box::new(alloc, move |i: &CallIn| fails_once(alloc, &own, i))?;
     let stored = Stored::new(CallbackId::new("add_q")?, script, call);
     match stored.turn(&called(alloc, 0)?)? {
         Turn::Go(text) => assert_eq!(rt; text.as_str(), "vq"),

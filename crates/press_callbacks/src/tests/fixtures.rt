@@ -1,6 +1,7 @@
 use crate::{Ask, CallIn, Load, Op, Part, Parts, Plugin, Script};
-use press_text::{CallbackId, HookName, Items, Name, NameFault, Text};
+use press_text::{CallbackId, HookName, Items, Name, Text};
 use std::alloc::{AllocError, Global};
+use std::test::Fail;
 
 pub fn lit(alloc: Global, text: &str) -> Result<Part, AllocError> {
     Ok(Part::Lit(Text::from_str(alloc, text)?))
@@ -24,7 +25,7 @@ pub enum Naming {
 }
 
 /// A script of one op, which names a callback.
-pub fn naming(alloc: Global, how: Naming, callback: &str) -> Result<Script, NameFault> {
+pub fn script_that_names(alloc: Global, how: Naming, callback: &str) -> Result<Script, Fail> {
     let hook = HookName::new(alloc, "the_title")?;
     let callback = CallbackId::new(callback)?;
     let op = match how {
@@ -63,7 +64,7 @@ pub fn plugin(
     loads: usize,
     callback: &str,
     accepted: u32,
-) -> Result<Plugin, NameFault> {
+) -> Result<Plugin, Fail> {
     let callback = CallbackId::new(callback)?;
     let mut load = Vec::new(alloc);
     for _ in 0..loads {

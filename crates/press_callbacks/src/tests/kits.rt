@@ -1,5 +1,5 @@
 use crate::same::Same;
-use crate::tests::fixtures::{Naming, appending, called, naming, plugin};
+use crate::tests::fixtures::{Naming, appending, called, plugin, script_that_names};
 use crate::{BoxedTurns, CallIn, Kit, KitFault, Stored, Turn, script_turn};
 use press_text::{CallbackId, Name};
 use std::test::Fail;
@@ -12,13 +12,13 @@ fn finds_by_name(rt: HostRuntime) -> Result<(), Fail> {
         let script = appending(alloc, letter)?;
         let own = appending(alloc, letter)?;
         assert!(rt; own.same(&script));
-        let call: BoxedTurns = Box::new(
-            alloc,
-            move |i: &CallIn| script_turn(alloc, &own, i),
-        )?;
+        let call: BoxedTurns = Box::new(alloc, move |i: &CallIn| script_turn(alloc, &own, i))?;
         callbacks.push(Stored::new(CallbackId::new(id)?, script, call))?;
     }
-    let plugins = vec![in alloc; plugin(alloc, "two", 2, "add_b", 1)?, plugin(alloc, "one", 1, "add_a", 1)?]?;
+    let plugins = vec![in alloc;
+        plugin(alloc, "two", 2, "add_b", 1)?,
+        plugin(alloc, "one", 1, "add_a", 1)?,
+    ]?;
     let kit = Kit::build(alloc, callbacks, plugins)?;
     for (id, want) in [("add_a", "va"), ("add_b", "vb"), ("add_c", "vc")] {
         let id = CallbackId::new(id)?;
@@ -35,9 +35,7 @@ fn finds_by_name(rt: HostRuntime) -> Result<(), Fail> {
     }
     assert!(rt; kit.callback(CallbackId::new("add_d")?).is_none());
     assert!(rt; kit.place(CallbackId::new("add_d")?).is_none());
-    let found = kit
-        .plugin(&Name::new(alloc, "two")?)
-        .ok_or("no plugin")?;
+    let found = kit.plugin(&Name::new(alloc, "two")?).ok_or("no plugin")?;
     assert_eq!(rt; found.load.as_slice().len(), 2);
     assert!(rt; kit.plugin(&Name::new(alloc, "three")?).is_none());
     Ok(())
@@ -55,18 +53,21 @@ fn refuses_two_names(rt: HostRuntime) -> Result<(), Fail> {
     ] {
         let mut callbacks = Vec::new(alloc);
         for id in ["add_a", id] {
-            let script = naming(alloc, Naming::Adds, known)?;
-            let own = naming(alloc, Naming::Adds, known)?;
+            let script = script_that_names(alloc, Naming::Adds, known)?;
+            let own = script_that_names(alloc, Naming::Adds, known)?;
             assert!(rt; own.same(&script));
-            let call: BoxedTurns = Box::new(
-                alloc,
-                move |i: &CallIn| script_turn(alloc, &own, i),
-            )?;
+            let call: BoxedTurns = Box::new(alloc, move |i: &CallIn| script_turn(alloc, &own, i))?;
             callbacks.push(Stored::new(CallbackId::new(id)?, script, call))?;
         }
-        let plugins = vec![in alloc; plugin(alloc, "one", 1, "add_a", 1)?, plugin(alloc, second, 1001, "add_a", 1)?]?;
+        let plugins = vec![in alloc;
+            plugin(alloc, "one", 1, "add_a", 1)?,
+            plugin(alloc, second, 1001, "add_a", 1)?,
+        ]?;
         let refused = Kit::build(alloc, callbacks, plugins);
-        assert!(rt; matches!(refused, Err(KitFault::TwoNames)), "at {id} and {second}");
+        assert!(rt;
+            matches!(refused, Err(KitFault::TwoNames)),
+            "at {id} and {second}"
+        );
     }
     Ok(())
 }
@@ -81,17 +82,17 @@ fn refuses_unknown_callbacks(rt: HostRuntime) -> Result<(), Fail> {
         (Naming::Adds, "add_a", "add_x", 1),
         (Naming::Adds, "add_a", "add_x", 1001),
     ] {
-        let script = naming(alloc, how, named)?;
-        let own = naming(alloc, how, named)?;
+        let script = script_that_names(alloc, how, named)?;
+        let own = script_that_names(alloc, how, named)?;
         assert!(rt; own.same(&script));
-        let call: BoxedTurns = Box::new(
-            alloc,
-            move |i: &CallIn| script_turn(alloc, &own, i),
-        )?;
+        let call: BoxedTurns = Box::new(alloc, move |i: &CallIn| script_turn(alloc, &own, i))?;
         let callbacks = vec![in alloc; Stored::new(CallbackId::new("add_a")?, script, call)]?;
         let plugins = vec![in alloc; plugin(alloc, "one", loads, loaded, 1)?]?;
         let refused = Kit::build(alloc, callbacks, plugins);
-        assert!(rt; matches!(refused, Err(KitFault::UnknownCallback)), "at {how:?} {named} {loaded}");
+        assert!(rt;
+            matches!(refused, Err(KitFault::UnknownCallback)),
+            "at {how:?} {named} {loaded}"
+        );
     }
     Ok(())
 }
@@ -106,15 +107,15 @@ fn refuses_too_many_loads(rt: HostRuntime) -> Result<(), Fail> {
         (1001, 0, false),
         (400, 601, false),
     ] {
-        let script = naming(alloc, Naming::Asks, "add_a")?;
-        let own = naming(alloc, Naming::Asks, "add_a")?;
+        let script = script_that_names(alloc, Naming::Asks, "add_a")?;
+        let own = script_that_names(alloc, Naming::Asks, "add_a")?;
         assert!(rt; own.same(&script));
-        let call: BoxedTurns = Box::new(
-            alloc,
-            move |i: &CallIn| script_turn(alloc, &own, i),
-        )?;
+        let call: BoxedTurns = Box::new(alloc, move |i: &CallIn| script_turn(alloc, &own, i))?;
         let callbacks = vec![in alloc; Stored::new(CallbackId::new("add_a")?, script, call)]?;
-        let plugins = vec![in alloc; plugin(alloc, "one", first, "add_a", 1)?, plugin(alloc, "two", second, "add_a", 1)?]?;
+        let plugins = vec![in alloc;
+            plugin(alloc, "one", first, "add_a", 1)?,
+            plugin(alloc, "two", second, "add_a", 1)?,
+        ]?;
         match Kit::build(alloc, callbacks, plugins) {
             Ok(_) => assert!(rt; want, "accepted {first} and {second}"),
             Err(fault) => {

@@ -11,21 +11,43 @@ fn did_doing_same(rt: HostRuntime) -> Result<(), Fail> {
     let alloc = rt.alloc();
     let mut kits = Vec::new(alloc);
     for (ids, letters, plugins, accepted) in [
-        (["add_a", "add_b"].as_slice(), ["x", "y", "z"], ["one", "two"], 1),
-        (["add_b", "add_a"].as_slice(), ["y", "x", "z"], ["two", "one"], 1),
-        (["add_a", "add_b"].as_slice(), ["x", "w", "z"], ["one", "two"], 1),
-        (["add_a", "add_b"].as_slice(), ["x", "y", "z"], ["one", "two"], 2),
-        (["add_a", "add_b", "add_c"].as_slice(), ["x", "y", "z"], ["one", "two"], 1),
+        (
+            ["add_a", "add_b"].as_slice(),
+            ["x", "y", "z"],
+            ["one", "two"],
+            1,
+        ),
+        (
+            ["add_b", "add_a"].as_slice(),
+            ["y", "x", "z"],
+            ["two", "one"],
+            1,
+        ),
+        (
+            ["add_a", "add_b"].as_slice(),
+            ["x", "w", "z"],
+            ["one", "two"],
+            1,
+        ),
+        (
+            ["add_a", "add_b"].as_slice(),
+            ["x", "y", "z"],
+            ["one", "two"],
+            2,
+        ),
+        (
+            ["add_a", "add_b", "add_c"].as_slice(),
+            ["x", "y", "z"],
+            ["one", "two"],
+            1,
+        ),
     ] {
         let mut callbacks = Vec::new(alloc);
         for (id, letter) in ids.iter().zip(letters) {
             let script = appending(alloc, letter)?;
             let own = appending(alloc, letter)?;
             assert!(rt; own.same(&script));
-            let call: BoxedTurns = Box::new(
-                alloc,
-                move |i: &CallIn| script_turn(alloc, &own, i),
-            )?;
+            let call: BoxedTurns = Box::new(alloc, move |i: &CallIn| script_turn(alloc, &own, i))?;
             callbacks.push(Stored::new(CallbackId::new(id)?, script, call))?;
         }
         let mut given = Vec::new(alloc);

@@ -1,13 +1,19 @@
 use crate::tests::fixtures::{called, lit, one};
 use crate::{Ask, Op, Part, Script, Turn, script_turn};
-use press_text::{CallbackId, HookName, Items, NameFault, Text};
+use press_text::{CallbackId, HookName, Items, Text};
 use std::alloc::{AllocError, Global};
 use std::test::Fail;
 
-fn every_op(alloc: Global) -> Result<Script, NameFault> {
+fn every_op(alloc: Global) -> Result<Script, Fail> {
     let hook = "the_title";
     let callback = CallbackId::new("add_a")?;
-    let all = vec![in alloc; lit(alloc, "<")?, Part::Arg(0), Part::Value, Part::Last, Part::Arg(2)]?;
+    let all = vec![in alloc;
+        lit(alloc, "<")?,
+        Part::Arg(0),
+        Part::Value,
+        Part::Last,
+        Part::Arg(2),
+    ]?;
     let mut ops = Vec::new(alloc);
     ops.push(Op::Set(Items::from_vec(all)))?;
     ops.push(Op::AddHook {
@@ -46,7 +52,10 @@ fn every_op(alloc: Global) -> Result<Script, NameFault> {
     })?;
     ops.push(Op::Do {
         hook: HookName::new(alloc, hook)?,
-        args: Items::from_vec(vec![in alloc; one(alloc, Part::Arg(9))?, one(alloc, Part::Arg(0))?]?),
+        args: Items::from_vec(vec![in alloc;
+            one(alloc, Part::Arg(9))?,
+            one(alloc, Part::Arg(0))?,
+        ]?),
     })?;
     ops.push(Op::Ask(Ask::Did(HookName::new(alloc, hook)?)))?;
     ops.push(Op::Ask(Ask::Doing(HookName::new(alloc, hook)?)))?;
