@@ -12,6 +12,7 @@ use crate::stored::Stored;
 
 const MOST_HOOK_LOADS: usize = 1000;
 
+/// A thing with a name and a script.
 pub trait Scripted: Named {
     ghost script: { Self → List Op };
 
@@ -27,6 +28,7 @@ impl Scripted for Stored {
     }
 }
 
+/// Whether every callback that a script or a load names is among these.
 pub fn knows_all<T: Scripted>(callbacks: &[T], plugins: &[Plugin]) -> bool
     ensures { result ≡ knows_all T.name T.script callbacks.now plugins.now }
 {

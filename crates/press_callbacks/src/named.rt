@@ -8,6 +8,7 @@ use crate::stored::Stored;
 use std::alloc::{AllocError, Global};
 use std::cmp::Ordering;
 
+/// A thing that goes by a name.
 pub trait Named {
     ghost name: { Self → List ℕ };
 

@@ -9,6 +9,7 @@ use crate::plugin::{Load, Plugin};
 use crate::script::{Ask, Op, Part};
 use press_text::{CallbackId, HookName, Items, Name, Text};
 
+/// Values that can be compared.
 pub trait Same {
     /// Whether contracts see one value.
     fn same(&self, other: &Self) -> bool
