@@ -1,11 +1,10 @@
 -- The first thing of a name, as a list is walked.
-use Rattle.std.proofs.Common.{◌≡◌, refl, sym, ◌∙◌, ap, ℕ, zero, suc, ◌+◌, ◌<◌, ◌≤◌, Bool, true, false, cond, bytes_eq, List, [], ◌∷◌, map, length, get_or, drop, take, Option, Some, None, arith, add-one, drop-cons}
-use Rattle.std.specs.Prelude.{option_map, slice_get, sum_by, nat_lt, ◌||◌}
+use Rattle.std.proofs.Common.{◌≡◌, refl, sym, ◌∙◌, ap, ℕ, zero, suc, ◌+◌, ◌<◌, true, false, cond, bytes_eq, List, [], ◌∷◌, map, length, get_or, drop, Some, arith, add-one, drop-cons}
+use Rattle.std.specs.Prelude.{◌||◌}
 use Rattle.std.specs.List.{list_any}
-use Rattle.std.proofs.lemmas.Bool.Decides.{nat_tests}
 use Rattle.press_callbacks.specs.declared.script.Op.{Op}
 use Rattle.press_callbacks.specs.declared.plugin.Plugin.{Plugin}
-use Rattle.press_callbacks.specs.Kits.{script_of, script_at, plugin_of, has_two, hook_loads, most_hook_loads}
+use Rattle.press_callbacks.specs.Kits.{script_of, script_at, plugin_of, has_two}
 
 script_step : {A : Type 0} (f : A → List ℕ × List Op) (id : List ℕ) (xs : List A) (i : ℕ) (x : A) → i < length xs → x ≡ get_or xs i x → script_of id (drop i (map f xs)) ≡ cond (bytes_eq (f x).0 id) (Some (f x).1) (script_of id (drop (i + 1) (map f xs)))
 script_step f id [] i x h e = absurd (omega arith)

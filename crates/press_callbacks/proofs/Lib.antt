@@ -2,3 +2,4 @@ pub mod Found
 pub mod Naturals
 pub mod Plays
 pub mod Popped
+pub mod Sames

@@ -56,6 +56,10 @@ by_name name (x ∷ xs) = put_by_name name x (by_name name xs)
 abbrev pub id_of : {t : _} {F : _} {g : _} → Stored t F g → List ℕ
 id_of c = c.id
 
+-- a callback's name beside its script
+abbrev pub named_script : {C : Type 0} → (C → List ℕ) → (C → List Op) → C → List ℕ × List Op
+named_script id script c = (id c, script c)
+
 abbrev pub script_in : {t : _} {F : _} {g : _} → Stored t F g → List Op
 script_in c = c.script
 

@@ -1,6 +1,6 @@
 -- The turn of a script on a call: that of the op at place `turn`, and past the last op Return of the value (own).
 -- A text of parts is their concatenation; a missing argument is the empty text.
-use Rattle.std.specs.Prelude.{ℕ, List, [], ◌∷◌, ◌++◌, Option, Some, None, slice_get, map, ◌≡◌, Result, Ok, bytes_eq, cond}
+use Rattle.std.specs.Prelude.{ℕ, List, [], ◌∷◌, Option, Some, None, slice_get, map, ◌≡◌, Result, Ok, bytes_eq, cond}
 use Rattle.std.specs.List.{flat_map}
 use Rattle.std.specs.declared.alloc.AllocError.{AllocError}
 use Rattle.press_callbacks.specs.declared.script.Part.{Part}

@@ -15,6 +15,7 @@ pub struct Callback<F: Fn(&CallIn) -> Result<Turn, AllocError>> {
 }
 
 impl<F: Fn(&CallIn) -> Result<Turn, AllocError>> Callback<F> {
+    /// The closure may be called on every input, and each Ok that it gives is the script's turn.
     pub fn new(id: CallbackId, script: Script, call: F) -> Callback<F>
         requires callable { F.IsAlwaysCallable call }
         requires plays { PlaysScript (FnReturnsAt F.Fn call) script }
@@ -25,13 +26,14 @@ impl<F: Fn(&CallIn) -> Result<Turn, AllocError>> Callback<F> {
         Callback { id, script, call }
     }
 
+    /// The callback's name.
     pub fn id(&self) -> CallbackId
         ensures { result ≡ self.now.id }
     {
         self.id
     }
 
-    /// What the closure gives on this input.
+    /// What the closure gives on this input; an Ok is the script's turn.
     pub fn turn(&self, input: &CallIn) -> Result<Turn, AllocError>
         requires callable { F.IsAlwaysCallable self.now.call }
         requires plays { PlaysScript (FnReturnsAt F.Fn self.now.call) self.now.script }

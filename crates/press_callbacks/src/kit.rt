@@ -77,4 +77,16 @@ impl Kit {
         }
         None
     }
+
+    pub(crate) fn callbacks(&self) -> &[Stored]
+        ensures { result.now ≡ self.now.callbacks.items }
+    {
+        self.callbacks.as_slice()
+    }
+
+    pub(crate) fn plugins(&self) -> &[Plugin]
+        ensures { result.now ≡ self.now.plugins.items }
+    {
+        self.plugins.as_slice()
+    }
 }

@@ -13,6 +13,7 @@ use crate::stored::Stored;
 
 const MOST_HOOK_LOADS: usize = 1000;
 
+/// A thing with a name and a script.
 pub trait Scripted: Named {
     ghost script: { Self → List Op };
 

@@ -9,6 +9,7 @@ mod kit_fault;
 mod known;
 mod named;
 mod plugin;
+mod same;
 mod script;
 mod stored;
 mod tables;

@@ -8,6 +8,7 @@ use crate::stored::Stored;
 use std::alloc::{AllocError, Global};
 use std::cmp::Ordering;
 
+/// A thing that goes by a name.
 pub trait Named {
     ghost name: { Self → List ℕ };
 
@@ -89,9 +90,7 @@ fn first_after<T: Named>(sorted: &[T], name: &[u8]) -> Option<usize>
     ensures place { result ≡ position (λ y. is_before name.now (T.name y)) sorted.now }
     ensures within { IfSome result (λ i. i < length sorted.now) }
 {
-    sorted
-        .iter()
-        .position(|y| is_before(name, y.name_bytes()))
+    sorted.iter().position(|y| is_before(name, y.name_bytes()))
 }
 
 fn is_before(a: &[u8], b: &[u8]) -> bool

@@ -3,6 +3,7 @@ use press_text::{CallbackId, HookName, Items, Name};
 /// What a plugin puts into the tables at a boot.
 #[derive(Debug, Drop)]
 pub enum Load {
+    /// A callback on a hook, with its priority and the count of arguments that it accepts.
     Hook {
         hook: HookName,
         priority: i64,

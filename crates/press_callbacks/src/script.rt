@@ -3,9 +3,13 @@ use press_text::{CallbackId, HookName, Items, Text};
 /// A piece of a text that a script makes. A missing argument is the empty text.
 #[derive(Debug, Drop)]
 pub enum Part {
+    /// This very text.
     Lit(Text),
+    /// The argument at a place, counted from 0.
     Arg(usize),
+    /// The value so far.
     Value,
+    /// The last answer of the machine.
     Last,
 }
 
@@ -26,18 +30,22 @@ pub enum Ask {
 /// One step of a script.
 #[derive(Debug, Drop)]
 pub enum Op {
+    /// The text is the value from now on.
     Set(Parts),
+    /// Puts a callback on a hook (`add_filter`).
     AddHook {
         hook: HookName,
         callback: CallbackId,
         priority: i64,
         accepted: u32,
     },
+    /// Takes a callback of that priority off a hook (`remove_filter`).
     RemoveHook {
         hook: HookName,
         callback: CallbackId,
         priority: i64,
     },
+    /// Takes all callbacks of a priority off a hook, or all there are (`remove_all_filters`).
     RemoveAll {
         hook: HookName,
         priority: Option<i64>,
@@ -48,17 +56,22 @@ pub enum Op {
         right: Parts,
         n: u16,
     },
+    /// Runs a filter on a value and further arguments (`apply_filters`).
     Apply {
         hook: HookName,
         value: Parts,
         more: Items<Parts>,
     },
+    /// Runs an action on arguments (`do_action`).
     Do {
         hook: HookName,
         args: Items<Parts>,
     },
+    /// Asks the machine.
     Ask(Ask),
+    /// Writes a text to the page.
     Echo(Parts),
+    /// Ends the callback with this text.
     Return(Parts),
 }
 

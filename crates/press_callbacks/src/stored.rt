@@ -31,6 +31,7 @@ impl Stored {
         Stored { id, script, call }
     }
 
+    /// The callback's name.
     pub fn id(&self) -> CallbackId
         ensures { result ≡ self.now.id }
     {

@@ -1,0 +1,5 @@
+mod calls;
+mod fixtures;
+mod kits;
+mod sames;
+mod turns;

@@ -1,0 +1,258 @@
+//! Whether two values are the same, for every value that a kit shows.
+
+ghost use Rattle.std.specs.Prelude.{◌≡◌, ◌↔◌, IsTrue, map};
+ghost use Rattle.press_callbacks.specs.Kits.{kit_view, named_script};
+
+use crate::kit::Kit;
+use crate::known::Scripted;
+use crate::plugin::{Load, Plugin};
+use crate::script::{Ask, Op, Part};
+use press_text::{CallbackId, HookName, Items, Name, Text};
+
+/// Values that can be compared.
+pub trait Same {
+    /// Whether contracts see one value.
+    fn same(&self, other: &Self) -> bool
+        ensures { IsTrue result ↔ (self.now ≡ other.now) };
+}
+
+impl Same for Text {
+    fn same(&self, other: &Text) -> bool {
+        same_bytes(self.as_bytes(), other.as_bytes())
+    }
+}
+
+impl Same for Name {
+    fn same(&self, other: &Name) -> bool {
+        self.is(other)
+    }
+}
+
+impl Same for HookName {
+    fn same(&self, other: &HookName) -> bool {
+        self.is(other)
+    }
+}
+
+impl Same for CallbackId {
+    fn same(&self, other: &CallbackId) -> bool {
+        self.is(*other)
+    }
+}
+
+impl<T: Same> Same for Items<T> {
+    fn same(&self, other: &Items<T>) -> bool {
+        same_items(self.as_slice(), other.as_slice())
+    }
+}
+
+impl Same for Part {
+    fn same(&self, other: &Part) -> bool {
+        match self {
+            Part::Lit(a) => match other {
+                Part::Lit(b) => a.same(b),
+                _ => false,
+            },
+            Part::Arg(m) => match other {
+                Part::Arg(n) => *m == *n,
+                _ => false,
+            },
+            Part::Value => match other {
+                Part::Value => true,
+                _ => false,
+            },
+            Part::Last => match other {
+                Part::Last => true,
+                _ => false,
+            },
+        }
+    }
+}
+
+impl Same for Ask {
+    fn same(&self, other: &Ask) -> bool {
+        match self {
+            Ask::Did(a) => match other {
+                Ask::Did(b) => a.same(b),
+                _ => false,
+            },
+            Ask::Doing(a) => match other {
+                Ask::Doing(b) => a.same(b),
+                _ => false,
+            },
+            Ask::Has(a, c) => match other {
+                Ask::Has(b, d) => a.same(b) && c.same(d),
+                _ => false,
+            },
+        }
+    }
+}
+
+impl Same for Op {
+    fn same(&self, other: &Op) -> bool {
+        match self {
+            Op::Set(a) => match other {
+                Op::Set(b) => a.same(b),
+                _ => false,
+            },
+            Op::AddHook {
+                hook,
+                callback,
+                priority,
+                accepted,
+            } => match other {
+                Op::AddHook {
+                    hook: h,
+                    callback: c,
+                    priority: p,
+                    accepted: a,
+                } => hook.same(h) && callback.same(c) && *priority == *p && *accepted == *a,
+                _ => false,
+            },
+            Op::RemoveHook {
+                hook,
+                callback,
+                priority,
+            } => match other {
+                Op::RemoveHook {
+                    hook: h,
+                    callback: c,
+                    priority: p,
+                } => hook.same(h) && callback.same(c) && *priority == *p,
+                _ => false,
+            },
+            Op::RemoveAll { hook, priority } => match other {
+                Op::RemoveAll {
+                    hook: h,
+                    priority: p,
+                } => hook.same(h) && same_priority(*priority, *p),
+                _ => false,
+            },
+            Op::SkipIf { left, right, n } => match other {
+                Op::SkipIf {
+                    left: l,
+                    right: r,
+                    n: m,
+                } => left.same(l) && right.same(r) && *n == *m,
+                _ => false,
+            },
+            Op::Apply { hook, value, more } => match other {
+                Op::Apply {
+                    hook: h,
+                    value: v,
+                    more: m,
+                } => hook.same(h) && value.same(v) && more.same(m),
+                _ => false,
+            },
+            Op::Do { hook, args } => match other {
+                Op::Do { hook: h, args: a } => hook.same(h) && args.same(a),
+                _ => false,
+            },
+            Op::Ask(a) => match other {
+                Op::Ask(b) => a.same(b),
+                _ => false,
+            },
+            Op::Echo(a) => match other {
+                Op::Echo(b) => a.same(b),
+                _ => false,
+            },
+            Op::Return(a) => match other {
+                Op::Return(b) => a.same(b),
+                _ => false,
+            },
+        }
+    }
+}
+
+impl Same for Load {
+    fn same(&self, other: &Load) -> bool {
+        match self {
+            Load::Hook {
+                hook,
+                priority,
+                callback,
+                accepted,
+            } => match other {
+                Load::Hook {
+                    hook: h,
+                    priority: p,
+                    callback: c,
+                    accepted: a,
+                } => hook.same(h) && *priority == *p && callback.same(c) && *accepted == *a,
+            },
+        }
+    }
+}
+
+impl Same for Plugin {
+    fn same(&self, other: &Plugin) -> bool {
+        self.name.same(&other.name) && self.load.same(&other.load)
+    }
+}
+
+impl Kit {
+    /// Whether the two kits have the same callbacks by name and script and the same plugins by name and loads, in whatever order
+    /// they were given.
+    pub fn same(&self, other: &Kit) -> bool
+        ensures { IsTrue result ↔ (kit_view self.now ≡ kit_view other.now) }
+    {
+        same_scripts(self.callbacks(), other.callbacks())
+            && same_items(self.plugins(), other.plugins())
+    }
+}
+
+fn same_priority(a: Option<i64>, b: Option<i64>) -> bool
+    ensures { IsTrue result ↔ (a ≡ b) }
+{
+    match a {
+        None => match b {
+            None => true,
+            Some(_) => false,
+        },
+        Some(p) => match b {
+            None => false,
+            Some(q) => p == q,
+        },
+    }
+}
+
+fn same_bytes(a: &[u8], b: &[u8]) -> bool
+    ensures { IsTrue result ↔ (a.now ≡ b.now) }
+{
+    a == b
+}
+
+fn same_items<T: Same>(a: &[T], b: &[T]) -> bool
+    ensures { IsTrue result ↔ (a.now ≡ b.now) }
+{
+    if a.len() != b.len() {
+        return false;
+    }
+    for i in 0..a.len() {
+        if !a[i].same(&b[i]) {
+            return false;
+        }
+    }
+    true
+}
+
+// Whether the two have the same names and scripts in the same order.
+fn same_scripts<T: Scripted>(a: &[T], b: &[T]) -> bool
+    ensures { IsTrue result ↔ (map (named_script T.name T.script) a.now ≡ map (named_script T.name T.script) b.now) }
+{
+    if a.len() != b.len() {
+        return false;
+    }
+    for i in 0..a.len() {
+        if !same_script(&a[i], &b[i]) {
+            return false;
+        }
+    }
+    true
+}
+
+fn same_script<T: Scripted>(a: &T, b: &T) -> bool
+    ensures { IsTrue result ↔ (named_script T.name T.script a.now ≡ named_script T.name T.script b.now) }
+{
+    same_bytes(a.name_bytes(), b.name_bytes()) && same_items(a.ops(), b.ops())
+}

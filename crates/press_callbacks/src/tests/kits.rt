@@ -1,0 +1,128 @@
+use crate::same::Same;
+use crate::tests::fixtures::{Naming, appending, called, plugin, script_that_names};
+use crate::{BoxedTurns, CallIn, Kit, KitFault, Stored, Turn, script_turn};
+use press_text::{CallbackId, Name};
+use std::test::Fail;
+
+#[test]
+fn finds_by_name(rt: HostRuntime) -> Result<(), Fail> {
+    let alloc = rt.alloc();
+    let mut callbacks = Vec::new(alloc);
+    for (id, letter) in [("add_b", "b"), ("add_c", "c"), ("add_a", "a")] {
+        let script = appending(alloc, letter)?;
+        let own = appending(alloc, letter)?;
+        assert!(rt; own.same(&script));
+        let call: BoxedTurns = Box::new(alloc, move |i: &CallIn| script_turn(alloc, &own, i))?;
+        callbacks.push(Stored::new(CallbackId::new(id)?, script, call))?;
+    }
+    let plugins = vec![in alloc;
+        plugin(alloc, "two", 2, "add_b", 1)?,
+        plugin(alloc, "one", 1, "add_a", 1)?,
+    ]?;
+    let kit = Kit::build(alloc, callbacks, plugins)?;
+    for (id, want) in [("add_a", "va"), ("add_b", "vb"), ("add_c", "vc")] {
+        let id = CallbackId::new(id)?;
+        let place = kit.place(id).ok_or("no place")?;
+        assert!(rt; kit.at(place).ok_or("nothing there")?.id().is(id));
+        match kit
+            .callback(id)
+            .ok_or("no callback")?
+            .turn(&called(alloc, 0)?)?
+        {
+            Turn::Go(text) => assert_eq!(rt; text.as_str(), want),
+            _ => return Err("no text")?,
+        }
+    }
+    assert!(rt; kit.callback(CallbackId::new("add_d")?).is_none());
+    assert!(rt; kit.place(CallbackId::new("add_d")?).is_none());
+    let found = kit.plugin(&Name::new(alloc, "two")?).ok_or("no plugin")?;
+    assert_eq!(rt; found.load.as_slice().len(), 2);
+    assert!(rt; kit.plugin(&Name::new(alloc, "three")?).is_none());
+    Ok(())
+}
+
+// Two callbacks of one name, or two plugins, also where a name that is not there stands in a script.
+#[test]
+fn refuses_two_names(rt: HostRuntime) -> Result<(), Fail> {
+    let alloc = rt.alloc();
+    for (id, second, known) in [
+        ("add_a", "two", "add_a"),
+        ("add_b", "one", "add_a"),
+        ("add_a", "two", "add_x"),
+        ("add_b", "one", "add_x"),
+    ] {
+        let mut callbacks = Vec::new(alloc);
+        for id in ["add_a", id] {
+            let script = script_that_names(alloc, Naming::Adds, known)?;
+            let own = script_that_names(alloc, Naming::Adds, known)?;
+            assert!(rt; own.same(&script));
+            let call: BoxedTurns = Box::new(alloc, move |i: &CallIn| script_turn(alloc, &own, i))?;
+            callbacks.push(Stored::new(CallbackId::new(id)?, script, call))?;
+        }
+        let plugins = vec![in alloc;
+            plugin(alloc, "one", 1, "add_a", 1)?,
+            plugin(alloc, second, 1001, "add_a", 1)?,
+        ]?;
+        let refused = Kit::build(alloc, callbacks, plugins);
+        assert!(rt;
+            matches!(refused, Err(KitFault::TwoNames)),
+            "at {id} and {second}"
+        );
+    }
+    Ok(())
+}
+
+#[test]
+fn refuses_unknown_callbacks(rt: HostRuntime) -> Result<(), Fail> {
+    let alloc = rt.alloc();
+    for (how, named, loaded, loads) in [
+        (Naming::Adds, "add_x", "add_a", 1),
+        (Naming::Removes, "add_x", "add_a", 1),
+        (Naming::Asks, "add_x", "add_a", 1),
+        (Naming::Adds, "add_a", "add_x", 1),
+        (Naming::Adds, "add_a", "add_x", 1001),
+    ] {
+        let script = script_that_names(alloc, how, named)?;
+        let own = script_that_names(alloc, how, named)?;
+        assert!(rt; own.same(&script));
+        let call: BoxedTurns = Box::new(alloc, move |i: &CallIn| script_turn(alloc, &own, i))?;
+        let callbacks = vec![in alloc; Stored::new(CallbackId::new("add_a")?, script, call)]?;
+        let plugins = vec![in alloc; plugin(alloc, "one", loads, loaded, 1)?]?;
+        let refused = Kit::build(alloc, callbacks, plugins);
+        assert!(rt;
+            matches!(refused, Err(KitFault::UnknownCallback)),
+            "at {how:?} {named} {loaded}"
+        );
+    }
+    Ok(())
+}
+
+// A thousand hook loads are accepted, in one plugin or in two, and not one more.
+#[test]
+fn refuses_too_many_loads(rt: HostRuntime) -> Result<(), Fail> {
+    let alloc = rt.alloc();
+    for (first, second, want) in [
+        (1000, 0, true),
+        (400, 600, true),
+        (1001, 0, false),
+        (400, 601, false),
+    ] {
+        let script = script_that_names(alloc, Naming::Asks, "add_a")?;
+        let own = script_that_names(alloc, Naming::Asks, "add_a")?;
+        assert!(rt; own.same(&script));
+        let call: BoxedTurns = Box::new(alloc, move |i: &CallIn| script_turn(alloc, &own, i))?;
+        let callbacks = vec![in alloc; Stored::new(CallbackId::new("add_a")?, script, call)]?;
+        let plugins = vec![in alloc;
+            plugin(alloc, "one", first, "add_a", 1)?,
+            plugin(alloc, "two", second, "add_a", 1)?,
+        ]?;
+        match Kit::build(alloc, callbacks, plugins) {
+            Ok(_) => assert!(rt; want, "accepted {first} and {second}"),
+            Err(fault) => {
+                assert_eq!(rt; fault, KitFault::BadLoad);
+                assert!(rt; !want, "refused {first} and {second}");
+            }
+        }
+    }
+    Ok(())
+}
