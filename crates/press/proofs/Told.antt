@@ -1,5 +1,5 @@
 -- A text was written in front part, whichever way the write ended.
-use Rattle.std.proofs.Common.{◌≡◌, ℕ, List, length, take, Result, Ok, Err, OnOk, OnErr, sym, subst}
+use Rattle.std.proofs.Common.{ℕ, List, length, Result, Ok, Err, OnOk, OnErr, sym, subst}
 use Rattle.std.specs.Prelude.{Option}
 use Rattle.std.specs.Io.KnownBytes.{Appends}
 use Rattle.press.specs.Streams.{AppendsFront}

@@ -1,6 +1,6 @@
 -- A command applied to a site: the moment moves on, a known token changes nothing more, and otherwise the command's checks and its effect
 -- come, and its outcome is kept under the token for good; a refused command has no effect (own).
-use Rattle.std.specs.Prelude.{ℕ, max, List, [], ◌∷◌, Bool, true, false, not, if◌then◌else◌, Option, Some, None, Result, Ok, Err, is_some}
+use Rattle.std.specs.Prelude.{ℕ, max, List, [], ◌∷◌, if◌then◌else◌, Option, Some, None, Result, Ok, Err, is_some}
 use Rattle.press_callbacks.specs.declared.plugin.Plugin.{Plugin}
 use Rattle.press_callbacks.specs.Kits.{plugin_of}
 use Rattle.press.specs.declared.command.Command.{Command}

@@ -2,7 +2,7 @@
 -- (Plugin Handbook, Hooks: `plugins_loaded`, `init`, `wp_loaded`, `wp_head`, `the_title`, `the_content`, `wp_footer`; the template is own).
 use Rattle.std.specs.Prelude.{◌≡◌, ℕ, List, [], ◌∷◌, ◌++◌, Option, Some, None, Result, Ok, Err, codes, decimal, find, nat_eq}
 use Rattle.press_text.specs.Escapes.{escaped}
-use Rattle.press_callbacks.specs.Kits.{KitView, Scripts}
+use Rattle.press_callbacks.specs.Kits.{KitView}
 use Rattle.press_run.specs.declared.job.Fire.{Fire}
 use Rattle.press_run.specs.declared.run_fault.RunFault.{RunFault}
 use Rattle.press_run.specs.declared.run_fault.RunFault.TheVariants.{Limit, NoMemory}

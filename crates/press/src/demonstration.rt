@@ -157,7 +157,10 @@ fn plugins(alloc: Global) -> Result<Vec<Plugin>, AllocError>
         on_title(alloc, 10, "add_b")?,
         on_title(alloc, 5, "add_c")?,
     ]?;
-    Ok(vec![in alloc; plugin(alloc, "grow", grow)?, plugin(alloc, "letters", letters)?]?)
+    Ok(vec![in alloc;
+        plugin(alloc, "grow", grow)?,
+        plugin(alloc, "letters", letters)?,
+    ]?)
 }
 
 fn plugin(alloc: Global, name: &str, load: Vec<Load>) -> Result<Plugin, AllocError>

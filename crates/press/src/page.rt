@@ -149,7 +149,11 @@ impl Rendering {
     {
         let begun = template::article_part(alloc, post.id)?;
         self.puts(begun.as_str())?;
-        self.puts_filtered(kit, hook_named(alloc, "the_title")?, title_args(alloc, post)?)?;
+        self.puts_filtered(
+            kit,
+            hook_named(alloc, "the_title")?,
+            title_args(alloc, post)?,
+        )?;
         self.puts("</a></h2>\n")
     }
 
@@ -191,9 +195,12 @@ impl Rendering {
     ) -> Result<(), RunFault>
         ensures { Steps (puts_filtered (callbacks_of (scripts_in kit.now)) hook args (state_in self.old)) (state_in self.new) result }
     {
-        let text = self
-            .machine
-            .run(kit, &mut self.tables, Job::Apply { hook, args }, &mut self.out)?;
+        let text = self.machine.run(
+            kit,
+            &mut self.tables,
+            Job::Apply { hook, args },
+            &mut self.out,
+        )?;
         self.puts(text.as_str())
     }
 

@@ -13,7 +13,9 @@ use std::marker::Model;
 use thiserror::Error;
 
 const MOST_TITLE: usize = 1024;
+
 const MOST_CONTENT: usize = 65_536;
+
 const MOST_POSTS: usize = 10_000;
 
 /// Why a command is refused.

@@ -1,5 +1,5 @@
 -- The innermost run, which is the last of the runs in the order in which they began.
-use Rattle.std.proofs.Common.{◌≡◌, refl, sym, ◌∙◌, ap, subst, ℕ, ◌+◌, ◌<◌, List, [], ◌∷◌, length, get_or, set, take, arith, reverse, true, nat_eq}
+use Rattle.std.proofs.Common.{◌≡◌, sym, ◌∙◌, ap, subst, ℕ, ◌+◌, List, [], ◌∷◌, length, get_or, set, take, arith, reverse, true}
 use Rattle.std.proofs.lemmas.List.{length-reverse}
 use Rattle.std.proofs.lemmas.Bool.{eqb-true}
 use Rattle.press_hooks.specs.declared.row.Row.{Row}

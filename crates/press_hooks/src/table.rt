@@ -73,7 +73,14 @@ impl HookTable {
         ensures rows { IfOk result (λ b. self.new ≡ with_rows (add_row hook.now callback priority accepted self.old.rows) self.old) }
         ensures refused { OnErr result (self.new ≡ self.old) }
     {
-        add_row(self.alloc, &mut self.rows, hook, callback, priority, accepted)
+        add_row(
+            self.alloc,
+            &mut self.rows,
+            hook,
+            callback,
+            priority,
+            accepted,
+        )
     }
 
     /// Takes out the entry of that callback at that priority; whether one stood there (`remove_filter`).

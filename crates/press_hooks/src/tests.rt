@@ -1,0 +1,4 @@
+mod edits;
+mod limits;
+mod open_runs;
+mod steps;

@@ -1,13 +1,12 @@
 -- One step of each recursion of the meaning, as the machine takes it.
-use Rattle.std.proofs.Common.{◌≡◌, refl, sym, ◌∙◌, ap, subst, ℕ, zero, suc, ◌+◌, ◌-◌, ◌<◌, ◌≤◌, Bool, true, false, List, [], ◌∷◌, ◌++◌, take, drop, get_or, length, Option, add-one, drop-cons, Some, None, Err, arith}
+use Rattle.std.proofs.Common.{◌≡◌, refl, sym, ◌∙◌, ap, ℕ, suc, ◌+◌, ◌-◌, ◌<◌, ◌≤◌, true, List, [], ◌∷◌, ◌++◌, take, drop, get_or, length, Option, add-one, drop-cons, Some, None, Err, arith}
 use Rattle.std.proofs.Math.ListN.{drop_of_length-le}
 use Rattle.std.proofs.Math.Seq.{take-append_seam}
 use Rattle.std.proofs.lemmas.List.{length-append}
 use Rattle.press_hooks.specs.declared.entry.Entry.{Entry}
 use Rattle.press_hooks.specs.declared.row.Row.{Row}
 use Rattle.press_hooks.specs.declared.open_run.OpenRun.{OpenRun}
-use Rattle.press_hooks.specs.NextEntry.{Table, is_innermost, without_innermost, entry_next, next_entry, next_run, runs_next, run_advanced, run_begun, run_ended, begun}
-use Rattle.press_hooks.specs.HookRows.{has_rows}
+use Rattle.press_hooks.specs.NextEntry.{Table, is_innermost, without_innermost, entry_next, next_entry, next_run, runs_next, run_advanced}
 use Rattle.press_callbacks.specs.declared.script.CallIn.{CallIn}
 use Rattle.press_callbacks.specs.declared.script.Op.{Op}
 use Rattle.press_callbacks.specs.declared.script.Turn.{Turn}
@@ -16,8 +15,8 @@ use Rattle.press_callbacks.specs.Kits.{Scripts, script_of}
 use Rattle.press_run.specs.declared.step.Kind.{Kind}
 use Rattle.press_run.specs.declared.job.Fire.{Fire}
 use Rattle.press_run.specs.Counts.{Counts}
-use Rattle.press_run.specs.Run.{◌>>=◌, State, Answer, answer, Meaning, Stepped, Goes, Ends, run_entries, run_where, run_hook, do_hook, do_fires, play, at_depth, call_entry, after_step, counted_step, first_text, handed_on, hook_call, fuel, or_empty, without_last}
-use Rattle.press_run.specs.Outcome.{Stage, Around, around, around_innermost, innermost, state_of, Gives, GivesWithin, GivesStep}
+use Rattle.press_run.specs.Run.{◌>>=◌, State, Answer, answer, Meaning, Stepped, Goes, Ends, run_entries, do_hook, do_fires, play, at_depth, call_entry, after_step, counted_step, first_text, handed_on, hook_call, fuel, or_empty, without_last}
+use Rattle.press_run.specs.Outcome.{Stage, Around, innermost, state_of, Gives, GivesWithin, GivesStep}
 use Rattle.press_run.specs.declared.run_fault.RunFault.{RunFault}
 use Rattle.press_run.specs.declared.run_fault.RunFault.TheVariants.{Limit, NoMemory}
 

@@ -10,7 +10,7 @@ use Rattle.press_run.specs.declared.step.Step.TheVariants as step
 use Rattle.press_run.specs.Counts.{Counts}
 use Rattle.press_run.specs.declared.job.Job.{Job}
 use Rattle.press_run.specs.declared.job.Job.TheVariants.{Fires, Apply}
-use Rattle.press_run.specs.Run.{Answer, answer, State, Stepped, Goes, Ends, within, one_turn, do_fires, apply_hook, callbacks_of, most_turns}
+use Rattle.press_run.specs.Run.{Answer, answer, State, Stepped, Goes, Ends, within, do_fires, apply_hook, callbacks_of, most_turns}
 use Rattle.press_callbacks.specs.Kits.{Scripts}
 use Rattle.std.specs.Prelude.{String, string_bytes}
 

@@ -16,12 +16,7 @@ pub trait Callbacks {
         ensures { script_at result (scripts self.now) ≡ script_of id (scripts self.now) };
 
     /// What the closure of the callback at a place gives; without a place, the value is returned.
-    fn turn(
-        &self,
-        alloc: Global,
-        place: Option<usize>,
-        input: &CallIn,
-    ) -> Result<Turn, AllocError>
+    fn turn(&self, alloc: Global, place: Option<usize>, input: &CallIn) -> Result<Turn, AllocError>
         ensures { IfOk result (λ t. t ≡ turn_of (or_empty (script_at place (scripts self.now))) input.now) };
 }
 

@@ -7,12 +7,11 @@ ghost use Rattle.press_run.specs.Outcome.{Gives, GivesWithin, GivesStep, GivesJo
 
 use crate::answers::{count_of, decimal, decimal_or_empty, has_hook, one_if};
 use crate::callbacks::Callbacks;
-use crate::edits;
 use crate::job::{Fire, Job};
 use crate::out::Out;
 use crate::run_fault::RunFault;
 use crate::step::{Kind, Step, further, with_last, with_value};
-use crate::texts;
+use crate::{edits, texts};
 use press_callbacks::{Ask, CallIn, Kit, Tables, Turn};
 use press_hooks::RunId;
 use press_text::{CallbackId, HookName, Items, Text};
@@ -74,7 +73,16 @@ impl Machine {
         let text = match job {
             Job::Fires(fires) => self.do_fires(alloc, kit, tables, out, fires.as_slice())?,
             Job::Apply { hook, args } => {
-                self.run_hook(alloc, kit, tables, out, MOST_OPEN, Kind::Filter, &hook, args)?
+                self.run_hook(
+                    alloc,
+                    kit,
+                    tables,
+                    out,
+                    MOST_OPEN,
+                    Kind::Filter,
+                    &hook,
+                    args,
+                )?
             }
         };
         Ok(text.into_string())
@@ -134,7 +142,7 @@ impl Machine {
         ensures { Gives (run_hook (at_depth depth (K.scripts kit.now)) kind hook.now args (state_of (stage tables.old self.old out.old))) (around (stage tables.old self.old out.old)) (stage tables.new self.new out.new) result }
     {
         if !tables.hooks.has_any(hook) {
-            return Ok(texts::first_text(alloc, &args)?);
+            return Ok(texts::into_first(alloc, args));
         }
         self.enter(hook)?;
         let run = tables.hooks.begin(hook)?;
@@ -163,7 +171,7 @@ impl Machine {
     {
         for _entry in 0..FUEL {
             let Some(entry) = tables.hooks.next(run)? else {
-                return Ok(texts::first_text(alloc, &args)?);
+                return Ok(texts::into_first(alloc, args));
             };
             let call = texts::hook_call(alloc, &args, entry.accepted)?;
             let text = self.callback(alloc, kit, tables, out, depth, entry.callback, call)?;

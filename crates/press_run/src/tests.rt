@@ -1,0 +1,10 @@
+mod boots;
+mod bytes;
+mod copies;
+mod jobs;
+mod kits;
+mod memory;
+mod rows;
+mod says;
+mod turns;
+mod worked;

@@ -10,7 +10,17 @@ use press_callbacks::{CallIn, Turn};
 use press_text::{Items, Text};
 use std::alloc::{AllocError, Global};
 
-pub fn first_text(alloc: Global, texts: &Items<Text>) -> Result<Text, AllocError>
+// The first text itself, without a copy.
+pub fn into_first(alloc: Global, texts: Items<Text>) -> Text
+    ensures { result ≡ first_text texts }
+{
+    match texts.into_vec().into_iter().next() {
+        None => Text::new(alloc),
+        Some(t) => t,
+    }
+}
+
+fn first_text(alloc: Global, texts: &Items<Text>) -> Result<Text, AllocError>
     ensures { IfOk result (λ t. t ≡ first_text texts.now) }
 {
     match texts.as_slice().first() {

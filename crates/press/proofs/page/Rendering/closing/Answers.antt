@@ -1,9 +1,4 @@
-use Rattle.std.proofs.Common.{◌≡◌, sym, ap, List, []}
 use Rattle.std.proofs.lemmas.Result.{err_from_is_err_and}
-use Rattle.press_run.specs.Run.{callbacks_of}
-use Rattle.press_callbacks.specs.Kits.{scripts_in}
-use Rattle.press.specs.Page.{Stops, fires, puts}
-use Rattle.press.specs.Rendering.{state_in}
 use Rattle.press.proofs.Pages.{stops_after, goes_after}
 use Rattle.press.proofs.page.Rendering.closing.Goals as goal
 

@@ -1,11 +1,10 @@
-use Rattle.std.proofs.Common.{◌≡◌, ◌∙◌, refl, sym, ap, subst, ℕ, ◌-◌, ◌+◌, ◌*◌, ◌≤◌, suc, List, take, Option, Some, None, arith}
+use Rattle.std.proofs.Common.{◌≡◌, ◌∙◌, sym, ap, subst, ℕ, ◌-◌, ◌+◌, suc, List, take, Option, Some, None, arith}
 use Rattle.std.proofs.lemmas.Result.{err_from_is_err_and}
-use Rattle.press_hooks.specs.declared.entry.Entry.{Entry}
-use Rattle.press_hooks.specs.NextEntry.{entry_next, without_innermost}
+use Rattle.press_hooks.specs.NextEntry.{entry_next}
 use Rattle.press_callbacks.specs.declared.script.CallIn.{CallIn}
 use Rattle.press_callbacks.specs.declared.script.Op.{Op}
-use Rattle.press_callbacks.specs.Kits.{script_of, script_at}
-use Rattle.press_run.specs.Run.{Answer, answer, State, at_depth, play, fuel, hook_call, first_text, or_empty, handed_on}
+use Rattle.press_callbacks.specs.Kits.{script_at}
+use Rattle.press_run.specs.Run.{Answer, answer, at_depth, play, fuel, hook_call, or_empty}
 use Rattle.press_run.specs.Outcome.{Gives, Around, around, around_innermost, stage, state_of}
 use Rattle.press_run.proofs.Steps.{no_depth, some_depth, no_entries, no_turns, at_table, entries_end, entries_limit, entries_more, around_kept, open_kept, turns_end, turns_more, turns_limit, within_err, step_err}
 use Rattle.press_run.proofs.machine.Machine.+run.Goals as goal
@@ -19,7 +18,7 @@ callback-returns g t c =
     let s = state_of (stage c.args.tables.now c.args.self.now c.args.out.now) in
     let opened : at_depth c.args.depth (g.K.Callbacks.scripts c.args.kit.now) c.args.id c.args.call s ≡ play (at_depth (c.args.depth - 1) (g.K.Callbacks.scripts c.args.kit.now)) (or_empty (script_at c.place-place.result (g.K.Callbacks.scripts c.args.kit.now))) fuel c.args.call s
     = ap (λ n. at_depth n (g.K.Callbacks.scripts c.args.kit.now) c.args.id c.args.call s) d ∙ some_depth (c.args.depth - 1) _ _ _ _
-        ∙ ap (λ (o : Option (List Op)). play (at_depth (c.args.depth - 1) (g.K.Callbacks.scripts c.args.kit.now)) (or_empty o) fuel c.args.call s) (sym c.place-place.ensures) in
+    ∙ ap (λ (o : Option (List Op)). play (at_depth (c.args.depth - 1) (g.K.Callbacks.scripts c.args.kit.now)) (or_empty o) fuel c.args.call s) (sym c.place-place.ensures) in
     subst (λ (m : Option Answer). Gives m (around (stage c.args.tables.now c.args.self.now c.args.out.now)) (stage c.play.new.tables c.play.new.self c.play.new.out) c.play.result) (sym opened) c.play.ensures
 
 pub entries-returns-in_default-clause-given : goal.entries-returns-in_default-clause-given
@@ -28,7 +27,7 @@ entries-returns-in_default-clause-given g t c =
     let none : None ≡ entry_next c.loop-entry.tables.hooks.rows c.loop-entry.tables.hooks.open_runs = sym c.in_default.is ∙ c.in_ok-entry.ensures.given in (
       sym c.loop-entry.invariant.meaning
           ∙ (entries_end (at_depth c.args.depth (g.K.Callbacks.scripts c.args.kit.now)) c.args.kind c.loop-entry.args c.args.run c.loop-entry.tables.hooks c.next.new.self c.loop-entry.self c.loop-entry.out _ _ f c.loop-entry.invariant.is_open c.in_ok-entry.ensures.advanced none
-          ∙ ap (λ (x : List ℕ). answer x (state_of (at_table c.next.new.self c.loop-entry.self c.loop-entry.out))) (sym c.in_ok-first_text.ensures)),
+          ∙ ap (λ (x : List ℕ). answer x (state_of (at_table c.next.new.self c.loop-entry.self c.loop-entry.out))) (sym c.into_first.ensures)),
       ap (λ r. record { open_runs = r; doing = c.loop-entry.self.doing }) (around_kept (at_depth c.args.depth (g.K.Callbacks.scripts c.args.kit.now)) c.args.kind c.loop-entry.args c.args.run c.loop-entry.tables.hooks c.next.new.self c.loop-entry.self c.loop-entry.out _ _ f c.loop-entry.invariant.is_open c.in_ok-entry.ensures.advanced) ∙ c.loop-entry.invariant.around,
     )
 

@@ -1,0 +1,187 @@
+-- Worked rows, computed by the definitions. A filter `add_a` appends the letter a.
+use Rattle.std.specs.Prelude.{◌≡◌, refl, ℕ, ℤ, pos, negsuc, List, [], ◌∷◌, false, Option, Some, None, option_map, codes, count_by, bytes_eq}
+use Rattle.press_hooks.specs.declared.row.Row.{Row}
+use Rattle.press_hooks.specs.HookRows.{add_row, remove_row, remove_rows, has_rows, priority_of}
+use Rattle.press_callbacks.specs.declared.script.Op.{Op}
+use Rattle.press_callbacks.specs.declared.script.Op.TheVariants as op
+use Rattle.press_callbacks.specs.declared.script.Ask.TheVariants as ask
+use Rattle.press_callbacks.specs.declared.script.Part.TheVariants.{Lit, Value, Last}
+use Rattle.press_callbacks.specs.Kits.{Scripts}
+use Rattle.press_run.specs.Run.{State, Answer, apply_hook, callbacks_of, run_entries, play, at_depth, do_fires}
+
+abbrev title : List ℕ
+title = codes "the_title"
+
+abbrev appends : List ℕ → Op
+appends letter = op.Set (Value ∷ Lit letter ∷ [])
+
+-- callbacks and their scripts
+abbrev a : List ℕ
+a = codes "add_a"
+
+abbrev b : List ℕ
+b = codes "add_b"
+
+abbrev z : List ℕ
+z = codes "add_z"
+
+abbrev filter_a : List ℕ × List Op
+filter_a = (a, appends (codes "a") ∷ [])
+
+abbrev filter_b : List ℕ × List Op
+filter_b = (b, appends (codes "b") ∷ [])
+
+abbrev filter_z : List ℕ × List Op
+filter_z = (z, appends (codes "z") ∷ [])
+
+-- nothing counted and nothing written
+abbrev start : List Row → State
+start rows = record { rows = rows; did = []; doing = []; turns = 0; output = [] }
+
+abbrev applied : Scripts → List ℕ → List Row → Option Answer
+applied scripts text rows = apply_hook (callbacks_of scripts) title (text ∷ []) (start rows)
+
+-- the text that the filters give to x
+abbrev text_by : Scripts → List Row → Option (List ℕ)
+text_by scripts rows = option_map (λ (w : Answer). w.text) (applied scripts (codes "x") rows)
+
+abbrev rows_after : Option Answer → List Row
+rows_after None = []
+rows_after (Some w) = w.state.rows
+
+-- the same on the rows that a first such run leaves
+abbrev again_by : Scripts → List Row → Option (List ℕ)
+again_by scripts rows = text_by scripts (rows_after (applied scripts (codes "x") rows))
+
+-- ---- add-remove: a is added again at its priority, and keeps its place
+
+abbrev a_b : List Row
+a_b = add_row title a (pos 10) 2 (add_row title b (pos 10) 1 (add_row title a (pos 10) 1 []))
+
+abbrev letters : Scripts
+letters = filter_a ∷ filter_b ∷ []
+
+pub kept_place : text_by letters a_b ≡ Some (codes "xab")
+unfolding run_entries play at_depth do_fires
+kept_place = refl
+
+pub has_ten : priority_of title a a_b ≡ Some (pos 10)
+has_ten = refl
+
+pub removed_other : text_by letters (remove_row title a (pos 11) a_b) ≡ Some (codes "xab")
+unfolding run_entries play at_depth do_fires
+removed_other = refl
+
+pub removed_one : text_by letters (remove_row title a (pos 10) a_b) ≡ Some (codes "xb")
+unfolding run_entries play at_depth do_fires
+removed_one = refl
+
+pub removed_all : text_by letters (remove_rows title None a_b) ≡ Some (codes "x")
+unfolding run_entries play at_depth do_fires
+removed_all = refl
+
+pub has_none : has_rows title (remove_rows title None a_b) ≡ false
+has_none = refl
+
+-- ---- grow-running: a adds d at its own priority, e above it and f below
+
+abbrev add : List ℕ → ℤ → Op
+add callback priority = op.AddHook title callback priority 1
+
+abbrev growing : Scripts
+growing =
+    (a, add (codes "add_d") (pos 10) ∷ add (codes "add_e") (pos 11) ∷ add (codes "add_f") (pos 9) ∷ appends (codes "a") ∷ [])
+    ∷ (codes "add_d", appends (codes "d") ∷ []) ∷ (codes "add_e", appends (codes "e") ∷ []) ∷ (codes "add_f", appends (codes "f") ∷ []) ∷ []
+
+abbrev a_alone : List Row
+a_alone = add_row title a (pos 10) 1 []
+
+pub grown_once : text_by growing a_alone ≡ Some (codes "xae")
+unfolding run_entries play at_depth do_fires
+grown_once = refl
+
+pub grown_twice : again_by growing a_alone ≡ Some (codes "xfade")
+unfolding run_entries play at_depth do_fires
+grown_twice = refl
+
+-- ---- remove-running: a removes b at its own priority; and a, which stands alone at its priority, removes itself
+
+abbrev dropping : Scripts
+dropping = (a, op.RemoveHook title b (pos 10) ∷ appends (codes "a") ∷ []) ∷ filter_b ∷ []
+
+pub dropped_once : text_by dropping a_b ≡ Some (codes "xab")
+unfolding run_entries play at_depth do_fires
+dropped_once = refl
+
+pub dropped_twice : again_by dropping a_b ≡ Some (codes "xa")
+unfolding run_entries play at_depth do_fires
+dropped_twice = refl
+
+abbrev leaving : Scripts
+leaving = (a, op.RemoveHook title a (pos 10) ∷ appends (codes "a") ∷ []) ∷ filter_z ∷ []
+
+abbrev a_z : List Row
+a_z = add_row title z (pos 12) 1 a_alone
+
+pub left_once : text_by leaving a_z ≡ Some (codes "xaz")
+unfolding run_entries play at_depth do_fires
+left_once = refl
+
+pub left_twice : again_by leaving a_z ≡ Some (codes "xz")
+unfolding run_entries play at_depth do_fires
+left_twice = refl
+
+-- ---- extreme-priorities: z, at the greatest priority, adds b there
+
+abbrev ends_rows : List Row
+ends_rows = add_row title z (pos 9223372036854775807) 1 (add_row title a (negsuc 9223372036854775807) 1 [])
+
+abbrev ends : Scripts
+ends = filter_a ∷ filter_b ∷ (z, add b (pos 9223372036854775807) ∷ appends (codes "z") ∷ []) ∷ []
+
+pub ends_once : text_by ends ends_rows ≡ Some (codes "xaz")
+unfolding run_entries play at_depth do_fires
+ends_once = refl
+
+pub ends_twice : again_by ends ends_rows ≡ Some (codes "xazb")
+unfolding run_entries play at_depth do_fires
+ends_twice = refl
+
+-- ---- did-doing-same: an action without entries is counted and is never running; the callback's own hook is
+
+abbrev ping : List ℕ
+ping = codes "ping"
+
+abbrev asking : Scripts
+asking =
+    (a, op.Do ping [] ∷ op.Do ping [] ∷ op.Ask (ask.Doing ping) ∷ op.Set (Value ∷ Last ∷ []) ∷ op.Ask (ask.Doing title) ∷ op.Set (Value ∷ Last ∷ []) ∷ [])
+    ∷ []
+
+pub asked : text_by asking a_alone ≡ Some (codes "x1")
+unfolding run_entries play at_depth do_fires
+asked = refl
+
+-- (the count itself: `decimal` does not compute here)
+pub counted : option_map (λ (w : Answer). count_by (bytes_eq ping) w.state.did) (applied asking (codes "x") a_alone) ≡ Some 2
+unfolding run_entries play at_depth do_fires
+counted = refl
+
+-- ---- again: a applies its own hook; and the same while its value has fewer than 32 letters, one for each open callback
+
+abbrev applying : Scripts
+applying = (a, op.Apply title (Value ∷ []) [] ∷ op.Return (Last ∷ []) ∷ []) ∷ []
+
+pub at_limit : text_by applying a_alone ≡ None
+unfolding run_entries play at_depth do_fires
+at_limit = refl
+
+abbrev applying_until : List ℕ → Scripts
+applying_until letters = (a, op.SkipIf (Value ∷ []) (Lit letters ∷ []) 2 ∷ op.Apply title (Value ∷ Lit (codes "a") ∷ []) [] ∷ op.Return (Last ∷ []) ∷ []) ∷ []
+
+pub open_32 : option_map (λ (w : Answer). w.text) (applied (applying_until (codes "aaaaaaaaaaaaaaaaaaaaaaaaaaaaaaaa")) (codes "a") a_alone) ≡ Some (codes "aaaaaaaaaaaaaaaaaaaaaaaaaaaaaaaa")
+unfolding run_entries play at_depth do_fires
+open_32 = refl
+
+pub open_33 : option_map (λ (w : Answer). w.text) (applied (applying_until (codes "aaaaaaaaaaaaaaaaaaaaaaaaaaaaaaaaa")) (codes "a") a_alone) ≡ None
+unfolding run_entries play at_depth do_fires
+open_33 = refl
