@@ -3,18 +3,18 @@ use std::alloc::{AllocError, Global};
 
 /// What a run without words left: its status, what it printed, and what it told of a fault.
 #[derive(Drop)]
-pub struct Ran {
+pub struct EndedRun {
     pub status: u8,
     pub out: Vec<u8>,
     pub told: Vec<u8>,
 }
 
-pub fn ran(rt: &impl AllocGlobal, file: &[u8]) -> Ran {
+pub fn ran(rt: &impl AllocGlobal, file: &[u8]) -> EndedRun {
     let mut input = file;
     let mut out: Vec<u8> = Vec::new(rt.alloc());
     let mut told: Vec<u8> = Vec::new(rt.alloc());
     let status = run(rt, &[], &mut input, &mut out, &mut told);
-    Ran { status, out, told }
+    EndedRun { status, out, told }
 }
 
 /// The letter `a` so many times.
