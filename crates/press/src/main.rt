@@ -16,23 +16,27 @@ mod template;
 #[cfg(test)]
 mod tests;
 
-use std::env;
+use crate::fault::ReplayFault;
 use std::process::ExitCode;
+use std::{env, io};
 
-// The words after the program's name, or none where they can't be had.
-fn words_of(rt: &HostRuntime) -> Option<Vec<String>> {
+// The words after the program's name.
+fn words_of(rt: &HostRuntime) -> io::Result<Vec<String>> {
     let mut words = Vec::new(rt.alloc());
-    for word in env::args(rt).ok()?.skip(1) {
-        words.push(word).ok()?;
+    for word in env::args(rt)?.skip(1) {
+        words.push(word)?;
     }
-    Some(words)
+    Ok(words)
 }
 
 fn main(rt: HostRuntime) -> ExitCode {
     let mut error = rt.stderr();
     let status = match words_of(&rt) {
-        Some(words) => run::run(&rt, &words, &mut rt.stdin(), &mut rt.stdout(), &mut error),
-        None => run::refuse(&mut error),
+        Ok(words) => run::run(&rt, &words, &mut rt.stdin(), &mut rt.stdout(), &mut error),
+        Err(e) if e.kind() == io::ErrorKind::OutOfMemory => {
+            run::fail(ReplayFault::NoMemory, &mut error)
+        }
+        Err(_) => run::refuse(&mut error),
     };
     ExitCode::from(status)
 }

@@ -42,7 +42,8 @@ pub fn refuse<E: Write>(error: &mut E) -> u8
     2
 }
 
-fn fail<E: Write>(fault: ReplayFault, error: &mut E) -> u8
+/// Tells a fault: the line `press: fault N` on the errors, and status 2.
+pub fn fail<E: Write>(fault: ReplayFault, error: &mut E) -> u8
     ensures status { result ≡ 2 }
     ensures told { AppendsFront (E.contents error.old) (E.contents error.new) (fault_line fault) }
 {
