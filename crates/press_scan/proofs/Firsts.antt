@@ -1,0 +1,25 @@
+-- Loops that look for the first place.
+use Rattle.std.proofs.Common.{◌≡◌, ℕ, ◌+◌, ◌<◌, List, length, get_or, arith, inl, inr, subst}
+use Rattle.std.proofs.lemmas.Bool.{cases_lt}
+use Rattle.std.proofs.lemmas.List.{get_or_past}
+use Rattle.press_scan.specs.Places.{At, NoneBetween, NoneFrom}
+
+pub none_more : (P : ℕ → Type 0) (from i : ℕ) → NoneBetween P from i → (P i → ⊥) → NoneBetween P from (i + 1)
+none_more P from i before here k a b p = elim (cases_lt k i) [
+  | inl lt ↦ before k a lt p
+  | inr ge ↦ (let e : k ≡ i = omega arith in here (subst P e p))
+]
+
+pub none_yet : (P : ℕ → Type 0) (from : ℕ) → NoneBetween P from from
+none_yet P from k a b p = absurd (omega arith)
+
+-- what holds of no place of the text holds of no place at all
+pub none_at_all : (P : ℕ → Type 0) (from n : ℕ) → ((k : ℕ) → P k → k < n) → NoneBetween P from n → NoneFrom P from
+none_at_all P from n within before k a p = before k a (within k p) p
+
+-- a byte that isn't 0 stands in the text
+pub at_within : (text : List ℕ) (b k : ℕ) → 0 < b → At text b k → k < length text
+at_within text b k some h = elim (cases_lt k (length text)) [
+  | inl lt ↦ lt
+  | inr ge ↦ (let z : get_or text k 0 ≡ 0 = get_or_past text k 0 ge in absurd (omega arith))
+]

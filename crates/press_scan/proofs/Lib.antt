@@ -1,0 +1,17 @@
+pub mod Computes
+pub mod Cuts
+pub mod Edges
+pub mod Firsts
+pub mod Forms
+pub mod Fronts
+pub mod Gathers
+pub mod Heads
+pub mod Lists
+pub mod Missings
+pub mod Names
+pub mod OneReading
+pub mod OneToken
+pub mod Parts
+pub mod Rows
+pub mod Sought
+pub mod Tells

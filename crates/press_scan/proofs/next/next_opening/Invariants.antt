@@ -1,0 +1,7 @@
+use Rattle.press_scan.specs.Tags.{names_of}
+use Rattle.press_scan.specs.Places.{NoneBetween}
+use Rattle.press_scan.specs.Shortcodes.{HasShortcode}
+use Rattle.press_scan.proofs.next.next_opening.Given as goal
+
+abbrev pub invariant-loop-place : goal.invariant-loop-place
+invariant-loop-place l = NoneBetween (HasShortcode l.text (names_of l.tags)) l.fn.from l.place

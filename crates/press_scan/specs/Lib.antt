@@ -1,0 +1,12 @@
+pub mod Tags
+pub mod Places
+pub mod Shortcodes
+pub mod Openings
+pub mod Parts
+pub mod Missing
+pub mod Scans
+pub mod Tokens
+pub mod Attributes
+pub mod Seeking
+pub mod FirstShortcode
+pub mod AttributesOf

@@ -1,0 +1,41 @@
+ghost use Rattle.std.specs.Prelude.{◌≡◌};
+ghost use Rattle.press_scan.specs.Attributes.{has_name, has_place, is_key};
+
+use press_text::Text;
+
+/// What an attribute goes by: its name, or its number among the values without a name.
+#[derive(Debug, Drop)]
+pub enum AttKey {
+    Name(Text),
+    Place(u32),
+}
+
+impl AttKey {
+    /// Whether the two keys are the same, byte by byte. A name of digits is no number.
+    pub fn is(&self, other: &AttKey) -> bool
+        ensures { result ≡ is_key self.now other.now }
+    {
+        match other {
+            AttKey::Name(name) => self.is_name(name.as_str()),
+            AttKey::Place(place) => self.is_place(*place),
+        }
+    }
+
+    pub fn is_name(&self, name: &str) -> bool
+        ensures { result ≡ has_name self.now name.now }
+    {
+        match self {
+            AttKey::Name(known) => known.as_str() == name,
+            AttKey::Place(_) => false,
+        }
+    }
+
+    fn is_place(&self, place: u32) -> bool
+        ensures { result ≡ has_place self.now place }
+    {
+        match self {
+            AttKey::Name(_) => false,
+            AttKey::Place(known) => *known == place,
+        }
+    }
+}

@@ -1,0 +1,254 @@
+//! A text, taken step by step.
+//!
+//! With the same tags at each step a scan reads each byte a bounded number of times for each tag, also where brackets and closing tags are missing:
+//! where no `]` stands ahead no later place has a shortcode, so the rest is taken at once; a name that has no closing tag is remembered with the place
+//! from which it has none, and looked for no more. A step that stops in front of a shortcode finds it a second time in the next one.
+//! Where the tags change between steps, each name that is new can cost one more search to the end of the text.
+
+ghost use Rattle.std.specs.Prelude.{IsSome, IfSome, IfNone, ◌≡◌, ◌+◌, ◌-◌, ◌<◌, ◌≤◌, ◌++◌, ◌∷◌, ◌⊎◌, [], IsTrue, length, IfOk, OnOk, OnErr, IfErr, MatchResult, string_bytes, slice_range, Some, None, true, false, Option};
+ghost use Rattle.std.specs.Str.{IsCharBoundary};
+ghost use Rattle.press_scan.specs.Places.{At, IsFirst, NoneFrom, NoneBetween};
+ghost use Rattle.press_scan.specs.Openings.{IsMade, IsOpening, HasEdges};
+ghost use Rattle.press_scan.specs.Shortcodes.{IsNext, HasShortcode};
+ghost use Rattle.press_scan.specs.Scans.{Progress, StepGives, PutGives, before, behind};
+ghost use Rattle.press_scan.specs.Tags.{names_of};
+
+use crate::missing::{Missing, shortcode_of};
+use crate::next::{Opening, next_opening};
+use crate::scan_step::ScanStep;
+use crate::shortcode::Shortcode;
+use crate::tag_table::TagTable;
+use std::alloc::{AllocError, Global};
+use std::marker::Model;
+
+/// A scan of a text: the place up to which it is done, the output so far, and the shortcode whose answer is awaited.
+#[derive(Debug, Drop)]
+pub struct Scan {
+    text: String,
+    at: usize,
+    output: String,
+    waiting: Option<Shortcode>,
+    missing: Vec<Missing>,
+    alloc: Global,
+}
+
+impl Model for Scan {
+    ghost use Rattle.std.specs.Prelude.{◌≡◌, ◌≤◌, Some, string_bytes};
+    ghost use Rattle.std.specs.Str.{IsCharBoundary};
+    ghost use Rattle.press_scan.specs.declared.shortcode.Shortcode.{Shortcode};
+    ghost use Rattle.press_scan.specs.Scans.{Progress};
+    ghost use Rattle.press_scan.specs.Missing.{AreMissing};
+
+    ghost Value = { Progress };
+
+    ghost view = { λ s. record { text = string_bytes s.text; at = s.at; output = string_bytes s.output; waiting = s.waiting } };
+
+    ghost invariant = { λ s. IsCharBoundary (string_bytes s.text) s.at × AreMissing (string_bytes s.text) s.missing.items × ((w : Shortcode) → s.waiting ≡ Some w → IsCharBoundary (string_bytes s.text) w.end) };
+}
+
+// Adds a part of a text.
+fn push_part(out: &mut String, text: &str, from: usize, to: usize) -> Result<(), AllocError>
+    requires order { from ≤ to }
+    requires from { IsCharBoundary text.now from }
+    requires to { IsCharBoundary text.now to }
+    ensures ok { OnOk result (string_bytes out.new ≡ string_bytes out.old ++ slice_range text.now from to) }
+    ensures err { OnErr result (string_bytes out.new ≡ string_bytes out.old) }
+{
+    out.push_str(&text[from..to])
+}
+
+fn with_second(alloc: Global, answer: &str) -> Result<String, AllocError>
+    ensures { IfOk result (λ t. string_bytes t ≡ answer.now ++ 93 ∷ []) }
+{
+    format!(in alloc; "{answer}]")
+}
+
+// An answer with the brackets that its shortcode leaves standing.
+fn in_brackets(alloc: Global, shortcode: Shortcode, answer: &str) -> Result<String, AllocError>
+    ensures { IfOk result (λ t. string_bytes t ≡ before shortcode ++ (answer.now ++ behind shortcode)) }
+{
+    match (shortcode.lead, shortcode.tail) {
+        (false, false) => String::from_str(alloc, answer),
+        (true, false) => format!(in alloc; "[{answer}"),
+        (false, true) => with_second(alloc, answer),
+        (true, true) => format!(in alloc; "[{answer}]"),
+    }
+}
+
+// What an opening and its shortcode are, without work.
+fn stands(text: &str, tags: &TagTable, from: usize, opening: Opening, shortcode: Shortcode)
+    requires opening { IsOpening text.now (names_of tags.now) from opening }
+    requires made { IsMade text.now opening shortcode }
+    ensures next { IsNext text.now (names_of tags.now) from shortcode }
+    ensures edges { HasEdges text.now shortcode }
+{}
+
+// A text begins with a character.
+fn begins_well(text: &str)
+    ensures { IsCharBoundary text.now 0 }
+{}
+
+impl Scan {
+    fn place(&self) -> usize
+        ensures value { result ≡ self.now.at }
+        ensures within { result ≤ length self.now.text }
+    {
+        self.at
+    }
+
+    fn end(&self) -> usize
+        ensures { result ≡ length self.now.text }
+    {
+        self.text.len()
+    }
+
+    // The next opening.
+    fn opening(&self, tags: &TagTable) -> Option<Opening>
+        ensures none { IfNone result (NoneFrom (HasShortcode self.now.text (names_of tags.now)) self.now.at) }
+        ensures some { IfSome result (λ o. IsOpening self.now.text (names_of tags.now) self.now.at o × (o.head.tag.end ≤ length self.now.text) × (o.close < length self.now.text)) }
+    {
+        next_opening(self.text.as_bytes(), self.at, tags)
+    }
+
+    // The text up to a place, as it stands.
+    fn take_front(&mut self, to: usize) -> Result<(), AllocError>
+        requires order { self.old.at ≤ to }
+        requires to { IsCharBoundary self.old.text to }
+        requires waiting { self.old.waiting ≡ None }
+        ensures ok { OnOk result (self.new ≡ record self.old { at = to; output = self.old.output ++ slice_range self.old.text self.old.at to }) }
+        ensures err { OnErr result (self.new ≡ self.old) }
+    {
+        push_part(&mut self.output, self.text.as_str(), self.at, to)?;
+        self.at = to;
+        Ok(())
+    }
+
+    // The text of an escape without its first and last byte.
+    fn take_escape(&mut self, escape: Shortcode) -> Result<(), AllocError>
+        requires order { escape.start + 2 ≤ escape.end }
+        requires from { IsCharBoundary self.old.text (escape.start + 1) }
+        requires to { IsCharBoundary self.old.text (escape.end - 1) }
+        requires end { IsCharBoundary self.old.text escape.end }
+        requires waiting { self.old.waiting ≡ None }
+        ensures ok { OnOk result (self.new ≡ record self.old { at = escape.end; output = self.old.output ++ slice_range self.old.text (escape.start + 1) (escape.end - 1) }) }
+        ensures err { OnErr result (self.new ≡ self.old) }
+    {
+        push_part(
+            &mut self.output,
+            self.text.as_str(),
+            escape.start + 1,
+            escape.end - 1,
+        )?;
+        self.at = escape.end;
+        Ok(())
+    }
+
+    /// A scan at the start of a text, which takes no memory.
+    pub fn new(alloc: Global, text: String) -> Scan
+        ensures { result ≡ record { text = string_bytes text; at = 0; output = []; waiting = None } }
+    {
+        begins_well(text.as_str());
+        Scan {
+            text,
+            at: 0,
+            output: String::new(alloc),
+            waiting: None,
+            missing: Vec::new(alloc),
+            alloc,
+        }
+    }
+
+    /// The text that is scanned.
+    pub fn text(&self) -> &str
+        ensures { result.now ≡ self.now.text }
+    {
+        self.text.as_str()
+    }
+
+    /// How many bytes the output has so far.
+    pub fn len(&self) -> usize
+        ensures { result ≡ length self.now.output }
+    {
+        self.output.len()
+    }
+
+    /// Takes the front up to the next shortcode, an escape, or the shortcode itself, under the tags that stand now.
+    /// A Text takes in at least one byte. Where memory is wanting nothing has changed.
+    pub fn step(&mut self, tags: &TagTable) -> Result<ScanStep, AllocError>
+        requires { self.old.waiting ≡ None }
+        ensures { StepGives result (names_of tags.now) self.old self.new }
+    {
+        let end = self.end();
+        if self.place() == end {
+            return Ok(ScanStep::End);
+        }
+        let opening = match self.opening(tags) {
+            Some(opening) => opening,
+            None => {
+                self.take_front(end)?;
+                return Ok(ScanStep::Text);
+            }
+        };
+        let shortcode = self.shortcode_of(tags, opening)?;
+        if self.place() < shortcode.start {
+            self.take_front(shortcode.start)?;
+            return Ok(ScanStep::Text);
+        }
+        self.take(tags, shortcode)
+    }
+
+    // The shortcode that an opening makes; the scan is as it was.
+    fn shortcode_of(&mut self, tags: &TagTable, opening: Opening) -> Result<Shortcode, AllocError>
+        requires opening { IsOpening self.old.text (names_of tags.now) self.old.at opening }
+        requires within { (opening.head.tag.end ≤ length self.old.text) × (opening.close < length self.old.text) }
+        ensures same { self.new ≡ self.old }
+        ensures next { IfOk result (λ s. IsNext self.old.text (names_of tags.now) self.old.at s) }
+        ensures edges { IfOk result (λ s. HasEdges self.old.text s) }
+    {
+        let shortcode = shortcode_of(self.text.as_bytes(), &mut self.missing, opening)?;
+        stands(self.text.as_str(), tags, self.at, opening, shortcode);
+        Ok(shortcode)
+    }
+
+    // The shortcode at the place.
+    fn take(&mut self, tags: &TagTable, shortcode: Shortcode) -> Result<ScanStep, AllocError>
+        requires next { IsNext self.old.text (names_of tags.now) self.old.at shortcode }
+        requires edges { HasEdges self.old.text shortcode }
+        requires here { shortcode.start ≡ self.old.at }
+        requires waiting { self.old.waiting ≡ None }
+        ensures { StepGives result (names_of tags.now) self.old self.new }
+    {
+        if shortcode.is_escape() {
+            self.take_escape(shortcode)?;
+            Ok(ScanStep::Text)
+        } else {
+            self.waiting = Some(shortcode);
+            Ok(ScanStep::Call(shortcode))
+        }
+    }
+
+    /// Puts the answer to the call in its place, which is not scanned again. Where memory is wanting nothing has changed.
+    pub fn put(&mut self, answer: &str) -> Result<(), AllocError>
+        requires { IsSome self.old.waiting }
+        ensures { PutGives result answer.now self.old self.new }
+    {
+        match self.waiting {
+            Some(shortcode) => {
+                let piece = in_brackets(self.alloc, shortcode, answer)?;
+                self.output.push_str(piece.as_str())?;
+                self.at = shortcode.end;
+                self.waiting = None;
+                Ok(())
+            }
+            None => unreachable!(),
+        }
+    }
+
+    /// The output.
+    pub fn finish(self) -> String
+        requires { (self.at ≡ length self.text) × (self.waiting ≡ None) }
+        ensures { string_bytes result ≡ self.output }
+    {
+        self.output
+    }
+}

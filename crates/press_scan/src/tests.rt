@@ -1,0 +1,4 @@
+mod attributes;
+mod scans;
+mod tags;
+mod twin;
