@@ -1,6 +1,6 @@
 use super::copies::Copied;
 use super::kits::{action_of, filter_of, given, kit, tables, written};
-use super::rows::{Comes, ROWS};
+use super::rows::{Comes, ROWS, Row};
 use super::says::{Says, Scripted, with_script};
 use crate::RunFault;
 use press_callbacks::{BoxedTurns, CallIn, Kit, Stored, Tables, script_turn};
@@ -41,15 +41,20 @@ fn check_job(
     Ok(())
 }
 
+fn check_row(rt: &impl Abort, alloc: Global, row: &Row) -> Result<(), Fail> {
+    let kit = kit!(alloc; all_scripted(alloc, row.scripts)?, Vec::new(alloc));
+    let mut tables = tables(alloc, row.places)?;
+    for job in row.jobs {
+        check_job(rt, alloc, &kit, &mut tables, job, row.name)?;
+    }
+    Ok(())
+}
+
 #[test]
 fn worked_rows(rt: HostRuntime) -> Result<(), Fail> {
     let alloc = rt.alloc();
     for row in &ROWS {
-        let kit = kit!(alloc; all_scripted(alloc, row.scripts)?, Vec::new(alloc));
-        let mut tables = tables(alloc, row.places)?;
-        for job in row.jobs {
-            check_job(&rt, alloc, &kit, &mut tables, job, row.name)?;
-        }
+        check_row(&rt, alloc, row)?;
     }
     Ok(())
 }
