@@ -6,7 +6,8 @@ use Rattle.std.proofs.lemmas.List.{map-append, length-map, take-map, drop-map}
 use Rattle.press_callbacks.specs.declared.script.Op.{Op}
 use Rattle.press_callbacks.specs.declared.plugin.Plugin.{Plugin}
 use Rattle.press_callbacks.specs.declared.plugin.Load.{Load}
-use Rattle.press_callbacks.specs.Kits.{has_two, by_name, put_by_name, place_by_name, is_before, is_known, is_known_where, knows_script, knows_plugin, knows_all, kit_fault_by, callback_named, callback_loaded, IsFault}
+use Rattle.press_callbacks.specs.Kits.{has_two, by_name, put_by_name, place_by_name, is_before, is_known, is_known_where, knows_script, knows_plugin, knows_all, has_two_names, kit_fault_by, callback_named, callback_loaded, IsFault}
+use Rattle.press_callbacks.specs.BuiltIns.{is_built_in}
 use Rattle.press_callbacks.specs.declared.kit_fault.KitFault.{KitFault}
 use Rattle.press_callbacks.specs.declared.kit_fault.KitFault.TheVariants.{NoMemory, TwoNames, UnknownCallback, BadLoad}
 
@@ -27,7 +28,7 @@ two-map f name [] = refl
 two-map f name (x ∷ xs) = ap₂ (λ (a b : Bool). a || b) (any-map f (λ y. bytes_eq (name y) (name (f x))) xs) (two-map f name xs)
 
 known-map : {A B : Type 0} (f : A → B) (name : B → List ℕ) (xs : List A) (n : List ℕ) → is_known name (map f xs) n ≡ is_known (λ x. name (f x)) xs n
-known-map f name xs n = any-map f (λ c. bytes_eq (name c) n) xs
+known-map f name xs n = ap (λ b. is_built_in n || b) (any-map f (λ c. bytes_eq (name c) n) xs)
 
 known_where-map : {A B : Type 0} (f : A → B) (name : B → List ℕ) (xs : List A) (o : Option (List ℕ)) → is_known_where name (map f xs) o ≡ is_known_where (λ x. name (f x)) xs o
 known_where-map f name xs None = refl
@@ -45,8 +46,12 @@ knows-map f name script xs ps =
     (all-map f (λ c. knows_script name (map f xs) (script c)) xs ∙ all_alike _ _ (λ x. script-map f name xs (script (f x))) xs)
     (all_alike _ _ (λ (p : Plugin). plugin-map f name xs p) ps)
 
+two_names-map : {A B : Type 0} (f : A → B) (name : B → List ℕ) (xs : List A) (ps : List Plugin) → has_two_names name (map f xs) ps ≡ has_two_names (λ x. name (f x)) xs ps
+two_names-map f name xs ps =
+    ap₂ (λ (a b : Bool). a || b || has_two (λ (p : Plugin). p.name) ps) (two-map f name xs) (any-map f (λ c. is_built_in (name c)) xs)
+
 pub fault-map : {A B : Type 0} (f : A → B) (name : B → List ℕ) (script : B → List Op) (xs : List A) (ps : List Plugin) → kit_fault_by name script (map f xs) ps ≡ kit_fault_by (λ x. name (f x)) (λ x. script (f x)) xs ps
-fault-map f name script xs ps = rw (two-map f name xs, knows-map f name script xs ps) refl
+fault-map f name script xs ps = rw (two_names-map f name xs ps, knows-map f name script xs ps) refl
 
 -- ---- the order of names
 

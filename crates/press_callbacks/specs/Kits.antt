@@ -1,17 +1,21 @@
 -- A kit as plain data, by name: each callback's script and each plugin's loads, in the order of the names.
--- A kit is refused where a name stands twice, where a load or a script names a callback that the kit lacks, or for too many loads (own).
-use Rattle.std.specs.Prelude.{ℕ, List, [], ◌∷◌, length, Bool, true, false, not, ◌||◌, ◌&&◌, cond, if◌then◌else◌, nat_lt, bytes_eq, map, insert, position, unwrap_or, sum_by, Option, Some, None, option_map, slice_get, ◌≡◌, Result, Ok, Err}
+-- A kit is refused where a name stands twice or is that of a built-in callback, where a load or a script names
+-- a callback that is neither there nor built in, or for too many loads (own).
+use Rattle.std.specs.Prelude.{ℕ, List, [], ◌∷◌, length, Bool, true, false, not, ◌||◌, ◌&&◌, cond, if◌then◌else◌, nat_lt, bytes_eq, map, insert, position, unwrap_or, sum_by, count_by, Option, Some, None, option_map, slice_get, ◌≡◌, Result, Ok, Err}
 use Rattle.std.specs.List.{list_any, list_all}
 use Rattle.std.specs.Cmp.Lexicographic.{slice_cmp}
 use Rattle.std.specs.Ordering.{nat_cmp}
 use Rattle.std.specs.declared.cmp.Ordering.TheVariants.{Less, Equal, Greater}
 use Rattle.press_callbacks.specs.declared.script.Op.{Op}
-use Rattle.press_callbacks.specs.declared.script.Op.TheVariants.{Set, AddHook, RemoveHook, RemoveAll, SkipIf, Apply, Do, Ask, Echo, Return}
+use Rattle.press_callbacks.specs.declared.script.Op.TheVariants.{Set, AddHook, RemoveHook, RemoveAll, AddTag, RemoveTag, SkipIf, Apply, Do, Shortcodes, Ask, Echo, Return}
 use Rattle.press_callbacks.specs.declared.script.Ask.TheVariants as ask
 use Rattle.press_callbacks.specs.declared.script.Ask as asked
 use Rattle.press_callbacks.specs.declared.plugin.Plugin.{Plugin}
 use Rattle.press_callbacks.specs.declared.plugin.Load.{Load}
-use Rattle.press_callbacks.specs.declared.plugin.Load.TheVariants.{Hook}
+use Rattle.press_callbacks.specs.declared.plugin.Load.TheVariants.{Hook, Tag}
+use Rattle.press_callbacks.specs.declared.plugin.LoadKind.{LoadKind}
+use Rattle.press_callbacks.specs.declared.plugin.LoadKind.TheVariants as kind
+use Rattle.press_callbacks.specs.BuiltIns.{is_built_in}
 use Rattle.press_callbacks.specs.declared.kit_fault.KitFault.{KitFault}
 use Rattle.press_callbacks.specs.declared.kit_fault.KitFault.TheVariants.{NoMemory, TwoNames, UnknownCallback, BadLoad}
 use Rattle.press_callbacks.specs.declared.stored.Stored.{Stored}
@@ -92,24 +96,33 @@ abbrev pub callback_asked : asked.Ask → Option (List ℕ)
 callback_asked (ask.Did hook) = None
 callback_asked (ask.Doing hook) = None
 callback_asked (ask.Has hook callback) = Some callback
+callback_asked (ask.Tag tag) = None
 
 abbrev pub callback_named : Op → Option (List ℕ)
 callback_named (Set ps) = None
 callback_named (AddHook h c p a) = Some c
 callback_named (RemoveHook h c p) = Some c
 callback_named (RemoveAll h p) = None
+callback_named (AddTag t c) = Some c
+callback_named (RemoveTag t) = None
 callback_named (SkipIf l r n) = None
 callback_named (Apply h v more) = None
 callback_named (Do h args) = None
+callback_named (Shortcodes ps) = None
 callback_named (Ask a) = callback_asked a
 callback_named (Echo ps) = None
 callback_named (Return ps) = None
 
 abbrev pub callback_loaded : Load → List ℕ
 callback_loaded (Hook h p c a) = c
+callback_loaded (Tag t c) = c
 
+abbrev pub is_named : {C : Type 0} → (C → List ℕ) → List C → List ℕ → Bool
+is_named id callbacks name = list_any (λ c. bytes_eq (id c) name) callbacks
+
+-- built in, or one of these
 abbrev pub is_known : {C : Type 0} → (C → List ℕ) → List C → List ℕ → Bool
-is_known id callbacks name = list_any (λ c. bytes_eq (id c) name) callbacks
+is_known id callbacks name = is_built_in name || is_named id callbacks name
 
 abbrev pub is_known_where : {C : Type 0} → (C → List ℕ) → List C → Option (List ℕ) → Bool
 is_known_where id callbacks None = true
@@ -127,14 +140,31 @@ knows_all id script callbacks plugins = list_all (λ c. knows_script id callback
 abbrev pub most_hook_loads : ℕ
 most_hook_loads = 1000
 
-abbrev pub hook_loads : List Plugin → ℕ
-hook_loads plugins = sum_by (λ p. length p.load) plugins
+abbrev pub most_tag_loads : ℕ
+most_tag_loads = 128
+
+abbrev pub is_of_kind : LoadKind → Load → Bool
+is_of_kind kind.Hooks (Hook h p c a) = true
+is_of_kind kind.Hooks (Tag t c) = false
+is_of_kind kind.Tags (Hook h p c a) = false
+is_of_kind kind.Tags (Tag t c) = true
+
+-- how many loads of a kind the plugins have together
+abbrev pub loads_of_kind : LoadKind → List Plugin → ℕ
+loads_of_kind k plugins = sum_by (λ p. count_by (is_of_kind k) p.load) plugins
+
+abbrev pub has_many_loads : List Plugin → Bool
+has_many_loads plugins = nat_lt most_hook_loads (loads_of_kind kind.Hooks plugins) || nat_lt most_tag_loads (loads_of_kind kind.Tags plugins)
+
+-- whether two callbacks or two plugins have one name, or a callback has that of a built-in one
+abbrev pub has_two_names : {C : Type 0} → (C → List ℕ) → List C → List Plugin → Bool
+has_two_names id callbacks plugins = has_two id callbacks || list_any (λ c. is_built_in (id c)) callbacks || has_two (λ p. p.name) plugins
 
 abbrev pub kit_fault_by : {C : Type 0} → (C → List ℕ) → (C → List Op) → List C → List Plugin → Option KitFault
 kit_fault_by id script callbacks plugins =
-    if has_two id callbacks || has_two (λ p. p.name) plugins then Some TwoNames else
+    if has_two_names id callbacks plugins then Some TwoNames else
     (if not (knows_all id script callbacks plugins) then Some UnknownCallback else
-    (if nat_lt most_hook_loads (hook_loads plugins) then Some BadLoad else None))
+    (if has_many_loads plugins then Some BadLoad else None))
 
 abbrev pub kit_fault : Scripts → List Plugin → Option KitFault
 kit_fault scripts plugins = kit_fault_by (λ c. c.0) (λ c. c.1) scripts plugins

@@ -1,10 +1,11 @@
 -- The turn of a script on a call: that of the op at place `turn`, and past the last op Return of the value (own).
--- A text of parts is their concatenation; a missing argument is the empty text.
+-- A text of parts is their concatenation; a missing argument or attribute is the empty text.
 use Rattle.std.specs.Prelude.{ℕ, List, [], ◌∷◌, Option, Some, None, slice_get, map, ◌≡◌, Result, Ok, bytes_eq, cond}
 use Rattle.std.specs.List.{flat_map}
 use Rattle.std.specs.declared.alloc.AllocError.{AllocError}
+use Rattle.press_scan.specs.Attributes.{value_of}
 use Rattle.press_callbacks.specs.declared.script.Part.{Part}
-use Rattle.press_callbacks.specs.declared.script.Part.TheVariants.{Lit, Arg, Value, Last}
+use Rattle.press_callbacks.specs.declared.script.Part.TheVariants.{Lit, Arg, Att, Content, Tag, Value, Last}
 use Rattle.press_callbacks.specs.declared.script.Op.{Op}
 use Rattle.press_callbacks.specs.declared.script.Op.TheVariants as op
 use Rattle.press_callbacks.specs.declared.script.Turn.{Turn}
@@ -18,6 +19,9 @@ text_or_empty (Some t) = t
 abbrev pub part_text : CallIn → Part → List ℕ
 part_text call (Lit t) = t
 part_text call (Arg n) = text_or_empty (slice_get call.args n)
+part_text call (Att k) = text_or_empty (value_of k call.atts)
+part_text call Content = call.content
+part_text call Tag = call.tag
 part_text call Value = call.value
 part_text call Last = call.last
 
@@ -33,9 +37,12 @@ turn_of_op call (op.Set ps) = turn.Go (text_of call ps)
 turn_of_op call (op.AddHook h c p a) = turn.AddHook h c p a
 turn_of_op call (op.RemoveHook h c p) = turn.RemoveHook h c p
 turn_of_op call (op.RemoveAll h p) = turn.RemoveAll h p
+turn_of_op call (op.AddTag t c) = turn.AddTag t c
+turn_of_op call (op.RemoveTag t) = turn.RemoveTag t
 turn_of_op call (op.SkipIf l r n) = turn.Skip (skipped (text_of call l) (text_of call r) n)
 turn_of_op call (op.Apply h v more) = turn.Apply h (text_of call v ∷ map (text_of call) more)
 turn_of_op call (op.Do h args) = turn.Do h (map (text_of call) args)
+turn_of_op call (op.Shortcodes ps) = turn.Shortcodes (text_of call ps)
 turn_of_op call (op.Ask a) = turn.Ask a
 turn_of_op call (op.Echo ps) = turn.Echo (text_of call ps)
 turn_of_op call (op.Return ps) = turn.Return (text_of call ps)

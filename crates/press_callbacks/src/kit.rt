@@ -17,8 +17,9 @@ pub struct Kit {
 }
 
 impl Kit {
-    /// Refuses by TwoNames (two callbacks or two plugins of one name), then UnknownCallback (a load or a script names a callback
-    /// that is not there), then BadLoad (more than 1,000 hook loads in all plugins together).
+    /// Refuses by TwoNames (two callbacks or two plugins of one name, or a callback with the name of a built-in one), then
+    /// UnknownCallback (a load or a script names a callback that is neither there nor built in), then BadLoad (more than 1,000
+    /// hook loads or 128 tag loads in all plugins together).
     pub fn build(
         alloc: Global,
         callbacks: Vec<Stored>,

@@ -9,11 +9,11 @@ use thiserror::Error;
 pub enum KitFault {
     #[error("no memory")]
     NoMemory,
-    #[error("two callbacks or two plugins of one name")]
+    #[error("two callbacks or two plugins of one name, or a callback with a built-in name")]
     TwoNames,
     #[error("a load or a script names a callback that the kit lacks")]
     UnknownCallback,
-    #[error("more than 1000 hook loads")]
+    #[error("more than 1000 hook loads or 128 tag loads")]
     BadLoad,
 }
 

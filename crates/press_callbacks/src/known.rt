@@ -1,17 +1,21 @@
 //! Why callbacks and plugins make no kit: whether every callback that a script or a load names is there.
 
-ghost use Rattle.std.specs.Prelude.{◌≡◌, ◌+◌, List, nat_lt};
-ghost use Rattle.std.specs.List.{list_all};
+ghost use Rattle.std.specs.Prelude.{◌≡◌, ◌+◌, List, nat_lt, count_by};
+ghost use Rattle.std.specs.List.{list_all, list_any};
 ghost use Rattle.press_callbacks.specs.declared.script.Op.{Op};
-ghost use Rattle.press_callbacks.specs.Kits.{kit_fault_by, knows_all, knows_script, knows_plugin, is_known_where, is_known, callback_named, callback_loaded, most_hook_loads, hook_loads};
+ghost use Rattle.press_callbacks.specs.Kits.{kit_fault_by, knows_all, knows_script, knows_plugin, is_known_where, is_known, callback_named, callback_loaded, is_of_kind, loads_of_kind, has_many_loads, has_two_names};
+ghost use Rattle.press_callbacks.specs.BuiltIns.{is_built_in as built_in};
 
+use crate::built_in::is_built_in;
 use crate::kit_fault::KitFault;
 use crate::named::{Named, has_name, has_two};
-use crate::plugin::{Load, Plugin};
+use crate::plugin::{Load, LoadKind, Plugin};
 use crate::script::{Ask, Op};
 use crate::stored::Stored;
+use press_text::CallbackId;
 
 const MOST_HOOK_LOADS: usize = 1000;
+const MOST_TAG_LOADS: usize = 128;
 
 /// A thing with a name and a script.
 pub trait Scripted: Named {
@@ -33,7 +37,7 @@ impl Scripted for Stored {
 pub fn fault_of<T: Scripted>(callbacks: &[T], plugins: &[Plugin]) -> Option<KitFault>
     ensures { result ≡ kit_fault_by T.name T.script callbacks.now plugins.now }
 {
-    if has_two(callbacks) || has_two(plugins) {
+    if has_two_names(callbacks, plugins) {
         return Some(KitFault::TwoNames);
     }
     if !knows_all(callbacks, plugins) {
@@ -43,6 +47,25 @@ pub fn fault_of<T: Scripted>(callbacks: &[T], plugins: &[Plugin]) -> Option<KitF
         return Some(KitFault::BadLoad);
     }
     None
+}
+
+fn has_two_names<T: Named>(callbacks: &[T], plugins: &[Plugin]) -> bool
+    ensures { result ≡ has_two_names T.name callbacks.now plugins.now }
+{
+    has_two(callbacks) || has_built_in(callbacks) || has_two(plugins)
+}
+
+fn has_built_in<T: Named>(callbacks: &[T]) -> bool
+    ensures { result ≡ list_any (λ c. built_in (T.name c)) callbacks.now }
+{
+    callbacks.iter().any(|c| is_built_in(c.name_bytes()))
+}
+
+// Whether a callback is built in or one of these.
+fn is_known<T: Named>(callbacks: &[T], callback: CallbackId) -> bool
+    ensures { result ≡ is_known T.name callbacks.now callback }
+{
+    is_built_in(callback.as_bytes()) || has_name(callbacks, callback.as_bytes())
 }
 
 fn knows_all<T: Scripted>(callbacks: &[T], plugins: &[Plugin]) -> bool
@@ -73,12 +96,14 @@ fn knows_op<T: Named>(callbacks: &[T], op: &Op) -> bool
     ensures { result ≡ is_known_where T.name callbacks.now (callback_named op.now) }
 {
     match op {
-        Op::AddHook { callback, .. } => has_name(callbacks, callback.as_bytes()),
-        Op::RemoveHook { callback, .. } => has_name(callbacks, callback.as_bytes()),
-        Op::Ask(Ask::Has(_, callback)) => has_name(callbacks, callback.as_bytes()),
-        Op::Ask(Ask::Did(_)) | Op::Ask(Ask::Doing(_)) => true,
+        Op::AddHook { callback, .. } => is_known(callbacks, *callback),
+        Op::RemoveHook { callback, .. } => is_known(callbacks, *callback),
+        Op::AddTag { callback, .. } => is_known(callbacks, *callback),
+        Op::Ask(Ask::Has(_, callback)) => is_known(callbacks, *callback),
+        Op::Ask(Ask::Did(_)) | Op::Ask(Ask::Doing(_)) | Op::Ask(Ask::Tag(_)) => true,
         Op::Set(_) | Op::RemoveAll { .. } | Op::SkipIf { .. } | Op::Apply { .. } => true,
-        Op::Do { .. } | Op::Echo(_) | Op::Return(_) => true,
+        Op::RemoveTag { .. } | Op::Do { .. } | Op::Shortcodes(_) => true,
+        Op::Echo(_) | Op::Return(_) => true,
     }
 }
 
@@ -98,21 +123,46 @@ fn knows_load<T: Named>(callbacks: &[T], load: &Load) -> bool
     ensures { result ≡ is_known T.name callbacks.now (callback_loaded load.now) }
 {
     match load {
-        Load::Hook { callback, .. } => has_name(callbacks, callback.as_bytes()),
+        Load::Hook { callback, .. } => is_known(callbacks, *callback),
+        Load::Tag { callback, .. } => is_known(callbacks, *callback),
     }
 }
 
-// Whether the plugins have more than 1,000 hook loads together.
 fn has_many_loads(plugins: &[Plugin]) -> bool
-    ensures { result ≡ nat_lt most_hook_loads (hook_loads plugins.now) }
+    ensures { result ≡ has_many_loads plugins.now }
 {
-    let mut left = MOST_HOOK_LOADS;
+    has_more_loads(plugins, LoadKind::Hooks, MOST_HOOK_LOADS)
+        || has_more_loads(plugins, LoadKind::Tags, MOST_TAG_LOADS)
+}
+
+// Whether the plugins have more loads of a kind together than this.
+fn has_more_loads(plugins: &[Plugin], kind: LoadKind, most: usize) -> bool
+    ensures { result ≡ nat_lt most (loads_of_kind kind plugins.now) }
+{
+    let mut left = most;
     for p in plugins {
-        let loads = p.load.as_slice().len();
+        let loads = count_of_kind(p.load.as_slice(), kind);
         if loads > left {
             return true;
         }
         left -= loads;
     }
     false
+}
+
+fn count_of_kind(loads: &[Load], kind: LoadKind) -> usize
+    ensures { result ≡ count_by (is_of_kind kind) loads.now }
+{
+    loads.iter().filter(|l| l.is_of(kind)).count()
+}
+
+impl Load {
+    fn is_of(&self, kind: LoadKind) -> bool
+        ensures { result ≡ is_of_kind kind self.now }
+    {
+        match self {
+            Load::Hook { .. } => kind == LoadKind::Hooks,
+            Load::Tag { .. } => kind == LoadKind::Tags,
+        }
+    }
 }

@@ -3,6 +3,7 @@
 //! Contracts see a kit as plain data, by name; no public call hands out a callback's script or plays it.
 #![tactic(auto)]
 
+mod built_in;
 mod callback;
 mod kit;
 mod kit_fault;
@@ -15,6 +16,7 @@ mod stored;
 mod tables;
 mod turns;
 
+pub use built_in::{do_shortcode, is_built_in};
 pub use callback::Callback;
 pub use kit::Kit;
 pub use kit_fault::KitFault;

@@ -1,7 +1,7 @@
 //! Things with a name: whether a name stands twice, and their order by name.
 
 ghost use Rattle.std.specs.Prelude.{◌≡◌, ◌≤◌, ◌<◌, ℕ, List, IfOk, IfSome, OnOk, length, position, unwrap_or, bytes_eq};
-ghost use Rattle.press_callbacks.specs.Kits.{by_name, put_by_name, place_by_name, has_two, is_before, is_known};
+ghost use Rattle.press_callbacks.specs.Kits.{by_name, put_by_name, place_by_name, has_two, is_before, is_named as named_in};
 
 use crate::plugin::Plugin;
 use crate::stored::Stored;
@@ -46,7 +46,7 @@ pub fn has_two<T: Named>(items: &[T]) -> bool
 
 /// Whether one of these has that name.
 pub fn has_name<T: Named>(items: &[T], name: &[u8]) -> bool
-    ensures { result ≡ is_known T.name items.now name.now }
+    ensures { result ≡ named_in T.name items.now name.now }
 {
     items.iter().any(|y| is_named(y, name))
 }

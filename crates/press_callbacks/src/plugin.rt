@@ -1,4 +1,4 @@
-use press_text::{CallbackId, HookName, Items, Name};
+use press_text::{CallbackId, HookName, Items, Name, Tag};
 
 /// What a plugin puts into the tables at a boot.
 #[derive(Debug, Drop)]
@@ -10,6 +10,15 @@ pub enum Load {
         callback: CallbackId,
         accepted: u32,
     },
+    /// A tag of shortcodes, with the callback that answers it.
+    Tag { tag: Tag, callback: CallbackId },
+}
+
+/// What a load goes into.
+#[derive(Clone, Copy, Debug, PartialEq, Eq)]
+pub(crate) enum LoadKind {
+    Hooks,
+    Tags,
 }
 
 /// A plugin: its name and its loads, in order.

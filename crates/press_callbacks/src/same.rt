@@ -7,7 +7,8 @@ use crate::kit::Kit;
 use crate::known::Scripted;
 use crate::plugin::{Load, Plugin};
 use crate::script::{Ask, Op, Part};
-use press_text::{CallbackId, HookName, Items, Name, Text};
+use press_scan::AttKey;
+use press_text::{CallbackId, HookName, Items, Name, Tag, Text};
 
 /// Values that can be compared.
 pub trait Same {
@@ -34,6 +35,27 @@ impl Same for HookName {
     }
 }
 
+impl Same for Tag {
+    fn same(&self, other: &Tag) -> bool {
+        self.is(other)
+    }
+}
+
+impl Same for AttKey {
+    fn same(&self, other: &AttKey) -> bool {
+        match self {
+            AttKey::Name(a) => match other {
+                AttKey::Name(b) => a.same(b),
+                _ => false,
+            },
+            AttKey::Place(m) => match other {
+                AttKey::Place(n) => *m == *n,
+                _ => false,
+            },
+        }
+    }
+}
+
 impl Same for CallbackId {
     fn same(&self, other: &CallbackId) -> bool {
         self.is(*other)
@@ -55,6 +77,18 @@ impl Same for Part {
             },
             Part::Arg(m) => match other {
                 Part::Arg(n) => *m == *n,
+                _ => false,
+            },
+            Part::Att(a) => match other {
+                Part::Att(b) => a.same(b),
+                _ => false,
+            },
+            Part::Content => match other {
+                Part::Content => true,
+                _ => false,
+            },
+            Part::Tag => match other {
+                Part::Tag => true,
                 _ => false,
             },
             Part::Value => match other {
@@ -82,6 +116,10 @@ impl Same for Ask {
             },
             Ask::Has(a, c) => match other {
                 Ask::Has(b, d) => a.same(b) && c.same(d),
+                _ => false,
+            },
+            Ask::Tag(a) => match other {
+                Ask::Tag(b) => a.same(b),
                 _ => false,
             },
         }
@@ -128,6 +166,17 @@ impl Same for Op {
                 } => hook.same(h) && same_priority(*priority, *p),
                 _ => false,
             },
+            Op::AddTag { tag, callback } => match other {
+                Op::AddTag {
+                    tag: t,
+                    callback: c,
+                } => tag.same(t) && callback.same(c),
+                _ => false,
+            },
+            Op::RemoveTag { tag } => match other {
+                Op::RemoveTag { tag: t } => tag.same(t),
+                _ => false,
+            },
             Op::SkipIf { left, right, n } => match other {
                 Op::SkipIf {
                     left: l,
@@ -146,6 +195,10 @@ impl Same for Op {
             },
             Op::Do { hook, args } => match other {
                 Op::Do { hook: h, args: a } => hook.same(h) && args.same(a),
+                _ => false,
+            },
+            Op::Shortcodes(a) => match other {
+                Op::Shortcodes(b) => a.same(b),
                 _ => false,
             },
             Op::Ask(a) => match other {
@@ -179,6 +232,14 @@ impl Same for Load {
                     callback: c,
                     accepted: a,
                 } => hook.same(h) && *priority == *p && callback.same(c) && *accepted == *a,
+                _ => false,
+            },
+            Load::Tag { tag, callback } => match other {
+                Load::Tag {
+                    tag: t,
+                    callback: c,
+                } => tag.same(t) && callback.same(c),
+                _ => false,
             },
         }
     }

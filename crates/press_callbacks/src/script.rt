@@ -1,12 +1,19 @@
+use press_scan::{AttKey, Atts};
 use press_text::{CallbackId, HookName, Items, Text};
 
-/// A piece of a text that a script makes. A missing argument is the empty text.
+/// A piece of a text that a script makes. A missing argument or attribute is the empty text.
 #[derive(Debug, Drop)]
 pub enum Part {
     /// This very text.
     Lit(Text),
     /// The argument at a place, counted from 0.
     Arg(usize),
+    /// The attribute of that key.
+    Att(AttKey),
+    /// What stands between the shortcode and its closing tag.
+    Content,
+    /// The name of the shortcode.
+    Tag,
     /// The value so far.
     Value,
     /// The last answer of the machine.
@@ -25,6 +32,8 @@ pub enum Ask {
     Doing(HookName),
     /// The least priority of the callback on the hook in decimal, or empty (`has_filter`).
     Has(HookName, CallbackId),
+    /// `1` where the tag stands, else empty (`shortcode_exists`).
+    Tag(Text),
 }
 
 /// One step of a script.
@@ -50,6 +59,10 @@ pub enum Op {
         hook: HookName,
         priority: Option<i64>,
     },
+    /// Puts a tag into the table of shortcodes; one that is no name of a tag is not added (`add_shortcode`).
+    AddTag { tag: Text, callback: CallbackId },
+    /// Takes a tag out (`remove_shortcode`).
+    RemoveTag { tag: Text },
     /// Goes on n ops further where the two texts are equal.
     SkipIf {
         left: Parts,
@@ -67,6 +80,8 @@ pub enum Op {
         hook: HookName,
         args: Items<Parts>,
     },
+    /// Has the shortcodes of a text answered (`do_shortcode`).
+    Shortcodes(Parts),
     /// Asks the machine.
     Ask(Ask),
     /// Writes a text to the page.
@@ -79,9 +94,13 @@ pub enum Op {
 pub type Script = Items<Op>;
 
 /// What a callback sees at one turn: at its start `value` is the first argument and `last` is empty.
+/// A callback of a hook has no attributes and empty `content` and `tag`; one of a shortcode has no arguments.
 #[derive(Debug, Drop)]
 pub struct CallIn {
     pub args: Items<Text>,
+    pub atts: Atts,
+    pub content: Text,
+    pub tag: Text,
     pub value: Text,
     pub last: Text,
     pub turn: usize,
@@ -106,6 +125,13 @@ pub enum Turn {
         hook: HookName,
         priority: Option<i64>,
     },
+    AddTag {
+        tag: Text,
+        callback: CallbackId,
+    },
+    RemoveTag {
+        tag: Text,
+    },
     Skip(u16),
     Apply {
         hook: HookName,
@@ -115,6 +141,7 @@ pub enum Turn {
         hook: HookName,
         texts: Items<Text>,
     },
+    Shortcodes(Text),
     Ask(Ask),
     Echo(Text),
     Return(Text),

@@ -45,6 +45,13 @@ fn op_turn(alloc: Global, op: &Op, call: &CallIn) -> Result<Turn, AllocError>
             hook: hook.copy(alloc)?,
             priority: *priority,
         }),
+        Op::AddTag { tag, callback } => Ok(Turn::AddTag {
+            tag: tag.copy(alloc)?,
+            callback: *callback,
+        }),
+        Op::RemoveTag { tag } => Ok(Turn::RemoveTag {
+            tag: tag.copy(alloc)?,
+        }),
         Op::SkipIf { left, right, n } => Ok(Turn::Skip(skipped(alloc, left, right, *n, call)?)),
         Op::Apply { hook, value, more } => {
             let hook = hook.copy(alloc)?;
@@ -56,6 +63,7 @@ fn op_turn(alloc: Global, op: &Op, call: &CallIn) -> Result<Turn, AllocError>
             let texts = texts_of(alloc, args, call)?;
             Ok(Turn::Do { hook, texts })
         }
+        Op::Shortcodes(parts) => Ok(Turn::Shortcodes(text_of(alloc, parts, call)?)),
         Op::Ask(ask) => Ok(Turn::Ask(ask.copy(alloc)?)),
         Op::Echo(parts) => Ok(Turn::Echo(text_of(alloc, parts, call)?)),
         Op::Return(parts) => Ok(Turn::Return(text_of(alloc, parts, call)?)),
@@ -70,6 +78,7 @@ impl Ask {
             Ask::Did(hook) => Ok(Ask::Did(hook.copy(alloc)?)),
             Ask::Doing(hook) => Ok(Ask::Doing(hook.copy(alloc)?)),
             Ask::Has(hook, callback) => Ok(Ask::Has(hook.copy(alloc)?, *callback)),
+            Ask::Tag(tag) => Ok(Ask::Tag(tag.copy(alloc)?)),
         }
     }
 }
@@ -148,6 +157,12 @@ fn push_part(text: &mut Text, part: &Part, call: &CallIn) -> Result<(), AllocErr
             None => Ok(()),
             Some(t) => text.push_str(t.as_str()),
         },
+        Part::Att(key) => match call.atts.get(key) {
+            None => Ok(()),
+            Some(value) => text.push_str(value),
+        },
+        Part::Content => text.push_str(call.content.as_str()),
+        Part::Tag => text.push_str(call.tag.as_str()),
         Part::Value => text.push_str(call.value.as_str()),
         Part::Last => text.push_str(call.last.as_str()),
     }

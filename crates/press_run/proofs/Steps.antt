@@ -1,5 +1,5 @@
 -- One step of each recursion of the meaning, as the machine takes it.
-use Rattle.std.proofs.Common.{◌≡◌, refl, sym, ◌∙◌, ap, ℕ, suc, ◌+◌, ◌-◌, ◌<◌, ◌≤◌, true, List, [], ◌∷◌, ◌++◌, take, drop, get_or, length, Option, add-one, drop-cons, Some, None, Err, arith}
+use Rattle.std.proofs.Common.{◌≡◌, refl, sym, ◌∙◌, ap, ℕ, suc, ◌+◌, ◌-◌, ◌<◌, ◌≤◌, true, false, List, [], ◌∷◌, ◌++◌, take, drop, get_or, length, Option, add-one, drop-cons, Some, None, Err, arith}
 use Rattle.std.proofs.Math.ListN.{drop_of_length-le}
 use Rattle.std.proofs.Math.Seq.{take-append_seam}
 use Rattle.std.proofs.lemmas.List.{length-append}
@@ -11,11 +11,13 @@ use Rattle.press_callbacks.specs.declared.script.CallIn.{CallIn}
 use Rattle.press_callbacks.specs.declared.script.Op.{Op}
 use Rattle.press_callbacks.specs.declared.script.Turn.{Turn}
 use Rattle.press_callbacks.specs.Turns.{turn_of}
+use Rattle.press_scan.specs.declared.tag_row.TagRow.{TagRow}
 use Rattle.press_callbacks.specs.Kits.{Scripts, script_of}
+use Rattle.press_callbacks.specs.BuiltIns.{is_built_in}
 use Rattle.press_run.specs.declared.step.Kind.{Kind}
 use Rattle.press_run.specs.declared.job.Fire.{Fire}
 use Rattle.press_run.specs.Counts.{Counts}
-use Rattle.press_run.specs.Run.{◌>>=◌, State, Answer, answer, Meaning, Stepped, Goes, Ends, run_entries, do_hook, do_fires, play, at_depth, call_entry, after_step, counted_step, first_text, handed_on, hook_call, fuel, or_empty, without_last}
+use Rattle.press_run.specs.Run.{◌>>=◌, State, Answer, answer, Meaning, Stepped, Goes, Ends, run_entries, do_hook, do_fires, play, at_depth, call_entry, after_step, counted_step, first_text, handed_on, hook_call, fuel, or_empty, without_last, scan_argument, callback_where}
 use Rattle.press_run.specs.Outcome.{Stage, Around, innermost, state_of, Gives, GivesWithin, GivesStep}
 use Rattle.press_run.specs.declared.run_fault.RunFault.{RunFault}
 use Rattle.press_run.specs.declared.run_fault.RunFault.TheVariants.{Limit, NoMemory}
@@ -24,9 +26,13 @@ pub no_depth : (scripts : Scripts) (id : List ℕ) (call : CallIn) (s : State) �
 unfolding at_depth
 no_depth scripts id call s = refl
 
-pub some_depth : (d : ℕ) (scripts : Scripts) (id : List ℕ) (call : CallIn) (s : State) → at_depth (suc d) scripts id call s ≡ play (at_depth d scripts) (or_empty (script_of id scripts)) fuel call s
+pub some_depth : (d : ℕ) (scripts : Scripts) (id : List ℕ) (call : CallIn) (s : State) → is_built_in id ≡ false → at_depth (suc d) scripts id call s ≡ play (at_depth d scripts) (or_empty (script_of id scripts)) fuel call s
 unfolding at_depth
-some_depth d scripts id call s = refl
+some_depth d scripts id call s own = ap (λ b. callback_where (at_depth d scripts) (script_of id scripts) call s b) own
+
+pub built_in_depth : (d : ℕ) (scripts : Scripts) (id : List ℕ) (call : CallIn) (s : State) → is_built_in id ≡ true → at_depth (suc d) scripts id call s ≡ scan_argument (at_depth d scripts) call s
+unfolding at_depth
+built_in_depth d scripts id call s own = ap (λ b. callback_where (at_depth d scripts) (script_of id scripts) call s b) own
 
 pub no_entries : (m : Meaning) (kind : Kind) (args : List (List ℕ)) (run : OpenRun) (s : State) → run_entries m kind 0 args run s ≡ None
 unfolding run_entries
@@ -73,26 +79,26 @@ innermost_entry : (rows : List Row) (runs : List OpenRun) (id : ℕ) → is_inne
 innermost_entry rows [] id h = cc
 innermost_entry rows (r ∷ rs) id h = refl
 
-abbrev pub at_table : Table → Counts → List ℕ → Stage
-at_table t counts output = record { hooks = t; counts = counts; output = output }
+abbrev pub at_table : Table → List TagRow → Counts → List ℕ → Stage
+at_table t tags counts output = record { hooks = t; tags = tags; counts = counts; output = output }
 
 -- ---- the entries of a run, from a table t on to t'
 
-module _ (m : Meaning) (kind : Kind) (args : List (List ℕ)) (id : ℕ) (t t' : Table) (counts : Counts) (output : List ℕ) (k n : ℕ) (long : k ≡ suc n) (open_run : is_innermost id t.open_runs ≡ true) (on : t' ≡ run_advanced t) where
-  private_step : (o : Option Entry) → o ≡ entry_next t.rows t.open_runs → run_entries m kind k args (innermost t.open_runs) (state_of (at_table t counts output)) ≡ call_entry m (λ text s'. run_entries m kind n (handed_on kind text args) (innermost t'.open_runs) s') args (state_of (at_table t' counts output)) o
+module _ (m : Meaning) (kind : Kind) (args : List (List ℕ)) (id : ℕ) (t t' : Table) (tags : List TagRow) (counts : Counts) (output : List ℕ) (k n : ℕ) (long : k ≡ suc n) (open_run : is_innermost id t.open_runs ≡ true) (on : t' ≡ run_advanced t) where
+  private_step : (o : Option Entry) → o ≡ entry_next t.rows t.open_runs → run_entries m kind k args (innermost t.open_runs) (state_of (at_table t tags counts output)) ≡ call_entry m (λ text s'. run_entries m kind n (handed_on kind text args) (innermost t'.open_runs) s') args (state_of (at_table t' tags counts output)) o
   private_step o e =
       let inner : innermost t'.open_runs ≡ next_run t.rows (innermost t.open_runs) = ap (λ (w : Table). innermost w.open_runs) on ∙ innermost_advanced t.rows t.open_runs id open_run in
-      let state : state_of (at_table t' counts output) ≡ state_of (at_table t counts output) = ap (λ (w : Table). state_of (at_table w counts output)) on in
+      let state : state_of (at_table t' tags counts output) ≡ state_of (at_table t tags counts output) = ap (λ (w : Table). state_of (at_table w tags counts output)) on in
       let next : o ≡ next_entry t.rows (innermost t.open_runs) = e ∙ innermost_entry t.rows t.open_runs id open_run in
-      rw (long, inner, state, next) (more_entries m kind n args (innermost t.open_runs) (state_of (at_table t counts output)))
+      rw (long, inner, state, next) (more_entries m kind n args (innermost t.open_runs) (state_of (at_table t tags counts output)))
 
-  pub entries_end : None ≡ entry_next t.rows t.open_runs → run_entries m kind k args (innermost t.open_runs) (state_of (at_table t counts output)) ≡ answer (first_text args) (state_of (at_table t' counts output))
+  pub entries_end : None ≡ entry_next t.rows t.open_runs → run_entries m kind k args (innermost t.open_runs) (state_of (at_table t tags counts output)) ≡ answer (first_text args) (state_of (at_table t' tags counts output))
   entries_end e = private_step None e
 
-  pub entries_limit : (e : Entry) → Some e ≡ entry_next t.rows t.open_runs → m e.callback (hook_call (take e.accepted args)) (state_of (at_table t' counts output)) ≡ None → run_entries m kind k args (innermost t.open_runs) (state_of (at_table t counts output)) ≡ None
+  pub entries_limit : (e : Entry) → Some e ≡ entry_next t.rows t.open_runs → m e.callback (hook_call (take e.accepted args)) (state_of (at_table t' tags counts output)) ≡ None → run_entries m kind k args (innermost t.open_runs) (state_of (at_table t tags counts output)) ≡ None
   entries_limit e q none = private_step (Some e) q ∙ ap (λ o. o >>= λ a. run_entries m kind n (handed_on kind a.text args) (innermost t'.open_runs) a.state) none
 
-  pub entries_more : (e : Entry) (a : Answer) → Some e ≡ entry_next t.rows t.open_runs → m e.callback (hook_call (take e.accepted args)) (state_of (at_table t' counts output)) ≡ Some a → run_entries m kind k args (innermost t.open_runs) (state_of (at_table t counts output)) ≡ run_entries m kind n (handed_on kind a.text args) (innermost t'.open_runs) a.state
+  pub entries_more : (e : Entry) (a : Answer) → Some e ≡ entry_next t.rows t.open_runs → m e.callback (hook_call (take e.accepted args)) (state_of (at_table t' tags counts output)) ≡ Some a → run_entries m kind k args (innermost t.open_runs) (state_of (at_table t tags counts output)) ≡ run_entries m kind n (handed_on kind a.text args) (innermost t'.open_runs) a.state
   entries_more e a q some = private_step (Some e) q ∙ ap (λ o. o >>= λ a. run_entries m kind n (handed_on kind a.text args) (innermost t'.open_runs) a.state) some
 
   pub around_kept : without_innermost t'.open_runs ≡ without_innermost t.open_runs

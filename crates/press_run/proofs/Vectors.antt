@@ -5,9 +5,14 @@ use Rattle.press_hooks.specs.HookRows.{add_row, remove_row, remove_rows, has_row
 use Rattle.press_callbacks.specs.declared.script.Op.{Op}
 use Rattle.press_callbacks.specs.declared.script.Op.TheVariants as op
 use Rattle.press_callbacks.specs.declared.script.Ask.TheVariants as ask
-use Rattle.press_callbacks.specs.declared.script.Part.TheVariants.{Lit, Value, Last}
+use Rattle.press_callbacks.specs.declared.script.Part.TheVariants.{Lit, Att, Content, Value, Last}
 use Rattle.press_callbacks.specs.Kits.{Scripts}
-use Rattle.press_run.specs.Run.{State, Answer, apply_hook, callbacks_of, run_entries, play, at_depth, do_fires}
+use Rattle.press_scan.specs.declared.tag_row.TagRow.{TagRow}
+use Rattle.press_scan.specs.declared.att_key.AttKey.TheVariants as key
+use Rattle.press_scan.specs.Tags.{add_tag, remove_tag}
+use Rattle.press_scan.specs.FirstShortcode.{shortcode_from}
+use Rattle.press_scan.specs.AttributesOf.{attributes_of}
+use Rattle.press_run.specs.Run.{State, Answer, apply_hook, callbacks_of, run_entries, play, at_depth, do_fires, scan, scan_from}
 
 abbrev title : List ℕ
 title = codes "the_title"
@@ -36,7 +41,7 @@ filter_z = (z, appends (codes "z") ∷ [])
 
 -- nothing counted and nothing written
 abbrev start : List Row → State
-start rows = record { rows = rows; did = []; doing = []; turns = 0; output = [] }
+start rows = record { rows = rows; tags = []; did = []; doing = []; turns = 0; output = [] }
 
 abbrev applied : Scripts → List ℕ → List Row → Option Answer
 applied scripts text rows = apply_hook (callbacks_of scripts) title (text ∷ []) (start rows)
@@ -185,3 +190,92 @@ open_32 = refl
 pub open_33 : option_map (λ (w : Answer). w.text) (applied (applying_until (codes "aaaaaaaaaaaaaaaaaaaaaaaaaaaaaaaaa")) (codes "a") a_alone) ≡ None
 unfolding run_entries play at_depth do_fires
 open_33 = refl
+
+-- ---- brackets: tag t answers T
+
+abbrev tagged : List TagRow → State
+tagged tags = record { rows = []; tags = tags; did = []; doing = []; turns = 0; output = [] }
+
+-- what a text means
+abbrev meant : Scripts → List TagRow → List ℕ → Option (List ℕ)
+meant scripts tags text = option_map (λ (w : Answer). w.text) (scan (callbacks_of scripts) text (tagged tags))
+
+abbrev say_t : Scripts
+say_t = (codes "say_t", op.Return (Lit (codes "T") ∷ []) ∷ []) ∷ []
+
+abbrev with_t : List TagRow
+with_t = add_tag (codes "t") (codes "say_t") []
+
+pub escape : meant say_t with_t (codes "[[t]]") ≡ Some (codes "[t]")
+unfolding run_entries play at_depth scan_from shortcode_from attributes_of
+escape = refl
+
+pub half_escape : meant say_t with_t (codes "[[t]") ≡ Some (codes "[T")
+unfolding run_entries play at_depth scan_from shortcode_from attributes_of
+half_escape = refl
+
+pub triple : meant say_t with_t (codes "[[[t]]]") ≡ Some (codes "[[t]]")
+unfolding run_entries play at_depth scan_from shortcode_from attributes_of
+triple = refl
+
+pub enclosing : meant say_t with_t (codes "[[t]] u [/t]") ≡ Some (codes "[T")
+unfolding run_entries play at_depth scan_from shortcode_from attributes_of
+enclosing = refl
+
+-- ---- near-misses
+
+pub open_ended : meant say_t with_t (codes "[t") ≡ Some (codes "[t")
+unfolding run_entries play at_depth scan_from shortcode_from attributes_of
+open_ended = refl
+
+pub longer_name : meant say_t with_t (codes "[tt]") ≡ Some (codes "[tt]")
+unfolding run_entries play at_depth scan_from shortcode_from attributes_of
+longer_name = refl
+
+pub dashed_name : meant say_t with_t (codes "[t-2]") ≡ Some (codes "[t-2]")
+unfolding run_entries play at_depth scan_from shortcode_from attributes_of
+dashed_name = refl
+
+pub removed_tag : meant say_t (remove_tag (codes "t") with_t) (codes "[t]") ≡ Some (codes "[t]")
+unfolding run_entries play at_depth scan_from shortcode_from attributes_of
+removed_tag = refl
+
+-- ---- attribute-tokens: a tag that shows two of its attributes
+
+abbrev show_atts : Scripts
+show_atts = (codes "say_t", op.Return (Att (key.Name (codes "x")) ∷ Lit (codes ",") ∷ Att (key.Place 0) ∷ []) ∷ []) ∷ []
+
+pub last_value : meant show_atts with_t (codes "[t x=1 x=\"2\" y X='3']") ≡ Some (codes "3,y")
+unfolding run_entries play at_depth scan_from shortcode_from attributes_of
+last_value = refl
+
+pub bad_quote : meant show_atts with_t (codes "[t a=\"1\"b]") ≡ Some (codes ",a=\"1\"b")
+unfolding run_entries play at_depth scan_from shortcode_from attributes_of
+bad_quote = refl
+
+pub empty_value : meant show_atts with_t (codes "[t \"\" z]") ≡ Some (codes ",z")
+unfolding run_entries play at_depth scan_from shortcode_from attributes_of
+empty_value = refl
+
+-- `[t//]` closes itself with the attribute text `/`
+pub slashes : meant show_atts with_t (codes "[t//]") ≡ Some (codes ",/")
+unfolding run_entries play at_depth scan_from shortcode_from attributes_of
+slashes = refl
+
+-- ---- nested-tags: box has the shortcodes of its content answered, greet names its attribute
+
+abbrev boxes : Scripts
+boxes =
+    (codes "greet", op.Return (Lit (codes "Hello ") ∷ Att (key.Name (codes "name")) ∷ []) ∷ [])
+    ∷ (codes "box", op.Shortcodes (Content ∷ []) ∷ op.Return (Lit (codes "<div>") ∷ Last ∷ Lit (codes "</div>") ∷ []) ∷ []) ∷ []
+
+abbrev box_tags : List TagRow
+box_tags = add_tag (codes "box") (codes "box") (add_tag (codes "greet") (codes "greet") [])
+
+pub nested : meant boxes box_tags (codes "[box]a [greet name=Bo] b[/box]") ≡ Some (codes "<div>a Hello Bo b</div>")
+unfolding run_entries play at_depth scan_from shortcode_from attributes_of
+nested = refl
+
+pub bracket_in_value : meant boxes box_tags (codes "[greet name=\"[box]\"]") ≡ Some (codes "Hello \"]")
+unfolding run_entries play at_depth scan_from shortcode_from attributes_of
+bracket_in_value = refl

@@ -1,31 +1,44 @@
--- A boot is a fresh table with the loads of the active plugins, in the order in which these stand; a plugin that the kit lacks loads nothing
--- (Plugin Handbook, Plugin Basics; the order is own).
-use Rattle.std.specs.Prelude.{ℕ, List, [], ◌∷◌, Option, Some, None}
+-- A boot is fresh tables: the built-in `do_shortcode` on `the_content` at 11, then the loads of the active plugins, in the order in which these
+-- stand; a plugin that the kit lacks loads nothing (Plugin Handbook, Plugin Basics; Shortcode API, `do_shortcode`; the order is own).
+use Rattle.std.specs.Prelude.{ℕ, pos, List, [], ◌∷◌, Option, Some, None, codes}
 use Rattle.press_hooks.specs.declared.row.Row.{Row}
 use Rattle.press_hooks.specs.HookRows.{add_row}
 use Rattle.press_hooks.specs.NextEntry.{Table}
+use Rattle.press_scan.specs.declared.tag_row.TagRow.{TagRow}
+use Rattle.press_scan.specs.Tags.{add_tag}
 use Rattle.press_callbacks.specs.declared.plugin.Plugin.{Plugin}
 use Rattle.press_callbacks.specs.declared.plugin.Load.{Load}
-use Rattle.press_callbacks.specs.declared.plugin.Load.TheVariants.{Hook}
+use Rattle.press_callbacks.specs.declared.plugin.Load.TheVariants.{Hook, Tag}
+use Rattle.press_callbacks.specs.BuiltIns.{do_shortcode}
 use Rattle.press_callbacks.specs.Kits.{plugin_of}
 
-abbrev pub row_loaded : Load → List Row → List Row
-row_loaded (Hook h p c a) rows = add_row h c p a rows
+-- the hook rows and the tags
+pub record Loaded : Type 0 where
+  pub rows : List Row
+  pub tags : List TagRow
 
-abbrev pub rows_loaded : List Load → List Row → List Row
-rows_loaded [] rows = rows
-rows_loaded (l ∷ ls) rows = rows_loaded ls (row_loaded l rows)
+abbrev pub one_loaded : Load → Loaded → Loaded
+one_loaded (Hook h p c a) t = record t { rows = add_row h c p a t.rows }
+one_loaded (Tag n c) t = record t { tags = add_tag n c t.tags }
+
+abbrev pub all_loaded : List Load → Loaded → Loaded
+all_loaded [] t = t
+all_loaded (l ∷ ls) t = all_loaded ls (one_loaded l t)
 
 abbrev pub loads_of : Option Plugin → List Load
 loads_of None = []
 loads_of (Some p) = p.load
 
-abbrev pub rows_booted : List Plugin → List (List ℕ) → List Row → List Row
-rows_booted plugins [] rows = rows
-rows_booted plugins (n ∷ ns) rows = rows_booted plugins ns (rows_loaded (loads_of (plugin_of n plugins)) rows)
+abbrev pub plugins_loaded : List Plugin → List (List ℕ) → Loaded → Loaded
+plugins_loaded plugins [] t = t
+plugins_loaded plugins (n ∷ ns) t = plugins_loaded plugins ns (all_loaded (loads_of (plugin_of n plugins)) t)
 
-abbrev pub boot_rows : List Plugin → List (List ℕ) → List Row
-boot_rows plugins active = rows_booted plugins active []
+abbrev pub the_content : List ℕ
+the_content = codes "the_content"
 
-abbrev pub boot_table : List Plugin → List (List ℕ) → Table
-boot_table plugins active = record { rows = boot_rows plugins active; open_runs = [] }
+-- the tables before any plugin
+abbrev pub fresh : Loaded
+fresh = record { rows = add_row the_content do_shortcode (pos 11) 1 []; tags = [] }
+
+abbrev pub booted_with : List Plugin → List (List ℕ) → Loaded
+booted_with plugins active = plugins_loaded plugins active fresh

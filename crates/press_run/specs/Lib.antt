@@ -2,3 +2,4 @@ pub mod Boot
 pub mod Counts
 pub mod Outcome
 pub mod Run
+pub mod Scanning

@@ -2,11 +2,13 @@
 use Rattle.std.specs.Prelude.{◌≡◌, ℕ, ◌+◌, ◌≤◌, List, [], ◌∷◌, ◌++◌, Option, Some, None, Result, Ok, Err, Bool, true, false, ltb}
 use Rattle.press_hooks.specs.declared.open_run.OpenRun.{OpenRun}
 use Rattle.press_hooks.specs.NextEntry.{Table, begun, without_innermost}
+use Rattle.press_scan.specs.declared.tag_row.TagRow.{TagRow}
 use Rattle.press_callbacks.specs.declared.tables.Tables.{Tables}
 use Rattle.press_run.specs.declared.run_fault.RunFault.{RunFault}
 use Rattle.press_run.specs.declared.run_fault.RunFault.TheVariants.{Limit, NoMemory}
 use Rattle.press_run.specs.declared.step.Step.{Step}
 use Rattle.press_run.specs.declared.step.Step.TheVariants as step
+use Rattle.press_run.specs.Boot.{Loaded}
 use Rattle.press_run.specs.Counts.{Counts}
 use Rattle.press_run.specs.declared.job.Job.{Job}
 use Rattle.press_run.specs.declared.job.Job.TheVariants.{Fires, Apply}
@@ -17,14 +19,15 @@ use Rattle.std.specs.Prelude.{String, string_bytes}
 -- the tables, the counts of a machine and an output
 pub record Stage : Type 0 where
   pub hooks : Table
+  pub tags : List TagRow
   pub counts : Counts
   pub output : List ℕ
 
 abbrev pub stage : Tables → Counts → List ℕ → Stage
-stage tables counts output = record { hooks = tables.hooks; counts = counts; output = output }
+stage tables counts output = record { hooks = tables.hooks; tags = tables.tags; counts = counts; output = output }
 
 abbrev pub state_of : Stage → State
-state_of w = record { rows = w.hooks.rows; did = w.counts.did; doing = w.counts.doing; turns = w.counts.turns; output = w.output }
+state_of w = record { rows = w.hooks.rows; tags = w.tags; did = w.counts.did; doing = w.counts.doing; turns = w.counts.turns; output = w.output }
 
 -- what stands round a run: the open runs, and the stack of running hooks
 pub record Around : Type 0 where
@@ -87,3 +90,11 @@ GivesJob meaning before after (Err NoMemory) = Unit {0}
 abbrev pub CountsTurn : Counts → Counts → Bool → Type 0
 CountsTurn old new true = (ltb old.turns most_turns ≡ true) × (new ≡ record old { turns = old.turns + 1 })
 CountsTurn old new false = (ltb old.turns most_turns ≡ false) × (new ≡ old)
+
+-- the rows and tags of tables
+abbrev pub loaded_in : Tables → Loaded
+loaded_in t = record { rows = t.hooks.rows; tags = t.tags }
+
+-- these rows and tags, and no open run
+abbrev pub BootsWith : Loaded → Tables → Type 0
+BootsWith loaded t = (loaded_in t ≡ loaded) × (t.hooks.open_runs ≡ [])

@@ -1,6 +1,6 @@
--- The meaning of a run: what hooks and scripts give, and where a limit stops them (Plugin Handbook, Hooks; the limits are own).
+-- The meaning of a run: what hooks, shortcodes and scripts give, and where a limit stops them (Plugin Handbook, Hooks; Shortcode API; the limits are own).
 -- An Option is None at a limit, and a limit met anywhere is met by the whole.
-use Rattle.std.specs.Prelude.{ℕ, zero, suc, ◌+◌, ◌-◌, ℤ, List, [], ◌∷◌, ◌++◌, length, take, Bool, true, false, ltb, leb, bytes_eq, Option, Some, None, codes, decimal, count_by}
+use Rattle.std.specs.Prelude.{ℕ, zero, suc, ◌+◌, ◌-◌, ℤ, List, [], ◌∷◌, ◌++◌, length, take, slice_range, Bool, true, false, ◌&&◌, ltb, leb, bytes_eq, Option, Some, None, is_some, codes, decimal, count_by}
 use Rattle.std.specs.List.{list_any, list_all}
 use Rattle.std.specs.Fmt.{signed_decimal}
 use Rattle.press_hooks.specs.declared.row.Row.{Row}
@@ -8,14 +8,23 @@ use Rattle.press_hooks.specs.declared.entry.Entry.{Entry}
 use Rattle.press_hooks.specs.declared.open_run.OpenRun.{OpenRun}
 use Rattle.press_hooks.specs.HookRows.{add_row, adds_row, remove_row, remove_rows, is_row, has_rows, priority_of}
 use Rattle.press_hooks.specs.NextEntry.{next_entry, next_run, begun}
+use Rattle.press_scan.specs.declared.span.Span.{Span}
+use Rattle.press_scan.specs.declared.shortcode.Shortcode.{Shortcode}
+use Rattle.press_scan.specs.declared.tag_row.TagRow.{TagRow}
+use Rattle.press_scan.specs.Tags.{add_tag, adds_tag, remove_tag, is_tag, names_of, callback_of}
+use Rattle.press_scan.specs.Shortcodes.{cut}
+use Rattle.press_scan.specs.FirstShortcode.{shortcode_from}
+use Rattle.press_scan.specs.AttributesOf.{attributes_of}
+use Rattle.press_scan.specs.Scans.{before, behind}
 use Rattle.press_callbacks.specs.declared.script.Op.{Op}
 use Rattle.press_callbacks.specs.declared.script.CallIn.{CallIn}
 use Rattle.press_callbacks.specs.declared.script.Ask as asked
-use Rattle.press_callbacks.specs.declared.script.Ask.TheVariants.{Did, Doing, Has}
+use Rattle.press_callbacks.specs.declared.script.Ask.TheVariants.{Did, Doing, Has, Tag}
 use Rattle.press_callbacks.specs.declared.script.Turn.{Turn}
-use Rattle.press_callbacks.specs.declared.script.Turn.TheVariants.{Go, AddHook, RemoveHook, RemoveAll, Skip, Apply, Do, Ask, Echo, Return}
+use Rattle.press_callbacks.specs.declared.script.Turn.TheVariants.{Go, AddHook, RemoveHook, RemoveAll, AddTag, RemoveTag, Skip, Apply, Do, Shortcodes, Ask, Echo, Return}
 use Rattle.press_callbacks.specs.Turns.{turn_of}
 use Rattle.press_callbacks.specs.Kits.{Scripts, script_of}
+use Rattle.press_callbacks.specs.BuiltIns.{is_built_in}
 use Rattle.press_run.specs.declared.job.Fire.{Fire}
 use Rattle.press_run.specs.declared.step.Kind.{Kind}
 use Rattle.press_run.specs.declared.step.Kind.TheVariants.{Filter, Action}
@@ -48,9 +57,10 @@ within text = only_if (is_short text) text
 
 -- ---- states and answers
 
--- what runs change: the hook rows, the starts of actions, the stack of running hooks, the turns played, the output
+-- what runs change: the hook rows, the tags, the starts of actions, the stack of running hooks, the turns played, the output
 pub record State : Type 0 where
   pub rows : List Row
+  pub tags : List TagRow
   pub did : List (List ℕ)
   pub doing : List (List ℕ)
   pub turns : ℕ
@@ -93,7 +103,7 @@ handed_on Filter t (u ∷ us) = t ∷ us
 
 -- the call of a hook's callback on the arguments that it accepts
 abbrev pub hook_call : List (List ℕ) → CallIn
-hook_call args = record { args = args; value = first_text args; last = []; turn = 0 }
+hook_call args = record { args = args; atts = []; content = []; tag = []; value = first_text args; last = []; turn = 0 }
 
 -- the next entry is called and the rest goes on; without one the first argument is given
 abbrev pub call_entry : Meaning → (List ℕ → State → Option Answer) → List (List ℕ) → State → Option Entry → Option Answer
@@ -137,6 +147,68 @@ do_fires callback (f ∷ fs) s = do
   a ← do_hook callback f.hook f.args s
   do_fires callback fs a.state
 
+-- ---- shortcodes: what a text means
+
+abbrev pub content_of : List ℕ → Option Span → List ℕ
+content_of text None = []
+content_of text (Some span) = cut text span
+
+-- the call of the callback of a shortcode's tag
+abbrev pub shortcode_call : List ℕ → Shortcode → CallIn
+shortcode_call text c = record {
+  args = [];
+  atts = attributes_of (cut text c.atts);
+  content = content_of text c.content;
+  tag = cut text c.tag;
+  value = [];
+  last = [];
+  turn = 0;
+}
+
+-- what the callback of a tag answers; without one there is nothing
+abbrev pub tag_answer : Meaning → Option (List ℕ) → CallIn → State → Option Answer
+tag_answer callback None call s = answer [] s
+tag_answer callback (Some id) call s = callback id call s
+
+abbrev pub is_escape : Shortcode → Bool
+is_escape c = c.lead && c.tail
+
+-- a shortcode's result: of an escape its text without the first and the last byte, else its callback's answer between the brackets that are there
+abbrev pub shortcode_result : Meaning → List ℕ → Shortcode → State → Bool → Option Answer
+shortcode_result callback text c s true = answer (slice_range text (c.start + 1) (c.end - 1)) s
+shortcode_result callback text c s false = do
+  a ← tag_answer callback (callback_of (cut text c.tag) s.tags) (shortcode_call text c) s
+  answer (before c ++ (a.text ++ behind c)) a.state
+
+-- A text without a shortcode means itself; otherwise the front, then the first shortcode's result, then the meaning of the rest.
+abbrev pub scan_rest : Meaning → (ℕ → List ℕ → State → Option Answer) → List ℕ → ℕ → List ℕ → State → Option Shortcode → Option Answer
+scan_rest callback rest text at output s None = do
+  whole ← within (output ++ slice_range text at (length text))
+  answer whole s
+scan_rest callback rest text at output s (Some c) = do
+  front ← within (output ++ slice_range text at c.start)
+  a ← shortcode_result callback text c s (is_escape c)
+  longer ← within (front ++ a.text)
+  rest c.end longer a.state
+
+-- what a text means from a place on, behind the output so far, with the tags that then stand
+unfoldable pub scan_from : Meaning → ℕ → List ℕ → ℕ → List ℕ → State → Option Answer
+scan_from callback zero text at output s = None
+scan_from callback (suc n) text at output s =
+    scan_rest callback (λ at' output' s'. scan_from callback n text at' output' s') text at output s (shortcode_from text (names_of s.tags) at)
+
+-- (a shortcode has a byte at least, so a text has no more of them than bytes)
+abbrev pub scan : Meaning → List ℕ → State → Option Answer
+scan callback text s = do
+  whole ← within text
+  scan_from callback (suc (length whole)) whole 0 [] s
+
+-- `do_shortcode`: a call of a built-in callback is one turn
+abbrev pub scan_argument : Meaning → CallIn → State → Option Answer
+scan_argument callback call s = do
+  s' ← one_turn s
+  scan callback (first_text call.args) s'
+
 -- ---- one turn
 
 abbrev pub one_if : Bool → List ℕ
@@ -151,16 +223,20 @@ abbrev pub answer_of : asked.Ask → State → List ℕ
 answer_of (Did hook) s = decimal (count_by (bytes_eq hook) s.did)
 answer_of (Doing hook) s = one_if (list_any (bytes_eq hook) s.doing)
 answer_of (Has hook callback) s = decimal_or_empty (priority_of hook callback s.rows)
+answer_of (Tag tag) s = one_if (is_some (callback_of tag s.tags))
 
--- the texts of a turn, which are to be within the bytes
+-- the texts of a turn, which are to be within the bytes; a tag is a name
 abbrev pub texts_of : Turn → List (List ℕ)
 texts_of (Go t) = t ∷ []
 texts_of (AddHook h c p n) = []
 texts_of (RemoveHook h c p) = []
 texts_of (RemoveAll h p) = []
+texts_of (AddTag t c) = []
+texts_of (RemoveTag t) = []
 texts_of (Skip n) = []
 texts_of (Apply h ts) = ts
 texts_of (Do h ts) = ts
+texts_of (Shortcodes t) = t ∷ []
 texts_of (Ask a) = []
 texts_of (Echo t) = t ∷ []
 texts_of (Return t) = t ∷ []
@@ -189,6 +265,8 @@ turn_step callback call s (Go t) = goes (next_call call t call.last 0) s
 turn_step callback call s (AddHook h c p n) = answers call (one_if (adds_row h c p s.rows)) (record s { rows = add_row h c p n s.rows })
 turn_step callback call s (RemoveHook h c p) = answers call (one_if (list_any (is_row h p c) s.rows)) (record s { rows = remove_row h c p s.rows })
 turn_step callback call s (RemoveAll h p) = answers call (codes "1") (record s { rows = remove_rows h p s.rows })
+turn_step callback call s (AddTag t c) = answers call (one_if (adds_tag t s.tags)) (record s { tags = add_tag t c s.tags })
+turn_step callback call s (RemoveTag t) = answers call (one_if (list_any (is_tag t) s.tags)) (record s { tags = remove_tag t s.tags })
 turn_step callback call s (Skip n) = goes (next_call call call.value call.last n) s
 turn_step callback call s (Apply h ts) = do
   a ← apply_hook callback h ts s
@@ -196,6 +274,9 @@ turn_step callback call s (Apply h ts) = do
 turn_step callback call s (Do h ts) = do
   a ← do_hook callback h ts s
   answers call [] a.state
+turn_step callback call s (Shortcodes t) = do
+  a ← scan callback t s
+  answers call a.text a.state
 turn_step callback call s (Ask q) = answers call (answer_of q s) s
 turn_step callback call s (Echo t) = do
   output ← within (s.output ++ t)
@@ -227,10 +308,15 @@ abbrev pub or_empty : Option (List Op) → List Op
 or_empty None = []
 or_empty (Some script) = script
 
+-- built in, or by its script
+abbrev pub callback_where : Meaning → Option (List Op) → CallIn → State → Bool → Option Answer
+callback_where callback script call s true = scan_argument callback call s
+callback_where callback script call s false = play callback (or_empty script) fuel call s
+
 -- a callback, where so many may be open from it on
 unfoldable pub at_depth : ℕ → Scripts → Meaning
 at_depth zero scripts id call s = None
-at_depth (suc depth) scripts id call s = play (at_depth depth scripts) (or_empty (script_of id scripts)) fuel call s
+at_depth (suc depth) scripts id call s = callback_where (at_depth depth scripts) (script_of id scripts) call s (is_built_in id)
 
 -- ---- the jobs of a page or a command
 

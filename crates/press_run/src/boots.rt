@@ -1,46 +1,71 @@
 ghost use Rattle.std.specs.Prelude.{◌≡◌, IfOk, OnOk, IfSome, option_map};
 ghost use Rattle.press_hooks.specs.NextEntry.{with_rows};
 ghost use Rattle.press_callbacks.specs.Kits.{plugins_in};
-ghost use Rattle.press_run.specs.Boot.{boot_table, rows_booted, rows_loaded, row_loaded, loads_of};
+ghost use Rattle.press_run.specs.Boot.{booted_with, fresh, all_loaded, one_loaded, loads_of, the_content};
+ghost use Rattle.press_run.specs.Outcome.{loaded_in, BootsWith};
 
-use press_callbacks::{Kit, Load, Plugin, Tables};
+use press_callbacks::{Kit, Load, Plugin, Tables, do_shortcode};
 use press_hooks::HookTable;
-use press_text::Name;
+use press_scan::TagTable;
+use press_text::{HookName, Name, NameFault};
 use std::alloc::{AllocError, Global};
 
-/// Fresh tables with the loads of the active plugins, in the order in which these stand.
+/// Fresh tables with the built-in `do_shortcode` on `the_content` and the loads of the active plugins, in the order in which these stand.
 /// A plugin that the kit lacks loads nothing.
 pub fn boot(alloc: Global, kit: &Kit, active: &[Name]) -> Result<Tables, AllocError>
-    ensures { IfOk result (λ t. t.hooks ≡ boot_table (plugins_in kit.now) active.now) }
+    ensures { IfOk result (λ t. BootsWith (booted_with (plugins_in kit.now) active.now) t) }
 {
-    let mut hooks = HookTable::new(alloc);
+    let mut tables = fresh(alloc)?;
     for name in active {
-        load_plugin(&mut hooks, kit.plugin(name))?;
+        load_plugin(&mut tables, kit.plugin(name))?;
     }
-    Ok(Tables { hooks })
+    Ok(tables)
 }
 
-fn load_plugin(hooks: &mut HookTable, plugin: Option<&Plugin>) -> Result<(), AllocError>
-    ensures { OnOk result (hooks.new ≡ with_rows (rows_loaded (loads_of (option_map (λ p. p.now) plugin.entry)) hooks.old.rows) hooks.old) }
+// The tables before any plugin.
+fn fresh(alloc: Global) -> Result<Tables, AllocError>
+    ensures { IfOk result (λ t. BootsWith fresh t) }
+{
+    let mut hooks = HookTable::new(alloc);
+    hooks.add(&the_content(alloc)?, do_shortcode(), 11, 1)?;
+    let tags = TagTable::new(alloc);
+    Ok(Tables { hooks, tags })
+}
+
+fn the_content(alloc: Global) -> Result<HookName, AllocError>
+    ensures { IfOk result (λ h. h ≡ the_content) }
+{
+    match HookName::new(alloc, "the_content") {
+        Ok(hook) => Ok(hook),
+        Err(NameFault::NoMemory) => Err(AllocError),
+        Err(NameFault::BadName) | Err(NameFault::TooLong) => unreachable!(),
+    }
+}
+
+fn load_plugin(tables: &mut Tables, plugin: Option<&Plugin>) -> Result<(), AllocError>
+    ensures loads { OnOk result (loaded_in tables.new ≡ all_loaded (loads_of (option_map (λ p. p.now) plugin.entry)) (loaded_in tables.old)) }
+    ensures runs { OnOk result (tables.new.hooks.open_runs ≡ tables.old.hooks.open_runs) }
 {
     match plugin {
         None => Ok(()),
-        Some(p) => load_all(hooks, p.load.as_slice()),
+        Some(p) => load_all(tables, p.load.as_slice()),
     }
 }
 
-fn load_all(hooks: &mut HookTable, loads: &[Load]) -> Result<(), AllocError>
-    ensures { OnOk result (hooks.new ≡ with_rows (rows_loaded loads.now hooks.old.rows) hooks.old) }
+fn load_all(tables: &mut Tables, loads: &[Load]) -> Result<(), AllocError>
+    ensures loads { OnOk result (loaded_in tables.new ≡ all_loaded loads.now (loaded_in tables.old)) }
+    ensures runs { OnOk result (tables.new.hooks.open_runs ≡ tables.old.hooks.open_runs) }
 {
     for load in loads {
-        load_one(hooks, load)?;
+        load_one(tables, load)?;
     }
     Ok(())
 }
 
-// A row past the last that the table takes is left out.
-fn load_one(hooks: &mut HookTable, load: &Load) -> Result<(), AllocError>
-    ensures { OnOk result (hooks.new ≡ with_rows (row_loaded load.now hooks.old.rows) hooks.old) }
+// A row or a tag past the last that its table takes is left out.
+fn load_one(tables: &mut Tables, load: &Load) -> Result<(), AllocError>
+    ensures loads { OnOk result (loaded_in tables.new ≡ one_loaded load.now (loaded_in tables.old)) }
+    ensures runs { OnOk result (tables.new.hooks.open_runs ≡ tables.old.hooks.open_runs) }
 {
     match load {
         Load::Hook {
@@ -49,7 +74,11 @@ fn load_one(hooks: &mut HookTable, load: &Load) -> Result<(), AllocError>
             callback,
             accepted,
         } => {
-            hooks.add(hook, *callback, *priority, *accepted)?;
+            tables.hooks.add(hook, *callback, *priority, *accepted)?;
+            Ok(())
+        }
+        Load::Tag { tag, callback } => {
+            tables.tags.add(tag.as_str(), *callback)?;
             Ok(())
         }
     }

@@ -4,10 +4,12 @@ ghost use Rattle.std.specs.Prelude.{◌≡◌, IfOk, OnOk, codes};
 ghost use Rattle.std.specs.List.{list_any};
 ghost use Rattle.press_hooks.specs.HookRows.{add_row, adds_row, remove_row, remove_rows, is_row};
 ghost use Rattle.press_hooks.specs.NextEntry.{with_rows};
+ghost use Rattle.press_scan.specs.Tags.{add_tag, adds_tag, remove_tag, is_tag};
 ghost use Rattle.press_run.specs.Run.{one_if};
 
 use crate::answers::one_if;
 use press_hooks::HookTable;
+use press_scan::TagTable;
 use press_text::{CallbackId, HookName, Text};
 use std::alloc::{AllocError, Global};
 
@@ -51,4 +53,25 @@ pub fn remove_all(
 {
     hooks.remove_all(hook, priority);
     Text::from_str(alloc, "1")
+}
+
+pub fn add_tag(
+    alloc: Global,
+    tags: &mut TagTable,
+    tag: &Text,
+    callback: CallbackId,
+) -> Result<Text, AllocError>
+    ensures last { IfOk result (λ t. t ≡ one_if (adds_tag tag.now tags.old)) }
+    ensures tags { OnOk result (tags.new ≡ add_tag tag.now callback tags.old) }
+{
+    let added = tags.add(tag.as_str(), callback)?;
+    one_if(alloc, added)
+}
+
+pub fn remove_tag(alloc: Global, tags: &mut TagTable, tag: &Text) -> Result<Text, AllocError>
+    ensures last { IfOk result (λ t. t ≡ one_if (list_any (is_tag tag.now) tags.old)) }
+    ensures tags { OnOk result (tags.new ≡ remove_tag tag.now tags.old) }
+{
+    let stood = tags.remove(tag.as_str());
+    one_if(alloc, stood)
 }

@@ -1,4 +1,4 @@
-//! The machine that runs hooks over a kit: callbacks edit the running tables, runs nest, and three limits hold.
+//! The machine that runs hooks and shortcodes over a kit: callbacks edit the running tables, runs nest, and three limits hold.
 //!
 //! What it gives is a big-step meaning over scripts; what it calls are the kit's closures.
 #![tactic(auto)]
@@ -11,6 +11,7 @@ mod job;
 mod machine;
 mod out;
 mod run_fault;
+mod shortcodes;
 mod step;
 mod texts;
 

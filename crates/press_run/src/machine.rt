@@ -1,9 +1,13 @@
-ghost use Rattle.std.specs.Prelude.{◌≡◌, ◌+◌, ◌<◌, ◌^◌, ◌++◌, ◌∷◌, [], IsTrue, IfOk, OnOk, OnErr, string_bytes};
+ghost use Rattle.std.specs.Prelude.{◌≡◌, ◌+◌, ◌<◌, ◌^◌, ◌++◌, ◌∷◌, ◌≤◌, [], None, Some, length, IsTrue, IfOk, OnOk, OnErr, string_bytes};
 ghost use Rattle.press_hooks.specs.NextEntry.{is_innermost};
+ghost use Rattle.press_scan.specs.Shortcodes.{IsShortcode, cut};
+ghost use Rattle.press_scan.specs.Scans.{IsEscape};
+ghost use Rattle.press_scan.specs.Tags.{names_of, callback_of};
 ghost use Rattle.press_callbacks.specs.Kits.{scripts_in, script_at};
 ghost use Rattle.press_run.specs.Counts.{no_counts};
-ghost use Rattle.press_run.specs.Run.{at_depth, callbacks_of, run_hook, do_hook, do_fires, run_entries, play, fuel, counted_step, turn_step, or_empty, answer_of, one_turn, without_last};
+ghost use Rattle.press_run.specs.Run.{at_depth, callbacks_of, run_hook, do_hook, do_fires, run_entries, play, fuel, counted_step, turn_step, or_empty, answer_of, one_turn, without_last, scan, scan_argument, tag_answer, shortcode_call};
 ghost use Rattle.press_run.specs.Outcome.{Gives, GivesWithin, GivesStep, GivesJob, GoesAtMost, innermost, stage, state_of, around, around_innermost, job_meaning, CountsTurn};
+ghost use Rattle.press_run.specs.Scanning.{GivesTaken, GivesPiece};
 
 use crate::answers::{count_of, decimal, decimal_or_empty, has_hook, one_if};
 use crate::callbacks::Callbacks;
@@ -11,9 +15,10 @@ use crate::job::{Fire, Job};
 use crate::out::Out;
 use crate::run_fault::RunFault;
 use crate::step::{Kind, Step, further, with_last, with_value};
-use crate::{edits, texts};
-use press_callbacks::{Ask, CallIn, Kit, Tables, Turn};
+use crate::{edits, shortcodes, texts};
+use press_callbacks::{Ask, CallIn, Kit, Tables, Turn, is_built_in};
 use press_hooks::RunId;
+use press_scan::{Scan, ScanStep, Shortcode, computes_first, ends_within};
 use press_text::{CallbackId, HookName, Items, Text};
 use std::alloc::{AllocError, Global};
 use std::marker::Model;
@@ -198,8 +203,137 @@ impl Machine {
         if depth == 0 {
             return Err(RunFault::Limit);
         }
+        if is_built_in(id.as_bytes()) {
+            return self.scan_argument(alloc, kit, tables, out, depth - 1, call);
+        }
         let place = kit.place(id);
         self.play(alloc, kit, tables, out, depth - 1, place, call)
+    }
+
+    // The built-in `do_shortcode`: one turn, for the scan of its first argument.
+    #[cycle(run)]
+    fn scan_argument<K: Callbacks>(
+        &mut self,
+        alloc: Global,
+        kit: &K,
+        tables: &mut Tables,
+        out: &mut Out,
+        depth: u32,
+        call: CallIn,
+    ) -> Result<Text, RunFault>
+        ensures { Gives (scan_argument (at_depth depth (K.scripts kit.now)) call (state_of (stage tables.old self.old out.old))) (around (stage tables.old self.old out.old)) (stage tables.new self.new out.new) result }
+    {
+        if !self.counts_turn() {
+            return Err(RunFault::Limit);
+        }
+        let text = texts::into_first(alloc, call.args);
+        self.scan(alloc, kit, tables, out, depth, text)
+    }
+
+    // What a text means, where so many more callbacks may be open.
+    #[cycle(run)]
+    fn scan<K: Callbacks>(
+        &mut self,
+        alloc: Global,
+        kit: &K,
+        tables: &mut Tables,
+        out: &mut Out,
+        depth: u32,
+        text: Text,
+    ) -> Result<Text, RunFault>
+        ensures { Gives (scan (at_depth depth (K.scripts kit.now)) text (state_of (stage tables.old self.old out.old))) (around (stage tables.old self.old out.old)) (stage tables.new self.new out.new) result }
+    {
+        if !texts::is_short(&text) {
+            return Err(RunFault::Limit);
+        }
+        computes_first();
+        ends_within();
+        let mut scan = Scan::new(alloc, text.into_string());
+        while self.piece(alloc, kit, tables, out, depth, &mut scan)? {}
+        Ok(Text::from_string(scan.finish()))
+    }
+
+    // The next piece of a scan: the text up to a shortcode, an escape, or an answered shortcode. False where nothing is left.
+    #[cycle(run)]
+    fn piece<K: Callbacks>(
+        &mut self,
+        alloc: Global,
+        kit: &K,
+        tables: &mut Tables,
+        out: &mut Out,
+        depth: u32,
+        scan: &mut Scan,
+    ) -> Result<bool, RunFault>
+        requires waiting { scan.old.waiting ≡ None }
+        requires short { length scan.old.text ≤ 1048576 }
+        ensures { GivesPiece (at_depth depth (K.scripts kit.now)) (stage tables.old self.old out.old) (stage tables.new self.new out.new) scan.old scan.new result }
+    {
+        computes_first();
+        ends_within();
+        match scan.step(&tables.tags)? {
+            ScanStep::Text => {
+                if !shortcodes::is_short(scan) {
+                    return Err(RunFault::Limit);
+                }
+                Ok(true)
+            }
+            ScanStep::Call(shortcode) => {
+                self.answered(alloc, kit, tables, out, depth, scan, shortcode)?;
+                Ok(true)
+            }
+            ScanStep::End => Ok(false),
+        }
+    }
+
+    // Puts the answer to the shortcode that the scan waits for in its place.
+    #[cycle(run)]
+    fn answered<K: Callbacks>(
+        &mut self,
+        alloc: Global,
+        kit: &K,
+        tables: &mut Tables,
+        out: &mut Out,
+        depth: u32,
+        scan: &mut Scan,
+        shortcode: Shortcode,
+    ) -> Result<(), RunFault>
+        requires waiting { scan.old.waiting ≡ Some shortcode }
+        requires stands { IsShortcode scan.old.text (names_of tables.old.tags) scan.old.at shortcode }
+        requires no_escape { IsEscape shortcode → ⊥ }
+        requires short { length scan.old.text ≤ 1048576 }
+        ensures { GivesTaken (at_depth depth (K.scripts kit.now)) (stage tables.old self.old out.old) (stage tables.new self.new out.new) scan.old scan.new result }
+    {
+        computes_first();
+        ends_within();
+        let answer = self.shortcode(alloc, kit, tables, out, depth, scan.text(), shortcode)?;
+        scan.put(answer.as_str())?;
+        if !shortcodes::is_short(scan) {
+            return Err(RunFault::Limit);
+        }
+        Ok(())
+    }
+
+    // The answer of a shortcode's callback; a tag without one has none.
+    #[cycle(run)]
+    fn shortcode<K: Callbacks>(
+        &mut self,
+        alloc: Global,
+        kit: &K,
+        tables: &mut Tables,
+        out: &mut Out,
+        depth: u32,
+        text: &str,
+        shortcode: Shortcode,
+    ) -> Result<Text, RunFault>
+        requires stands { IsShortcode text.now (names_of tables.old.tags) shortcode.start shortcode }
+        requires short { length text.now ≤ 1048576 }
+        ensures { Gives (tag_answer (at_depth depth (K.scripts kit.now)) (callback_of (cut text.now shortcode.tag) tables.old.tags) (shortcode_call text.now shortcode) (state_of (stage tables.old self.old out.old))) (around (stage tables.old self.old out.old)) (stage tables.new self.new out.new) result }
+    {
+        let call = shortcodes::shortcode_call(alloc, text, &tables.tags, shortcode)?;
+        match tables.tags.get(call.tag.as_str()) {
+            None => Ok(Text::new(alloc)),
+            Some(id) => self.callback(alloc, kit, tables, out, depth, id, call),
+        }
     }
 
     // The turns of a callback up to its answer.
@@ -295,6 +429,14 @@ impl Machine {
                 let last = edits::remove_all(alloc, &mut tables.hooks, &hook, priority)?;
                 Ok(Step::Goes(with_last(call, last)))
             }
+            Turn::AddTag { tag, callback } => {
+                let last = edits::add_tag(alloc, &mut tables.tags, &tag, callback)?;
+                Ok(Step::Goes(with_last(call, last)))
+            }
+            Turn::RemoveTag { tag } => {
+                let last = edits::remove_tag(alloc, &mut tables.tags, &tag)?;
+                Ok(Step::Goes(with_last(call, last)))
+            }
             Turn::Skip(n) => Ok(Step::Goes(further(call, n))),
             Turn::Apply { hook, texts } => {
                 let last = self.run_hook(
@@ -311,6 +453,10 @@ impl Machine {
             }
             Turn::Do { hook, texts } => {
                 let last = self.do_hook(alloc, kit, tables, out, depth, &hook, texts)?;
+                Ok(Step::Goes(with_last(call, last)))
+            }
+            Turn::Shortcodes(text) => {
+                let last = self.scan(alloc, kit, tables, out, depth, text)?;
                 Ok(Step::Goes(with_last(call, last)))
             }
             Turn::Ask(ask) => {
@@ -333,6 +479,7 @@ impl Machine {
             Ask::Did(hook) => decimal(alloc, count_of(self.did.as_slice(), hook)),
             Ask::Doing(hook) => one_if(alloc, has_hook(self.doing.as_slice(), hook)),
             Ask::Has(hook, callback) => decimal_or_empty(alloc, tables.hooks.has(hook, *callback)),
+            Ask::Tag(tag) => one_if(alloc, tables.tags.get(tag.as_str()).is_some()),
         }
     }
 

@@ -7,6 +7,7 @@ ghost use Rattle.press_run.specs.Run.{first_text, handed_on, or_one_empty, hook_
 use crate::out::MOST_BYTES;
 use crate::step::Kind;
 use press_callbacks::{CallIn, Turn};
+use press_scan::Atts;
 use press_text::{Items, Text};
 use std::alloc::{AllocError, Global};
 
@@ -69,6 +70,9 @@ pub fn hook_call(alloc: Global, texts: &Items<Text>, accepted: u32) -> Result<Ca
     let value = first_text(alloc, &args)?;
     Ok(CallIn {
         args,
+        atts: Atts::from_vec(Vec::new(alloc)),
+        content: Text::new(alloc),
+        tag: Text::new(alloc),
         value,
         last: Text::new(alloc),
         turn: 0,
@@ -96,7 +100,7 @@ pub fn copied(alloc: Global, texts: &[Text]) -> Result<Items<Text>, AllocError>
     Ok(Items::from_vec(copies))
 }
 
-fn is_short(text: &Text) -> bool
+pub fn is_short(text: &Text) -> bool
     ensures { result ≡ is_short text.now }
 {
     text.len() <= MOST_BYTES
@@ -111,9 +115,12 @@ pub fn fits(turn: &Turn) -> bool
         Turn::AddHook { .. } => true,
         Turn::RemoveHook { .. } => true,
         Turn::RemoveAll { .. } => true,
+        Turn::AddTag { .. } => true,
+        Turn::RemoveTag { .. } => true,
         Turn::Skip(_) => true,
         Turn::Apply { texts, .. } => are_short(texts.as_slice()),
         Turn::Do { texts, .. } => are_short(texts.as_slice()),
+        Turn::Shortcodes(t) => is_short(t),
         Turn::Ask(_) => true,
         Turn::Echo(t) => is_short(t),
         Turn::Return(t) => is_short(t),

@@ -60,3 +60,22 @@ has_edges text tags s u here =
       last = last_edge text r.after s.end s.tail r.tail r.ends;
       end = end_edge text r.after s.end s.tail u there r.tail r.ends;
     }
+
+end_within : (text : List ℕ) (after end : ℕ) (tail : Bool) → after ≤ length text → (tail ≡ true → At text 93 after) → end ≡ after + (if tail then 1 else 0) → end ≤ length text
+end_within text after end true low p e = (let lt : after < length text = at_within text 93 after (omega arith) (p refl) in omega arith)
+end_within text after end false low p e = omega arith
+
+pub ends_within : (text : List ℕ) (tags : List (List ℕ)) (place : ℕ) (s : Shortcode) → IsShortcode text tags place s → (place < s.end) × (s.end ≤ length text)
+ends_within text tags place s here =
+    let r = here.rest in
+    let last : Last text r.close r.after = last_of text r.close s r.after r.closes.holds r.form in
+    let lt : last.place < length text = at_within text 93 last.place (omega arith) last.here in
+    let a : place + 1 ≤ place + (if s.lead then 2 else 1) = starts_late s.lead place in
+    let b : s.tag.start ≡ place + (if s.lead then 2 else 1) = here.head.follows in
+    let d : s.tag.start < s.tag.end = here.head.name.some in
+    let e : s.tag.end ≤ r.close = r.closes.after in
+    let f : r.close ≤ last.place = last.late in
+    let g : r.after ≡ last.place + 1 = last.next in
+    let h : r.after ≤ s.end = ends_late r.after s.end s.tail r.ends in
+    let low : r.after ≤ length text = omega arith in
+    (omega arith, end_within text r.after s.end s.tail low r.tail r.ends)

@@ -1,6 +1,6 @@
 //! Laws over the definitions.
 
-ghost use Rattle.std.specs.Prelude.{◌≡◌, ◌↔◌, ℕ, List, Option, Some, None};
+ghost use Rattle.std.specs.Prelude.{◌≡◌, ◌↔◌, ◌<◌, ◌≤◌, ℕ, List, length, Option, Some, None};
 ghost use Rattle.press_scan.specs.Places.{NoneFrom};
 ghost use Rattle.press_scan.specs.Shortcodes.{IsShortcode, HasShortcode, IsNext};
 ghost use Rattle.press_scan.specs.Attributes.{IsAttributes};
@@ -18,6 +18,11 @@ use crate::tag_table::TagTable;
 #[tactic(auto, using(crate::proofs::OneReading::one_reading))]
 pub fn one_reading()
     ensures { (text : List ℕ) (tags : List (List ℕ)) (place : ℕ) (s t : Shortcode) → IsShortcode text tags place s → IsShortcode text tags place t → s ≡ t }
+{}
+
+/// A shortcode ends behind the place where it stands, and within its text.
+pub fn ends_within()
+    ensures { (text : List ℕ) (tags : List (List ℕ)) (place : ℕ) (s : Shortcode) → IsShortcode text tags place s → (place < s.end) × (s.end ≤ length text) }
 {}
 
 /// The first shortcode as it is computed is the first by the relation; none is computed exactly where no place has one.

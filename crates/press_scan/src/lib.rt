@@ -22,7 +22,7 @@ pub use att::Att;
 pub use att_key::AttKey;
 pub use atts::Atts;
 pub use gathering::attributes;
-pub use laws::{computes_attributes, computes_first, has_parts, one_reading};
+pub use laws::{computes_attributes, computes_first, ends_within, has_parts, one_reading};
 pub use next::next_shortcode;
 pub use scan::Scan;
 pub use scan_step::ScanStep;

@@ -1,31 +1,47 @@
-use Rattle.std.proofs.Common.{◌≡◌, IsTrue, ◌+◌, ◌-◌, ◌*◌, ◌≤◌}
+use Rattle.std.proofs.Common.{◌≡◌, IsTrue, ◌+◌, ◌-◌, ◌*◌, ◌≤◌, None, length}
 use Rattle.press_hooks.specs.NextEntry.{is_innermost}
 use Rattle.press_callbacks.specs.Kits.{script_at}
-use Rattle.press_run.specs.Run.{at_depth, run_entries, play, fuel, or_empty}
+use Rattle.press_run.specs.Run.{at_depth, run_entries, play, fuel, or_empty, scan}
 use Rattle.press_run.specs.Outcome.{innermost, stage, state_of, around, around_innermost}
+use Rattle.press_run.specs.Scanning.{MeansLeft}
 use Rattle.press_run.proofs.machine.Machine.+run.Given as goal
 
--- callback, then entries, run_hook, do_hook, turn_step, step and play, each of which calls some before it, and callback calls play at a lesser depth
+-- Each calls some with a lesser number, and callback calls play and scan_argument at a lesser depth.
 abbrev pub decreases-callback : goal.decreases-callback
-decreases-callback g l = 7 * l.depth
+decreases-callback g l = 12 * l.depth
 
 abbrev pub decreases-entries : goal.decreases-entries
-decreases-entries g l = 7 * l.depth + 1
+decreases-entries g l = 12 * l.depth + 1
 
 abbrev pub decreases-run_hook : goal.decreases-run_hook
-decreases-run_hook g l = 7 * l.depth + 2
+decreases-run_hook g l = 12 * l.depth + 2
 
 abbrev pub decreases-do_hook : goal.decreases-do_hook
-decreases-do_hook g l = 7 * l.depth + 3
+decreases-do_hook g l = 12 * l.depth + 3
+
+abbrev pub decreases-shortcode : goal.decreases-shortcode
+decreases-shortcode g l = 12 * l.depth + 4
+
+abbrev pub decreases-answered : goal.decreases-answered
+decreases-answered g l = 12 * l.depth + 5
+
+abbrev pub decreases-piece : goal.decreases-piece
+decreases-piece g l = 12 * l.depth + 6
+
+abbrev pub decreases-scan : goal.decreases-scan
+decreases-scan g l = 12 * l.depth + 7
+
+abbrev pub decreases-scan_argument : goal.decreases-scan_argument
+decreases-scan_argument g l = 12 * l.depth + 11
 
 abbrev pub decreases-turn_step : goal.decreases-turn_step
-decreases-turn_step g l = 7 * l.depth + 4
+decreases-turn_step g l = 12 * l.depth + 8
 
 abbrev pub decreases-step : goal.decreases-step
-decreases-step g l = 7 * l.depth + 5
+decreases-step g l = 12 * l.depth + 9
 
 abbrev pub decreases-play : goal.decreases-play
-decreases-play g l = 7 * l.depth + 6
+decreases-play g l = 12 * l.depth + 10
 
 abbrev pub invariant-entries-loop-entry : goal.invariant-entries-loop-entry
 invariant-entries-loop-entry g l = record {
@@ -34,6 +50,17 @@ invariant-entries-loop-entry g l = record {
   is_open : IsTrue (is_innermost l.run l.tables.hooks.open_runs);
   around : around_innermost (stage l.tables l.self l.out) ≡ around_innermost (stage l.fn.tables l.fn.self l.fn.out);
 }
+
+abbrev pub invariant-scan-loop-scan : goal.invariant-scan-loop-scan
+invariant-scan-loop-scan g l = record {
+  means : MeansLeft (scan (at_depth l.depth (g.K.Callbacks.scripts l.kit)) l.fn.text (state_of (stage l.fn.tables l.fn.self l.fn.out))) (at_depth l.depth (g.K.Callbacks.scripts l.kit)) l.scan (stage l.tables l.self l.out);
+  around : around (stage l.tables l.self l.out) ≡ around (stage l.fn.tables l.fn.self l.fn.out);
+  short : length l.scan.text ≤ 1048576;
+  waiting : l.scan.waiting ≡ None;
+}
+
+abbrev pub decreases-scan-loop-scan : goal.decreases-scan-loop-scan
+decreases-scan-loop-scan g l = length l.scan.text - l.scan.at
 
 abbrev pub invariant-play-loop-turn : goal.invariant-play-loop-turn
 invariant-play-loop-turn g l = record {
