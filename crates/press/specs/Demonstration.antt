@@ -1,11 +1,12 @@
--- The demonstration kit: filters that append a letter, and one that grows its own hook while it runs (own).
+-- The demonstration kit: filters that append a letter, one that grows its own hook while it runs, and two shortcodes (own).
 use Rattle.std.specs.Prelude.{ℕ, pos, List, [], ◌∷◌, codes}
-use Rattle.press_callbacks.specs.declared.script.Part.TheVariants.{Lit, Value}
+use Rattle.press_scan.specs.declared.att_key.AttKey.TheVariants.{Name}
+use Rattle.press_callbacks.specs.declared.script.Part.TheVariants.{Lit, Att, Content, Value, Last}
 use Rattle.press_callbacks.specs.declared.script.Op.{Op}
-use Rattle.press_callbacks.specs.declared.script.Op.TheVariants.{Set, AddHook}
+use Rattle.press_callbacks.specs.declared.script.Op.TheVariants.{Set, AddHook, Shortcodes, Return}
 use Rattle.press_callbacks.specs.declared.plugin.Plugin.{Plugin}
 use Rattle.press_callbacks.specs.declared.plugin.Load.{Load}
-use Rattle.press_callbacks.specs.declared.plugin.Load.TheVariants.{Hook}
+use Rattle.press_callbacks.specs.declared.plugin.Load.TheVariants.{Hook, Tag}
 use Rattle.press_callbacks.specs.Kits.{Scripts, KitView, view_of}
 
 -- the step that appends a text to the value, and the script of that step alone
@@ -24,15 +25,24 @@ growing =
     AddHook the_title (codes "add_d") (pos 10) 1
     ∷ (AddHook the_title (codes "add_e") (pos 11) 1 ∷ (AddHook the_title (codes "add_f") (pos 9) 1 ∷ (append (codes "a") ∷ [])))
 
-abbrev pub letters : Scripts
-letters =
+-- greets the one that the attribute `name` names
+abbrev pub greeting : List Op
+greeting = Return (Lit (codes "Hello ") ∷ (Att (Name (codes "name")) ∷ [])) ∷ []
+
+-- has the shortcodes of its content answered, in a box
+abbrev pub boxing : List Op
+boxing = Shortcodes (Content ∷ []) ∷ (Return (Lit (codes "<div>") ∷ (Last ∷ (Lit (codes "</div>") ∷ []))) ∷ [])
+
+-- the callbacks whose closures play their scripts
+abbrev pub played : Scripts
+played =
     (codes "add_a", appending (codes "a"))
     ∷ ((codes "add_b", appending (codes "b"))
     ∷ ((codes "add_c", appending (codes "c"))
-    ∷ ((codes "add_d", appending (codes "d")) ∷ ((codes "add_e", appending (codes "e")) ∷ ((codes "add_f", appending (codes "f")) ∷ [])))))
+    ∷ ((codes "add_d", appending (codes "d")) ∷ ((codes "add_e", appending (codes "e")) ∷ ((codes "add_f", appending (codes "f")) ∷ ((codes "greet", greeting) ∷ ((codes "box", boxing) ∷ [])))))))
 
 abbrev pub scripts : Scripts
-scripts = (codes "grow", growing) ∷ letters
+scripts = (codes "grow", growing) ∷ played
 
 abbrev pub on_title : ℕ → List ℕ → Load
 on_title priority callback = Hook the_title (pos priority) callback 1
@@ -40,7 +50,8 @@ on_title priority callback = Hook the_title (pos priority) callback 1
 abbrev pub plugins : List Plugin
 plugins =
     record { name = codes "grow"; load = on_title 10 (codes "grow") ∷ [] }
-    ∷ (record { name = codes "letters"; load = on_title 10 (codes "add_a") ∷ (on_title 10 (codes "add_b") ∷ (on_title 5 (codes "add_c") ∷ [])) } ∷ [])
+    ∷ (record { name = codes "letters"; load = on_title 10 (codes "add_a") ∷ (on_title 10 (codes "add_b") ∷ (on_title 5 (codes "add_c") ∷ [])) }
+    ∷ (record { name = codes "tags"; load = Tag (codes "greet") (codes "greet") ∷ (Tag (codes "box") (codes "box") ∷ []) } ∷ []))
 
 abbrev pub demonstration : KitView
 demonstration = view_of scripts plugins

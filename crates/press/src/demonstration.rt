@@ -6,7 +6,8 @@ ghost use Rattle.press_callbacks.specs.Turns.{turn_of};
 ghost use Rattle.press.specs.Demonstration as spec;
 
 use press_callbacks::{CallIn, Load, Op, Part, Plugin, Script, Turn};
-use press_text::{CallbackId, HookName, Items, Name, NameFault, Text};
+use press_scan::AttKey;
+use press_text::{CallbackId, HookName, Items, Name, NameFault, Tag, Text};
 use std::alloc::{AllocError, Global};
 
 /// A callback whose closure plays its script: its name, the script, and the same script once more for the closure.
@@ -22,25 +23,25 @@ pub struct Scripted {
 #[derive(Drop)]
 pub struct DemonstrationParts {
     pub growing: Script,
-    pub letters: Vec<Scripted>,
+    pub played: Vec<Scripted>,
     pub plugins: Vec<Plugin>,
 }
 
 pub fn parts(alloc: Global) -> Result<DemonstrationParts, AllocError>
     ensures growing { IfOk result (λ p. p.growing ≡ spec.growing) }
-    ensures letters { IfOk result (λ p. map (λ s. (s.id, s.script)) p.letters.items ≡ spec.letters) }
+    ensures played { IfOk result (λ p. map (λ s. (s.id, s.script)) p.played.items ≡ spec.played) }
     ensures plugins { IfOk result (λ p. p.plugins.items ≡ spec.plugins) }
 {
     Ok(DemonstrationParts {
         growing: growing(alloc)?,
-        letters: letters(alloc)?,
+        played: played(alloc)?,
         plugins: plugins(alloc)?,
     })
 }
 
-// The filters that append a letter.
-fn letters(alloc: Global) -> Result<Vec<Scripted>, AllocError>
-    ensures { IfOk result (λ v. map (λ s. (s.id, s.script)) v.items ≡ spec.letters) }
+// The callbacks whose closures play their scripts.
+fn played(alloc: Global) -> Result<Vec<Scripted>, AllocError>
+    ensures { IfOk result (λ v. map (λ s. (s.id, s.script)) v.items ≡ spec.played) }
 {
     Ok(vec![in alloc;
         letter(alloc, "add_a", "a")?,
@@ -49,7 +50,56 @@ fn letters(alloc: Global) -> Result<Vec<Scripted>, AllocError>
         letter(alloc, "add_d", "d")?,
         letter(alloc, "add_e", "e")?,
         letter(alloc, "add_f", "f")?,
+        greet(alloc)?,
+        box_of_content(alloc)?,
     ]?)
+}
+
+fn greet(alloc: Global) -> Result<Scripted, AllocError>
+    ensures id { IfOk result (λ s. s.id ≡ codes "greet") }
+    ensures script { IfOk result (λ s. s.script ≡ spec.greeting) }
+{
+    let script = greeting(alloc)?;
+    let own = greeting(alloc)?;
+    Ok(Scripted {
+        id: callback_named("greet"),
+        script,
+        own,
+    })
+}
+
+// Greets the one that the attribute `name` names.
+fn greeting(alloc: Global) -> Result<Script, AllocError>
+    ensures { IfOk result (λ s. s ≡ spec.greeting) }
+{
+    let hello = Part::Lit(Text::from_str(alloc, "Hello ")?);
+    let name = Part::Att(AttKey::Name(Text::from_str(alloc, "name")?));
+    let answer = Op::Return(Items::from_vec(vec![in alloc; hello, name]?));
+    Ok(Items::from_vec(vec![in alloc; answer]?))
+}
+
+fn box_of_content(alloc: Global) -> Result<Scripted, AllocError>
+    ensures id { IfOk result (λ s. s.id ≡ codes "box") }
+    ensures script { IfOk result (λ s. s.script ≡ spec.boxing) }
+{
+    let script = boxing(alloc)?;
+    let own = boxing(alloc)?;
+    Ok(Scripted {
+        id: callback_named("box"),
+        script,
+        own,
+    })
+}
+
+// Has the shortcodes of its content answered, in a box.
+fn boxing(alloc: Global) -> Result<Script, AllocError>
+    ensures { IfOk result (λ s. s ≡ spec.boxing) }
+{
+    let content = Op::Shortcodes(Items::from_vec(vec![in alloc; Part::Content]?));
+    let begin = Part::Lit(Text::from_str(alloc, "<div>")?);
+    let end = Part::Lit(Text::from_str(alloc, "</div>")?);
+    let answer = Op::Return(Items::from_vec(vec![in alloc; begin, Part::Last, end]?));
+    Ok(Items::from_vec(vec![in alloc; content, answer]?))
 }
 
 fn letter(alloc: Global, name: &str, text: &str) -> Result<Scripted, AllocError>
@@ -147,7 +197,7 @@ pub fn grow_turn(alloc: Global, input: &CallIn) -> Result<Turn, AllocError>
     Ok(Turn::Return(text))
 }
 
-// The plugins `grow` and `letters`.
+// The plugins `grow`, `letters` and `tags`.
 fn plugins(alloc: Global) -> Result<Vec<Plugin>, AllocError>
     ensures { IfOk result (λ v. v.items ≡ spec.plugins) }
 {
@@ -157,9 +207,11 @@ fn plugins(alloc: Global) -> Result<Vec<Plugin>, AllocError>
         on_title(alloc, 10, "add_b")?,
         on_title(alloc, 5, "add_c")?,
     ]?;
+    let tags = vec![in alloc; tag_of(alloc, "greet")?, tag_of(alloc, "box")?]?;
     Ok(vec![in alloc;
         plugin(alloc, "grow", grow)?,
         plugin(alloc, "letters", letters)?,
+        plugin(alloc, "tags", tags)?,
     ]?)
 }
 
@@ -183,6 +235,28 @@ fn on_title(alloc: Global, priority: i64, callback: &str) -> Result<Load, AllocE
         callback: callback_named(callback),
         accepted: 1,
     })
+}
+
+// A tag that the callback of its own name answers.
+fn tag_of(alloc: Global, name: &str) -> Result<Load, AllocError>
+    requires { name_fault 32 name.now ≡ None }
+    ensures { IfOk result (λ l. l ≡ Load.Tag name.now name.now) }
+{
+    Ok(Load::Tag {
+        tag: tag_named(alloc, name)?,
+        callback: callback_named(name),
+    })
+}
+
+fn tag_named(alloc: Global, name: &str) -> Result<Tag, AllocError>
+    requires { name_fault 32 name.now ≡ None }
+    ensures { IfOk result (λ t. t ≡ name.now) }
+{
+    match Tag::new(alloc, name) {
+        Ok(tag) => Ok(tag),
+        Err(NameFault::NoMemory) => Err(AllocError),
+        Err(NameFault::BadName) | Err(NameFault::TooLong) => unreachable!(),
+    }
 }
 
 fn the_title(alloc: Global) -> Result<HookName, AllocError>

@@ -73,13 +73,13 @@ fn demonstrated<R: Read>(alloc: Global, reader: &mut R) -> Result<Ending, Replay
     let mut callbacks: Vec<Stored> = Vec::new(alloc);
     let call: BoxedTurns = Box::new(alloc, move |input: &CallIn| grow_turn(alloc, input))?;
     callbacks.push(Stored::new(grow(), parts.growing, call))?;
-    for letter in parts.letters {
-        let own = letter.own;
+    for scripted in parts.played {
+        let own = scripted.own;
         let call: BoxedTurns = Box::new(
             alloc,
             move |input: &CallIn| script_turn(alloc, &own, input),
         )?;
-        callbacks.push(Stored::new(letter.id, letter.script, call))?;
+        callbacks.push(Stored::new(scripted.id, scripted.script, call))?;
     }
     match Kit::build(alloc, callbacks, parts.plugins) {
         Ok(kit) => Ok(page_end(alloc, &kit, reader)),

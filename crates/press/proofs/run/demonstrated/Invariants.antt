@@ -4,5 +4,5 @@ use Rattle.press_callbacks.specs.Kits.{scripts_given}
 use Rattle.press.specs.Demonstration.{scripts}
 use Rattle.press.proofs.run.demonstrated.Given as goal
 
-abbrev pub invariant-loop-letter : goal.invariant-loop-letter
-invariant-loop-letter g l = scripts_given l.callbacks.items ++ map (λ s. (s.id, s.script)) (into_iter_items l.letter-iterator) ≡ scripts
+abbrev pub invariant-loop-scripted : goal.invariant-loop-scripted
+invariant-loop-scripted g l = scripts_given l.callbacks.items ++ map (λ s. (s.id, s.script)) (into_iter_items l.scripted-iterator) ≡ scripts
