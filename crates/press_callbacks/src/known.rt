@@ -15,6 +15,7 @@ use crate::stored::Stored;
 use press_text::CallbackId;
 
 const MOST_HOOK_LOADS: usize = 1000;
+
 const MOST_TAG_LOADS: usize = 128;
 
 /// A thing with a name and a script.

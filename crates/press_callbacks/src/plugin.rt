@@ -11,7 +11,10 @@ pub enum Load {
         accepted: u32,
     },
     /// A tag of shortcodes, with the callback that answers it.
-    Tag { tag: Tag, callback: CallbackId },
+    Tag {
+        tag: Tag,
+        callback: CallbackId,
+    },
 }
 
 /// What a load goes into.

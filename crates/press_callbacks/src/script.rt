@@ -60,9 +60,14 @@ pub enum Op {
         priority: Option<i64>,
     },
     /// Puts a tag into the table of shortcodes; one that is no name of a tag is not added (`add_shortcode`).
-    AddTag { tag: Text, callback: CallbackId },
+    AddTag {
+        tag: Text,
+        callback: CallbackId,
+    },
     /// Takes a tag out (`remove_shortcode`).
-    RemoveTag { tag: Text },
+    RemoveTag {
+        tag: Text,
+    },
     /// Goes on n ops further where the two texts are equal.
     SkipIf {
         left: Parts,

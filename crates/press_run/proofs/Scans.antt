@@ -111,10 +111,10 @@ module _ (some : ComputesSome) (none : ComputesNone) (ends : EndsWithin) (callba
       let both : is_escape c ≡ true = ap₂ (λ (x y : Bool). x && y) escape.0 escape.1 in
       let w = ends text (names_of s.tags) at c stands in
       comes b whole callback text c.end output' s n (λ o. scan_from callback n text c.end o s) h
-          (e ∙ here n at output c short stands
-          ∙ ap (λ x. shortcode_result callback text c s x >>= λ a. within (output ++ a.text) >>= λ longer. scan_from callback n text c.end longer a.state) both
-          ∙ ap (λ t. within t >>= λ o. scan_from callback n text c.end o s) (sym out))
-          (λ fits. refl) (omega (arith, w.0))
+      (e ∙ here n at output c short stands
+      ∙ ap (λ x. shortcode_result callback text c s x >>= λ a. within (output ++ a.text) >>= λ longer. scan_from callback n text c.end longer a.state) both
+      ∙ ap (λ t. within t >>= λ o. scan_from callback n text c.end o s) (sym out))
+      (λ fits. refl) (omega (arith, w.0))
 
   -- a step that takes text
   pub text_taken : (b : Bool) (whole : Option Answer) (old new : Progress) → old.text ≡ text → TakesText (names_of s.tags) old new → Means whole callback text old.at old.output s → is_short new.output ≡ b → Comes b whole callback text new.at new.output s
@@ -136,10 +136,10 @@ module _ (some : ComputesSome) (none : ComputesNone) (ends : EndsWithin) (callba
   answer_by (suc n) b whole at output output' c a enough e short stands plain gave out h =
       let w = ends text (names_of s.tags) at c stands in
       comes b whole callback text c.end output' a.state n (λ o. scan_from callback n text c.end o a.state) h
-          (e ∙ here n at output c short stands ∙ unanswered n output c plain
-          ∙ ap (λ o. o >>= λ x. within (output ++ (opens c ++ (x.text ++ behind c))) >>= λ longer. scan_from callback n text c.end longer x.state) gave
-          ∙ ap (λ t. within t >>= λ o. scan_from callback n text c.end o a.state) (sym out))
-          (λ fits. refl) (omega (arith, w.0))
+      (e ∙ here n at output c short stands ∙ unanswered n output c plain
+      ∙ ap (λ o. o >>= λ x. within (output ++ (opens c ++ (x.text ++ behind c))) >>= λ longer. scan_from callback n text c.end longer x.state) gave
+      ∙ ap (λ t. within t >>= λ o. scan_from callback n text c.end o a.state) (sym out))
+      (λ fits. refl) (omega (arith, w.0))
 
   limit_by : (n : ℕ) (whole : Option Answer) (at : ℕ) (output : List ℕ) (c : Shortcode) → length text < n + at → whole ≡ scan_from callback n text at output s → is_short output ≡ true → IsShortcode text (names_of s.tags) at c → (IsEscape c → ⊥) → tag_answer callback (callback_of (cut text c.tag) s.tags) (shortcode_call text c) s ≡ None → whole ≡ None
   limit_by zero whole at output c enough e short stands plain gave = (let w = ends text (names_of s.tags) at c stands in absurd (omega (arith, w.0, w.1)))
@@ -201,7 +201,6 @@ module _ (some : ComputesSome) (none : ComputesNone) (ends : EndsWithin) (callba
 
   pub text_stops : TakesText (names_of before.tags) old new → is_short new.output ≡ false → (whole : Option Answer) → MeansLeft whole callback old before → whole ≡ None
   text_stops takes long whole m = text_taken some none ends callback old.text (state_of before) false whole old new refl takes m long
-
 
   module _ (c : Shortcode) (text : List ℕ) (stands : IsShortcode old.text (names_of before.tags) old.at c) (plain : IsEscape c → ⊥) (put : new ≡ put_in old c text) where
     module _ (gave : tag_answer callback (callback_of (cut old.text c.tag) before.tags) (shortcode_call old.text c) (state_of before) ≡ answer text (state_of after)) where

@@ -63,6 +63,33 @@ fn prints_the_title_that_plugins_make(rt: HostRuntime) -> Result<(), Fail> {
     Ok(())
 }
 
+// Row `nested-tags` as the content of a page: with the plugin `tags`, and without it.
+#[test]
+fn prints_the_content_that_shortcodes_make(rt: HostRuntime) -> Result<(), Fail> {
+    let alloc = rt.alloc();
+    for (plugin, content, want) in [
+        (
+            "tags",
+            "[box]a [greet name=Bo] b[/box]",
+            "<div>a Hello Bo b</div>",
+        ),
+        ("tags", "[greet name=\\\"[box]\\\"]", "Hello \"]"),
+        ("tags", "[[greet]] [greeting]", "[greet] [greeting]"),
+        ("letters", "[greet name=Bo]", "[greet name=Bo]"),
+    ] {
+        let file = format!(in alloc;
+            r#"{{"commands":[{{"editor":"bob","seq":1,"at":10,"kind":"activate","plugin":"{plugin}"}},{{"editor":"ann","seq":2,"at":10,"kind":"insert","title":"","content":"{content}","status":"publish"}}]}}"#
+        )?;
+        let run = ran(&rt, file.as_bytes());
+        let title = if plugin == "letters" { "cab" } else { "" };
+        let page = page_of(alloc, title, want)?;
+        assert_eq!(rt; run.status, 0, "at {content}");
+        assert_eq!(rt; run.out.as_slice(), page.as_bytes(), "at {content}");
+        assert_eq!(rt; run.told.len(), 0);
+    }
+    Ok(())
+}
+
 // No post: an empty list, a token that is taken by an activation, and one that was refused for a long title.
 #[test]
 fn prints_not_found(rt: HostRuntime) -> Result<(), Fail> {

@@ -1,5 +1,6 @@
 use crate::{Ask, CallIn, Load, Op, Part, Parts, Plugin, Script};
-use press_text::{CallbackId, HookName, Items, Name, Text};
+use press_scan::attributes;
+use press_text::{CallbackId, HookName, Items, Name, Tag, Text};
 use std::alloc::{AllocError, Global};
 use std::test::Fail;
 
@@ -22,6 +23,7 @@ pub enum Naming {
     Adds,
     Removes,
     Asks,
+    Tags,
 }
 
 /// A script of one op, which names a callback.
@@ -41,16 +43,23 @@ pub fn script_that_names(alloc: Global, how: Naming, callback: &str) -> Result<S
             priority: 10,
         },
         Naming::Asks => Op::Ask(Ask::Has(hook, callback)),
+        Naming::Tags => Op::AddTag {
+            tag: Text::from_str(alloc, "t")?,
+            callback,
+        },
     };
     Ok(Items::from_vec(vec![in alloc; op]?))
 }
 
-/// The call `v` with the arguments `one` and `two` after the answer `l`.
+/// The call `v` with the arguments `one` and `two`, the attribute `a`, a content and a tag, after the answer `l`.
 pub fn called(alloc: Global, turn: usize) -> Result<CallIn, AllocError> {
     let first = Text::from_str(alloc, "one")?;
     let second = Text::from_str(alloc, "two")?;
     Ok(CallIn {
         args: Items::from_vec(vec![in alloc; first, second]?),
+        atts: attributes(alloc, " A=x y")?,
+        content: Text::from_str(alloc, "c")?,
+        tag: Text::from_str(alloc, "t")?,
         value: Text::from_str(alloc, "v")?,
         last: Text::from_str(alloc, "l")?,
         turn,
@@ -77,6 +86,27 @@ pub fn plugin(
     }
     Ok(Plugin {
         name: Name::new(alloc, name)?,
+        load: Items::from_vec(load),
+    })
+}
+
+/// The plugin with so many loads of a tag more.
+pub fn with_tags(
+    alloc: Global,
+    plugin: Plugin,
+    loads: usize,
+    callback: &str,
+) -> Result<Plugin, Fail> {
+    let callback = CallbackId::new(callback)?;
+    let mut load = plugin.load.into_vec();
+    for _ in 0..loads {
+        load.push(Load::Tag {
+            tag: Tag::new(alloc, "t")?,
+            callback,
+        })?;
+    }
+    Ok(Plugin {
+        name: plugin.name,
         load: Items::from_vec(load),
     })
 }

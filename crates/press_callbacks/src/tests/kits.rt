@@ -1,5 +1,5 @@
 use crate::same::Same;
-use crate::tests::fixtures::{Naming, appending, called, plugin, script_that_names};
+use crate::tests::fixtures::{Naming, appending, called, plugin, script_that_names, with_tags};
 use crate::{BoxedTurns, CallIn, Kit, KitFault, Stored, Turn, script_turn};
 use press_text::{CallbackId, Name};
 use std::test::Fail;
@@ -41,7 +41,7 @@ fn finds_by_name(rt: HostRuntime) -> Result<(), Fail> {
     Ok(())
 }
 
-// Two callbacks of one name, or two plugins, also where a name that is not there stands in a script.
+// Two callbacks of one name, two plugins, or a callback with a built-in name, also where a name that is not there stands in a script.
 #[test]
 fn refuses_two_names(rt: HostRuntime) -> Result<(), Fail> {
     let alloc = rt.alloc();
@@ -50,6 +50,8 @@ fn refuses_two_names(rt: HostRuntime) -> Result<(), Fail> {
         ("add_b", "one", "add_a"),
         ("add_a", "two", "add_x"),
         ("add_b", "one", "add_x"),
+        ("do_shortcode", "two", "add_a"),
+        ("do_shortcode", "two", "add_x"),
     ] {
         let mut callbacks = Vec::new(alloc);
         for id in ["add_a", id] {
@@ -75,19 +77,22 @@ fn refuses_two_names(rt: HostRuntime) -> Result<(), Fail> {
 #[test]
 fn refuses_unknown_callbacks(rt: HostRuntime) -> Result<(), Fail> {
     let alloc = rt.alloc();
-    for (how, named, loaded, loads) in [
-        (Naming::Adds, "add_x", "add_a", 1),
-        (Naming::Removes, "add_x", "add_a", 1),
-        (Naming::Asks, "add_x", "add_a", 1),
-        (Naming::Adds, "add_a", "add_x", 1),
-        (Naming::Adds, "add_a", "add_x", 1001),
+    for (how, named, loaded, tagged, loads) in [
+        (Naming::Adds, "add_x", "add_a", "add_a", 1),
+        (Naming::Removes, "add_x", "add_a", "add_a", 1),
+        (Naming::Asks, "add_x", "add_a", "add_a", 1),
+        (Naming::Tags, "add_x", "add_a", "add_a", 1),
+        (Naming::Adds, "add_a", "add_x", "add_a", 1),
+        (Naming::Adds, "add_a", "add_a", "add_x", 1),
+        (Naming::Adds, "add_a", "add_x", "add_a", 1001),
     ] {
         let script = script_that_names(alloc, how, named)?;
         let own = script_that_names(alloc, how, named)?;
         assert!(rt; own.same(&script));
         let call: BoxedTurns = Box::new(alloc, move |i: &CallIn| script_turn(alloc, &own, i))?;
         let callbacks = vec![in alloc; Stored::new(CallbackId::new("add_a")?, script, call)]?;
-        let plugins = vec![in alloc; plugin(alloc, "one", loads, loaded, 1)?]?;
+        let one = plugin(alloc, "one", loads, loaded, 1)?;
+        let plugins = vec![in alloc; with_tags(alloc, one, 1, tagged)?]?;
         let refused = Kit::build(alloc, callbacks, plugins);
         assert!(rt;
             matches!(refused, Err(KitFault::UnknownCallback)),
@@ -97,30 +102,48 @@ fn refuses_unknown_callbacks(rt: HostRuntime) -> Result<(), Fail> {
     Ok(())
 }
 
-// A thousand hook loads are accepted, in one plugin or in two, and not one more.
+// A thousand hook loads and 128 tag loads are accepted, in one plugin or in two, and not one more. A built-in callback is known.
 #[test]
 fn refuses_too_many_loads(rt: HostRuntime) -> Result<(), Fail> {
     let alloc = rt.alloc();
-    for (first, second, want) in [
-        (1000, 0, true),
-        (400, 600, true),
-        (1001, 0, false),
-        (400, 601, false),
+    for (first, second, tags, more_tags, want) in [
+        (1000, 0, 128, 0, true),
+        (400, 600, 28, 100, true),
+        (1001, 0, 0, 0, false),
+        (400, 601, 0, 0, false),
+        (0, 0, 129, 0, false),
+        (0, 0, 29, 100, false),
     ] {
-        let script = script_that_names(alloc, Naming::Asks, "add_a")?;
-        let own = script_that_names(alloc, Naming::Asks, "add_a")?;
+        let script = script_that_names(alloc, Naming::Tags, "do_shortcode")?;
+        let own = script_that_names(alloc, Naming::Tags, "do_shortcode")?;
         assert!(rt; own.same(&script));
         let call: BoxedTurns = Box::new(alloc, move |i: &CallIn| script_turn(alloc, &own, i))?;
         let callbacks = vec![in alloc; Stored::new(CallbackId::new("add_a")?, script, call)]?;
         let plugins = vec![in alloc;
-            plugin(alloc, "one", first, "add_a", 1)?,
-            plugin(alloc, "two", second, "add_a", 1)?,
+            with_tags(
+                alloc,
+                plugin(alloc, "one", first, "add_a", 1)?,
+                tags,
+                "add_a"
+            )?,
+            with_tags(
+                alloc,
+                plugin(alloc, "two", second, "add_a", 1)?,
+                more_tags,
+                "add_a"
+            )?,
         ]?;
         match Kit::build(alloc, callbacks, plugins) {
-            Ok(_) => assert!(rt; want, "accepted {first} and {second}"),
+            Ok(_) => assert!(rt;
+                want,
+                "accepted {first} and {second}, {tags} and {more_tags}"
+            ),
             Err(fault) => {
                 assert_eq!(rt; fault, KitFault::BadLoad);
-                assert!(rt; !want, "refused {first} and {second}");
+                assert!(rt;
+                    !want,
+                    "refused {first} and {second}, {tags} and {more_tags}"
+                );
             }
         }
     }

@@ -1,5 +1,6 @@
 use crate::tests::fixtures::{called, lit, one};
 use crate::{Ask, Op, Part, Script, Turn, script_turn};
+use press_scan::AttKey;
 use press_text::{CallbackId, HookName, Items, Text};
 use std::alloc::{AllocError, Global};
 use std::test::Fail;
@@ -13,6 +14,11 @@ fn every_op(alloc: Global) -> Result<Script, Fail> {
         Part::Value,
         Part::Last,
         Part::Arg(2),
+        Part::Att(AttKey::Name(Text::from_str(alloc, "a")?)),
+        Part::Att(AttKey::Place(0)),
+        Part::Att(AttKey::Place(1)),
+        Part::Content,
+        Part::Tag,
     ]?;
     let mut ops = Vec::new(alloc);
     ops.push(Op::Set(Items::from_vec(all)))?;
@@ -61,6 +67,15 @@ fn every_op(alloc: Global) -> Result<Script, Fail> {
     ops.push(Op::Ask(Ask::Doing(HookName::new(alloc, hook)?)))?;
     ops.push(Op::Ask(Ask::Has(HookName::new(alloc, hook)?, callback)))?;
     ops.push(Op::Echo(one(alloc, lit(alloc, "hi")?)?))?;
+    ops.push(Op::AddTag {
+        tag: Text::from_str(alloc, "t-2")?,
+        callback,
+    })?;
+    ops.push(Op::RemoveTag {
+        tag: Text::from_str(alloc, "no tag")?,
+    })?;
+    ops.push(Op::Shortcodes(one(alloc, Part::Content)?))?;
+    ops.push(Op::Ask(Ask::Tag(Text::from_str(alloc, "t")?)))?;
     ops.push(Op::Return(one(alloc, Part::Last)?))?;
     Ok(Items::from_vec(ops))
 }
@@ -90,6 +105,7 @@ fn shown_ask(alloc: Global, ask: &Ask) -> Result<String, AllocError> {
             let callback = name(alloc, *callback)?;
             format!(in alloc; "ask has {} {callback}", hook.as_str())
         }
+        Ask::Tag(tag) => format!(in alloc; "ask tag {}", tag.as_str()),
     }
 }
 
@@ -116,6 +132,12 @@ fn shown(alloc: Global, turn: &Turn) -> Result<String, AllocError> {
         Turn::RemoveAll { hook, priority } => {
             format!(in alloc; "remove all {} {priority:?}", hook.as_str())
         }
+        Turn::AddTag { tag, callback } => {
+            let callback = name(alloc, *callback)?;
+            format!(in alloc; "add tag {} {callback}", tag.as_str())
+        }
+        Turn::RemoveTag { tag } => format!(in alloc; "remove tag {}", tag.as_str()),
+        Turn::Shortcodes(text) => format!(in alloc; "shortcodes {}", text.as_str()),
         Turn::Skip(n) => format!(in alloc; "skip {n}"),
         Turn::Apply { hook, texts } => {
             let texts = joined(alloc, texts.as_slice())?;
@@ -131,13 +153,13 @@ fn shown(alloc: Global, turn: &Turn) -> Result<String, AllocError> {
     }
 }
 
-// The turn of each op; a missing argument is empty, and past the last op the value is returned.
+// The turn of each op; a missing argument or attribute is empty, and past the last op the value is returned.
 #[test]
 fn turns_of_each_op(rt: HostRuntime) -> Result<(), Fail> {
     let alloc = rt.alloc();
     let script = every_op(alloc)?;
     for (turn, want) in [
-        (0, "go <onevl"),
+        (0, "go <onevlxyct"),
         (1, "add the_title add_a -10 2"),
         (2, "remove the_title add_a 7"),
         (3, "remove all the_title None"),
@@ -150,8 +172,12 @@ fn turns_of_each_op(rt: HostRuntime) -> Result<(), Fail> {
         (10, "ask doing the_title"),
         (11, "ask has the_title add_a"),
         (12, "echo hi"),
-        (13, "return l"),
-        (14, "return v"),
+        (13, "add tag t-2 add_a"),
+        (14, "remove tag no tag"),
+        (15, "shortcodes c"),
+        (16, "ask tag t"),
+        (17, "return l"),
+        (18, "return v"),
     ] {
         let given = script_turn(alloc, &script, &called(alloc, turn)?)?;
         let text = shown(alloc, &given)?;

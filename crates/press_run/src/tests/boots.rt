@@ -3,7 +3,7 @@ use super::kits::{filter_of, given, kit};
 use super::says::{Says, Scripted, with_script};
 use crate::boot;
 use press_callbacks::{BoxedTurns, CallIn, Kit, Load, Plugin, Stored, script_turn};
-use press_text::{CallbackId, HookName, Items, Name};
+use press_text::{CallbackId, HookName, Items, Name, Tag};
 use std::alloc::Global;
 use std::test::Fail;
 
@@ -43,6 +43,34 @@ fn plugins(alloc: Global) -> Result<Vec<Plugin>, Fail> {
     Ok(all)
 }
 
+// A plugin whose tag `t` the callback answers.
+fn tagging(alloc: Global, name: &str, callback: &str) -> Result<Plugin, Fail> {
+    let mut loads = Vec::new(alloc);
+    loads.push(Load::Tag {
+        tag: Tag::new(alloc, "t")?,
+        callback: CallbackId::new(callback)?,
+    })?;
+    Ok(Plugin {
+        name: Name::new(alloc, name)?,
+        load: Items::from_vec(loads),
+    })
+}
+
+fn tagging_plugins(alloc: Global) -> Result<Vec<Plugin>, Fail> {
+    let mut all = Vec::new(alloc);
+    all.push(tagging(alloc, "one", "say_one")?)?;
+    all.push(tagging(alloc, "two", "say_two")?)?;
+    Ok(all)
+}
+
+fn answers(alloc: Global) -> Result<Vec<Scripted>, Fail> {
+    let mut all = Vec::new(alloc);
+    for (name, text) in [("say_one", "A"), ("say_two", "B")] {
+        all.push(with_script(alloc, name, &[Says::Return(text)])?)?;
+    }
+    Ok(all)
+}
+
 fn names(alloc: Global, texts: &[&str]) -> Result<Vec<Name>, Fail> {
     let mut names = Vec::new(alloc);
     for text in texts {
@@ -67,6 +95,27 @@ fn plugins_in_the_order_given(rt: HostRuntime) -> Result<(), Fail> {
         let names = names(alloc, active)?;
         let mut tables = boot(alloc, &kit, names.as_slice())?;
         let text = given(alloc, &kit, &mut tables, filter_of(alloc, "h", &["x"])?)?;
+        assert_eq!(rt; text.as_str(), want);
+    }
+    Ok(())
+}
+
+// A boot has the shortcodes of contents answered, by the tags that plugins load; a later plugin answers a tag in place of an earlier one.
+#[test]
+fn tags_of_plugins(rt: HostRuntime) -> Result<(), Fail> {
+    let alloc = rt.alloc();
+    let kit = kit!(alloc; answers(alloc)?, tagging_plugins(alloc)?);
+    for (active, hook, want) in [
+        (&[] as &[&str], "the_content", "a[t]"),
+        (&["one"], "the_content", "aA"),
+        (&["one"], "the_title", "a[t]"),
+        (&["two"], "the_content", "aB"),
+        (&["one", "two"], "the_content", "aB"),
+        (&["two", "one"], "the_content", "aA"),
+    ] {
+        let names = names(alloc, active)?;
+        let mut tables = boot(alloc, &kit, names.as_slice())?;
+        let text = given(alloc, &kit, &mut tables, filter_of(alloc, hook, &["a[t]"])?)?;
         assert_eq!(rt; text.as_str(), want);
     }
     Ok(())

@@ -1,7 +1,7 @@
 //! The limit of the bytes of a text: 1,048,576.
 
 use super::copies::Copied;
-use super::kits::{filter_of, given, kit, tables};
+use super::kits::{filter_of, given, kit, tables, tables_with};
 use super::says::{Says, only, with_script};
 use crate::{Out, RunFault};
 use press_callbacks::{BoxedTurns, CallIn, Kit, Stored, script_turn};
@@ -19,7 +19,7 @@ fn longest(alloc: Global) -> Result<String, AllocError> {
 }
 
 // Scripts that make a text of all the bytes, and ones that make one byte more.
-const SCRIPTS: [(&[Says], bool); 13] = [
+const SCRIPTS: [(&[Says], bool); 15] = [
     (&[Says::Set("$")], true),
     (&[Says::Set("$a")], false),
     (&[Says::Return("$")], true),
@@ -33,6 +33,8 @@ const SCRIPTS: [(&[Says], bool); 13] = [
     (&[Says::Apply("other", "x", &["y", "$a"])], false),
     (&[Says::Do("other", &["y", "$"])], true),
     (&[Says::Do("other", &["y", "$a"])], false),
+    (&[Says::Shortcodes("$")], true),
+    (&[Says::Shortcodes("$a")], false),
 ];
 
 // A turn's text, and an output, may have all the bytes, and one more is refused.
@@ -52,6 +54,38 @@ fn texts_of_turns(rt: HostRuntime) -> Result<(), Fail> {
         );
         assert_eq!(rt; text.is_ok(), fits);
         assert_eq!(rt; matches!(&text, Err(RunFault::Limit)), !fits);
+    }
+    Ok(())
+}
+
+// A scan's output may have all the bytes, and one more is refused, in an answer and behind it.
+#[test]
+fn outputs_of_scans(rt: HostRuntime) -> Result<(), Fail> {
+    let alloc = rt.alloc();
+    let longest = longest(alloc)?;
+    let mut both = only(alloc, with_script(alloc, "three", &[Says::Return("abc")])?)?;
+    both.push(with_script(alloc, "four", &[Says::Return("abcd")])?)?;
+    let kit = kit!(alloc; both, Vec::new(alloc));
+    let mut tables = tables_with(
+        alloc,
+        &[("h", "do_shortcode", 10, 1)],
+        &[("t", "three"), ("u", "four")],
+    )?;
+    let front = longest.get(..1_048_573).ok_or("no front")?;
+    for (before, tag, behind, fits) in [
+        (longest.as_str(), "", "", true),
+        (longest.as_str(), "", "a", false),
+        (front, "[t]", "", true),
+        (front, "[u]", "", false),
+        ("", "[t]", front, true),
+        ("", "[u]", front, false),
+        (front, "[[u]]", "", false),
+    ] {
+        let text = format!(in alloc; "{before}{tag}{behind}")?;
+        let job = filter_of(alloc, "h", &[text.as_str()])?;
+        let text = given(alloc, &kit, &mut tables, job);
+        assert_eq!(rt; text.is_ok(), fits, "{tag}");
+        assert_eq!(rt; matches!(&text, Err(RunFault::Limit)), !fits, "{tag}");
     }
     Ok(())
 }

@@ -3,6 +3,7 @@
 ghost use Rattle.std.specs.Prelude.{◌≡◌, IfOk};
 
 use press_callbacks::{Ask, Op, Part};
+use press_scan::AttKey;
 use press_text::{Items, Text};
 use std::alloc::{AllocError, Global};
 
@@ -28,11 +29,23 @@ impl<T: Copied + Drop> Copied for Items<T> {
     }
 }
 
+impl Copied for AttKey {
+    fn copied(&self, alloc: Global) -> Result<AttKey, AllocError> {
+        match self {
+            AttKey::Name(name) => Ok(AttKey::Name(name.copied(alloc)?)),
+            AttKey::Place(place) => Ok(AttKey::Place(*place)),
+        }
+    }
+}
+
 impl Copied for Part {
     fn copied(&self, alloc: Global) -> Result<Part, AllocError> {
         match self {
             Part::Lit(text) => Ok(Part::Lit(text.copied(alloc)?)),
             Part::Arg(n) => Ok(Part::Arg(*n)),
+            Part::Att(key) => Ok(Part::Att(key.copied(alloc)?)),
+            Part::Content => Ok(Part::Content),
+            Part::Tag => Ok(Part::Tag),
             Part::Value => Ok(Part::Value),
             Part::Last => Ok(Part::Last),
         }
@@ -45,6 +58,7 @@ impl Copied for Ask {
             Ask::Did(hook) => Ok(Ask::Did(hook.copy(alloc)?)),
             Ask::Doing(hook) => Ok(Ask::Doing(hook.copy(alloc)?)),
             Ask::Has(hook, callback) => Ok(Ask::Has(hook.copy(alloc)?, *callback)),
+            Ask::Tag(tag) => Ok(Ask::Tag(tag.copied(alloc)?)),
         }
     }
 }
@@ -91,6 +105,14 @@ impl Copied for Op {
                 hook: hook.copy(alloc)?,
                 args: args.copied(alloc)?,
             }),
+            Op::AddTag { tag, callback } => Ok(Op::AddTag {
+                tag: tag.copied(alloc)?,
+                callback: *callback,
+            }),
+            Op::RemoveTag { tag } => Ok(Op::RemoveTag {
+                tag: tag.copied(alloc)?,
+            }),
+            Op::Shortcodes(parts) => Ok(Op::Shortcodes(parts.copied(alloc)?)),
             Op::Ask(ask) => Ok(Op::Ask(ask.copied(alloc)?)),
             Op::Echo(parts) => Ok(Op::Echo(parts.copied(alloc)?)),
             Op::Return(parts) => Ok(Op::Return(parts.copied(alloc)?)),

@@ -3,6 +3,7 @@
 use crate::{Fire, Job, Machine, Out, RunFault};
 use press_callbacks::{Kit, Tables};
 use press_hooks::HookTable;
+use press_scan::TagTable;
 use press_text::{CallbackId, HookName, Items, Text};
 use std::alloc::{AllocError, Global};
 use std::test::Fail;
@@ -26,12 +27,23 @@ pub(crate) use kit;
 /// Where a callback stands: hook, name, priority, and how many arguments it accepts.
 pub type Place = (&'static str, &'static str, i64, u32);
 
+/// A tag and the callback that answers it.
+pub type Tagged = (&'static str, &'static str);
+
 pub fn tables(alloc: Global, places: &[Place]) -> Result<Tables, Fail> {
+    tables_with(alloc, places, &[])
+}
+
+pub fn tables_with(alloc: Global, places: &[Place], tagged: &[Tagged]) -> Result<Tables, Fail> {
     let mut hooks = HookTable::new(alloc);
     for (hook, name, priority, accepted) in places {
         stand(alloc, &mut hooks, hook, name, *priority, *accepted)?;
     }
-    Ok(Tables { hooks })
+    let mut tags = TagTable::new(alloc);
+    for (tag, name) in tagged {
+        tags.add(tag, CallbackId::new(name)?)?;
+    }
+    Ok(Tables { hooks, tags })
 }
 
 fn stand(

@@ -1,6 +1,6 @@
 //! Worked rows. A filter `add_a` appends the letter a.
 
-use super::kits::Place;
+use super::kits::{Place, Tagged};
 use super::says::Says;
 
 /// Callbacks and where they stand, and what jobs come to, one after the other over the same tables.
@@ -8,6 +8,7 @@ pub struct Row {
     pub name: &'static str,
     pub scripts: &'static [(&'static str, &'static [Says])],
     pub places: &'static [Place],
+    pub tags: &'static [Tagged],
     pub jobs: &'static [Comes],
 }
 
@@ -23,7 +24,7 @@ pub enum Comes {
 }
 
 /// All rows.
-pub const ROWS: [Row; 13] = [
+pub const ROWS: [Row; 21] = [
     ADD_REMOVE,
     GROW_RUNNING,
     REMOVE_RUNNING,
@@ -37,6 +38,14 @@ pub const ROWS: [Row; 13] = [
     ACCEPTED,
     SKIPS,
     LACKING,
+    BRACKETS,
+    ATTRIBUTE_TOKENS,
+    NEAR_MISSES,
+    NESTED_TAGS,
+    PARTS_OF_SHORTCODES,
+    TAGS_IN_THE_MIDDLE,
+    BUILT_IN,
+    OPEN_SHORTCODES,
 ];
 
 const ADD_REMOVE: Row = Row {
@@ -67,6 +76,7 @@ const ADD_REMOVE: Row = Row {
         ("edit_one", "one", 10, 1),
         ("edit_all", "all", 10, 1),
     ],
+    tags: &[],
     jobs: &[
         Comes::Gives("h", &["x"], "xab"),
         Comes::Gives("edit_other", &[], "()"),
@@ -96,6 +106,7 @@ const GROW_RUNNING: Row = Row {
         ("add_f", &[Says::Set("$f")]),
     ],
     places: &[("h", "add_a", 10, 1)],
+    tags: &[],
     jobs: &[
         Comes::Gives("h", &["x"], "xae"),
         Comes::Gives("h", &["x"], "xfade"),
@@ -109,6 +120,7 @@ const REMOVE_RUNNING: Row = Row {
         ("add_b", &[Says::Set("$b")]),
     ],
     places: &[("h", "add_a", 10, 1), ("h", "add_b", 10, 1)],
+    tags: &[],
     jobs: &[
         Comes::Gives("h", &["x"], "xab"),
         Comes::Gives("h", &["x"], "xa"),
@@ -122,6 +134,7 @@ const REMOVE_ALONE: Row = Row {
         ("add_z", &[Says::Set("$z")]),
     ],
     places: &[("h", "add_a", 10, 1), ("h", "add_z", 12, 1)],
+    tags: &[],
     jobs: &[
         Comes::Gives("h", &["x"], "xaz"),
         Comes::Gives("h", &["x"], "xz"),
@@ -152,6 +165,7 @@ const EXTREME_PRIORITIES: Row = Row {
         ("h", "add_a", i64::MIN, 1),
         ("ask", "asks", 0, 1),
     ],
+    tags: &[],
     jobs: &[
         Comes::Gives("h", &["x"], "xaz"),
         Comes::Gives("h", &["x"], "xazb"),
@@ -178,6 +192,7 @@ const DID_DOING_SAME: Row = Row {
         ],
     )],
     places: &[("pong", "asks", 10, 1)],
+    tags: &[],
     jobs: &[
         Comes::Gives("pong", &["x"], "x(2)()(1)(0)"),
         Comes::Writes("pong", &["x"], "x(2)()(1)(1)"),
@@ -191,6 +206,7 @@ const AGAIN: Row = Row {
         ("starts", &[Says::Do("i", &["$"]), Says::Return("!")]),
     ],
     places: &[("h", "applies", 10, 1), ("i", "starts", 10, 1)],
+    tags: &[],
     jobs: &[Comes::Limit("h", &["x"]), Comes::Limit("i", &["x"])],
 };
 
@@ -216,6 +232,7 @@ const OPEN_CALLBACKS: Row = Row {
         ),
     ],
     places: &[("h", "up_to_32", 10, 1), ("i", "up_to_33", 10, 1)],
+    tags: &[],
     jobs: &[
         Comes::Gives("h", &["a"], "aaaaaaaaaaaaaaaaaaaaaaaaaaaaaaaa"),
         Comes::Limit("i", &["a"]),
@@ -242,6 +259,7 @@ const ACTIONS: Row = Row {
         ("h", "second", 10, 2),
         ("start", "starts", 10, 2),
     ],
+    tags: &[],
     jobs: &[
         Comes::Writes("h", &["x", "y"], "(x,y)(x,y,x)"),
         Comes::Writes("h", &[], "(,)(,,)"),
@@ -265,6 +283,7 @@ const FILTERS: Row = Row {
         ("h", "second", 10, 3),
         ("apply", "applies", 10, 1),
     ],
+    tags: &[],
     jobs: &[
         Comes::Gives("apply", &["x"], "xyzayzbx"),
         Comes::Gives("h", &["x"], "xab"),
@@ -281,6 +300,7 @@ const ACCEPTED: Row = Row {
         ("two", "shows", 10, 2),
         ("many", "shows", 10, u32::MAX),
     ],
+    tags: &[],
     jobs: &[
         Comes::Gives("none", &["x", "y", "z"], "(,,)"),
         Comes::Gives("one", &["x", "y", "z"], "x(x,,)"),
@@ -320,6 +340,7 @@ const SKIPS: Row = Row {
         ("two", "two_ops", 10, 1),
         ("all", "past_all", 10, 1),
     ],
+    tags: &[],
     jobs: &[
         Comes::Gives("none", &["x"], "xab"),
         Comes::Gives("one", &["x"], "xb"),
@@ -335,10 +356,203 @@ const LACKING: Row = Row {
     name: "a callback that the kit lacks returns its value, and a hook without entries its first argument",
     scripts: &[("add_b", &[Says::Set("$b")])],
     places: &[("h", "add_a", 10, 1), ("h", "add_b", 10, 1)],
+    tags: &[],
     jobs: &[
         Comes::Gives("h", &["x"], "xb"),
         Comes::Gives("other", &["x", "y"], "x"),
         Comes::Gives("other", &[], ""),
         Comes::Writes("other", &["x"], ""),
+    ],
+};
+
+const BRACKETS: Row = Row {
+    name: "brackets",
+    scripts: &[
+        ("say_t", &[Says::Return("T")]),
+        ("say_tag", &[Says::Return("[t]")]),
+    ],
+    places: &[("h", "do_shortcode", 10, 1)],
+    tags: &[("t", "say_t"), ("u", "say_tag")],
+    jobs: &[
+        Comes::Gives("h", &["[[t]]"], "[t]"),
+        Comes::Gives("h", &["[[t]"], "[T"),
+        Comes::Gives("h", &["[t]]"], "T]"),
+        Comes::Gives("h", &["[[[t]]]"], "[[t]]"),
+        Comes::Gives("h", &["[[t]] u [/t]"], "[T"),
+        Comes::Gives("h", &["[[t] u [/t]]"], "[t] u [/t]"),
+        Comes::Gives("h", &["a[t]b[u]c[t]"], "aTb[t]cT"),
+        Comes::Gives("h", &["", "[t]"], ""),
+        Comes::Gives("h", &[], ""),
+    ],
+};
+
+const ATTRIBUTE_TOKENS: Row = Row {
+    name: "attribute-tokens",
+    scripts: &[("shows", &[Says::Return("(^,%)")])],
+    places: &[("h", "do_shortcode", 10, 1)],
+    tags: &[("t", "shows")],
+    jobs: &[
+        Comes::Gives("h", &["[t x=1 x=\"2\" y X='3']"], "(3,y)"),
+        Comes::Gives("h", &["[t a=\"1\"b]"], "(,a=\"1\"b)"),
+        Comes::Gives("h", &["[t \"\" z]"], "(,z)"),
+        Comes::Gives("h", &["[t//]"], "(,/)"),
+    ],
+};
+
+const NEAR_MISSES: Row = Row {
+    name: "near-misses",
+    scripts: &[
+        ("say_t", &[Says::Return("T")]),
+        ("drops", &[Says::RemoveTag("t"), Says::Return("(!)")]),
+    ],
+    places: &[("h", "do_shortcode", 10, 1), ("drop", "drops", 10, 1)],
+    tags: &[("t", "say_t")],
+    jobs: &[
+        Comes::Gives("h", &["[t"], "[t"),
+        Comes::Gives("h", &["[tt]"], "[tt]"),
+        Comes::Gives("h", &["[t-2]"], "[t-2]"),
+        Comes::Gives("h", &["[T]"], "[T]"),
+        Comes::Gives("h", &["[t]"], "T"),
+        Comes::Gives("drop", &[], "(1)"),
+        Comes::Gives("h", &["[t]"], "[t]"),
+        Comes::Gives("drop", &[], "()"),
+    ],
+};
+
+const NESTED_TAGS: Row = Row {
+    name: "nested-tags",
+    scripts: &[
+        ("greet", &[Says::Return("Hello ~")]),
+        (
+            "box",
+            &[Says::Shortcodes("@"), Says::Return("<div>!</div>")],
+        ),
+        ("bag", &[Says::Return("<div>@</div>")]),
+    ],
+    places: &[("h", "do_shortcode", 10, 1)],
+    tags: &[("greet", "greet"), ("box", "box"), ("bag", "bag")],
+    jobs: &[
+        Comes::Gives(
+            "h",
+            &["[box]a [greet name=Bo] b[/box]"],
+            "<div>a Hello Bo b</div>",
+        ),
+        Comes::Gives("h", &["[greet name=\"[box]\"]"], "Hello \"]"),
+        Comes::Gives(
+            "h",
+            &["[bag]a [greet name=Bo] b[/bag]"],
+            "<div>a [greet name=Bo] b</div>",
+        ),
+    ],
+};
+
+const PARTS_OF_SHORTCODES: Row = Row {
+    name: "a shortcode's callback sees its tag, its content and its attributes, and no arguments",
+    scripts: &[("shows", &[Says::Return("(#,@,^,$,!,0)")])],
+    places: &[("h", "do_shortcode", 10, 1), ("shown", "shows", 10, 1)],
+    tags: &[("t", "shows"), ("u-2", "shows"), ("lacks", "lacking")],
+    jobs: &[
+        Comes::Gives("h", &["[t x=1]in[/t]"], "(t,in,1,,,)"),
+        Comes::Gives("h", &["[t x=1/]in[/t]"], "(t,,1,,,)in[/t]"),
+        Comes::Gives("h", &["[u-2 X=y]"], "(u-2,,y,,,)"),
+        Comes::Gives("h", &["a[lacks x=1]in[/lacks]b"], "ab"),
+        Comes::Gives("shown", &["x"], "(,,,x,,x)"),
+    ],
+};
+
+const TAGS_IN_THE_MIDDLE: Row = Row {
+    name: "the tags are those that stand when each step is taken",
+    scripts: &[
+        ("say_t", &[Says::Return("T")]),
+        ("say_u", &[Says::Return("U")]),
+        (
+            "adds",
+            &[
+                Says::Tag("u"),
+                Says::Set("!"),
+                Says::AddTag("u", "say_u"),
+                Says::Return("($,!)"),
+            ],
+        ),
+        (
+            "adds_no_tag",
+            &[Says::AddTag("no tag", "say_u"), Says::Return("(!)")],
+        ),
+        ("swaps", &[Says::AddTag("t", "say_u"), Says::Return("(!)")]),
+        ("drops", &[Says::RemoveTag("t"), Says::Return("(!)")]),
+    ],
+    places: &[("h", "do_shortcode", 10, 1)],
+    tags: &[
+        ("t", "say_t"),
+        ("add", "adds"),
+        ("bad", "adds_no_tag"),
+        ("swap", "swaps"),
+        ("drop", "drops"),
+    ],
+    jobs: &[
+        Comes::Gives("h", &["[u][bad][u][add][u][add]"], "[u]()[u](,1)U(1,1)"),
+        Comes::Gives("h", &["[t][swap][t][drop][t][drop]"], "T(1)U(1)[t]()"),
+        Comes::Gives("h", &["[t][u]"], "[t]U"),
+    ],
+};
+
+const BUILT_IN: Row = Row {
+    name: "the built-in callback as any other: on hooks, for a tag, among filters",
+    scripts: &[
+        ("say_t", &[Says::Return("T")]),
+        ("add_tag", &[Says::Set("$[t]")]),
+        (
+            "has",
+            &[
+                Says::Add("h", "do_shortcode", 12),
+                Says::Has("h", "do_shortcode"),
+                Says::Return("!"),
+            ],
+        ),
+    ],
+    places: &[
+        ("h", "add_tag", 9, 1),
+        ("h", "do_shortcode", 10, 1),
+        ("h", "add_tag", 11, 1),
+        ("ask", "has", 10, 1),
+    ],
+    tags: &[("t", "say_t"), ("s", "do_shortcode")],
+    jobs: &[
+        Comes::Gives("h", &["a[s x=1]b[t]"], "abTT[t]"),
+        Comes::Gives("ask", &[], "10"),
+        Comes::Gives("h", &["[t]"], "TTT"),
+    ],
+};
+
+const OPEN_SHORTCODES: Row = Row {
+    name: "callbacks of shortcodes and the built-in one count as open",
+    scripts: &[
+        (
+            "up_to_31",
+            &[
+                Says::SkipIf("@", "aaaaaaaaaaaaaaaaaaaaaaaaaaaaaaa", 2),
+                Says::Shortcodes("[t]@a[/t]"),
+                Says::Return("!"),
+                Says::Return("@"),
+            ],
+        ),
+        (
+            "up_to_32",
+            &[
+                Says::SkipIf("@", "aaaaaaaaaaaaaaaaaaaaaaaaaaaaaaaa", 2),
+                Says::Shortcodes("[u]@a[/u]"),
+                Says::Return("!"),
+                Says::Return("@"),
+            ],
+        ),
+        ("endless", &[Says::Shortcodes("[v]")]),
+    ],
+    places: &[("h", "do_shortcode", 10, 1)],
+    tags: &[("t", "up_to_31"), ("u", "up_to_32"), ("v", "endless")],
+    jobs: &[
+        Comes::Gives("h", &["[t]a[/t]"], "aaaaaaaaaaaaaaaaaaaaaaaaaaaaaaa"),
+        Comes::Limit("h", &["[u]a[/u]"]),
+        Comes::Gives("h", &["[u]aa[/u]"], "aaaaaaaaaaaaaaaaaaaaaaaaaaaaaaaa"),
+        Comes::Limit("h", &["[v]"]),
     ],
 };

@@ -1,11 +1,13 @@
 //! Scripts in short.
 
 use press_callbacks::{Ask, Op, Part, Parts, Script};
+use press_scan::AttKey;
 use press_text::{CallbackId, HookName, Items, Text};
 use std::alloc::{AllocError, Global};
 use std::test::Fail;
 
-/// An op. In a text `$` is the value, `!` the last answer and a digit that argument; any other sign stands for itself.
+/// An op. In a text `$` is the value, `!` the last answer and a digit that argument; `@` is the content, `#` the tag, `^` the attribute
+/// `x`, `~` the attribute `name` and `%` the first nameless one. Any other sign stands for itself.
 #[derive(Clone, Copy)]
 pub enum Says {
     Set(&'static str),
@@ -19,6 +21,11 @@ pub enum Says {
     Did(&'static str),
     Doing(&'static str),
     Has(&'static str, &'static str),
+    AddTag(&'static str, &'static str),
+    RemoveTag(&'static str),
+    Shortcodes(&'static str),
+    /// Whether a tag stands.
+    Tag(&'static str),
     Echo(&'static str),
     Return(&'static str),
 }
@@ -63,6 +70,15 @@ fn op(alloc: Global, says: &Says) -> Result<Op, Fail> {
         Says::Did(hook) => Ok(Op::Ask(Ask::Did(HookName::new(alloc, hook)?))),
         Says::Doing(hook) => Ok(Op::Ask(Ask::Doing(HookName::new(alloc, hook)?))),
         Says::Has(hook, name) => has(alloc, hook, name),
+        Says::AddTag(tag, name) => Ok(Op::AddTag {
+            tag: Text::from_str(alloc, tag)?,
+            callback: CallbackId::new(name)?,
+        }),
+        Says::RemoveTag(tag) => Ok(Op::RemoveTag {
+            tag: Text::from_str(alloc, tag)?,
+        }),
+        Says::Shortcodes(text) => Ok(Op::Shortcodes(parts(alloc, text)?)),
+        Says::Tag(tag) => Ok(Op::Ask(Ask::Tag(Text::from_str(alloc, tag)?))),
         Says::Echo(text) => Ok(Op::Echo(parts(alloc, text)?)),
         Says::Return(text) => Ok(Op::Return(parts(alloc, text)?)),
     }
@@ -132,8 +148,18 @@ fn part(alloc: Global, sign: char) -> Result<Part, AllocError> {
         '0' => Ok(Part::Arg(0)),
         '1' => Ok(Part::Arg(1)),
         '2' => Ok(Part::Arg(2)),
+        '@' => Ok(Part::Content),
+        '#' => Ok(Part::Tag),
+        '^' => named(alloc, "x"),
+        '~' => named(alloc, "name"),
+        '%' => Ok(Part::Att(AttKey::Place(0))),
         _ => literal(alloc, sign),
     }
+}
+
+fn named(alloc: Global, attribute: &str) -> Result<Part, AllocError> {
+    let name = Text::from_str(alloc, attribute)?;
+    Ok(Part::Att(AttKey::Name(name)))
 }
 
 fn literal(alloc: Global, sign: char) -> Result<Part, AllocError> {

@@ -1,7 +1,7 @@
 //! The limit of turns: 10,000 for a machine. A script's end is a turn of its own.
 
 use super::copies::Copied;
-use super::kits::{filter_of, given, kit, tables};
+use super::kits::{filter_of, given, kit, tables, tables_with};
 use super::says::{Says, Scripted, only, with_script};
 use crate::{Machine, Out, RunFault};
 use press_callbacks::{BoxedTurns, CallIn, Kit, Stored, script_turn};
@@ -27,6 +27,29 @@ fn turns_of_one_callback(rt: HostRuntime) -> Result<(), Fail> {
         let text = given(alloc, &kit, &mut tables, filter_of(alloc, "h", &["x"])?);
         assert_eq!(rt; text.is_ok(), fits, "{turns}");
         assert_eq!(rt; matches!(&text, Err(RunFault::Limit)), !fits, "{turns}");
+    }
+    Ok(())
+}
+
+// The built-in callback plays one turn, and each shortcode's callback its own: 9,999 shortcodes fit, and one more does not.
+#[test]
+fn turns_of_shortcodes(rt: HostRuntime) -> Result<(), Fail> {
+    let alloc = rt.alloc();
+    let kit = kit!(alloc; only(alloc, lasting(alloc, "single", 1)?)?, Vec::new(alloc));
+    let mut tables = tables_with(alloc, &[("h", "do_shortcode", 10, 1)], &[("t", "single")])?;
+    for (tags, fits) in [(9_999, true), (10_000, false)] {
+        let mut text = String::from_str(alloc, "[[t]]")?;
+        for _ in 0..tags {
+            text.push_str("[t]")?;
+        }
+        let text = given(
+            alloc,
+            &kit,
+            &mut tables,
+            filter_of(alloc, "h", &[text.as_str()])?,
+        );
+        assert_eq!(rt; text.is_ok(), fits, "{tags}");
+        assert_eq!(rt; matches!(&text, Err(RunFault::Limit)), !fits, "{tags}");
     }
     Ok(())
 }

@@ -1,5 +1,5 @@
 use super::copies::Copied;
-use super::kits::{action_of, filter_of, given, kit, tables, written};
+use super::kits::{action_of, filter_of, given, kit, tables_with, written};
 use super::rows::{Comes, ROWS, Row};
 use super::says::{Says, Scripted, with_script};
 use crate::RunFault;
@@ -43,7 +43,7 @@ fn check_job(
 
 fn check_row(rt: &impl Abort, alloc: Global, row: &Row) -> Result<(), Fail> {
     let kit = kit!(alloc; all_scripted(alloc, row.scripts)?, Vec::new(alloc));
-    let mut tables = tables(alloc, row.places)?;
+    let mut tables = tables_with(alloc, row.places, row.tags)?;
     for job in row.jobs {
         check_job(rt, alloc, &kit, &mut tables, job, row.name)?;
     }

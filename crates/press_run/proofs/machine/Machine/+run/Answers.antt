@@ -110,7 +110,7 @@ answered-returns-in_err-answer g t c =
     let before = stage c.args.tables.now c.args.self.now c.args.out.now in
     rw (p.1, p.2) (answer_err _ (around before) (stage c.shortcode.new.tables c.shortcode.new.self c.shortcode.new.out) callback before c.args.scan.now c.in_err-answer.field-0.0
     (λ gave whole m. answer_limit c.computes_first.ensures.some c.computes_first.ensures.none c.ends_within.ensures callback c.args.scan.now.text (state_of before) whole c.args.scan.now.at c.args.scan.now.output c.args.shortcode m c.requires.stands c.requires.no_escape
-        (ap (λ x. tag_answer callback (callback_of (cut x c.args.shortcode.tag) c.args.tables.now.tags) (shortcode_call x c.args.shortcode) (state_of before)) (sym c.text.ensures) ∙ gave))
+    (ap (λ x. tag_answer callback (callback_of (cut x c.args.shortcode.tag) c.args.tables.now.tags) (shortcode_call x c.args.shortcode) (state_of before)) (sym c.text.ensures) ∙ gave))
     c.in_err-answer.ensures)
 
 pub answered-returns-then-not-is_short : goal.answered-returns-then-not-is_short
