@@ -31,7 +31,7 @@ abbrev pub ending_of : Result Ending ReplayFault → Ending
 ending_of (Ok end) = end
 ending_of (Err fault) = Fault fault
 
--- want of memory and failed reads come from outside
+-- want of memory and failed reads come from outside, and may come at any run
 abbrev pub IsOutside : Ending → Type 0
 IsOutside (Printed status body) = ⊥
 IsOutside (Fault NoMemory) = Unit {0}
@@ -51,8 +51,8 @@ fault_line BadSchedule = codes "press: fault 72\n"
 abbrev pub usage_line : List ℕ
 usage_line = codes "press: usage\n"
 
--- What is written of an ending: a body goes to the output, and where that fails, or for a fault, a line to the errors.
--- A line is written as far as the errors take it.
+-- What is written of an ending: a body goes to the output; for a fault, or where the output has failed, which may be at any run, a line goes to
+-- the errors, as far as they take it.
 abbrev pub Finishes : Ending → ℕ → Option (List ℕ) → Option (List ℕ) → Option (List ℕ) → Option (List ℕ) → Type 0
 Finishes (Printed status body) result out out' err err' =
     ((result ≡ status) × Appends out out' body × Keeps err err')

@@ -1,4 +1,4 @@
--- The commands that a site file gives: a JSON text (RFC 8259) whose keys are read as follows (own).
+-- The commands that a site file gives: a JSON text (RFC 8259), as the kit's `serde_json` reads it, whose keys are read as follows (own).
 use Rattle.std.specs.Prelude.{ℕ, List, [], ◌∷◌, length, nat_le, ◌&&◌, if◌then◌else◌, Option, Some, None, option_and_then, codes}
 use Rattle.std.specs.Str.{bytes_eq, is_utf8}
 use Rattle.serde_json.specs.Data.{Data, Items, no_items, item}
@@ -43,7 +43,7 @@ abbrev pub date_or : ℕ → Option Data → Option ℕ
 date_or at None = Some at
 date_or at (Some d) = option_and_then moment_of (number_in d)
 
--- only published posts, and none with a date to come
+-- only published posts, and none with a date after the moment of the command
 unfoldable pub insert_of : ℕ → Data → Option Command
 insert_of at d = do
   title ← text_at (codes "title") d

@@ -82,7 +82,7 @@ Meaning = List ℕ → CallIn → State → Option Answer
 abbrev pub one_turn : State → Option State
 one_turn s = only_if (ltb s.turns most_turns) (record s { turns = s.turns + 1 })
 
--- more than the turns of any run: each recursion below plays a turn at each step, so the limit of turns is met first
+-- more than the turns of any run: the entries of a run and the turns of a script play one turn each, so the limit of turns is met first
 abbrev pub fuel : ℕ
 fuel = 10001
 
@@ -165,7 +165,7 @@ shortcode_call text c = record {
   turn = 0;
 }
 
--- what the callback of a tag answers; without one there is nothing
+-- what the callback of a tag answers; without one the answer is empty
 abbrev pub tag_answer : Meaning → Option (List ℕ) → CallIn → State → Option Answer
 tag_answer callback None call s = answer [] s
 tag_answer callback (Some id) call s = callback id call s
@@ -318,7 +318,7 @@ unfoldable pub at_depth : ℕ → Scripts → Meaning
 at_depth zero scripts id call s = None
 at_depth (suc depth) scripts id call s = callback_where (at_depth depth scripts) (script_of id scripts) call s (is_built_in id)
 
--- ---- the jobs of a page or a command
+-- ---- what a page or a command calls
 
 abbrev pub callbacks_of : Scripts → Meaning
 callbacks_of scripts = at_depth most_open scripts
