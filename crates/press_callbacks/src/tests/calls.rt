@@ -2,7 +2,7 @@ ghost use Rattle.std.specs.Prelude.{◌≡◌, IfOk};
 ghost use Rattle.press_callbacks.specs.Turns.{turn_of};
 
 use crate::same::Same;
-use crate::tests::fixtures::{appending, called};
+use crate::tests::fixtures::{answer, appending, called, given, new_value};
 use crate::{BoxedTurns, CallIn, Callback, Script, Stored, Turn, script_turn};
 use press_text::CallbackId;
 use std::alloc::{AllocError, Global};
@@ -30,10 +30,9 @@ fn a_closure_in_no_box_is_called(rt: HostRuntime) -> Result<(), Fail> {
         move |i: &CallIn| script_turn(alloc, &own, i),
     );
     assert!(rt; callback.id().is(CallbackId::new("add_q")?));
-    match callback.turn(&called(alloc, 0)?)? {
-        Turn::Go(text) => assert_eq!(rt; text.as_str(), "vq"),
-        _ => return Err("no text")?,
-    }
+    let turn = callback.turn(&called(alloc, 0)?)?;
+    let value = new_value(turn).ok_or("no text")?;
+    assert_eq!(rt; value.as_str(), "vq");
     Ok(())
 }
 
@@ -46,14 +45,10 @@ fn plays_script_not_closure(rt: HostRuntime) -> Result<(), Fail> {
     assert!(rt; own.same(&script));
     let call: BoxedTurns = Box::new(alloc, move |i: &CallIn| fails_once(alloc, &own, i))?;
     let stored = Stored::new(CallbackId::new("add_q")?, script, call);
-    match stored.turn(&called(alloc, 0)?)? {
-        Turn::Go(text) => assert_eq!(rt; text.as_str(), "vq"),
-        _ => return Err("no text")?,
-    }
-    assert!(rt; stored.turn(&called(alloc, 1)?).is_err());
-    match stored.turn(&called(alloc, 2)?)? {
-        Turn::Return(text) => assert_eq!(rt; text.as_str(), "v"),
-        _ => return Err("no return")?,
-    }
+    let first = new_value(given(alloc, &stored, 0)?).ok_or("no text")?;
+    assert_eq!(rt; first.as_str(), "vq");
+    assert!(rt; given(alloc, &stored, 1).is_err());
+    let last = answer(given(alloc, &stored, 2)?).ok_or("no return")?;
+    assert_eq!(rt; last.as_str(), "v");
     Ok(())
 }

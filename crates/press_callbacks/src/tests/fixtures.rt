@@ -1,4 +1,4 @@
-use crate::{Ask, CallIn, Load, Op, Part, Parts, Plugin, Script};
+use crate::{Ask, CallIn, Load, Op, Part, Parts, Plugin, Script, Stored, Turn};
 use press_scan::attributes;
 use press_text::{CallbackId, HookName, Items, Name, Tag, Text};
 use std::alloc::{AllocError, Global};
@@ -64,6 +64,27 @@ pub fn called(alloc: Global, turn: usize) -> Result<CallIn, AllocError> {
         last: Text::from_str(alloc, "l")?,
         turn,
     })
+}
+
+/// What a callback gives on such a call.
+pub fn given(alloc: Global, stored: &Stored, turn: usize) -> Result<Turn, AllocError> {
+    stored.turn(&called(alloc, turn)?)
+}
+
+/// The new value that a turn gives.
+pub fn new_value(turn: Turn) -> Option<Text> {
+    match turn {
+        Turn::Go(text) => Some(text),
+        _ => None,
+    }
+}
+
+/// The answer that a turn ends with.
+pub fn answer(turn: Turn) -> Option<Text> {
+    match turn {
+        Turn::Return(text) => Some(text),
+        _ => None,
+    }
 }
 
 /// A plugin that loads a callback so many times.

@@ -1,6 +1,8 @@
 use crate::same::Same;
-use crate::tests::fixtures::{Naming, appending, called, plugin, script_that_names, with_tags};
-use crate::{BoxedTurns, CallIn, Kit, KitFault, Stored, Turn, script_turn};
+use crate::tests::fixtures::{
+    Naming, appending, given, new_value, plugin, script_that_names, with_tags,
+};
+use crate::{BoxedTurns, CallIn, Kit, KitFault, Stored, script_turn};
 use press_text::{CallbackId, Name};
 use std::test::Fail;
 
@@ -24,14 +26,9 @@ fn finds_by_name(rt: HostRuntime) -> Result<(), Fail> {
         let id = CallbackId::new(id)?;
         let place = kit.place(id).ok_or("no place")?;
         assert!(rt; kit.at(place).ok_or("nothing there")?.id().is(id));
-        match kit
-            .callback(id)
-            .ok_or("no callback")?
-            .turn(&called(alloc, 0)?)?
-        {
-            Turn::Go(text) => assert_eq!(rt; text.as_str(), want),
-            _ => return Err("no text")?,
-        }
+        let found = kit.callback(id).ok_or("no callback")?;
+        let value = new_value(given(alloc, found, 0)?).ok_or("no text")?;
+        assert_eq!(rt; value.as_str(), want);
     }
     assert!(rt; kit.callback(CallbackId::new("add_d")?).is_none());
     assert!(rt; kit.place(CallbackId::new("add_d")?).is_none());
