@@ -48,7 +48,7 @@ fn least_above(rows: &[Row], hook: &HookName, reached: Option<i64>) -> Option<i6
 fn least_with(r: &Row, hook: &HookName, reached: Option<i64>, least: Option<i64>) -> Option<i64>
     ensures { result ≡ least_with (is_ahead hook.now reached) r.now least }
 {
-    if r.hook.is(hook) && is_past(reached, r.priority) {
+    if is_past(reached, r.priority) && r.hook.is(hook) {
         Some(lesser(r.priority, least))
     } else {
         least
@@ -84,7 +84,7 @@ fn entries_at(
     ensures { IfOk result (λ v. v.items ≡ entries_at rows.now hook.now priority) }
 {
     rows.iter()
-        .filter(|r| r.hook.is(hook) && r.priority == priority)
+        .filter(|r| r.priority == priority && r.hook.is(hook))
         .map(|r| r.entry())
         .collect(alloc)
 }
