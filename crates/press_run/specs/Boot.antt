@@ -3,7 +3,6 @@
 use Rattle.std.specs.Prelude.{ℕ, pos, List, [], ◌∷◌, Option, Some, None, codes}
 use Rattle.press_hooks.specs.declared.row.Row.{Row}
 use Rattle.press_hooks.specs.HookRows.{add_row}
-use Rattle.press_hooks.specs.NextEntry.{Table}
 use Rattle.press_scan.specs.declared.tag_row.TagRow.{TagRow}
 use Rattle.press_scan.specs.Tags.{add_tag}
 use Rattle.press_callbacks.specs.declared.plugin.Plugin.{Plugin}

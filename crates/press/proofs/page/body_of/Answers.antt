@@ -1,4 +1,4 @@
-use Rattle.std.proofs.Common.{◌≡◌, ◌∙◌, sym, ap, subst, Option, Some}
+use Rattle.std.proofs.Common.{◌≡◌, ◌∙◌, sym, ap, subst, Some}
 use Rattle.press_run.specs.Run.{State, callbacks_of}
 use Rattle.press_callbacks.specs.Kits.{scripts_in}
 use Rattle.press.specs.Page.{started, site_name, post_page}
