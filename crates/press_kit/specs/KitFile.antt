@@ -1,0 +1,273 @@
+-- Kit file: the callbacks and plugins that a JSON document (RFC 8259) gives, or the first place at which it is bad (own).
+-- A text is a list of parts, of which a string is this very text. Keys that nobody names are bad, so that a misspelt one does not pass for a default.
+use Rattle.std.specs.Prelude.{ℕ, ◌^◌, ℤ, List, [], ◌∷◌, length, nat_le, if◌then◌else◌, Bool, true, false, bytes_eq, Option, Some, None, is_some, option_map, option_and_then, Result, Ok, Err, codes}
+use Rattle.std.specs.Str.{is_utf8}
+use Rattle.serde_json.specs.Data.{Data}
+use Rattle.serde_json.specs.Read.{read}
+use Rattle.serde_json.specs.Find.{get, as_str}
+use Rattle.press_scan.specs.declared.att_key.AttKey.{AttKey}
+use Rattle.press_scan.specs.declared.att_key.AttKey.TheVariants.{Name, Place as Numbered}
+use Rattle.press_callbacks.specs.declared.script.Part.{Part}
+use Rattle.press_callbacks.specs.declared.script.Part.TheVariants.{Lit, Arg, Att, Content, Tag, Value, Last}
+use Rattle.press_callbacks.specs.declared.script.Ask.TheVariants as ask
+use Rattle.press_callbacks.specs.declared.script.Op.{Op}
+use Rattle.press_callbacks.specs.declared.script.Op.TheVariants as op
+use Rattle.press_callbacks.specs.declared.plugin.Load.{Load}
+use Rattle.press_callbacks.specs.declared.plugin.Load.TheVariants as load
+use Rattle.press_callbacks.specs.declared.plugin.Plugin.{Plugin}
+use Rattle.press_kit.specs.declared.place.Place.{Place}
+use Rattle.press_kit.specs.declared.place.Place.TheVariants as place
+use Rattle.press_kit.specs.declared.op_kind.OpKind.{OpKind}
+use Rattle.press_kit.specs.declared.op_kind.OpKind.TheVariants as kind
+use Rattle.press_kit.specs.declared.kit_parts.Scripted.{Scripted}
+use Rattle.press_kit.specs.declared.kit_parts.KitParts.{KitParts}
+use Rattle.press_kit.specs.Fields.{◌>>=◌, or_bad, only, text_at, name_at, number_in, below, default, signed_in, has_only, priority_at, accepted_at, list_in, list_at, each}
+use Rattle.press_kit.specs.Ops.{kind_of, keys_of}
+
+-- ---- files
+
+-- the most bytes that a file may have
+abbrev pub file_limit : ℕ
+file_limit = 4194304
+
+-- a JSON text is UTF-8 (RFC 8259, 8.1)
+abbrev pub json_in : List ℕ → Option Data
+json_in bytes = if is_utf8 bytes then read bytes else None
+
+-- the value of a file that is not too long
+unfoldable pub file_in : List ℕ → Result Data Place
+file_in bytes = if nat_le (length bytes) file_limit then or_bad place.File (json_in bytes) else Err place.File
+
+-- ---- parts of a text
+
+-- what a part may be taken from
+abbrev pub source_of : List ℕ → Option Part
+source_of name =
+    if bytes_eq name (codes "content") then Some Content else
+    (if bytes_eq name (codes "tag") then Some Tag else
+    (if bytes_eq name (codes "value") then Some Value else
+    (if bytes_eq name (codes "last") then Some Last else None)))
+
+-- an attribute goes by its name, or by its number among those without a name
+abbrev pub att_key_where : Option (List ℕ) → Option ℕ → Option AttKey
+att_key_where (Some name) n = Some (Name name)
+att_key_where None n = option_map Numbered (option_and_then (below (2 ^ 32)) n)
+
+abbrev pub att_key_of : Data → Option AttKey
+att_key_of d = att_key_where (as_str d) (number_in d)
+
+abbrev pub arg_in : Data → Option Part
+arg_in d = option_map Arg (option_and_then number_in (get (codes "arg") d))
+
+abbrev pub att_in : Data → Option Part
+att_in d = option_map Att (option_and_then att_key_of (get (codes "att") d))
+
+abbrev pub from_in : Data → Option Part
+from_in d = option_and_then source_of (option_and_then as_str (get (codes "from") d))
+
+-- an object with one key
+abbrev pub keyed_part : Data → Option Part
+keyed_part d =
+    if has_only (codes "arg" ∷ []) d then arg_in d else
+    (if has_only (codes "att" ∷ []) d then att_in d else
+    (if has_only (codes "from" ∷ []) d then from_in d else None))
+
+abbrev pub part_where : Option (List ℕ) → Data → Option Part
+part_where (Some text) d = Some (Lit text)
+part_where None d = keyed_part d
+
+abbrev pub part_of : Place → Data → Result Part Place
+part_of at d = or_bad at (part_where (as_str d) d)
+
+-- a text is the list of its parts
+abbrev pub text_of : Place → Data → Result (List Part) Place
+text_of at d = do
+  ds ← or_bad at (list_in d)
+  each part_of at 0 ds
+
+abbrev pub parts_at : Place → List ℕ → Data → Result (List Part) Place
+parts_at at key d = do
+  it ← or_bad at (get key d)
+  text_of at it
+
+abbrev pub texts_where : Place → Option Data → Result (List (List Part)) Place
+texts_where at None = Ok []
+texts_where at (Some d) = do
+  ds ← or_bad at (list_in d)
+  each text_of at 0 ds
+
+-- the texts of a list, none where nothing stands at the key
+abbrev pub texts_at : Place → List ℕ → Data → Result (List (List Part)) Place
+texts_at at key d = texts_where at (get key d)
+
+-- ---- steps
+
+abbrev pub hook_at : Place → Data → Result (List ℕ) Place
+hook_at at d = name_at 64 at (codes "hook") d
+
+abbrev pub callback_at : Place → Data → Result (List ℕ) Place
+callback_at at d = name_at 32 at (codes "callback") d
+
+abbrev pub some_signed : Data → Option (Option ℤ)
+some_signed d = option_map Some (signed_in d)
+
+-- all priorities, where none is told
+abbrev pub any_priority_at : Place → Data → Result (Option ℤ) Place
+any_priority_at at d = or_bad at (default None some_signed (get (codes "priority") d))
+
+abbrev pub skip_at : Place → Data → Result ℕ Place
+skip_at at d = or_bad at (option_and_then (below (2 ^ 16)) (option_and_then number_in (get (codes "skip") d)))
+
+unfoldable pub hook_added : Place → Data → Result Op Place
+hook_added at d = do
+  hook ← hook_at at d
+  callback ← callback_at at d
+  priority ← priority_at at d
+  accepted ← accepted_at at d
+  Ok (op.AddHook hook callback priority accepted)
+
+unfoldable pub hook_removed : Place → Data → Result Op Place
+hook_removed at d = do
+  hook ← hook_at at d
+  callback ← callback_at at d
+  priority ← priority_at at d
+  Ok (op.RemoveHook hook callback priority)
+
+unfoldable pub hooks_removed : Place → Data → Result Op Place
+hooks_removed at d = do
+  hook ← hook_at at d
+  priority ← any_priority_at at d
+  Ok (op.RemoveAll hook priority)
+
+unfoldable pub tag_added : Place → Data → Result Op Place
+tag_added at d = do
+  tag ← text_at at (codes "tag") d
+  callback ← callback_at at d
+  Ok (op.AddTag tag callback)
+
+unfoldable pub skipped : Place → Data → Result Op Place
+skipped at d = do
+  left ← parts_at at (codes "left") d
+  right ← parts_at at (codes "right") d
+  n ← skip_at at d
+  Ok (op.SkipIf left right n)
+
+unfoldable pub filtered : Place → Data → Result Op Place
+filtered at d = do
+  hook ← hook_at at d
+  value ← parts_at at (codes "value") d
+  more ← texts_at at (codes "more") d
+  Ok (op.Apply hook value more)
+
+unfoldable pub done : Place → Data → Result Op Place
+done at d = do
+  hook ← hook_at at d
+  args ← texts_at at (codes "args") d
+  Ok (op.Do hook args)
+
+unfoldable pub hook_asked : Place → Data → Result Op Place
+hook_asked at d = do
+  hook ← hook_at at d
+  callback ← callback_at at d
+  Ok (op.Ask (ask.Has hook callback))
+
+-- a step made of one field
+abbrev pub made : {A : Type 0} → (A → Op) → Result A Place → Result Op Place
+made step field = do
+  x ← field
+  Ok (step x)
+
+unfoldable pub op_by : OpKind → Place → Data → Result Op Place
+op_by kind.Set at d = made op.Set (parts_at at (codes "text") d)
+op_by kind.AddHook at d = hook_added at d
+op_by kind.RemoveHook at d = hook_removed at d
+op_by kind.RemoveAll at d = hooks_removed at d
+op_by kind.AddTag at d = tag_added at d
+op_by kind.RemoveTag at d = made op.RemoveTag (text_at at (codes "tag") d)
+op_by kind.SkipIf at d = skipped at d
+op_by kind.Apply at d = filtered at d
+op_by kind.Do at d = done at d
+op_by kind.Shortcodes at d = made op.Shortcodes (parts_at at (codes "text") d)
+op_by kind.Did at d = made (λ hook. op.Ask (ask.Did hook)) (hook_at at d)
+op_by kind.Doing at d = made (λ hook. op.Ask (ask.Doing hook)) (hook_at at d)
+op_by kind.HasHook at d = hook_asked at d
+op_by kind.HasTag at d = made (λ tag. op.Ask (ask.Tag tag)) (text_at at (codes "tag") d)
+op_by kind.Echo at d = made op.Echo (parts_at at (codes "text") d)
+op_by kind.Return at d = made op.Return (parts_at at (codes "text") d)
+
+unfoldable pub op_of : Place → Data → Result Op Place
+op_of at d = do
+  kind ← or_bad at (option_and_then kind_of (option_and_then as_str (get (codes "op") d)))
+  whole ← only at (keys_of kind) d
+  op_by kind at whole
+
+-- ---- callbacks
+
+abbrev pub callback_keys : List (List ℕ)
+callback_keys = codes "name" ∷ codes "script" ∷ []
+
+unfoldable pub callback_of : Place → Data → Result Scripted Place
+callback_of at d = do
+  whole ← only at callback_keys d
+  id ← name_at 32 at (codes "name") whole
+  ds ← list_at at (codes "script") whole
+  script ← each op_of at 0 ds
+  Ok (record { id = id; script = script })
+
+-- ---- plugins
+
+abbrev pub hook_load_keys : List (List ℕ)
+hook_load_keys = codes "hook" ∷ codes "callback" ∷ codes "priority" ∷ codes "accepted" ∷ []
+
+abbrev pub tag_load_keys : List (List ℕ)
+tag_load_keys = codes "tag" ∷ codes "callback" ∷ []
+
+unfoldable pub hook_loaded : Place → Data → Result Load Place
+hook_loaded at d = do
+  whole ← only at hook_load_keys d
+  hook ← hook_at at whole
+  callback ← callback_at at whole
+  priority ← priority_at at whole
+  accepted ← accepted_at at whole
+  Ok (load.Hook hook priority callback accepted)
+
+unfoldable pub tag_loaded : Place → Data → Result Load Place
+tag_loaded at d = do
+  whole ← only at tag_load_keys d
+  tag ← name_at 32 at (codes "tag") whole
+  callback ← callback_at at whole
+  Ok (load.Tag tag callback)
+
+-- on a hook, or else under a tag
+abbrev pub load_of : Place → Data → Result Load Place
+load_of at d = if is_some (get (codes "hook") d) then hook_loaded at d else tag_loaded at d
+
+abbrev pub plugin_keys : List (List ℕ)
+plugin_keys = codes "name" ∷ codes "load" ∷ []
+
+unfoldable pub plugin_of : Place → Data → Result Plugin Place
+plugin_of at d = do
+  whole ← only at plugin_keys d
+  name ← name_at 32 at (codes "name") whole
+  ds ← list_at at (codes "load") whole
+  loads ← each load_of at 0 ds
+  Ok (record { name = name; load = loads })
+
+-- ---- kits
+
+abbrev pub kit_keys : List (List ℕ)
+kit_keys = codes "callbacks" ∷ codes "plugins" ∷ []
+
+unfoldable pub kit_of : Data → Result KitParts Place
+kit_of d = do
+  whole ← only place.File kit_keys d
+  cs ← list_at place.Callbacks (codes "callbacks") whole
+  callbacks ← each callback_of place.Callbacks 0 cs
+  ps ← list_at place.Plugins (codes "plugins") whole
+  plugins ← each plugin_of place.Plugins 0 ps
+  Ok (record { callbacks = callbacks; plugins = plugins })
+
+unfoldable pub kit_in : List ℕ → Result KitParts Place
+kit_in bytes = do
+  d ← file_in bytes
+  kit_of d

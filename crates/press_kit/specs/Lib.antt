@@ -1,0 +1,6 @@
+pub mod Fields
+pub mod Gives
+pub mod KitFile
+pub mod Ops
+pub mod Places
+pub mod PlayFile

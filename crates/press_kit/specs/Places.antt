@@ -1,0 +1,35 @@
+-- Places in a file, as they are told to its author: keys and numbers of lists, counted from 0 (own).
+use Rattle.std.specs.Prelude.{ℕ, List, [], ◌++◌, codes, decimal}
+use Rattle.press_kit.specs.declared.place.Place.{Place}
+use Rattle.press_kit.specs.declared.place.Place.TheVariants.{File, Callbacks, Callback, Op, Plugins, Plugin, Load, Active, ActiveName, Plays, Play}
+
+-- the place of an item of the list at a place; an op or a load is told as a whole
+abbrev pub item_of : Place → ℕ → Place
+item_of File n = File
+item_of Callbacks n = Callback n
+item_of (Callback c) n = Op c n
+item_of (Op c o) n = Op c o
+item_of Plugins n = Plugin n
+item_of (Plugin p) n = Load p n
+item_of (Load p l) n = Load p l
+item_of Active n = ActiveName n
+item_of (ActiveName a) n = ActiveName a
+item_of Plays n = Play n
+item_of (Play p) n = Play p
+
+-- `name[n]`, with what stands behind it
+abbrev pub numbered : List ℕ → ℕ → List ℕ → List ℕ
+numbered name n rest = name ++ (codes "[" ++ (decimal n ++ (codes "]" ++ rest)))
+
+abbrev pub place_text : Place → List ℕ
+place_text File = codes "file"
+place_text Callbacks = codes "callbacks"
+place_text (Callback n) = numbered (codes "callbacks") n []
+place_text (Op c o) = numbered (codes "callbacks") c (numbered (codes ".script") o [])
+place_text Plugins = codes "plugins"
+place_text (Plugin n) = numbered (codes "plugins") n []
+place_text (Load p l) = numbered (codes "plugins") p (numbered (codes ".load") l [])
+place_text Active = codes "active"
+place_text (ActiveName n) = numbered (codes "active") n []
+place_text Plays = codes "plays"
+place_text (Play n) = numbered (codes "plays") n []

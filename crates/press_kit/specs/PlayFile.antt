@@ -1,0 +1,84 @@
+-- Play file: a kit, the plugins that are active, and what is to be played on them in turn, as a JSON document gives it (own).
+-- The key `shows` is for whoever reads the file.
+use Rattle.std.specs.Prelude.{ℕ, ◌^◌, List, [], ◌∷◌, nat_lt, ◌&&◌, if◌then◌else◌, Option, Some, None, is_some, option_and_then, Result, Ok, Err, codes}
+use Rattle.serde_json.specs.Data.{Data}
+use Rattle.serde_json.specs.Find.{get, as_str}
+use Rattle.press_kit.specs.declared.place.Place.{Place}
+use Rattle.press_kit.specs.declared.place.Place.TheVariants as place
+use Rattle.press_kit.specs.declared.play_file.PlayKind.{PlayKind}
+use Rattle.press_kit.specs.declared.play_file.PlayKind.TheVariants.{Apply, Do}
+use Rattle.press_kit.specs.declared.play_file.Play.{Play}
+use Rattle.press_kit.specs.declared.play_file.PlayFile.{PlayFile}
+use Rattle.press_kit.specs.Fields.{◌>>=◌, or_bad, only, name_in, name_at, number_in, default, list_in, list_at, each}
+use Rattle.press_kit.specs.KitFile.{file_in, kit_of}
+
+-- ---- plays
+
+abbrev pub text_in : Place → Data → Result (List ℕ) Place
+text_in at d = or_bad at (as_str d)
+
+abbrev pub args_where : Place → Option Data → Result (List (List ℕ)) Place
+args_where at None = Ok []
+args_where at (Some d) = do
+  ds ← or_bad at (list_in d)
+  each text_in at 0 ds
+
+-- none where none are told
+abbrev pub args_at : Place → Data → Result (List (List ℕ)) Place
+args_at at d = args_where at (get (codes "args") d)
+
+-- at least once
+abbrev pub times_in : ℕ → Option ℕ
+times_in n = if nat_lt 0 n && nat_lt n (2 ^ 32) then Some n else None
+
+-- once where nothing is told
+abbrev pub times_at : Place → Data → Result ℕ Place
+times_at at d = or_bad at (default 1 (λ n. option_and_then times_in (number_in n)) (get (codes "times") d))
+
+abbrev pub keys_of : PlayKind → List (List ℕ)
+keys_of Apply = codes "apply" ∷ codes "args" ∷ codes "times" ∷ []
+keys_of Do = codes "do" ∷ codes "args" ∷ codes "times" ∷ []
+
+-- the key at which the hook stands
+abbrev pub hook_key : PlayKind → List ℕ
+hook_key Apply = codes "apply"
+hook_key Do = codes "do"
+
+-- a filter, or else an action
+abbrev pub kind_of : Data → PlayKind
+kind_of d = if is_some (get (codes "apply") d) then Apply else Do
+
+unfoldable pub play_by : PlayKind → Place → Data → Result Play Place
+play_by kind at d = do
+  whole ← only at (keys_of kind) d
+  hook ← name_at 64 at (hook_key kind) whole
+  args ← args_at at whole
+  times ← times_at at whole
+  Ok (record { kind = kind; hook = hook; args = args; times = times })
+
+abbrev pub play_of : Place → Data → Result Play Place
+play_of at d = play_by (kind_of d) at d
+
+-- ---- files
+
+abbrev pub active_of : Place → Data → Result (List ℕ) Place
+active_of at d = or_bad at (option_and_then (name_in 32) (as_str d))
+
+abbrev pub file_keys : List (List ℕ)
+file_keys = codes "kit" ∷ codes "active" ∷ codes "plays" ∷ codes "shows" ∷ []
+
+unfoldable pub play_file_of : Data → Result PlayFile Place
+play_file_of d = do
+  whole ← only place.File file_keys d
+  it ← or_bad place.File (get (codes "kit") whole)
+  kit ← kit_of it
+  names ← list_at place.Active (codes "active") whole
+  active ← each active_of place.Active 0 names
+  ds ← list_at place.Plays (codes "plays") whole
+  plays ← each play_of place.Plays 0 ds
+  Ok (record { kit = kit; active = active; plays = plays })
+
+unfoldable pub play_file_in : List ℕ → Result PlayFile Place
+play_file_in bytes = do
+  d ← file_in bytes
+  play_file_of d

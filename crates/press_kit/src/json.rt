@@ -1,0 +1,42 @@
+//! The JSON value of a file.
+
+ghost use Rattle.std.specs.Prelude.{◌≡◌};
+ghost use Rattle.serde_json.specs.View.{view};
+ghost use Rattle.press_kit.specs.Gives.{Gives};
+ghost use Rattle.press_kit.specs.Fields.{or_bad};
+ghost use Rattle.press_kit.specs.KitFile.{json_in, file_in};
+ghost use Rattle.press_kit.specs.declared.place.Place.TheVariants as place;
+
+use crate::fault::KitFileFault;
+use crate::place::Place;
+use serde_json::Value;
+use std::alloc::Global;
+
+/// The most bytes that a file may have.
+pub const LIMIT: usize = 4_194_304;
+
+fn json(alloc: Global, bytes: &[u8]) -> Result<Value, KitFileFault>
+    ensures { Gives view result (or_bad place.File (json_in bytes.now)) }
+{
+    match Value::from_slice(alloc, bytes) {
+        Ok(value) => Ok(value),
+        Err(e) => {
+            if e.is_memory() {
+                Err(KitFileFault::NoMemory)
+            } else {
+                Err(KitFileFault::BadKitFile(Place::File))
+            }
+        }
+    }
+}
+
+/// The value of a file that is not too long.
+#[tactic(auto, unfolding(crate::specs::KitFile::file_in))]
+pub fn file(alloc: Global, bytes: &[u8]) -> Result<Value, KitFileFault>
+    ensures { Gives view result (file_in bytes.now) }
+{
+    if bytes.len() > LIMIT {
+        return Err(KitFileFault::BadKitFile(Place::File));
+    }
+    json(alloc, bytes)
+}

@@ -1,0 +1,21 @@
+//! Kit files and play files: callbacks with their scripts, plugins and plays, as their author writes them in JSON.
+//!
+//! A file gives what the definitions give, or the first place at which it is bad.
+#![tactic(auto)]
+
+mod fault;
+mod fields;
+mod json;
+mod kit_parts;
+mod listed;
+mod loads;
+mod op_kind;
+mod ops;
+mod parts;
+mod place;
+mod play_file;
+
+pub use fault::KitFileFault;
+pub use kit_parts::{KitParts, Scripted, read_kit_file};
+pub use place::Place;
+pub use play_file::{Play, PlayFile, PlayKind, read_play_file};

@@ -1,0 +1,198 @@
+//! The steps of scripts.
+
+ghost use Rattle.std.specs.Prelude.{◌≡◌, option_map, option_and_then, codes, map};
+ghost use Rattle.serde_json.specs.Find.{get, as_str};
+ghost use Rattle.serde_json.specs.View.{view};
+ghost use Rattle.press_kit.specs.Gives.{Gives};
+ghost use Rattle.press_kit.specs.Ops.{kind_of, keys_of};
+ghost use Rattle.press_kit.specs.Fields.{only};
+ghost use Rattle.press_kit.specs.KitFile as spec;
+
+use crate::fault::KitFileFault;
+use crate::fields::Fields;
+use crate::listed::Listed;
+use crate::op_kind::OpKind;
+use crate::place::Place;
+use press_callbacks::{Ask, Op};
+use serde_json::Value;
+use std::alloc::Global;
+
+impl<'v> Fields<'v> {
+    // The priority that is told, or all of them.
+    fn any_priority(&self) -> Result<Option<i64>, KitFileFault>
+        ensures { Gives (λ p. p) result (spec.any_priority_at self.now.at (view self.now.value.now)) }
+    {
+        match self.value.get("priority") {
+            None => Ok(None),
+            Some(told) => Ok(Some(told.as_i64().ok_or(self.at)?)),
+        }
+    }
+
+    // How many steps are passed over.
+    fn skip(&self) -> Result<u16, KitFileFault>
+        ensures { Gives (λ n. n) result (spec.skip_at self.now.at (view self.now.value.now)) }
+    {
+        let told = self
+            .value
+            .get("skip")
+            .and_then(Value::as_u64)
+            .ok_or(self.at)?;
+        match u16::try_from(told) {
+            Ok(n) => Ok(n),
+            Err(_) => Err(KitFileFault::BadKitFile(self.at)),
+        }
+    }
+
+    #[tactic(auto, unfolding(crate::specs::KitFile::hook_added))]
+    fn add_hook(&self) -> Result<Op, KitFileFault>
+        ensures { Gives (λ o. o) result (spec.hook_added self.now.at (view self.now.value.now)) }
+    {
+        Ok(Op::AddHook {
+            hook: self.hook("hook")?,
+            callback: self.callback("callback")?,
+            priority: self.priority()?,
+            accepted: self.accepted()?,
+        })
+    }
+
+    #[tactic(auto, unfolding(crate::specs::KitFile::hook_removed))]
+    fn remove_hook(&self) -> Result<Op, KitFileFault>
+        ensures { Gives (λ o. o) result (spec.hook_removed self.now.at (view self.now.value.now)) }
+    {
+        Ok(Op::RemoveHook {
+            hook: self.hook("hook")?,
+            callback: self.callback("callback")?,
+            priority: self.priority()?,
+        })
+    }
+
+    #[tactic(auto, unfolding(crate::specs::KitFile::hooks_removed))]
+    fn remove_all(&self) -> Result<Op, KitFileFault>
+        ensures { Gives (λ o. o) result (spec.hooks_removed self.now.at (view self.now.value.now)) }
+    {
+        Ok(Op::RemoveAll {
+            hook: self.hook("hook")?,
+            priority: self.any_priority()?,
+        })
+    }
+
+    #[tactic(auto, unfolding(crate::specs::KitFile::tag_added))]
+    fn add_tag(&self) -> Result<Op, KitFileFault>
+        ensures { Gives (λ o. o) result (spec.tag_added self.now.at (view self.now.value.now)) }
+    {
+        Ok(Op::AddTag {
+            tag: self.text("tag")?,
+            callback: self.callback("callback")?,
+        })
+    }
+
+    #[tactic(auto, unfolding(crate::specs::KitFile::skipped))]
+    fn skip_if(&self) -> Result<Op, KitFileFault>
+        ensures { Gives (λ o. o) result (spec.skipped self.now.at (view self.now.value.now)) }
+    {
+        Ok(Op::SkipIf {
+            left: self.parts("left")?,
+            right: self.parts("right")?,
+            n: self.skip()?,
+        })
+    }
+
+    #[tactic(auto, unfolding(crate::specs::KitFile::filtered))]
+    fn apply(&self) -> Result<Op, KitFileFault>
+        ensures { Gives (λ o. o) result (spec.filtered self.now.at (view self.now.value.now)) }
+    {
+        Ok(Op::Apply {
+            hook: self.hook("hook")?,
+            value: self.parts("value")?,
+            more: self.texts("more")?,
+        })
+    }
+
+    #[tactic(auto, unfolding(crate::specs::KitFile::done))]
+    fn start(&self) -> Result<Op, KitFileFault>
+        ensures { Gives (λ o. o) result (spec.done self.now.at (view self.now.value.now)) }
+    {
+        Ok(Op::Do {
+            hook: self.hook("hook")?,
+            args: self.texts("args")?,
+        })
+    }
+
+    #[tactic(auto, unfolding(crate::specs::KitFile::hook_asked))]
+    fn has_hook(&self) -> Result<Op, KitFileFault>
+        ensures { Gives (λ o. o) result (spec.hook_asked self.now.at (view self.now.value.now)) }
+    {
+        let hook = self.hook("hook")?;
+        let callback = self.callback("callback")?;
+        Ok(Op::Ask(Ask::Has(hook, callback)))
+    }
+
+    #[tactic(auto, unfolding(crate::specs::KitFile::op_by))]
+    fn op(&self, kind: OpKind) -> Result<Op, KitFileFault>
+        ensures { Gives (λ o. o) result (spec.op_by kind self.now.at (view self.now.value.now)) }
+    {
+        match kind {
+            OpKind::Set => Ok(Op::Set(self.parts("text")?)),
+            OpKind::AddHook => self.add_hook(),
+            OpKind::RemoveHook => self.remove_hook(),
+            OpKind::RemoveAll => self.remove_all(),
+            OpKind::AddTag => self.add_tag(),
+            OpKind::RemoveTag => Ok(Op::RemoveTag {
+                tag: self.text("tag")?,
+            }),
+            OpKind::SkipIf => self.skip_if(),
+            OpKind::Apply => self.apply(),
+            OpKind::Do => self.start(),
+            OpKind::Shortcodes => Ok(Op::Shortcodes(self.parts("text")?)),
+            OpKind::Did => Ok(Op::Ask(Ask::Did(self.hook("hook")?))),
+            OpKind::Doing => Ok(Op::Ask(Ask::Doing(self.hook("hook")?))),
+            OpKind::HasHook => self.has_hook(),
+            OpKind::HasTag => Ok(Op::Ask(Ask::Tag(self.text("tag")?))),
+            OpKind::Echo => Ok(Op::Echo(self.parts("text")?)),
+            OpKind::Return => Ok(Op::Return(self.parts("text")?)),
+        }
+    }
+
+    fn kind(&self) -> Option<OpKind>
+        ensures { result ≡ option_and_then kind_of (option_and_then as_str (get (codes "op") (view self.now.value.now))) }
+    {
+        match self.value.get("op").and_then(Value::as_str) {
+            None => None,
+            Some(name) => OpKind::named(name),
+        }
+    }
+
+    fn has_keys_of(&self, kind: OpKind) -> Result<(), KitFileFault>
+        ensures { Gives (λ u. view self.now.value.now) result (only self.now.at (keys_of kind) (view self.now.value.now)) }
+    {
+        match kind {
+            OpKind::AddHook => {
+                self.has_only(&["op", "hook", "callback", "priority", "accepted"])
+            }
+            OpKind::RemoveHook => self.has_only(&["op", "hook", "callback", "priority"]),
+            OpKind::RemoveAll => self.has_only(&["op", "hook", "priority"]),
+            OpKind::AddTag => self.has_only(&["op", "tag", "callback"]),
+            OpKind::RemoveTag | OpKind::HasTag => self.has_only(&["op", "tag"]),
+            OpKind::SkipIf => self.has_only(&["op", "left", "right", "skip"]),
+            OpKind::Apply => self.has_only(&["op", "hook", "value", "more"]),
+            OpKind::Do => self.has_only(&["op", "hook", "args"]),
+            OpKind::Did | OpKind::Doing => self.has_only(&["op", "hook"]),
+            OpKind::HasHook => self.has_only(&["op", "hook", "callback"]),
+            OpKind::Set | OpKind::Shortcodes | OpKind::Echo | OpKind::Return => {
+                self.has_only(&["op", "text"])
+            }
+        }
+    }
+}
+
+impl Listed for Op {
+    ghost read = { spec.op_of };
+
+    #[tactic(auto, unfolding(crate::specs::KitFile::op_of))]
+    fn read(alloc: Global, at: Place, value: &Value) -> Result<Op, KitFileFault> {
+        let fields = Fields { alloc, at, value };
+        let kind = fields.kind().ok_or(at)?;
+        fields.has_keys_of(kind)?;
+        fields.op(kind)
+    }
+}

@@ -1,0 +1,127 @@
+//! Texts as lists of parts.
+
+ghost use Rattle.std.specs.Prelude.{◌≡◌, option_map, option_and_then, codes};
+ghost use Rattle.serde_json.specs.Find.{get};
+ghost use Rattle.serde_json.specs.View.{view};
+ghost use Rattle.press_kit.specs.Gives.{Gives};
+ghost use Rattle.press_kit.specs.Fields.{or_bad};
+ghost use Rattle.press_kit.specs.KitFile as spec;
+
+use crate::fault::KitFileFault;
+use crate::fields::{Fields, has_only, list, number32};
+use crate::listed::{Listed, each};
+use crate::place::Place;
+use press_callbacks::{Part, Parts};
+use press_scan::AttKey;
+use press_text::{Items, Text};
+use serde_json::Value;
+use std::alloc::Global;
+
+// What a part is taken from.
+fn source(name: &str) -> Option<Part>
+    ensures { result ≡ spec.source_of name.now }
+{
+    if name == "content" {
+        Some(Part::Content)
+    } else if name == "tag" {
+        Some(Part::Tag)
+    } else if name == "value" {
+        Some(Part::Value)
+    } else if name == "last" {
+        Some(Part::Last)
+    } else {
+        None
+    }
+}
+
+fn from_part(value: &Value) -> Option<Part>
+    ensures { result ≡ spec.from_in (view value.now) }
+{
+    match value.get("from").and_then(Value::as_str) {
+        None => None,
+        Some(name) => source(name),
+    }
+}
+
+fn arg_part(value: &Value) -> Option<Part>
+    ensures { result ≡ spec.arg_in (view value.now) }
+{
+    match value.get("arg").and_then(Value::as_u64) {
+        None => None,
+        Some(n) => Some(Part::Arg(n as usize)),
+    }
+}
+
+fn att_key(alloc: Global, at: Place, value: &Value) -> Result<AttKey, KitFileFault>
+    ensures { Gives (λ k. k) result (or_bad at (spec.att_key_of (view value.now))) }
+{
+    match value.as_str() {
+        Some(name) => Ok(AttKey::Name(Text::from_str(alloc, name)?)),
+        None => Ok(AttKey::Place(number32(value).ok_or(at)?)),
+    }
+}
+
+fn att_part(alloc: Global, at: Place, value: &Value) -> Result<Part, KitFileFault>
+    ensures { Gives (λ p. p) result (or_bad at (spec.att_in (view value.now))) }
+{
+    let key = value.get("att").ok_or(at)?;
+    Ok(Part::Att(att_key(alloc, at, key)?))
+}
+
+// The part of an object with one key.
+fn keyed_part(alloc: Global, at: Place, value: &Value) -> Result<Part, KitFileFault>
+    ensures { Gives (λ p. p) result (or_bad at (spec.keyed_part (view value.now))) }
+{
+    if has_only(value, &["arg"]) {
+        Ok(arg_part(value).ok_or(at)?)
+    } else if has_only(value, &["att"]) {
+        att_part(alloc, at, value)
+    } else if has_only(value, &["from"]) {
+        Ok(from_part(value).ok_or(at)?)
+    } else {
+        Err(KitFileFault::BadKitFile(at))
+    }
+}
+
+impl Listed for Part {
+    ghost read = { spec.part_of };
+
+    fn read(alloc: Global, at: Place, value: &Value) -> Result<Part, KitFileFault> {
+        match value.as_str() {
+            Some(text) => Ok(Part::Lit(Text::from_str(alloc, text)?)),
+            None => keyed_part(alloc, at, value),
+        }
+    }
+}
+
+impl Listed for Parts {
+    ghost read = { spec.text_of };
+
+    fn read(alloc: Global, at: Place, value: &Value) -> Result<Parts, KitFileFault> {
+        let values = list(value).ok_or(at)?;
+        each(alloc, at, values)
+    }
+}
+
+impl<'v> Fields<'v> {
+    /// A text by its parts.
+    pub fn parts(&self, key: &str) -> Result<Parts, KitFileFault>
+        ensures { Gives (λ t. t) result (spec.parts_at self.now.at key.now (view self.now.value.now)) }
+    {
+        let value = self.value.get(key).ok_or(self.at)?;
+        Parts::read(self.alloc, self.at, value)
+    }
+
+    /// Texts by their parts, none where nothing is told.
+    pub fn texts(&self, key: &str) -> Result<Items<Parts>, KitFileFault>
+        ensures { Gives (λ ts. ts) result (spec.texts_at self.now.at key.now (view self.now.value.now)) }
+    {
+        match self.value.get(key) {
+            None => Ok(Items::new(self.alloc)),
+            Some(told) => {
+                let values = list(told).ok_or(self.at)?;
+                each(self.alloc, self.at, values)
+            }
+        }
+    }
+}

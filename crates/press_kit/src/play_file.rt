@@ -1,0 +1,169 @@
+ghost use Rattle.std.specs.Prelude.{◌≡◌, option_and_then, codes, map};
+ghost use Rattle.serde_json.specs.View.{view};
+ghost use Rattle.press_kit.specs.Gives.{Gives};
+ghost use Rattle.press_kit.specs.Fields.{only, number_in};
+ghost use Rattle.press_kit.specs.PlayFile as spec;
+
+use crate::fault::KitFileFault;
+use crate::fields::{Fields, list, number32};
+use crate::json::file;
+use crate::kit_parts::{KitParts, kit};
+use crate::listed::{Listed, each};
+use crate::place::Place;
+use press_text::{HookName, Items, Name, NameFault, Text};
+use serde_json::Value;
+use std::alloc::Global;
+
+/// What a play does with its hook.
+#[derive(Clone, Copy, Debug, PartialEq, Eq)]
+pub enum PlayKind {
+    /// Runs it as a filter (`apply_filters`).
+    Apply,
+    /// Runs it as an action (`do_action`).
+    Do,
+}
+
+/// One thing to be played.
+#[derive(Debug, Drop)]
+pub struct Play {
+    pub kind: PlayKind,
+    pub hook: HookName,
+    pub args: Items<Text>,
+    /// How often it is done, at least once.
+    pub times: u32,
+}
+
+/// A kit, the plugins that are active, and what is to be played on them in turn.
+#[derive(Debug, Drop)]
+pub struct PlayFile {
+    pub kit: KitParts,
+    pub active: Items<Name>,
+    pub plays: Items<Play>,
+}
+
+impl Listed for Text {
+    ghost read = { spec.text_in };
+
+    fn read(alloc: Global, at: Place, value: &Value) -> Result<Text, KitFileFault> {
+        let text = value.as_str().ok_or(at)?;
+        Ok(Text::from_str(alloc, text)?)
+    }
+}
+
+impl Listed for Name {
+    ghost read = { spec.active_of };
+
+    fn read(alloc: Global, at: Place, value: &Value) -> Result<Name, KitFileFault> {
+        let text = value.as_str().ok_or(at)?;
+        match Name::new(alloc, text) {
+            Ok(name) => Ok(name),
+            Err(NameFault::NoMemory) => Err(KitFileFault::NoMemory),
+            Err(NameFault::BadName | NameFault::TooLong) => Err(KitFileFault::BadKitFile(at)),
+        }
+    }
+}
+
+// A count from 1 to 2^32 - 1.
+fn count(value: &Value) -> Option<u32>
+    ensures { result ≡ option_and_then spec.times_in (number_in (view value.now)) }
+{
+    number32(value).filter(|n| *n > 0)
+}
+
+impl<'v> Fields<'v> {
+    fn args(&self) -> Result<Items<Text>, KitFileFault>
+        ensures { Gives (λ ts. ts) result (spec.args_at self.now.at (view self.now.value.now)) }
+    {
+        match self.value.get("args") {
+            None => Ok(Items::new(self.alloc)),
+            Some(told) => {
+                let values = list(told).ok_or(self.at)?;
+                each(self.alloc, self.at, values)
+            }
+        }
+    }
+
+    fn times(&self) -> Result<u32, KitFileFault>
+        ensures { Gives (λ n. n) result (spec.times_at self.now.at (view self.now.value.now)) }
+    {
+        match self.value.get("times") {
+            None => Ok(1),
+            Some(told) => Ok(count(told).ok_or(self.at)?),
+        }
+    }
+
+    fn has_play_keys(&self, kind: PlayKind) -> Result<(), KitFileFault>
+        ensures { Gives (λ u. view self.now.value.now) result (only self.now.at (spec.keys_of kind) (view self.now.value.now)) }
+    {
+        match kind {
+            PlayKind::Apply => self.has_only(&["apply", "args", "times"]),
+            PlayKind::Do => self.has_only(&["do", "args", "times"]),
+        }
+    }
+
+    #[tactic(auto, unfolding(crate::specs::PlayFile::play_by))]
+    fn play(&self, kind: PlayKind) -> Result<Play, KitFileFault>
+        ensures { Gives (λ p. p) result (spec.play_by kind self.now.at (view self.now.value.now)) }
+    {
+        self.has_play_keys(kind)?;
+        let hook = self.hook(kind.key())?;
+        Ok(Play {
+            kind,
+            hook,
+            args: self.args()?,
+            times: self.times()?,
+        })
+    }
+}
+
+impl PlayKind {
+    // The key at which the hook stands.
+    fn key(self) -> &'static str
+        ensures { result.now ≡ spec.hook_key self }
+    {
+        match self {
+            PlayKind::Apply => "apply",
+            PlayKind::Do => "do",
+        }
+    }
+}
+
+impl Listed for Play {
+    ghost read = { spec.play_of };
+
+    fn read(alloc: Global, at: Place, value: &Value) -> Result<Play, KitFileFault> {
+        let fields = Fields { alloc, at, value };
+        let kind = if value.get("apply").is_some() {
+            PlayKind::Apply
+        } else {
+            PlayKind::Do
+        };
+        fields.play(kind)
+    }
+}
+
+#[tactic(auto, unfolding(crate::specs::PlayFile::play_file_of))]
+fn play_file(alloc: Global, value: &Value) -> Result<PlayFile, KitFileFault>
+    ensures { Gives (λ f. f) result (spec.play_file_of (view value.now)) }
+{
+    let at = Place::File;
+    let fields = Fields { alloc, at, value };
+    fields.has_only(&["kit", "active", "plays", "shows"])?;
+    let kit = kit(alloc, value.get("kit").ok_or(at)?)?;
+    let at = Place::Active;
+    let active = each(alloc, at, Fields { alloc, at, value }.list("active")?)?;
+    let at = Place::Plays;
+    let plays = each(alloc, at, Fields { alloc, at, value }.list("plays")?)?;
+    Ok(PlayFile { kit, active, plays })
+}
+
+/// The kit, the active plugins and the plays that the bytes of a play file give.
+///
+/// The key `shows` is for whoever reads the file. A file has at most 4,194,304 bytes.
+#[tactic(auto, unfolding(crate::specs::PlayFile::play_file_in))]
+pub fn read_play_file(alloc: Global, bytes: &[u8]) -> Result<PlayFile, KitFileFault>
+    ensures { Gives (λ f. f) result (spec.play_file_in bytes.now) }
+{
+    let value = file(alloc, bytes)?;
+    play_file(alloc, &value)
+}
