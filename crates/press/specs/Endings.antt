@@ -10,7 +10,7 @@ use Rattle.press.specs.declared.page.Target.TheVariants.{Post}
 use Rattle.press.specs.declared.ending.Ending.{Ending}
 use Rattle.press.specs.declared.ending.Ending.TheVariants.{Printed, Fault}
 use Rattle.press.specs.SiteFile.{site_in}
-use Rattle.press.specs.Streams.{AppendsFront}
+use Rattle.press_text.specs.Streams.{AppendsFront}
 use Rattle.press.specs.Apply.{site_after}
 use Rattle.press.specs.Page.{page_of}
 

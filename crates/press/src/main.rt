@@ -8,7 +8,6 @@ mod demonstration;
 mod ending;
 mod fault;
 mod input;
-mod output;
 mod page;
 mod run;
 mod site;

@@ -3,15 +3,15 @@
 ghost use Rattle.std.specs.Prelude.{◌≡◌, ◌+◌, map, string_bytes, IfSome};
 ghost use Rattle.std.specs.Io.KnownBytes.{Appends};
 ghost use Rattle.press.specs.SiteFile.{file_limit};
-ghost use Rattle.press.specs.Streams.{AppendsFront, TakesAtMost};
+ghost use Rattle.press_text.specs.Streams.{AppendsFront, TakesAtMost};
 ghost use Rattle.press.specs.Endings.{fault_line, usage_line, ending_of, EndsPage, Finishes, Runs};
 ghost use Rattle.press.specs.Demonstration.{demonstration};
 
 use crate::demonstration::{grow, grow_turn, parts};
 use crate::ending::{Ending, page_end};
 use crate::fault::ReplayFault;
-use crate::output::write_once;
 use press_callbacks::{BoxedTurns, CallIn, Kit, Stored, script_turn};
+use press_text::write_once;
 use std::alloc::Global;
 use std::io::{Read, Write};
 
@@ -58,7 +58,7 @@ fn finish<W: Write, E: Write>(end: Ending, writer: &mut W, error: &mut E) -> u8
     match end {
         Ending::Printed { status, body } => match write_once(writer, body.as_bytes()) {
             Ok(()) => status,
-            Err(fault) => fail(fault, error),
+            Err(fault) => fail(fault.into(), error),
         },
         Ending::Fault(fault) => fail(fault, error),
     }

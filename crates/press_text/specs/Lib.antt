@@ -3,3 +3,4 @@ pub mod Escapes
 pub mod Moments
 pub mod Names
 pub mod Padded
+pub mod Streams
