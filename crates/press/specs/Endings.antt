@@ -59,6 +59,11 @@ Finishes (Printed status body) result out out' err err' =
     ⊎ ((result ≡ 2) × AppendsFront out out' body × AppendsFront err err' (fault_line WriteFault))
 Finishes (Fault fault) result out out' err err' = (result ≡ 2) × Keeps out out' × AppendsFront err err' (fault_line fault)
 
+-- What any words come to, whatever there is to read: they are refused, and nothing is read.
+abbrev pub RefusesWords : List (List ℕ) → ℕ → Option (List ℕ) → Option (List ℕ) → Option (List ℕ) → Option (List ℕ) → Option (List ℕ) → Option (List ℕ) → Type 0
+RefusesWords [] result input input' out out' err err' = Unit {0}
+RefusesWords (w ∷ ws) result input input' out out' err err' = (result ≡ 2) × Keeps input input' × Keeps out out' × AppendsFront err err' usage_line
+
 -- A run for these words on this input: any words are refused.
 abbrev pub Runs : KitView → List (List ℕ) → List ℕ → ℕ → Option (List ℕ) → Option (List ℕ) → Option (List ℕ) → Option (List ℕ) → Type 0
 Runs kit [] input result out out' err err' = (end : Ending) × EndsPage kit end input × Finishes end result out out' err err'

@@ -2,7 +2,7 @@
 
 ghost use Rattle.std.specs.Prelude.{◌≡◌};
 ghost use Rattle.press.specs.Faults.{fault_number, fault_of_reading};
-ghost use Rattle.press.specs.declared.fault.ReplayFault.TheVariants.{NoMemory};
+ghost use Rattle.press.specs.declared.fault.ReplayFault.TheVariants as fault;
 
 use press_text::{ReadLimitedFault, WriteFault};
 use std::alloc::{AllocError, AllocFailed};
@@ -36,7 +36,7 @@ impl ReplayFault {
 }
 
 impl From<AllocError> for ReplayFault {
-    ghost from_gives = { λ _ e. e ≡ NoMemory };
+    ghost from_gives = { λ _ e. e ≡ fault.NoMemory };
 
     fn from(_e: AllocError) -> ReplayFault {
         ReplayFault::NoMemory
@@ -44,7 +44,7 @@ impl From<AllocError> for ReplayFault {
 }
 
 impl<T: Drop> From<AllocFailed<T>> for ReplayFault {
-    ghost from_gives = { λ _ e. e ≡ NoMemory };
+    ghost from_gives = { λ _ e. e ≡ fault.NoMemory };
 
     fn from(_e: AllocFailed<T>) -> ReplayFault {
         ReplayFault::NoMemory
@@ -64,7 +64,7 @@ impl From<ReadLimitedFault> for ReplayFault {
 }
 
 impl From<WriteFault> for ReplayFault {
-    ghost from_gives = { λ _ e. e ≡ ReplayFault.WriteFault };
+    ghost from_gives = { λ _ e. e ≡ fault.WriteFault };
 
     fn from(_f: WriteFault) -> ReplayFault {
         ReplayFault::WriteFault

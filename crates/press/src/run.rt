@@ -4,7 +4,7 @@ ghost use Rattle.std.specs.Prelude.{◌≡◌, ◌+◌, map, string_bytes, IfSom
 ghost use Rattle.std.specs.Io.KnownBytes.{Appends};
 ghost use Rattle.press.specs.SiteFile.{file_limit};
 ghost use Rattle.press_text.specs.Streams.{AppendsFront, TakesAtMost};
-ghost use Rattle.press.specs.Endings.{fault_line, usage_line, ending_of, EndsPage, Finishes, Runs};
+ghost use Rattle.press.specs.Endings.{fault_line, usage_line, ending_of, EndsPage, Finishes, RefusesWords, Runs};
 ghost use Rattle.press.specs.Demonstration.{demonstration};
 
 use crate::demonstration::{grow, grow_turn, parts};
@@ -88,7 +88,8 @@ fn demonstrated<R: Read>(alloc: Global, reader: &mut R) -> Result<Ending, Replay
 }
 
 /// One run over an input and two outputs. Without words: the page of post 1 of the site file on the input, with status 0, or the fixed
-/// body of another reply, with status 1. A fault is a line `press: fault N` on the errors, and status 2; so is `press: usage` for any words.
+/// body of another reply, with status 1. A fault is a line `press: fault N` on the errors, and status 2; so is `press: usage` for any words,
+/// and then nothing is read.
 pub fn run<Rt: AllocGlobal, R: Read, W: Write, E: Write>(
     rt: &Rt,
     words: &[String],
@@ -99,6 +100,8 @@ pub fn run<Rt: AllocGlobal, R: Read, W: Write, E: Write>(
     ensures read { TakesAtMost (R.remaining reader.old) (R.remaining reader.new) (file_limit + 1) }
     ensures runs { IfSome (R.remaining reader.old) (λ input. Runs demonstration (map string_bytes words.now) input result
         (W.contents writer.old) (W.contents writer.new) (E.contents error.old) (E.contents error.new)) }
+    ensures refused { RefusesWords (map string_bytes words.now) result (R.remaining reader.old) (R.remaining reader.new)
+        (W.contents writer.old) (W.contents writer.new) (E.contents error.old) (E.contents error.new) }
 {
     if !words.is_empty() {
         return refuse(error);
