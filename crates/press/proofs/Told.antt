@@ -2,7 +2,7 @@
 use Rattle.std.proofs.Common.{ℕ, List, length, Result, Ok, Err, OnOk, OnErr, sym, subst}
 use Rattle.std.specs.Prelude.{Option}
 use Rattle.std.specs.Io.KnownBytes.{Appends}
-use Rattle.press.specs.Streams.{AppendsFront}
+use Rattle.press_text.specs.Streams.{AppendsFront}
 use Rattle.std.proofs.Math.Seq.{take-length}
 
 either : {T E : Type 0} (P Q : Type 0) (r : Result T E) → OnOk r P → OnErr r Q → (P → Q) → Q

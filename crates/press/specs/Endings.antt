@@ -10,7 +10,7 @@ use Rattle.press.specs.declared.page.Target.TheVariants.{Post}
 use Rattle.press.specs.declared.ending.Ending.{Ending}
 use Rattle.press.specs.declared.ending.Ending.TheVariants.{Printed, Fault}
 use Rattle.press.specs.SiteFile.{site_in}
-use Rattle.press.specs.Streams.{AppendsFront}
+use Rattle.press_text.specs.Streams.{AppendsFront}
 use Rattle.press.specs.Apply.{site_after}
 use Rattle.press.specs.Page.{page_of}
 
@@ -58,6 +58,11 @@ Finishes (Printed status body) result out out' err err' =
     ((result ≡ status) × Appends out out' body × Keeps err err')
     ⊎ ((result ≡ 2) × AppendsFront out out' body × AppendsFront err err' (fault_line WriteFault))
 Finishes (Fault fault) result out out' err err' = (result ≡ 2) × Keeps out out' × AppendsFront err err' (fault_line fault)
+
+-- What any words come to, whatever there is to read: they are refused, and nothing is read.
+abbrev pub RefusesWords : List (List ℕ) → ℕ → Option (List ℕ) → Option (List ℕ) → Option (List ℕ) → Option (List ℕ) → Option (List ℕ) → Option (List ℕ) → Type 0
+RefusesWords [] result input input' out out' err err' = Unit {0}
+RefusesWords (w ∷ ws) result input input' out out' err err' = (result ≡ 2) × Keeps input input' × Keeps out out' × AppendsFront err err' usage_line
 
 -- A run for these words on this input: any words are refused.
 abbrev pub Runs : KitView → List (List ℕ) → List ℕ → ℕ → Option (List ℕ) → Option (List ℕ) → Option (List ℕ) → Option (List ℕ) → Type 0

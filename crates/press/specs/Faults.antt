@@ -1,5 +1,7 @@
--- The number that tells each fault of a run (own).
+-- The number that tells each fault of a run, and the faults that stand for those of streams (own).
 use Rattle.std.specs.Prelude.{ℕ}
+use Rattle.press_text.specs.declared.streams.ReadLimitedFault.{ReadLimitedFault}
+use Rattle.press_text.specs.declared.streams.ReadLimitedFault.TheVariants as reading
 use Rattle.press.specs.declared.fault.ReplayFault.{ReplayFault}
 use Rattle.press.specs.declared.fault.ReplayFault.TheVariants.{NoMemory, ReadFault, WriteFault, BadSchedule}
 
@@ -8,3 +10,9 @@ fault_number NoMemory = 0
 fault_number ReadFault = 40
 fault_number WriteFault = 42
 fault_number BadSchedule = 72
+
+-- a file that is too long gives no commands
+abbrev pub fault_of_reading : ReadLimitedFault → ReplayFault
+fault_of_reading reading.NoMemory = NoMemory
+fault_of_reading reading.ReadFault = ReadFault
+fault_of_reading reading.TooLong = BadSchedule

@@ -1,5 +1,5 @@
 -- Changes of a site and their refusals (Plugin Handbook, Posts and Plugin Basics; the limits and the order of refusals are own).
-use Rattle.std.specs.Prelude.{◌≡◌, ℕ, ◌+◌, List, [], ◌∷◌, ◌++◌, length, Bool, true, false, ◌&&◌, ◌||◌, nat_eq, nat_lt, nat_le, bytes_eq, if◌then◌else◌, find, insert, position, unwrap_or, option_map, Option, Some, None, Result, Ok, Err}
+use Rattle.std.specs.Prelude.{◌≡◌, ℕ, ◌+◌, List, [], ◌∷◌, ◌++◌, length, Bool, true, false, ◌&&◌, ◌||◌, nat_eq, nat_lt, nat_le, bytes_eq, if◌then◌else◌, find, insert, position, unwrap_or, option_map, Option, Some, None, Result, Ok, Err, IsOk}
 use Rattle.std.specs.List.{list_any}
 use Rattle.std.specs.Cmp.Lexicographic.{slice_cmp}
 use Rattle.std.specs.Ordering.{nat_cmp}
@@ -62,9 +62,9 @@ abbrev pub effect_on : SiteView → Effect → Result (SiteView × ℕ) SiteFaul
 effect_on s (Insert title content date) = unless (post_fault title content s.posts) (with_post title content date s, length s.posts + 1)
 effect_on s (Activate plugin) = if is_active plugin s then Err AlreadyActive else Ok (with_plugin plugin s, 0)
 
--- a fault leaves the site as it was, and is the effect's own or want of memory
+-- a fault leaves the site as it was, and is the effect's own; want of memory stands only where the effect has none
 abbrev pub IsRefused : SiteFault → Result (SiteView × ℕ) SiteFault → Type 0
-IsRefused NoMemory meant = Unit {0}
+IsRefused NoMemory meant = IsOk meant
 IsRefused TooLong meant = meant ≡ Err TooLong
 IsRefused TooManyPosts meant = meant ≡ Err TooManyPosts
 IsRefused NoSuchPlugin meant = meant ≡ Err NoSuchPlugin

@@ -3,7 +3,7 @@
 ghost use Rattle.std.specs.Prelude.{◌≡◌, ◌+◌, IfOk, IfErr, IfSome, Some};
 ghost use Rattle.press_callbacks.specs.Kits.{kit_view};
 ghost use Rattle.press.specs.SiteFile.{site_in, file_limit};
-ghost use Rattle.press.specs.Streams.{TakesAtMost};
+ghost use Rattle.press_text.specs.Streams.{TakesAtMost};
 ghost use Rattle.press.specs.Endings.{page_ending, printed, EndsPage};
 
 use crate::apply::apply_all;

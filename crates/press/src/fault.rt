@@ -1,9 +1,10 @@
 //! Why a run ends without an answer.
 
 ghost use Rattle.std.specs.Prelude.{◌≡◌};
-ghost use Rattle.press.specs.Faults.{fault_number};
-ghost use Rattle.press.specs.declared.fault.ReplayFault.TheVariants.{NoMemory};
+ghost use Rattle.press.specs.Faults.{fault_number, fault_of_reading};
+ghost use Rattle.press.specs.declared.fault.ReplayFault.TheVariants as fault;
 
+use press_text::{ReadLimitedFault, WriteFault};
 use std::alloc::{AllocError, AllocFailed};
 use thiserror::Error;
 
@@ -35,7 +36,7 @@ impl ReplayFault {
 }
 
 impl From<AllocError> for ReplayFault {
-    ghost from_gives = { λ _ e. e ≡ NoMemory };
+    ghost from_gives = { λ _ e. e ≡ fault.NoMemory };
 
     fn from(_e: AllocError) -> ReplayFault {
         ReplayFault::NoMemory
@@ -43,9 +44,29 @@ impl From<AllocError> for ReplayFault {
 }
 
 impl<T: Drop> From<AllocFailed<T>> for ReplayFault {
-    ghost from_gives = { λ _ e. e ≡ NoMemory };
+    ghost from_gives = { λ _ e. e ≡ fault.NoMemory };
 
     fn from(_e: AllocFailed<T>) -> ReplayFault {
         ReplayFault::NoMemory
+    }
+}
+
+impl From<ReadLimitedFault> for ReplayFault {
+    ghost from_gives = { λ f e. e ≡ fault_of_reading f };
+
+    fn from(f: ReadLimitedFault) -> ReplayFault {
+        match f {
+            ReadLimitedFault::NoMemory => ReplayFault::NoMemory,
+            ReadLimitedFault::ReadFault => ReplayFault::ReadFault,
+            ReadLimitedFault::TooLong => ReplayFault::BadSchedule,
+        }
+    }
+}
+
+impl From<WriteFault> for ReplayFault {
+    ghost from_gives = { λ _ e. e ≡ fault.WriteFault };
+
+    fn from(_f: WriteFault) -> ReplayFault {
+        ReplayFault::WriteFault
     }
 }

@@ -8,7 +8,6 @@ mod demonstration;
 mod ending;
 mod fault;
 mod input;
-mod output;
 mod page;
 mod run;
 mod site;
@@ -18,6 +17,7 @@ mod tests;
 
 use crate::fault::ReplayFault;
 use std::process::ExitCode;
+use std::rt::{Stderr, Stdin, Stdout};
 use std::{env, io};
 
 // The words after the program's name.
@@ -29,10 +29,21 @@ fn words_of(rt: &HostRuntime) -> io::Result<Vec<String>> {
     Ok(words)
 }
 
+// One run over the standard streams. Their types keep output and errors apart.
+fn run_on(
+    rt: &HostRuntime,
+    words: &[String],
+    input: &mut Stdin,
+    output: &mut Stdout,
+    error: &mut Stderr,
+) -> u8 {
+    run::run::<HostRuntime, Stdin, Stdout, Stderr>(rt, words, input, output, error)
+}
+
 fn main(rt: HostRuntime) -> ExitCode {
     let mut error = rt.stderr();
     let status = match words_of(&rt) {
-        Ok(words) => run::run(&rt, &words, &mut rt.stdin(), &mut rt.stdout(), &mut error),
+        Ok(words) => run_on(&rt, &words, &mut rt.stdin(), &mut rt.stdout(), &mut error),
         Err(e) if e.kind() == io::ErrorKind::OutOfMemory => {
             run::fail(ReplayFault::NoMemory, &mut error)
         }

@@ -3,15 +3,15 @@
 ghost use Rattle.std.specs.Prelude.{◌≡◌, ◌+◌, map, string_bytes, IfSome};
 ghost use Rattle.std.specs.Io.KnownBytes.{Appends};
 ghost use Rattle.press.specs.SiteFile.{file_limit};
-ghost use Rattle.press.specs.Streams.{AppendsFront, TakesAtMost};
-ghost use Rattle.press.specs.Endings.{fault_line, usage_line, ending_of, EndsPage, Finishes, Runs};
+ghost use Rattle.press_text.specs.Streams.{AppendsFront, TakesAtMost};
+ghost use Rattle.press.specs.Endings.{fault_line, usage_line, ending_of, EndsPage, Finishes, RefusesWords, Runs};
 ghost use Rattle.press.specs.Demonstration.{demonstration};
 
 use crate::demonstration::{grow, grow_turn, parts};
 use crate::ending::{Ending, page_end};
 use crate::fault::ReplayFault;
-use crate::output::write_once;
 use press_callbacks::{BoxedTurns, CallIn, Kit, Stored, script_turn};
+use press_text::write_once;
 use std::alloc::Global;
 use std::io::{Read, Write};
 
@@ -58,7 +58,7 @@ fn finish<W: Write, E: Write>(end: Ending, writer: &mut W, error: &mut E) -> u8
     match end {
         Ending::Printed { status, body } => match write_once(writer, body.as_bytes()) {
             Ok(()) => status,
-            Err(fault) => fail(fault, error),
+            Err(fault) => fail(fault.into(), error),
         },
         Ending::Fault(fault) => fail(fault, error),
     }
@@ -88,7 +88,8 @@ fn demonstrated<R: Read>(alloc: Global, reader: &mut R) -> Result<Ending, Replay
 }
 
 /// One run over an input and two outputs. Without words: the page of post 1 of the site file on the input, with status 0, or the fixed
-/// body of another reply, with status 1. A fault is a line `press: fault N` on the errors, and status 2; so is `press: usage` for any words.
+/// body of another reply, with status 1. A fault is a line `press: fault N` on the errors, and status 2; so is `press: usage` for any words,
+/// and then nothing is read.
 pub fn run<Rt: AllocGlobal, R: Read, W: Write, E: Write>(
     rt: &Rt,
     words: &[String],
@@ -99,6 +100,8 @@ pub fn run<Rt: AllocGlobal, R: Read, W: Write, E: Write>(
     ensures read { TakesAtMost (R.remaining reader.old) (R.remaining reader.new) (file_limit + 1) }
     ensures runs { IfSome (R.remaining reader.old) (λ input. Runs demonstration (map string_bytes words.now) input result
         (W.contents writer.old) (W.contents writer.new) (E.contents error.old) (E.contents error.new)) }
+    ensures refused { RefusesWords (map string_bytes words.now) result (R.remaining reader.old) (R.remaining reader.new)
+        (W.contents writer.old) (W.contents writer.new) (E.contents error.old) (E.contents error.new) }
 {
     if !words.is_empty() {
         return refuse(error);

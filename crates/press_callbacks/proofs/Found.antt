@@ -1,10 +1,12 @@
 -- The first thing of a name, as a list is walked.
-use Rattle.std.proofs.Common.{◌≡◌, refl, sym, ◌∙◌, ap, ℕ, zero, suc, ◌+◌, ◌<◌, true, false, cond, bytes_eq, List, [], ◌∷◌, map, length, get_or, drop, Some, arith, add-one, drop-cons}
+use Rattle.std.proofs.Common.{◌≡◌, refl, sym, ◌∙◌, ap, ℕ, zero, suc, ◌+◌, ◌<◌, ◌≤◌, true, false, cond, bytes_eq, List, [], ◌∷◌, map, length, get_or, drop, Bool, Option, Some, None, arith, add-one, drop-cons}
 use Rattle.std.specs.Prelude.{◌||◌}
 use Rattle.std.specs.List.{list_any}
+use Rattle.std.proofs.Math.ListN.{drop_of_length-le}
+use Rattle.std.proofs.lemmas.List.{length-map}
 use Rattle.press_callbacks.specs.declared.script.Op.{Op}
 use Rattle.press_callbacks.specs.declared.plugin.Plugin.{Plugin}
-use Rattle.press_callbacks.specs.Kits.{script_of, script_at, plugin_of, has_two}
+use Rattle.press_callbacks.specs.Kits.{Scripts, script_of, script_at, name_at, is_named, plugin_of, has_two}
 
 script_step : {A : Type 0} (f : A → List ℕ × List Op) (id : List ℕ) (xs : List A) (i : ℕ) (x : A) → i < length xs → x ≡ get_or xs i x → script_of id (drop i (map f xs)) ≡ cond (bytes_eq (f x).0 id) (Some (f x).1) (script_of id (drop (i + 1) (map f xs)))
 script_step f id [] i x h e = absurd (omega arith)
@@ -25,6 +27,24 @@ pub placed : {A : Type 0} (f : A → List ℕ × List Op) (xs : List A) (i : ℕ
 placed f [] i x h e = absurd (omega arith)
 placed f (y ∷ ys) zero x h e = ap (λ z. Some (f z).1) (sym e)
 placed f (y ∷ ys) (suc i) x h e = let lt : i < length ys = omega arith in placed f ys i x lt e
+
+pub placed_name : {A : Type 0} (f : A → List ℕ × List Op) (xs : List A) (i : ℕ) (x : A) → i < length xs → x ≡ get_or xs i x → name_at i (map f xs) ≡ Some (f x).0
+placed_name f [] i x h e = absurd (omega arith)
+placed_name f (y ∷ ys) zero x h e = ap (λ z. Some (f z).0) (sym e)
+placed_name f (y ∷ ys) (suc i) x h e = let lt : i < length ys = omega arith in placed_name f ys i x lt e
+
+-- nothing is found behind the end
+pub walked : {A : Type 0} (f : A → List ℕ × List Op) (id : List ℕ) (xs : List A) (i : ℕ) → length xs ≤ i → script_of id (drop i (map f xs)) ≡ None
+walked f id xs i le = ap (script_of id) (drop_of_length-le (map f xs) (rw (length-map xs f) le))
+
+-- where no callback of a name is found, none has that name
+unnamed : (b : Bool) (script : List Op) (rest : Option (List Op)) (named : Bool) → cond b (Some script) rest ≡ None → (rest ≡ None → named ≡ false) → (b || named) ≡ false
+unnamed true script rest named e h = cc
+unnamed false script rest named e h = h e
+
+pub none_named : (id : List ℕ) (cs : Scripts) → script_of id cs ≡ None → is_named (λ c. c.0) cs id ≡ false
+none_named id [] e = refl
+none_named id (c ∷ cs) e = unnamed (bytes_eq c.0 id) c.1 (script_of id cs) (is_named (λ x. x.0) cs id) e (none_named id cs)
 
 plugin_step : (name : List ℕ) (xs : List Plugin) (i : ℕ) (x : Plugin) → i < length xs → x ≡ get_or xs i x → plugin_of name (drop i xs) ≡ cond (bytes_eq x.name name) (Some x) (plugin_of name (drop (i + 1) xs))
 plugin_step name xs i x h e = rw (add-one, drop-cons xs i x h, ← e) refl

@@ -75,8 +75,8 @@ by_name-map f name [] = refl
 by_name-map f name (x ∷ xs) = put-map f name x (by_name (λ y. name (f y)) xs) ∙ ap (put_by_name name (f x)) (by_name-map f name xs)
 
 -- a fault that was found is the one that is answered
-pub refused : (o : Option KitFault) (fault : KitFault) → o ≡ Some fault → IsFault fault o
-refused o NoMemory e = tt
-refused o TwoNames e = e
-refused o UnknownCallback e = e
-refused o BadLoad e = e
+pub refused : (o : Option KitFault) (fault : KitFault) → (fault ≡ NoMemory → ⊥) → o ≡ Some fault → IsFault fault o
+refused o NoMemory own e = absurd (own refl)
+refused o TwoNames own e = e
+refused o UnknownCallback own e = e
+refused o BadLoad own e = e

@@ -73,6 +73,10 @@ scripts_in kit = map (λ c. (c.id, c.script)) kit.callbacks.items
 abbrev pub plugins_in : {t : _} {F : _} {g : _} → Kit t F g → List Plugin
 plugins_in kit = kit.plugins.items
 
+-- the callbacks of a kit, closures and all, in its own order
+abbrev pub callbacks_in : {t : _} {F : _} {g : _} → Kit t F g → List (Stored t F g)
+callbacks_in kit = kit.callbacks.items
+
 abbrev pub kit_view : {t : _} {F : _} {g : _} → Kit t F g → KitView
 kit_view kit = record { scripts = scripts_in kit; plugins = plugins_in kit }
 
@@ -169,9 +173,9 @@ kit_fault_by id script callbacks plugins =
 abbrev pub kit_fault : Scripts → List Plugin → Option KitFault
 kit_fault scripts plugins = kit_fault_by (λ c. c.0) (λ c. c.1) scripts plugins
 
--- the first fault; want of memory may come at any time
+-- the first fault; want of memory stands only where there is no fault
 abbrev pub IsFault : KitFault → Option KitFault → Type 0
-IsFault NoMemory fault = Unit {0}
+IsFault NoMemory fault = fault ≡ None
 IsFault TwoNames fault = fault ≡ Some TwoNames
 IsFault UnknownCallback fault = fault ≡ Some UnknownCallback
 IsFault BadLoad fault = fault ≡ Some BadLoad
@@ -182,6 +186,14 @@ Builds show (Ok kit) fault view = (fault ≡ None) × (show kit ≡ view)
 Builds show (Err f) fault view = IsFault f fault
 
 -- ---- places in a kit
+
+-- the name at a place, where a callback stands there
+abbrev pub name_at : ℕ → Scripts → Option (List ℕ)
+name_at place cs = option_map (λ c. c.0) (slice_get cs place)
+
+-- whether no callback has that name
+abbrev pub is_missing : List ℕ → Scripts → Bool
+is_missing id cs = not (is_named (λ c. c.0) cs id)
 
 -- the script at a place, where one stands there
 abbrev pub script_at : Option ℕ → Scripts → Option (List Op)

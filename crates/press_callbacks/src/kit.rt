@@ -1,5 +1,5 @@
-ghost use Rattle.std.specs.Prelude.{◌≡◌, IfSome, option_map, slice_get};
-ghost use Rattle.press_callbacks.specs.Kits.{id_of, script_in, scripts_in, plugins_in, kit_view, scripts_given, view_of, kit_fault, Builds, script_of, script_at, plugin_of};
+ghost use Rattle.std.specs.Prelude.{◌≡◌, Some, IfOk, IfSome, IsNone, IsTrue, option_map, slice_get};
+ghost use Rattle.press_callbacks.specs.Kits.{id_of, script_in, scripts_in, plugins_in, callbacks_in, by_name, name_at, is_missing, kit_view, scripts_given, view_of, kit_fault, Builds, script_of, script_at, plugin_of};
 
 use crate::kit_fault::KitFault;
 use crate::known::fault_of;
@@ -19,13 +19,14 @@ pub struct Kit {
 impl Kit {
     /// Refuses by TwoNames (two callbacks or two plugins of one name, or a callback with the name of a built-in one), then
     /// UnknownCallback (a load or a script names a callback that is neither there nor built in), then BadLoad (more than 1,000
-    /// hook loads or 128 tag loads in all plugins together).
+    /// hook loads or 128 tag loads in all plugins together). The kit's callbacks are those given, closures and all.
     pub fn build(
         alloc: Global,
         callbacks: Vec<Stored>,
         plugins: Vec<Plugin>,
     ) -> Result<Kit, KitFault>
-        ensures { Builds kit_view result (kit_fault (scripts_given callbacks.items) plugins.items) (view_of (scripts_given callbacks.items) plugins.items) }
+        ensures builds { Builds kit_view result (kit_fault (scripts_given callbacks.items) plugins.items) (view_of (scripts_given callbacks.items) plugins.items) }
+        ensures kept { IfOk result (λ kit. callbacks_in kit ≡ by_name id_of callbacks.items) }
     {
         if let Some(fault) = fault_of(callbacks.as_slice(), plugins.as_slice()) {
             return Err(fault);
@@ -50,7 +51,9 @@ impl Kit {
 
     /// The place of the callback of that name, which serves for many turns.
     pub fn place(&self, id: CallbackId) -> Option<usize>
-        ensures { script_at result (scripts_in self.now) ≡ script_of id (scripts_in self.now) }
+        ensures script { script_at result (scripts_in self.now) ≡ script_of id (scripts_in self.now) }
+        ensures named { IfSome result (λ place. name_at place (scripts_in self.now) ≡ Some id) }
+        ensures missing { IsNone result → IsTrue (is_missing id (scripts_in self.now)) }
     {
         for (i, c) in self.callbacks.as_slice().iter().enumerate() {
             if c.id().is(id) {

@@ -1,4 +1,5 @@
 ghost use Rattle.std.specs.Prelude.{◌≡◌};
+ghost use Rattle.press_callbacks.specs.Faults.{kit_fault_number};
 ghost use Rattle.press_callbacks.specs.declared.kit_fault.KitFault.TheVariants.{NoMemory};
 
 use std::alloc::{AllocError, AllocFailed};
@@ -15,6 +16,20 @@ pub enum KitFault {
     UnknownCallback,
     #[error("more than 1000 hook loads or 128 tag loads")]
     BadLoad,
+}
+
+impl KitFault {
+    /// The number that tells the fault.
+    pub fn number(self) -> u8
+        ensures { result ≡ kit_fault_number self }
+    {
+        match self {
+            KitFault::NoMemory => 0,
+            KitFault::TwoNames => 3,
+            KitFault::UnknownCallback => 4,
+            KitFault::BadLoad => 5,
+        }
+    }
 }
 
 impl From<AllocError> for KitFault {

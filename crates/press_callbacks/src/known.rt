@@ -1,9 +1,10 @@
 //! Why callbacks and plugins make no kit: whether every callback that a script or a load names is there.
 
-ghost use Rattle.std.specs.Prelude.{◌≡◌, ◌+◌, List, nat_lt, count_by};
+ghost use Rattle.std.specs.Prelude.{◌≡◌, ◌≢◌, ◌+◌, List, IfSome, nat_lt, count_by};
 ghost use Rattle.std.specs.List.{list_all, list_any};
 ghost use Rattle.press_callbacks.specs.declared.script.Op.{Op};
 ghost use Rattle.press_callbacks.specs.Kits.{kit_fault_by, knows_all, knows_script, knows_plugin, is_known_where, is_known, callback_named, callback_loaded, is_of_kind, loads_of_kind, has_many_loads, has_two_names};
+ghost use Rattle.press_callbacks.specs.declared.kit_fault.KitFault.TheVariants.{NoMemory};
 ghost use Rattle.press_callbacks.specs.BuiltIns.{is_built_in as built_in};
 
 use crate::built_in::is_built_in;
@@ -36,7 +37,8 @@ impl Scripted for Stored {
 
 /// The first reason why these make no kit.
 pub fn fault_of<T: Scripted>(callbacks: &[T], plugins: &[Plugin]) -> Option<KitFault>
-    ensures { result ≡ kit_fault_by T.name T.script callbacks.now plugins.now }
+    ensures fault { result ≡ kit_fault_by T.name T.script callbacks.now plugins.now }
+    ensures own { IfSome result (λ f. f ≢ NoMemory) }
 {
     if has_two_names(callbacks, plugins) {
         return Some(KitFault::TwoNames);

@@ -1,5 +1,6 @@
 pub mod Boot
 pub mod Counts
+pub mod Faults
 pub mod Outcome
 pub mod Run
 pub mod Scanning

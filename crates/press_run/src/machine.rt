@@ -1,11 +1,11 @@
-ghost use Rattle.std.specs.Prelude.{◌≡◌, ◌+◌, ◌<◌, ◌^◌, ◌++◌, ◌∷◌, ◌≤◌, [], None, Some, length, IsTrue, IfOk, OnOk, OnErr, string_bytes};
+ghost use Rattle.std.specs.Prelude.{◌≡◌, ◌+◌, ◌<◌, ◌^◌, ◌++◌, ◌∷◌, ◌≤◌, [], None, Some, false, length, IsTrue, IfOk, OnOk, OnErr, IsErrOf, string_bytes};
 ghost use Rattle.press_hooks.specs.NextEntry.{is_innermost};
 ghost use Rattle.press_scan.specs.Shortcodes.{IsShortcode, cut};
 ghost use Rattle.press_scan.specs.Scans.{IsEscape};
 ghost use Rattle.press_scan.specs.Tags.{names_of, callback_of};
 ghost use Rattle.press_callbacks.specs.Kits.{scripts_in, script_at};
 ghost use Rattle.press_run.specs.Counts.{no_counts};
-ghost use Rattle.press_run.specs.Run.{at_depth, callbacks_of, run_hook, do_hook, do_fires, run_entries, play, fuel, counted_step, turn_step, or_empty, answer_of, one_turn, without_last, scan, scan_argument, tag_answer, shortcode_call};
+ghost use Rattle.press_run.specs.Run.{at_depth, callbacks_of, run_hook, do_hook, do_fires, run_entries, play, fuel, counted_step, turn_step, fits, is_short, or_empty, answer_of, one_turn, without_last, scan, scan_argument, tag_answer, shortcode_call};
 ghost use Rattle.press_run.specs.Outcome.{Gives, GivesWithin, GivesStep, GivesJob, GoesAtMost, innermost, stage, state_of, around, around_innermost, job_meaning, CountsTurn};
 ghost use Rattle.press_run.specs.Scanning.{GivesTaken, GivesPiece};
 
@@ -198,7 +198,8 @@ impl Machine {
         call: CallIn,
     ) -> Result<Text, RunFault>
         requires { call.turn ≡ 0 }
-        ensures { Gives (at_depth depth (K.scripts kit.now) id call (state_of (stage tables.old self.old out.old))) (around (stage tables.old self.old out.old)) (stage tables.new self.new out.new) result }
+        ensures given { Gives (at_depth depth (K.scripts kit.now) id call (state_of (stage tables.old self.old out.old))) (around (stage tables.old self.old out.old)) (stage tables.new self.new out.new) result }
+        ensures shut { depth ≡ 0 → IsErrOf result RunFault.Limit }
     {
         if depth == 0 {
             return Err(RunFault::Limit);
@@ -221,7 +222,8 @@ impl Machine {
         depth: u32,
         call: CallIn,
     ) -> Result<Text, RunFault>
-        ensures { Gives (scan_argument (at_depth depth (K.scripts kit.now)) call (state_of (stage tables.old self.old out.old))) (around (stage tables.old self.old out.old)) (stage tables.new self.new out.new) result }
+        ensures given { Gives (scan_argument (at_depth depth (K.scripts kit.now)) call (state_of (stage tables.old self.old out.old))) (around (stage tables.old self.old out.old)) (stage tables.new self.new out.new) result }
+        ensures late { one_turn (state_of (stage tables.old self.old out.old)) ≡ None → IsErrOf result RunFault.Limit }
     {
         if !self.counts_turn() {
             return Err(RunFault::Limit);
@@ -241,7 +243,8 @@ impl Machine {
         depth: u32,
         text: Text,
     ) -> Result<Text, RunFault>
-        ensures { Gives (scan (at_depth depth (K.scripts kit.now)) text (state_of (stage tables.old self.old out.old))) (around (stage tables.old self.old out.old)) (stage tables.new self.new out.new) result }
+        ensures given { Gives (scan (at_depth depth (K.scripts kit.now)) text (state_of (stage tables.old self.old out.old))) (around (stage tables.old self.old out.old)) (stage tables.new self.new out.new) result }
+        ensures long { is_short text ≡ false → IsErrOf result RunFault.Limit }
     {
         if !texts::is_short(&text) {
             return Err(RunFault::Limit);
@@ -375,6 +378,8 @@ impl Machine {
     ) -> Result<Step, RunFault>
         requires { call.turn < 2 ^ 40 }
         ensures given { GivesStep (counted_step (at_depth depth (K.scripts kit.now)) call turn (state_of (stage tables.old self.old out.old))) (around (stage tables.old self.old out.old)) (stage tables.new self.new out.new) result }
+        ensures late { one_turn (state_of (stage tables.old self.old out.old)) ≡ None → IsErrOf result RunFault.Limit }
+        ensures long { fits turn ≡ false → IsErrOf result RunFault.Limit }
         ensures few { GoesAtMost (call.turn + 65536) result }
     {
         if !self.counts_turn() || !texts::fits(&turn) {

@@ -1,4 +1,5 @@
 ghost use Rattle.std.specs.Prelude.{◌≡◌};
+ghost use Rattle.press_run.specs.Faults.{run_fault_number};
 ghost use Rattle.press_run.specs.declared.run_fault.RunFault.TheVariants.{NoMemory};
 
 use std::alloc::{AllocError, AllocFailed};
@@ -11,6 +12,18 @@ pub enum RunFault {
     NoMemory,
     #[error("a limit of open callbacks, turns or bytes")]
     Limit,
+}
+
+impl RunFault {
+    /// The number that tells the fault.
+    pub fn number(self) -> u8
+        ensures { result ≡ run_fault_number self }
+    {
+        match self {
+            RunFault::NoMemory => 0,
+            RunFault::Limit => 20,
+        }
+    }
 }
 
 impl From<AllocError> for RunFault {

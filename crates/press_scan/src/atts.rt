@@ -46,7 +46,7 @@ impl Atts {
         None
     }
 
-    /// The attribute at a place of the list.
+    /// The attribute at a place of the list, which must be within it.
     pub fn at(&self, place: usize) -> &Att
         requires { place < length self.now }
         ensures { result.now ≡ slice_index_or self.now place result.now }

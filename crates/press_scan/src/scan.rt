@@ -173,7 +173,7 @@ impl Scan {
     }
 
     /// Takes the front up to the next shortcode, an escape, or the shortcode itself, under the tags that stand now.
-    /// A Text takes in at least one byte. Where memory is wanting nothing has changed.
+    /// A Text takes in at least one byte. Where memory is wanting nothing has changed. No answer may be awaited: `put` comes first.
     pub fn step(&mut self, tags: &TagTable) -> Result<ScanStep, AllocError>
         requires { self.old.waiting ≡ None }
         ensures { StepGives result (names_of tags.now) self.old self.new }

@@ -1,2 +1,3 @@
 pub mod Escapes
 pub mod Digits
+pub mod Taken

@@ -22,10 +22,10 @@ name_fault most bytes =
     (if nat_lt most (length bytes) then Some TooLong else
     (if list_all is_name_byte bytes then None else Some BadName))
 
--- what a constructor answers: the name of these bytes, or their first fault; want of memory may come at any time
+-- what a constructor answers: the name of these bytes, or their first fault; want of memory stands only where there is no fault
 abbrev pub NameGives : ℕ → Result (List ℕ) NameFault → List ℕ → Type 0
 NameGives most (Ok name) bytes = (name ≡ bytes) × (name_fault most bytes ≡ None)
-NameGives most (Err NoMemory) bytes = Unit {0}
+NameGives most (Err NoMemory) bytes = name_fault most bytes ≡ None
 NameGives most (Err BadName) bytes = name_fault most bytes ≡ Some BadName
 NameGives most (Err TooLong) bytes = name_fault most bytes ≡ Some TooLong
 

@@ -1,8 +1,9 @@
 //! The class of names: letters, digits, `_` and `-`.
 
-ghost use Rattle.std.specs.Prelude.{◌≡◌};
+ghost use Rattle.std.specs.Prelude.{◌≡◌, ◌≢◌, IfSome};
 ghost use Rattle.std.specs.List.{list_all};
 ghost use Rattle.press_text.specs.Names.{is_name_byte as name_byte, name_fault};
+ghost use Rattle.press_text.specs.declared.name_fault.NameFault.TheVariants.{NoMemory};
 
 use crate::name_fault::NameFault;
 
@@ -20,7 +21,8 @@ fn all_name_bytes(bytes: &[u8]) -> bool
 
 // The fault of a text that is to be a name of at most so many bytes.
 pub fn fault_of(most: usize, bytes: &[u8]) -> Option<NameFault>
-    ensures { result ≡ name_fault most bytes.now }
+    ensures fault { result ≡ name_fault most bytes.now }
+    ensures own { IfSome result (λ f. f ≢ NoMemory) }
 {
     if bytes.is_empty() {
         return Some(NameFault::BadName);

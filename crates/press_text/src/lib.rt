@@ -1,4 +1,4 @@
-//! Texts, lists and names that contracts see as plain lists, escaping, decimal numbers and moments.
+//! Texts, lists and names that contracts see as plain lists, escaping, decimal numbers, moments, and reading and writing bytes.
 //!
 //! Every other crate stands on these types: a contract compares them by what they hold and never by capacity.
 #![tactic(auto)]
@@ -14,6 +14,7 @@ mod moment;
 mod name;
 mod name_fault;
 mod opt_name;
+mod streams;
 mod tag;
 mod text;
 
@@ -27,6 +28,7 @@ pub use moment::Moment;
 pub use name::Name;
 pub use name_fault::NameFault;
 pub use opt_name::OptName;
+pub use streams::{ReadLimitedFault, WriteFault, read_limited, write_once};
 pub use tag::Tag;
 pub use text::Text;
 

@@ -1,4 +1,5 @@
 ghost use Rattle.std.specs.Prelude.{◌≡◌};
+ghost use Rattle.press_text.specs.Faults.{name_fault_number};
 ghost use Rattle.press_text.specs.declared.name_fault.NameFault.TheVariants.{NoMemory};
 
 use std::alloc::AllocError;
@@ -13,6 +14,19 @@ pub enum NameFault {
     BadName,
     #[error("too long for a name")]
     TooLong,
+}
+
+impl NameFault {
+    /// The number that tells the fault.
+    pub fn number(self) -> u8
+        ensures { result ≡ name_fault_number self }
+    {
+        match self {
+            NameFault::NoMemory => 0,
+            NameFault::BadName => 1,
+            NameFault::TooLong => 2,
+        }
+    }
 }
 
 impl From<AllocError> for NameFault {

@@ -1,8 +1,8 @@
 use crate::decode::LIMIT;
 use crate::fault::ReplayFault;
-use crate::input::{read_limited, read_site};
-use crate::output::write_once;
+use crate::input::read_site;
 use crate::tests::fakes::{Failing, Narrow};
+use press_text::{ReadLimitedFault, WriteFault, read_limited, write_once};
 use std::io;
 use std::io::Read;
 use std::test::Fail;
@@ -56,7 +56,7 @@ fn reads_up_to_the_limit(rt: HostRuntime) -> Result<(), Fail> {
             }
             Err(fault) => {
                 assert!(rt; !fits, "at {limit}");
-                assert_eq!(rt; fault, ReplayFault::BadSchedule);
+                assert_eq!(rt; fault, ReadLimitedFault::TooLong);
                 assert_eq!(rt; reader.len(), 81 - limit);
             }
         }
@@ -79,7 +79,7 @@ fn a_failed_write_leaves_a_front(rt: HostRuntime) -> Result<(), Fail> {
     for (good, front) in [(0, 0usize), (1, 3), (2, 6), (3, 9), (4, 12)] {
         for fails in [false, true] {
             let mut writer = Narrow::new(rt.alloc(), good, fails);
-            assert_eq!(rt; write_once(&mut writer, text), Err(ReplayFault::WriteFault));
+            assert_eq!(rt; write_once(&mut writer, text), Err(WriteFault));
             assert_eq!(rt; writer.taken.as_slice(), &text[..front]);
             assert_eq!(rt; writer.writes, good + 1);
         }

@@ -15,11 +15,11 @@ use Rattle.press_run.proofs.Scans.{means_all, answer_limit, text_takes, text_sto
 use Rattle.press_run.proofs.Steps.{no_depth, some_depth, built_in_depth, no_entries, no_turns, at_table, entries_end, entries_limit, entries_more, around_kept, open_kept, turns_end, turns_more, turns_limit, within_err, step_err}
 use Rattle.press_run.proofs.machine.Machine.+run.Goals as goal
 
-pub callback-returns-then-depth-eq0 : goal.callback-returns-then-depth-eq0
-callback-returns-then-depth-eq0 g t c = rw c.if-depth-eq0.true (no_depth _ _ _ _)
+pub callback-returns-then-depth-eq0-clause-given : goal.callback-returns-then-depth-eq0-clause-given
+callback-returns-then-depth-eq0-clause-given g t c = rw c.if-depth-eq0.true (no_depth _ _ _ _)
 
-pub callback-returns : goal.callback-returns
-callback-returns g t c =
+pub callback-returns-clause-given : goal.callback-returns-clause-given
+callback-returns-clause-given g t c =
     let d : c.args.depth ≡ suc (c.args.depth - 1) = omega arith in
     let own : is_built_in c.args.id ≡ false = ap is_built_in (sym c.as_bytes.ensures.value) ∙ sym c.is_built_in.ensures ∙ c.if-is_built_in.false in
     let s = state_of (stage c.args.tables.now c.args.self.now c.args.out.now) in
@@ -43,16 +43,16 @@ entries-returns-in_err-text-clause-given g t c =
     let p = err_from_is_err_and c.from_residual-in_err-text.result c.from_residual-in_err-text.ensures.1 in
     let f : fuel - c.loop-entry._entry ≡ suc (fuel - (c.loop-entry._entry + 1)) = omega arith in
     let some : Some c.in-Some.entry ≡ entry_next c.loop-entry.tables.hooks.rows c.loop-entry.tables.hooks.open_runs = sym c.in-Some.is ∙ c.in_ok-entry.ensures.given in
-    rw (p.1, p.2) (within_err _ _ (around (at_table c.next.new.self c.loop-entry.tables.tags c.loop-entry.self c.loop-entry.out)) (around_innermost (stage c.args.tables.now c.args.self.now c.args.out.now)) (stage c.callback.new.tables c.callback.new.self c.callback.new.out) c.in_err-text.field-0.0 (λ none. sym c.loop-entry.invariant.meaning ∙ entries_limit (at_depth c.args.depth (g.K.Callbacks.scripts c.args.kit.now)) c.args.kind c.loop-entry.args c.args.run c.loop-entry.tables.hooks c.next.new.self c.loop-entry.tables.tags c.loop-entry.self c.loop-entry.out _ _ f c.loop-entry.invariant.is_open c.in_ok-entry.ensures.advanced c.in-Some.entry some (ap (λ (x : CallIn). at_depth c.args.depth (g.K.Callbacks.scripts c.args.kit.now) c.in-Some.entry.callback x (state_of (at_table c.next.new.self c.loop-entry.tables.tags c.loop-entry.self c.loop-entry.out))) (sym c.in_ok-call.ensures) ∙ none)) c.in_err-text.ensures)
+    rw (p.1, p.2) (within_err _ _ (around (at_table c.next.new.self c.loop-entry.tables.tags c.loop-entry.self c.loop-entry.out)) (around_innermost (stage c.args.tables.now c.args.self.now c.args.out.now)) (stage c.callback.new.tables c.callback.new.self c.callback.new.out) c.in_err-text.field-0.0 (λ none. sym c.loop-entry.invariant.meaning ∙ entries_limit (at_depth c.args.depth (g.K.Callbacks.scripts c.args.kit.now)) c.args.kind c.loop-entry.args c.args.run c.loop-entry.tables.hooks c.next.new.self c.loop-entry.tables.tags c.loop-entry.self c.loop-entry.out _ _ f c.loop-entry.invariant.is_open c.in_ok-entry.ensures.advanced c.in-Some.entry some (ap (λ (x : CallIn). at_depth c.args.depth (g.K.Callbacks.scripts c.args.kit.now) c.in-Some.entry.callback x (state_of (at_table c.next.new.self c.loop-entry.tables.tags c.loop-entry.self c.loop-entry.out))) (sym c.in_ok-call.ensures) ∙ none)) c.in_err-text.ensures.given)
 
 pub entries-loop-entry-preserved : goal.entries-loop-entry-preserved
 entries-loop-entry-preserved g t c =
     let f : fuel - c.loop-entry._entry ≡ suc (fuel - (c.loop-entry._entry + 1)) = omega arith in
     let some : Some c.in-Some.entry ≡ entry_next c.loop-entry.tables.hooks.rows c.loop-entry.tables.hooks.open_runs = sym c.in-Some.is ∙ c.in_ok-entry.ensures.given in
     let gave : at_depth c.args.depth (g.K.Callbacks.scripts c.args.kit.now) c.in-Some.entry.callback (hook_call (take c.in-Some.entry.accepted c.loop-entry.args)) (state_of (at_table c.next.new.self c.loop-entry.tables.tags c.loop-entry.self c.loop-entry.out)) ≡ answer c.in_ok-text.text (state_of (stage c.callback.new.tables c.callback.new.self c.callback.new.out))
-    = ap (λ (x : CallIn). at_depth c.args.depth (g.K.Callbacks.scripts c.args.kit.now) c.in-Some.entry.callback x (state_of (at_table c.next.new.self c.loop-entry.tables.tags c.loop-entry.self c.loop-entry.out))) (sym c.in_ok-call.ensures) ∙ c.in_ok-text.ensures.0 in
-    let runs = ap (λ (a : Around). a.open_runs) c.in_ok-text.ensures.1 in
-    let doing = ap (λ (a : Around). a.doing) c.in_ok-text.ensures.1 in
+    = ap (λ (x : CallIn). at_depth c.args.depth (g.K.Callbacks.scripts c.args.kit.now) c.in-Some.entry.callback x (state_of (at_table c.next.new.self c.loop-entry.tables.tags c.loop-entry.self c.loop-entry.out))) (sym c.in_ok-call.ensures) ∙ c.in_ok-text.ensures.given.0 in
+    let runs = ap (λ (a : Around). a.open_runs) c.in_ok-text.ensures.given.1 in
+    let doing = ap (λ (a : Around). a.doing) c.in_ok-text.ensures.given.1 in
     record {
       meaning = rw (c.in_ok-args.ensures, runs) (sym (entries_more (at_depth c.args.depth (g.K.Callbacks.scripts c.args.kit.now)) c.args.kind c.loop-entry.args c.args.run c.loop-entry.tables.hooks c.next.new.self c.loop-entry.tables.tags c.loop-entry.self c.loop-entry.out _ _ f c.loop-entry.invariant.is_open c.in_ok-entry.ensures.advanced c.in-Some.entry (record { text = c.in_ok-text.text; state = state_of (stage c.callback.new.tables c.callback.new.self c.callback.new.out) }) some gave) ∙ c.loop-entry.invariant.meaning);
       is_open = rw runs (open_kept (at_depth c.args.depth (g.K.Callbacks.scripts c.args.kit.now)) c.args.kind c.loop-entry.args c.args.run c.loop-entry.tables.hooks c.next.new.self c.loop-entry.tables.tags c.loop-entry.self c.loop-entry.out _ _ f c.loop-entry.invariant.is_open c.in_ok-entry.ensures.advanced);
@@ -92,14 +92,14 @@ play-returns g t c =
     let z : fuel - c.loop-turn._turn ≡ 0 = omega arith in
     sym c.loop-turn.invariant.meaning ∙ rw z (no_turns _ _ _ _)
 
-pub callback-returns-then-is_built_in : goal.callback-returns-then-is_built_in
-callback-returns-then-is_built_in g t c =
+pub callback-returns-then-is_built_in-clause-given : goal.callback-returns-then-is_built_in-clause-given
+callback-returns-then-is_built_in-clause-given g t c =
     let d : c.args.depth ≡ suc (c.args.depth - 1) = omega arith in
     let own : is_built_in c.args.id ≡ true = ap is_built_in (sym c.as_bytes.ensures.value) ∙ sym c.is_built_in.ensures ∙ c.if-is_built_in.true in
     let s = state_of (stage c.args.tables.now c.args.self.now c.args.out.now) in
     let opened : at_depth c.args.depth (g.K.Callbacks.scripts c.args.kit.now) c.args.id c.args.call s ≡ scan_argument (at_depth (c.args.depth - 1) (g.K.Callbacks.scripts c.args.kit.now)) c.args.call s
     = ap (λ n. at_depth n (g.K.Callbacks.scripts c.args.kit.now) c.args.id c.args.call s) d ∙ built_in_depth (c.args.depth - 1) _ _ _ _ own in
-    subst (λ (m : Option Answer). Gives m (around (stage c.args.tables.now c.args.self.now c.args.out.now)) (stage c.scan_argument.new.tables c.scan_argument.new.self c.scan_argument.new.out) c.scan_argument.result) (sym opened) c.scan_argument.ensures
+    subst (λ (m : Option Answer). Gives m (around (stage c.args.tables.now c.args.self.now c.args.out.now)) (stage c.scan_argument.new.tables c.scan_argument.new.self c.scan_argument.new.out) c.scan_argument.result) (sym opened) c.scan_argument.ensures.given
 
 -- ---- scans
 
@@ -154,14 +154,14 @@ piece-returns-in_err-answered-in-Call g t c =
     rw (p.1, p.2) (still_stops callback before c.args.scan.now (Some c.in-Call.shortcode) c.in_err-answered-in-Call.field-0.0
     (subst (λ (x : Progress). StopsScan c.in_err-answered-in-Call.field-0.0 callback before x) calls.waits c.in_err-answered-in-Call.ensures))
 
-pub scan-returns-in_err-piece : goal.scan-returns-in_err-piece
-scan-returns-in_err-piece g t c =
+pub scan-returns-in_err-piece-clause-given : goal.scan-returns-in_err-piece-clause-given
+scan-returns-in_err-piece-clause-given g t c =
     let p = err_from_is_err_and c.from_residual.result c.from_residual.ensures.1 in
     let callback = at_depth c.args.depth (g.K.Callbacks.scripts c.args.kit.now) in
     rw (p.1, p.2) (scan_err _ callback (stage c.loop-scan.tables c.loop-scan.self c.loop-scan.out) c.loop-scan.scan (around (stage c.args.tables.now c.args.self.now c.args.out.now)) (stage c.piece.new.tables c.piece.new.self c.piece.new.out) c.in_err-piece.field-0.0 c.loop-scan.invariant.means c.in_err-piece.ensures)
 
-pub scan-returns : goal.scan-returns
-scan-returns g t c =
+pub scan-returns-clause-given : goal.scan-returns-clause-given
+scan-returns-clause-given g t c =
     let callback = at_depth c.args.depth (g.K.Callbacks.scripts c.args.kit.now) in
     let left = stage c.loop-scan.tables c.loop-scan.self c.loop-scan.out in
     let done = rw c.if-branch.false at c.in_ok-piece.ensures in

@@ -1,6 +1,6 @@
 use Rattle.std.proofs.Common.{arith, ◌++◌, length-append}
-use Rattle.press.proofs.Streams.{Consumes-trans}
-use Rattle.press.proofs.input.read_limited.Goals as goal
+use Rattle.press_text.proofs.Taken.{Consumes-trans}
+use Rattle.press_text.proofs.streams.read_limited.Goals as goal
 
 pub returns-in_err-read_some-clause-took : goal.returns-in_err-read_some-clause-took
 returns-in_err-read_some-clause-took g c =

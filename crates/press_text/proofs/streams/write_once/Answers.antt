@@ -1,6 +1,6 @@
 use Rattle.std.proofs.Common.{arith, length, ◌≤◌, ◌-◌, length-take, drop}
-use Rattle.press.proofs.Streams.{Appends-more}
-use Rattle.press.proofs.output.write_once.Goals as goal
+use Rattle.press_text.proofs.Taken.{Appends-more}
+use Rattle.press_text.proofs.streams.write_once.Goals as goal
 
 pub loop-done-preserved : goal.loop-done-preserved
 loop-done-preserved g c =
