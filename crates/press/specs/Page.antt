@@ -7,7 +7,8 @@ use Rattle.press_run.specs.declared.job.Fire.{Fire}
 use Rattle.press_run.specs.declared.run_fault.RunFault.{RunFault}
 use Rattle.press_run.specs.declared.run_fault.RunFault.TheVariants.{Limit, NoMemory}
 use Rattle.press_run.specs.Run.{◌>>=◌, State, Meaning, within, do_fires, apply_hook, callbacks_of}
-use Rattle.press_run.specs.Boot.{Loaded, booted_with}
+use Rattle.press_run.specs.Boot.{booted_with}
+use Rattle.press_run.specs.Outcome.{started}
 use Rattle.press.specs.declared.site.Post.{Post}
 use Rattle.press.specs.declared.page.Target.{Target}
 use Rattle.press.specs.declared.page.Target.TheVariants as target
@@ -33,10 +34,6 @@ fires callback fs s = do
 -- an action without arguments
 abbrev pub bare : List ℕ → Fire
 bare hook = record { hook = hook; args = [] }
-
--- tables with nothing counted and nothing written
-abbrev pub started : Loaded → State
-started tables = record { rows = tables.rows; tags = tables.tags; did = []; doing = []; turns = 0; output = [] }
 
 -- the state after a fresh boot
 abbrev pub booted : KitView → List (List ℕ) → State

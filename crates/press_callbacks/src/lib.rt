@@ -5,6 +5,7 @@
 
 mod built_in;
 mod callback;
+mod copies;
 mod kit;
 mod kit_fault;
 mod known;
@@ -20,6 +21,7 @@ pub use built_in::{do_shortcode, is_built_in};
 pub use callback::Callback;
 pub use kit::Kit;
 pub use kit_fault::KitFault;
+pub use named::{Named, sorted_by_name};
 pub use plugin::{Load, Plugin};
 pub use script::{Ask, CallIn, Op, Part, Parts, Script, Turn};
 pub use stored::{BoxedTurns, Stored};

@@ -5,6 +5,7 @@ ghost use Rattle.press_callbacks.specs.Kits.{by_name, put_by_name, place_by_name
 
 use crate::plugin::Plugin;
 use crate::stored::Stored;
+use press_text::Name;
 use std::alloc::{AllocError, Global};
 use std::cmp::Ordering;
 
@@ -14,6 +15,14 @@ pub trait Named {
 
     fn name_bytes(&self) -> &[u8]
         ensures { result.now ≡ name self.now };
+}
+
+impl Named for Name {
+    ghost name = { λ n. n };
+
+    fn name_bytes(&self) -> &[u8] {
+        self.as_str().as_bytes()
+    }
 }
 
 impl Named for Plugin {

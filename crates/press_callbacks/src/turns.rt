@@ -2,7 +2,7 @@ ghost use Rattle.std.specs.Prelude.{◌≡◌, ◌∷◌, ◌++◌, map, IfOk, O
 ghost use Rattle.press_callbacks.specs.Turns.{part_text, text_of, turn_of_op, turn_of, skipped};
 
 use crate::script::{Ask, CallIn, Op, Part, Parts, Script, Turn};
-use press_text::{Items, Text};
+use press_text::{Copied, Items, Text};
 use std::alloc::{AllocError, Global};
 
 /// What one turn of a script asks for: that of the op at place `turn`, and past the last op Return of the value.
@@ -64,22 +64,9 @@ fn op_turn(alloc: Global, op: &Op, call: &CallIn) -> Result<Turn, AllocError>
             Ok(Turn::Do { hook, texts })
         }
         Op::Shortcodes(parts) => Ok(Turn::Shortcodes(text_of(alloc, parts, call)?)),
-        Op::Ask(ask) => Ok(Turn::Ask(ask.copy(alloc)?)),
+        Op::Ask(ask) => Ok(Turn::Ask(ask.copied(alloc)?)),
         Op::Echo(parts) => Ok(Turn::Echo(text_of(alloc, parts, call)?)),
         Op::Return(parts) => Ok(Turn::Return(text_of(alloc, parts, call)?)),
-    }
-}
-
-impl Ask {
-    fn copy(&self, alloc: Global) -> Result<Ask, AllocError>
-        ensures { IfOk result (λ a. a ≡ self.now) }
-    {
-        match self {
-            Ask::Did(hook) => Ok(Ask::Did(hook.copy(alloc)?)),
-            Ask::Doing(hook) => Ok(Ask::Doing(hook.copy(alloc)?)),
-            Ask::Has(hook, callback) => Ok(Ask::Has(hook.copy(alloc)?, *callback)),
-            Ask::Tag(tag) => Ok(Ask::Tag(tag.copy(alloc)?)),
-        }
     }
 }
 

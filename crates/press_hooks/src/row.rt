@@ -2,7 +2,8 @@ ghost use Rattle.std.specs.Prelude.{◌≡◌};
 ghost use Rattle.press_hooks.specs.HookRows.{is_row, is_at_any, is_of_callback, stands_after, accepted_as, entry_of};
 
 use crate::entry::Entry;
-use press_text::{CallbackId, HookName};
+use press_text::{CallbackId, Copied, HookName};
+use std::alloc::{AllocError, Global};
 use std::cmp::Ordering;
 
 /// One entry of a hook, as the table keeps it.
@@ -68,5 +69,16 @@ impl Row {
             callback: self.callback,
             accepted: self.accepted,
         }
+    }
+}
+
+impl Copied for Row {
+    fn copied(&self, alloc: Global) -> Result<Row, AllocError> {
+        Ok(Row {
+            hook: self.hook.copy(alloc)?,
+            priority: self.priority,
+            callback: self.callback,
+            accepted: self.accepted,
+        })
     }
 }

@@ -6,7 +6,7 @@ ghost use Rattle.press_hooks.specs.NextEntry.{no_rows, with_rows, is_innermost, 
 use crate::entry::Entry;
 use crate::open_run::{OpenRun, lesser};
 use crate::row::Row;
-use press_text::{CallbackId, HookName};
+use press_text::{CallbackId, HookName, copied_all};
 use std::alloc::{AllocError, Global};
 use std::marker::Model;
 
@@ -58,6 +58,19 @@ impl HookTable {
             rows: Vec::new(alloc),
             runs: Vec::new(alloc),
         }
+    }
+
+    /// A table with the same rows, and no open run.
+    pub fn copy(&self) -> Result<HookTable, AllocError>
+        ensures { IfOk result (λ t. t ≡ with_rows self.now.rows no_rows) }
+    {
+        let rows = copied_all(self.alloc, self.rows.as_slice())?;
+        let runs = Vec::new(self.alloc);
+        Ok(HookTable {
+            alloc: self.alloc,
+            rows,
+            runs,
+        })
     }
 
     /// Puts in an entry, or sets `accepted` of the one that stands, which keeps its place (`add_filter`).

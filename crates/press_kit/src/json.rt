@@ -13,7 +13,7 @@ use serde_json::Value;
 use std::alloc::Global;
 
 /// The most bytes that a file may have.
-pub const LIMIT: usize = 4_194_304;
+pub const FILE_LIMIT: usize = 4_194_304;
 
 fn json(alloc: Global, bytes: &[u8]) -> Result<Value, KitFileFault>
     ensures { Gives view result (or_bad place.File (json_in bytes.now)) }
@@ -35,7 +35,7 @@ fn json(alloc: Global, bytes: &[u8]) -> Result<Value, KitFileFault>
 pub fn file(alloc: Global, bytes: &[u8]) -> Result<Value, KitFileFault>
     ensures { Gives view result (file_in bytes.now) }
 {
-    if bytes.len() > LIMIT {
+    if bytes.len() > FILE_LIMIT {
         return Err(KitFileFault::BadKitFile(Place::File));
     }
     json(alloc, bytes)

@@ -16,6 +16,7 @@ mod place;
 mod play_file;
 
 pub use fault::KitFileFault;
+pub use json::FILE_LIMIT;
 pub use kit_parts::{KitParts, Scripted, read_kit_file};
 pub use place::Place;
 pub use play_file::{Play, PlayFile, PlayKind, read_play_file};

@@ -98,3 +98,7 @@ loaded_in t = record { rows = t.hooks.rows; tags = t.tags }
 -- these rows and tags, and no open run
 abbrev pub BootsWith : Loaded → Tables → Type 0
 BootsWith loaded t = (loaded_in t ≡ loaded) × (t.hooks.open_runs ≡ [])
+
+-- tables with nothing counted and nothing written
+abbrev pub started : Loaded → State
+started tables = record { rows = tables.rows; tags = tables.tags; did = []; doing = []; turns = 0; output = [] }

@@ -19,7 +19,7 @@ use crate::{edits, shortcodes, texts};
 use press_callbacks::{Ask, CallIn, Kit, Tables, Turn, is_built_in};
 use press_hooks::RunId;
 use press_scan::{Scan, ScanStep, Shortcode, computes_first, ends_within};
-use press_text::{CallbackId, HookName, Items, Text};
+use press_text::{CallbackId, HookName, Items, Text, copied_all};
 use std::alloc::{AllocError, Global};
 use std::marker::Model;
 
@@ -60,6 +60,18 @@ impl Machine {
             doing: Vec::new(alloc),
             turns: 0,
         }
+    }
+
+    /// The same counts once more.
+    pub fn copy(&self) -> Result<Machine, AllocError>
+        ensures { IfOk result (λ m. m ≡ self.now) }
+    {
+        Ok(Machine {
+            alloc: self.alloc,
+            did: copied_all(self.alloc, self.did.as_slice())?,
+            doing: copied_all(self.alloc, self.doing.as_slice())?,
+            turns: self.turns,
+        })
     }
 
     /// Does the job over the tables, which callbacks may edit, and the output, which they may write to.

@@ -1,9 +1,9 @@
-ghost use Rattle.std.specs.Prelude.{◌≡◌, [], string_bytes};
+ghost use Rattle.std.specs.Prelude.{◌≡◌, [], IfOk, string_bytes};
 ghost use Rattle.press_run.specs.Outcome.{Pushes};
 
 use crate::run_fault::RunFault;
 use press_text::Text;
-use std::alloc::Global;
+use std::alloc::{AllocError, Global};
 use std::marker::Model;
 
 /// How many bytes a text may have.
@@ -33,6 +33,15 @@ impl Out {
         Out {
             text: Text::new(alloc),
         }
+    }
+
+    /// The same output once more.
+    pub fn copy(&self, alloc: Global) -> Result<Out, AllocError>
+        ensures { IfOk result (λ o. o ≡ self.now) }
+    {
+        Ok(Out {
+            text: self.text.copy(alloc)?,
+        })
     }
 
     /// Limit where the text would pass 1,048,576 bytes; after a fault the output is as it was.

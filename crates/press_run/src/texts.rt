@@ -8,7 +8,7 @@ use crate::out::MOST_BYTES;
 use crate::step::Kind;
 use press_callbacks::{CallIn, Turn};
 use press_scan::Atts;
-use press_text::{Items, Text};
+use press_text::{Items, Text, copied_all};
 use std::alloc::{AllocError, Global};
 
 // The first text itself, without a copy.
@@ -93,11 +93,7 @@ fn taken(alloc: Global, texts: &Items<Text>, accepted: u32) -> Result<Items<Text
 pub fn copied(alloc: Global, texts: &[Text]) -> Result<Items<Text>, AllocError>
     ensures { IfOk result (λ ts. ts ≡ texts.now) }
 {
-    let mut copies = Vec::new(alloc);
-    for t in texts {
-        copies.push(t.copy(alloc)?)?;
-    }
-    Ok(Items::from_vec(copies))
+    Ok(Items::from_vec(copied_all(alloc, texts)?))
 }
 
 pub fn is_short(text: &Text) -> bool

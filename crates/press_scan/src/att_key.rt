@@ -1,7 +1,8 @@
 ghost use Rattle.std.specs.Prelude.{◌≡◌};
 ghost use Rattle.press_scan.specs.Attributes.{has_name, has_place, is_key};
 
-use press_text::Text;
+use press_text::{Copied, Text};
+use std::alloc::{AllocError, Global};
 
 /// What an attribute goes by: its name, or its number among the values without a name.
 #[derive(Debug, Drop)]
@@ -36,6 +37,15 @@ impl AttKey {
         match self {
             AttKey::Name(_) => false,
             AttKey::Place(known) => *known == place,
+        }
+    }
+}
+
+impl Copied for AttKey {
+    fn copied(&self, alloc: Global) -> Result<AttKey, AllocError> {
+        match self {
+            AttKey::Name(name) => Ok(AttKey::Name(name.copy(alloc)?)),
+            AttKey::Place(place) => Ok(AttKey::Place(*place)),
         }
     }
 }

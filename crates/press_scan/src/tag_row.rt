@@ -1,7 +1,8 @@
 ghost use Rattle.std.specs.Prelude.{◌≡◌};
 ghost use Rattle.press_scan.specs.Tags.{is_tag, answered_by};
 
-use press_text::{CallbackId, Text};
+use press_text::{CallbackId, Copied, Text};
+use std::alloc::{AllocError, Global};
 
 /// A tag, and the callback that answers its shortcodes.
 #[derive(Debug, Drop)]
@@ -25,5 +26,14 @@ impl TagRow {
         if self.is(name) {
             self.callback = callback;
         }
+    }
+}
+
+impl Copied for TagRow {
+    fn copied(&self, alloc: Global) -> Result<TagRow, AllocError> {
+        Ok(TagRow {
+            name: self.name.copy(alloc)?,
+            callback: self.callback,
+        })
     }
 }

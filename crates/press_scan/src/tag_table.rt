@@ -5,7 +5,7 @@ ghost use Rattle.press_scan.specs.Tags.{is_tag, answered_by, add_tag, adds_tag, 
 
 use crate::places::all_name_bytes;
 use crate::tag_row::TagRow;
-use press_text::{CallbackId, Text};
+use press_text::{CallbackId, Text, copied_all};
 use std::alloc::{AllocError, Global};
 use std::marker::Model;
 
@@ -38,6 +38,17 @@ impl TagTable {
             alloc,
             rows: Vec::new(alloc),
         }
+    }
+
+    /// The same table once more.
+    pub fn copy(&self) -> Result<TagTable, AllocError>
+        ensures { IfOk result (λ t. t ≡ self.now) }
+    {
+        let rows = copied_all(self.alloc, self.rows.as_slice())?;
+        Ok(TagTable {
+            alloc: self.alloc,
+            rows,
+        })
     }
 
     /// Adds a tag; one that stands gets the new callback and keeps its place (`add_shortcode`).

@@ -5,6 +5,7 @@
 
 mod callback_id;
 mod class;
+mod copied;
 mod decimal;
 mod escape;
 mod every;
@@ -19,6 +20,7 @@ mod tag;
 mod text;
 
 pub use callback_id::CallbackId;
+pub use copied::{Copied, copied_all};
 pub use decimal::dec_u64;
 pub use escape::esc_html;
 pub use every::Every;

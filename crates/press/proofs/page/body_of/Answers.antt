@@ -1,7 +1,8 @@
 use Rattle.std.proofs.Common.{◌≡◌, ◌∙◌, sym, ap, subst, Some}
 use Rattle.press_run.specs.Run.{State, callbacks_of}
 use Rattle.press_callbacks.specs.Kits.{scripts_in}
-use Rattle.press.specs.Page.{started, site_name, post_page}
+use Rattle.press_run.specs.Outcome.{started}
+use Rattle.press.specs.Page.{site_name, post_page}
 use Rattle.press.specs.Rendering.{state_in}
 use Rattle.press.proofs.page.body_of.Goals as goal
 

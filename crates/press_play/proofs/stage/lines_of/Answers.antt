@@ -1,0 +1,18 @@
+use Rattle.std.proofs.Common.{arith, string_bytes}
+use Rattle.press_callbacks.specs.Kits.{scripts_in}
+use Rattle.press_play.specs.Lines.{state_in}
+use Rattle.press_play.proofs.Onward.{goes_on, stops, is_done}
+use Rattle.press_play.proofs.stage.lines_of.Goals as goal
+
+pub returns-then-not-branch : goal.returns-then-not-branch
+returns-then-not-branch g c =
+    stops (scripts_in c.args.kit.now) c.args.plays.now (string_bytes c.loop-play.lines) (string_bytes c.play.new.lines) c.loop-play.play-index c.play-item.result (state_in c.loop-play.stage) _
+    (omega arith) c.play-item.is (rw c.if-not-branch.true at c.in_ok-play.ensures) c.loop-play.invariant
+
+pub loop-play-preserved : goal.loop-play-preserved
+loop-play-preserved g c =
+    goes_on (scripts_in c.args.kit.now) c.args.plays.now (string_bytes c.loop-play.lines) (string_bytes c.play.new.lines) c.loop-play.play-index c.play-item.result (state_in c.loop-play.stage) (state_in c.play.new.self) _
+    (omega arith) c.play-item.is (rw c.if-not-branch.false at c.in_ok-play.ensures) c.loop-play.invariant
+
+pub returns : goal.returns
+returns g c = is_done (scripts_in c.args.kit.now) c.args.plays.now (string_bytes c.loop-play.lines) c.loop-play.play-index (state_in c.loop-play.stage) _ (omega arith) c.loop-play.invariant

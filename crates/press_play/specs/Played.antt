@@ -1,0 +1,57 @@
+-- What a play file comes to: the lines of its plays on a fresh boot with the active plugins in the order of their names, or its fault (own).
+use Rattle.std.specs.Prelude.{◌≡◌, ℕ, List, map, Option, Some, None, Result, Ok, Err}
+use Rattle.press_callbacks.specs.declared.kit_fault.KitFault.{KitFault}
+use Rattle.press_callbacks.specs.Kits.{Scripts, KitView, view_of, kit_fault, by_name}
+use Rattle.press_run.specs.Boot.{booted_with}
+use Rattle.press_run.specs.Outcome.{started}
+use Rattle.press_kit.specs.declared.place.Place.{Place}
+use Rattle.press_kit.specs.declared.kit_parts.KitParts.{KitParts}
+use Rattle.press_kit.specs.declared.kit_parts.Scripted.{Scripted}
+use Rattle.press_kit.specs.declared.play_file.Play.{Play}
+use Rattle.press_kit.specs.declared.play_file.PlayFile.{PlayFile}
+use Rattle.press_kit.specs.PlayFile.{play_file_in}
+use Rattle.press_play.specs.declared.fault.PlayFault.{PlayFault}
+use Rattle.press_play.specs.declared.fault.PlayFault.TheVariants.{NoMemory, ReadFault, TwoNames, UnknownCallback, BadLoad, BadKitFile}
+use Rattle.press_play.specs.Faults.{of_kit}
+use Rattle.press_play.specs.Lines.{lines}
+
+abbrev pub scripts_of : List Scripted → Scripts
+scripts_of callbacks = map (λ c. (c.id, c.script)) callbacks
+
+-- the lines on a kit with these active plugins
+abbrev pub lines_on : KitView → List (List ℕ) → List Play → List ℕ
+lines_on kit active plays = lines kit.scripts plays (started (booted_with kit.plugins (by_name (λ n. n) active)))
+
+abbrev pub unless : Option KitFault → List ℕ → Result (List ℕ) PlayFault
+unless None lines = Ok lines
+unless (Some fault) lines = Err (of_kit fault)
+
+abbrev pub played : PlayFile → Result (List ℕ) PlayFault
+played f = unless (kit_fault (scripts_of f.kit.callbacks) f.kit.plugins) (lines_on (view_of (scripts_of f.kit.callbacks) f.kit.plugins) f.active f.plays)
+
+abbrev pub played_where : Result PlayFile Place → Result (List ℕ) PlayFault
+played_where (Err place) = Err (BadKitFile place)
+played_where (Ok f) = played f
+
+abbrev pub played_in : List ℕ → Result (List ℕ) PlayFault
+played_in bytes = played_where (play_file_in bytes)
+
+-- ---- what a reader of play files answers
+
+-- a fault stands exactly where it is met; a read may fail and memory run out at any time
+abbrev pub Misses : {Y : Type 0} → PlayFault → Result Y PlayFault → Type 0
+Misses NoMemory found = Unit {0}
+Misses ReadFault found = Unit {0}
+Misses TwoNames found = found ≡ Err TwoNames
+Misses UnknownCallback found = found ≡ Err UnknownCallback
+Misses BadLoad found = found ≡ Err BadLoad
+Misses (BadKitFile place) found = found ≡ Err (BadKitFile place)
+
+abbrev pub Gives : {X Y : Type 0} → (X → Y) → Result X PlayFault → Result Y PlayFault → Type 0
+Gives view (Ok x) found = found ≡ Ok (view x)
+Gives view (Err e) found = Misses e found
+
+-- a play file, seen with the faults of a play
+abbrev pub file_where : Result PlayFile Place → Result PlayFile PlayFault
+file_where (Err place) = Err (BadKitFile place)
+file_where (Ok f) = Ok f

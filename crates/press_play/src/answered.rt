@@ -1,0 +1,76 @@
+//! What is written for a play file.
+
+ghost use Rattle.std.specs.Prelude.{◌≡◌, ◌+◌, Err, IfSome, IfOk};
+ghost use Rattle.press_text.specs.Streams.{TakesAtMost};
+ghost use Rattle.press_kit.specs.KitFile.{file_limit};
+ghost use Rattle.press_play.specs.declared.answered.Answered.{Answered as Said};
+ghost use Rattle.press_play.specs.Answers.{Answers, Writes, answered, bytes_in, or_no_memory};
+
+use crate::fault::PlayFault;
+use crate::line::fault_line;
+use crate::played::read_lines;
+use press_text::{Text, WriteFault, write_once};
+use std::alloc::{AllocError, Global};
+use std::io::{Read, Write};
+
+/// Whether a file gave its lines, and what is written for it.
+#[derive(Debug, Drop)]
+pub struct Answered {
+    pub well: bool,
+    pub text: Text,
+}
+
+fn told(alloc: Global, fault: PlayFault) -> Result<Answered, AllocError>
+    ensures { IfOk result (λ a. a ≡ answered (Err fault)) }
+{
+    Ok(Answered {
+        well: false,
+        text: Text::from_string(fault_line(alloc, fault)?),
+    })
+}
+
+fn outcome(alloc: Global, lines: Result<String, PlayFault>) -> Result<Answered, AllocError>
+    ensures { IfOk result (λ a. a ≡ answered (bytes_in lines)) }
+{
+    match lines {
+        Ok(text) => Ok(Answered {
+            well: true,
+            text: Text::from_string(text),
+        }),
+        Err(fault) => told(alloc, fault),
+    }
+}
+
+// What is written where even the fault can't be told for want of memory.
+const NO_MEMORY: &[u8] = b"{\"fault\":0}\n";
+
+fn write_said<W: Write>(
+    writer: &mut W,
+    said: &Result<Answered, AllocError>,
+) -> Result<bool, WriteFault>
+    ensures { Writes (or_no_memory said.now) (W.contents writer.old) (W.contents writer.new) result }
+{
+    match said {
+        Ok(answered) => {
+            write_once(writer, answered.text.as_bytes())?;
+            Ok(answered.well)
+        }
+        Err(_) => {
+            write_once(writer, NO_MEMORY)?;
+            Ok(false)
+        }
+    }
+}
+
+/// Plays the file that a reader has left, and writes its lines, or a line that tells its fault; whether all was well.
+pub fn play_input<R: Read, W: Write>(
+    alloc: Global,
+    reader: &mut R,
+    writer: &mut W,
+) -> Result<bool, WriteFault>
+    ensures took { TakesAtMost (R.remaining reader.old) (R.remaining reader.new) (file_limit + 1) }
+    ensures writes { IfSome (R.remaining reader.old) (λ input. (a : Said) × Answers input a × Writes a (W.contents writer.old) (W.contents writer.new) result) }
+{
+    let said = outcome(alloc, read_lines(alloc, reader));
+    write_said(writer, &said)
+}

@@ -1,0 +1,65 @@
+//! A play file, from its bytes to its lines.
+
+ghost use Rattle.std.specs.Prelude.{◌≡◌, ◌+◌, IfSome, string_bytes};
+ghost use Rattle.press_text.specs.Streams.{TakesAtMost};
+ghost use Rattle.press_kit.specs.KitFile.{file_limit};
+ghost use Rattle.press_kit.specs.PlayFile.{play_file_in};
+ghost use Rattle.press_play.specs.Played.{Gives, file_where, played, played_in};
+
+use crate::fault::PlayFault;
+use crate::stage::lines_of;
+use press_callbacks::{BoxedTurns, CallIn, Kit, Stored, script_turn, sorted_by_name};
+use press_kit::{FILE_LIMIT, KitFileFault, KitParts, Place, PlayFile, read_play_file};
+use press_text::{Copied, ReadLimitedFault, read_limited};
+use std::alloc::Global;
+use std::io::Read;
+
+#[tactic(auto, unfolding(press_kit::specs::PlayFile::play_file_in, press_kit::specs::KitFile::file_in))]
+fn file<R: Read>(alloc: Global, reader: &mut R) -> Result<PlayFile, PlayFault>
+    ensures took { TakesAtMost (R.remaining reader.old) (R.remaining reader.new) (file_limit + 1) }
+    ensures gives { IfSome (R.remaining reader.old) (λ input. Gives (λ f. f) result (file_where (play_file_in input))) }
+{
+    let bytes = match read_limited(alloc, reader, FILE_LIMIT) {
+        Ok(bytes) => bytes,
+        Err(ReadLimitedFault::NoMemory) => return Err(PlayFault::NoMemory),
+        Err(ReadLimitedFault::ReadFault) => return Err(PlayFault::ReadFault),
+        Err(ReadLimitedFault::TooLong) => return Err(PlayFault::BadKitFile(Place::File)),
+    };
+    match read_play_file(alloc, &bytes) {
+        Ok(file) => Ok(file),
+        Err(KitFileFault::NoMemory) => Err(PlayFault::NoMemory),
+        Err(KitFileFault::BadKitFile(place)) => Err(PlayFault::BadKitFile(place)),
+    }
+}
+
+// The lines of a play file. The kit's closures are boxed here: a box may not be handed out.
+fn lines(alloc: Global, file: PlayFile) -> Result<String, PlayFault>
+    ensures { Gives (λ t. string_bytes t) result (played file) }
+{
+    let PlayFile { kit, active, plays } = file;
+    let KitParts {
+        callbacks: parts,
+        plugins,
+    } = kit;
+    let mut callbacks: Vec<Stored> = Vec::new(alloc);
+    for scripted in parts.into_vec() {
+        let own = scripted.script.copied(alloc)?;
+        let call: BoxedTurns = Box::new(
+            alloc,
+            move |input: &CallIn| script_turn(alloc, &own, input),
+        )?;
+        callbacks.push(Stored::new(scripted.id, scripted.script, call))?;
+    }
+    let kit = Kit::build(alloc, callbacks, plugins.into_vec())?;
+    let active = sorted_by_name(alloc, active.into_vec())?;
+    Ok(lines_of(alloc, &kit, &active, plays.as_slice())?)
+}
+
+/// The lines of the play file that a reader has left.
+pub fn read_lines<R: Read>(alloc: Global, reader: &mut R) -> Result<String, PlayFault>
+    ensures took { TakesAtMost (R.remaining reader.old) (R.remaining reader.new) (file_limit + 1) }
+    ensures gives { IfSome (R.remaining reader.old) (λ input. Gives (λ t. string_bytes t) result (played_in input)) }
+{
+    let file = file(alloc, reader)?;
+    lines(alloc, file)
+}

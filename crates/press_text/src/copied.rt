@@ -1,0 +1,44 @@
+ghost use Rattle.std.specs.Prelude.{◌≡◌, IfOk};
+
+use crate::hook_name::HookName;
+use crate::items::Items;
+use crate::text::Text;
+use std::alloc::{AllocError, Global};
+
+/// A value that can be had once more.
+pub trait Copied {
+    /// The same value once more.
+    fn copied(&self, alloc: Global) -> Result<Self, AllocError>
+    where
+        Self: Sized,
+        ensures { IfOk result (λ x. x ≡ self.now) };
+}
+
+impl Copied for Text {
+    fn copied(&self, alloc: Global) -> Result<Text, AllocError> {
+        self.copy(alloc)
+    }
+}
+
+impl Copied for HookName {
+    fn copied(&self, alloc: Global) -> Result<HookName, AllocError> {
+        self.copy(alloc)
+    }
+}
+
+/// Each of these once more.
+pub fn copied_all<T: Copied + Drop>(alloc: Global, items: &[T]) -> Result<Vec<T>, AllocError>
+    ensures { IfOk result (λ v. v.items ≡ items.now) }
+{
+    let mut copies = Vec::new(alloc);
+    for item in items {
+        copies.push(item.copied(alloc)?)?;
+    }
+    Ok(copies)
+}
+
+impl<T: Copied + Drop> Copied for Items<T> {
+    fn copied(&self, alloc: Global) -> Result<Items<T>, AllocError> {
+        Ok(Items::from_vec(copied_all(alloc, self.as_slice())?))
+    }
+}
