@@ -1,8 +1,8 @@
 //! One command applied to a site.
 
-ghost use Rattle.std.specs.Prelude.{◌≡◌, max, IfOk};
+ghost use Rattle.std.specs.Prelude.{◌≡◌, Ok, max, IfOk, IfSome};
 ghost use Rattle.press_callbacks.specs.Kits.{plugins_in};
-ghost use Rattle.press.specs.Sites.{Effects};
+ghost use Rattle.press.specs.Sites.{Effects, outcome_of};
 ghost use Rattle.press.specs.Apply.{applied, applied_all, command_on};
 
 use crate::command::{Command, Stamped};
@@ -12,9 +12,10 @@ use press_text::Moment;
 use std::alloc::AllocError;
 
 /// Applies a command: its outcome, which the site keeps under the command's token. A known token answers the outcome that it has,
-/// and moves the moment alone. After want of memory drop the site.
+/// moves the moment alone, and takes no memory. After want of memory drop the site.
 pub fn apply(site: &mut Site, kit: &Kit, stamped: Stamped) -> Result<Outcome, AllocError>
-    ensures { IfOk result (λ outcome. (site.new, outcome) ≡ applied (plugins_in kit.now) site.old stamped) }
+    ensures applied { IfOk result (λ outcome. (site.new, outcome) ≡ applied (plugins_in kit.now) site.old stamped) }
+    ensures known { IfSome (outcome_of stamped.token site.old.outcomes) (λ outcome. result ≡ Ok outcome) }
 {
     site.set_now(later(site.now(), stamped.at));
     if let Some(outcome) = site.result_of(&stamped.token) {

@@ -1,6 +1,6 @@
 //! From the bytes of a site file to its commands.
 
-ghost use Rattle.std.specs.Prelude.{◌≡◌, option_map, option_and_then, map, codes};
+ghost use Rattle.std.specs.Prelude.{◌≡◌, ◌<◌, length, option_map, option_and_then, map, codes, IsErrOf};
 ghost use Rattle.serde_json.specs.Find.{get, as_array};
 ghost use Rattle.serde_json.specs.View.{view, items_view};
 ghost use Rattle.press.specs.Gives.{Gives};
@@ -172,7 +172,8 @@ fn json(alloc: Global, bytes: &[u8]) -> Result<Value, ReplayFault>
 /// Keys that the format does not name are passed over. Of a key that is repeated the last one counts.
 #[tactic(auto, unfolding(crate::specs::SiteFile::site_in))]
 pub fn decode_site(alloc: Global, bytes: &[u8]) -> Result<Vec<Stamped>, ReplayFault>
-    ensures { Gives (λ v. v.items) result (spec.site_in bytes.now) }
+    ensures given { Gives (λ v. v.items) result (spec.site_in bytes.now) }
+    ensures long { spec.file_limit < length bytes.now → IsErrOf result ReplayFault.BadSchedule }
 {
     if bytes.len() > LIMIT {
         return Err(ReplayFault::BadSchedule);

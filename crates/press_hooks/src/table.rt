@@ -1,4 +1,4 @@
-ghost use Rattle.std.specs.Prelude.{◌≡◌, ℕ, IfOk, OnOk, OnErr, IsTrue, length, map, filter, position, IfSome, not, ◌<◌, ◌≤◌};
+ghost use Rattle.std.specs.Prelude.{◌≡◌, ℕ, false, IsOk, IfOk, OnOk, OnErr, IsTrue, length, map, filter, position, IfSome, not, ◌<◌, ◌≤◌};
 ghost use Rattle.std.specs.List.{list_any};
 ghost use Rattle.press_hooks.specs.HookRows.{is_row, is_at_any, stands_after, place_in, accepted_as, add_row, adds_row, remove_row, remove_rows, has_rows, priority_of, is_of_callback, least_priority, least_with};
 ghost use Rattle.press_hooks.specs.NextEntry.{no_rows, with_rows, is_innermost, run_begun, run_ended, entry_next, run_advanced};
@@ -74,7 +74,7 @@ impl HookTable {
     }
 
     /// Puts in an entry, or sets `accepted` of the one that stands, which keeps its place (`add_filter`).
-    /// False, and no change, where a new entry would be the 1,025th.
+    /// False, and no change, where a new entry would be the 1,025th; that takes no memory.
     pub fn add(
         &mut self,
         hook: &HookName,
@@ -85,6 +85,7 @@ impl HookTable {
         ensures answer { IfOk result (λ b. b ≡ adds_row hook.now callback priority self.old.rows) }
         ensures rows { IfOk result (λ b. self.new ≡ with_rows (add_row hook.now callback priority accepted self.old.rows) self.old) }
         ensures refused { OnErr result (self.new ≡ self.old) }
+        ensures full { adds_row hook.now callback priority self.old.rows ≡ false → IsOk result }
     {
         add_row(
             self.alloc,
@@ -182,6 +183,7 @@ fn add_row(
     ensures answer { IfOk result (λ b. b ≡ adds_row hook.now callback priority rows.old.items) }
     ensures rows { OnOk result (rows.new.items ≡ add_row hook.now callback priority accepted rows.old.items) }
     ensures refused { OnErr result (rows.new.items ≡ rows.old.items) }
+    ensures full { adds_row hook.now callback priority rows.old.items ≡ false → IsOk result }
 {
     if has_row(rows, hook, priority, callback) {
         accept_row(rows, hook, priority, callback, accepted);

@@ -1,4 +1,4 @@
-ghost use Rattle.std.specs.Prelude.{◌≡◌, IsTrue, ◌↔◌, Contains, [], IfOk, OnOk, OnErr, length, map};
+ghost use Rattle.std.specs.Prelude.{◌≡◌, IsTrue, ◌↔◌, Contains, [], false, IsOk, IfOk, OnOk, OnErr, length, map};
 ghost use Rattle.std.specs.List.{list_any};
 ghost use Rattle.press_text.specs.Names.{is_name};
 ghost use Rattle.press_scan.specs.Tags.{is_tag, answered_by, add_tag, adds_tag, remove_tag, callback_of, names_of};
@@ -52,11 +52,12 @@ impl TagTable {
     }
 
     /// Adds a tag; one that stands gets the new callback and keeps its place (`add_shortcode`).
-    /// False, and no change, where a new tag would be the 129th or is no name of a tag.
+    /// False, and no change, where a new tag would be the 129th or is no name of a tag; that takes no memory.
     pub fn add(&mut self, tag: &str, callback: CallbackId) -> Result<bool, AllocError>
         ensures answer { IfOk result (λ b. b ≡ adds_tag tag.now self.old) }
         ensures tags { IfOk result (λ b. self.new ≡ add_tag tag.now callback self.old) }
         ensures refused { OnErr result (self.new ≡ self.old) }
+        ensures full { adds_tag tag.now self.old ≡ false → IsOk result }
     {
         add_row(self.alloc, &mut self.rows, tag, callback)
     }
@@ -139,6 +140,7 @@ fn add_row(
     ensures answer { IfOk result (λ b. b ≡ adds_tag tag.now rows.old.items) }
     ensures tags { OnOk result (rows.new.items ≡ add_tag tag.now callback rows.old.items) }
     ensures refused { OnErr result (rows.new.items ≡ rows.old.items) }
+    ensures full { adds_tag tag.now rows.old.items ≡ false → IsOk result }
 {
     if has_row(rows, tag.as_bytes()) {
         answer_row(rows, tag.as_bytes(), callback);
