@@ -29,6 +29,3 @@ pub use name_fault::NameFault;
 pub use opt_name::OptName;
 pub use tag::Tag;
 pub use text::Text;
-
-#[cfg(test)]
-mod tests;

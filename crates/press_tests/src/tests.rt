@@ -1,0 +1,6 @@
+mod callbacks;
+mod hooks;
+mod runs;
+mod scans;
+mod scripts;
+mod texts;
