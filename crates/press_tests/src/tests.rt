@@ -4,3 +4,4 @@ mod runs;
 mod scans;
 mod scripts;
 mod texts;
+mod twin;
