@@ -27,6 +27,3 @@ pub use script::{Ask, CallIn, Op, Part, Parts, Script, Turn};
 pub use stored::{BoxedTurns, Stored};
 pub use tables::Tables;
 pub use turns::script_turn;
-
-#[cfg(test)]
-mod tests;

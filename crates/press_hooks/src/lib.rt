@@ -14,6 +14,3 @@ pub use laws::numbered_rows_agree;
 pub use open_run::{OpenRun, Rest};
 pub use row::Row;
 pub use table::{HookTable, RunId};
-
-#[cfg(test)]
-mod tests;

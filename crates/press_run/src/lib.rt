@@ -21,6 +21,3 @@ pub use job::{Fire, Job};
 pub use machine::Machine;
 pub use out::Out;
 pub use run_fault::RunFault;
-
-#[cfg(test)]
-mod tests;

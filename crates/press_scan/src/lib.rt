@@ -29,6 +29,3 @@ pub use scan_step::ScanStep;
 pub use shortcode::Shortcode;
 pub use span::Span;
 pub use tag_table::TagTable;
-
-#[cfg(test)]
-mod tests;

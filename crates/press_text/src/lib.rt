@@ -33,6 +33,3 @@ pub use opt_name::OptName;
 pub use streams::{ReadLimitedFault, WriteFault, read_limited, write_once};
 pub use tag::Tag;
 pub use text::Text;
-
-#[cfg(test)]
-mod tests;

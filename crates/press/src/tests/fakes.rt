@@ -75,3 +75,17 @@ impl Write for Narrow {
         Ok(())
     }
 }
+
+/// A reader without end, which counts what it gave.
+#[derive(Drop)]
+pub struct Endless {
+    pub given: usize,
+}
+
+impl Read for Endless {
+    fn read(&mut self, buf: &mut [u8]) -> io::Result<usize> {
+        buf.fill(b' ');
+        self.given = self.given.saturating_add(buf.len());
+        Ok(buf.len())
+    }
+}

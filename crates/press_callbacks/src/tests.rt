@@ -1,5 +1,0 @@
-mod calls;
-mod fixtures;
-mod kits;
-mod sames;
-mod turns;

@@ -1,4 +1,0 @@
-mod edits;
-mod limits;
-mod open_runs;
-mod steps;

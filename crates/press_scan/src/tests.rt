@@ -1,4 +1,0 @@
-mod attributes;
-mod scans;
-mod tags;
-mod twin;

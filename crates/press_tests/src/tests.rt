@@ -1,0 +1,7 @@
+mod callbacks;
+mod hooks;
+mod runs;
+mod scans;
+mod scripts;
+mod texts;
+mod twin;

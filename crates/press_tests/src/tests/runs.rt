@@ -1,0 +1,70 @@
+use super::scripts::{appending, fails_once, plugin};
+use press_callbacks::{BoxedTurns, CallIn, Kit, Stored, script_turn};
+use press_run::{Job, Machine, Out, RunFault, boot};
+use press_text::{CallbackId, HookName, Items, Name, Text};
+use std::alloc::Global;
+use std::cell::Cell;
+use std::test::Fail;
+
+// The kit of the callback `add_q` and the plugin `one`, which puts it on the hook `h`.
+fn kit_of(alloc: Global, stored: Stored) -> Result<Kit, Fail> {
+    let callbacks = vec![in alloc; stored]?;
+    let plugins = vec![in alloc; plugin(alloc, "add_q")?]?;
+    Ok(Kit::build(alloc, callbacks, plugins)?)
+}
+
+fn active(alloc: Global) -> Result<Vec<Name>, Fail> {
+    Ok(vec![in alloc; Name::new(alloc, "one")?]?)
+}
+
+fn filter_of(alloc: Global, text: &str) -> Result<Job, Fail> {
+    let text = Text::from_str(alloc, text)?;
+    Ok(Job::Apply {
+        hook: HookName::new(alloc, "h")?,
+        args: Items::from_vec(vec![in alloc; text]?),
+    })
+}
+
+// What the filter gives from a fresh boot.
+fn filtered(alloc: Global, kit: &Kit, active: &[Name], job: Job) -> Result<String, RunFault> {
+    let mut tables = boot(alloc, kit, active)?;
+    let mut machine = Machine::new(alloc);
+    machine.run(kit, &mut tables, job, &mut Out::new(alloc))
+}
+
+#[test]
+fn a_filter_runs(rt: HostRuntime) -> Result<(), Fail> {
+    let alloc = rt.alloc();
+    let script = appending(alloc, "q")?;
+    let own = appending(alloc, "q")?;
+    let call: BoxedTurns = Box::new(alloc, move |i: &CallIn| script_turn(alloc, &own, i))?;
+    let kit = kit_of(alloc, Stored::new(CallbackId::new("add_q")?, script, call))?;
+    let active = active(alloc)?;
+    let text = filtered(alloc, &kit, active.as_slice(), filter_of(alloc, "x")?)?;
+    assert_eq!(rt; text.as_str(), "xq");
+    Ok(())
+}
+
+// The script has two turns, and its closure is in want of memory at its second call.
+#[test]
+fn a_closure_wants_memory(rt: HostRuntime) -> Result<(), Fail> {
+    let alloc = rt.alloc();
+    let script = appending(alloc, "q")?;
+    let own = appending(alloc, "q")?;
+    let calls = Cell::new(0u32);
+    let call: BoxedTurns = Box::new(alloc, move |i: &CallIn| fails_once(alloc, &calls, &own, i))?;
+    let kit = kit_of(alloc, Stored::new(CallbackId::new("add_q")?, script, call))?;
+    let active = active(alloc)?;
+    let text = filtered(alloc, &kit, active.as_slice(), filter_of(alloc, "x")?);
+    assert_eq!(rt; text.err(), Some(RunFault::NoMemory));
+    Ok(())
+}
+
+#[test]
+fn an_output_grows(rt: HostRuntime) -> Result<(), Fail> {
+    let mut out = Out::new(rt.alloc());
+    out.push("a")?;
+    out.push("é")?;
+    assert_eq!(rt; out.into_text().as_str(), "aé");
+    Ok(())
+}

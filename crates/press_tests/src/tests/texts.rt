@@ -1,0 +1,44 @@
+use press_text::{CallbackId, HookName, Items, Name, OptName, Tag, Text, dec_u64, esc_html};
+use std::test::Fail;
+
+#[test]
+fn hooks_and_tags_have_names(rt: HostRuntime) -> Result<(), Fail> {
+    let alloc = rt.alloc();
+    let hook = HookName::new(alloc, "the_title")?;
+    assert_eq!(rt; hook.copy(alloc)?.as_str(), "the_title");
+    let tag = Tag::new(alloc, "box-1")?;
+    assert_eq!(rt; tag.copy(alloc)?.as_str(), "box-1");
+    assert_eq!(rt; CallbackId::new("add_a")?.as_bytes(), b"add_a".as_slice());
+    Ok(())
+}
+
+#[test]
+fn plugins_and_options_have_names(rt: HostRuntime) -> Result<(), Fail> {
+    let alloc = rt.alloc();
+    let plugin = Name::new(alloc, "letters")?;
+    assert_eq!(rt; plugin.copy(alloc)?.as_str(), "letters");
+    let option = OptName::new(alloc, "blogname")?;
+    assert_eq!(rt; option.copy(alloc)?.as_str(), "blogname");
+    Ok(())
+}
+
+#[test]
+fn texts_grow(rt: HostRuntime) -> Result<(), Fail> {
+    let alloc = rt.alloc();
+    let mut text = Text::from_str(alloc, "ab")?;
+    text.push_str("é")?;
+    assert_eq!(rt; text.copy(alloc)?.as_str(), "abé");
+    assert_eq!(rt; text.into_string().len(), 4);
+    let list = Items::from_vec(vec![in alloc; 1u8, 2]?);
+    assert_eq!(rt; list.into_vec().as_slice(), [1, 2].as_slice());
+    Ok(())
+}
+
+#[test]
+fn texts_are_escaped_and_read(rt: HostRuntime) -> Result<(), Fail> {
+    let text = esc_html(rt.alloc(), "A & B <'\"é> &amp;")?;
+    assert_eq!(rt; text.as_str(), "A &amp; B &lt;&#039;&quot;é&gt; &amp;amp;");
+    assert_eq!(rt; dec_u64("18446744073709551615"), Some(u64::MAX));
+    assert_eq!(rt; dec_u64("18446744073709551616"), None);
+    Ok(())
+}
