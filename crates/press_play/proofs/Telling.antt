@@ -1,5 +1,5 @@
 -- What is told for a play file.
-use Rattle.std.proofs.Common.{◌≡◌, ◌⊎◌, inl, inr, ◌∙◌, sym, ap, ℕ, List, [], ◌∷◌, codes, refl, arith, Bool, Option, Some, None, Result, Ok, Err, IfOk}
+use Rattle.std.proofs.Common.{◌≡◌, ◌⊎◌, inl, inr, ◌∙◌, sym, ap, ℕ, List, [], ◌∷◌, codes, refl, arith, Option, Some, None, Result, Ok, Err, IfOk}
 use Rattle.std.specs.Prelude.{String, string_bytes, IfSome}
 use Rattle.press_text.specs.declared.streams.WriteFault.{WriteFault}
 use Rattle.std.specs.Fmt.{decimal}
@@ -31,7 +31,7 @@ said (Err UnknownCallback) (Ok a) input gives h = inl (h ∙ ap answered (sym gi
 said (Err BadLoad) (Ok a) input gives h = inl (h ∙ ap answered (sym gives))
 said (Err (BadKitFile place)) (Ok a) input gives h = inl (h ∙ ap answered (sym gives))
 
-pub written : {A : Type 0} (known : Option (List ℕ)) (lines : Result (String A) PlayFault) (told : Result Answered AllocError) (out out' : Option (List ℕ)) (result : Result Bool WriteFault)
+pub written : {A : Type 0} (known : Option (List ℕ)) (lines : Result (String A) PlayFault) (told : Result Answered AllocError) (out out' : Option (List ℕ)) (result : Result (Option PlayFault) WriteFault)
     → IfSome known (λ input. Gives (λ t. string_bytes t) lines (played_in input)) → IfOk told (λ a. a ≡ answered (bytes_in lines)) → Writes (or_no_memory told) out out' result
     → IfSome known (λ input. (a : Answered) × Answers input a × Writes a out out' result)
 written None lines told out out' result gives h w = tt

@@ -1,5 +1,5 @@
 -- What is written for a play file: its lines, or a line that tells its fault (own).
-use Rattle.std.specs.Prelude.{◌≡◌, ◌⊎◌, ℕ, List, [], ◌∷◌, Bool, true, false, Option, Some, None, Result, Ok, Err, String, string_bytes, codes}
+use Rattle.std.specs.Prelude.{◌≡◌, ◌⊎◌, ℕ, List, [], ◌∷◌, Option, Some, None, Result, Ok, Err, String, string_bytes, codes}
 use Rattle.std.specs.declared.alloc.AllocError.{AllocError}
 use Rattle.std.specs.Io.KnownBytes.{Appends}
 use Rattle.serde_json.specs.Data.{Data, string, number, unsigned, object, member, no_members}
@@ -21,10 +21,10 @@ fault_data_at n (Some place) = object (member (codes "at") (string (place_text p
 abbrev pub fault_data : PlayFault → Data
 fault_data f = fault_data_at (fault_number f) (place_in f)
 
--- whether all is well, and what is written
+-- the fault where there is one, and what is written
 abbrev pub answered : Result (List ℕ) PlayFault → Answered
-answered (Ok lines) = record { well = true; text = lines }
-answered (Err fault) = record { well = false; text = line (fault_data fault) }
+answered (Ok lines) = record { fault = None; text = lines }
+answered (Err fault) = record { fault = Some fault; text = line (fault_data fault) }
 
 -- where the answer can't be made for want of memory, that is told
 abbrev pub or_no_memory : Result Answered AllocError → Answered
@@ -41,6 +41,6 @@ abbrev pub Answers : List ℕ → Answered → Type 0
 Answers input a = (a ≡ answered (played_in input)) ⊎ ((a ≡ answered (Err NoMemory)) ⊎ (a ≡ answered (Err ReadFault)))
 
 -- the text went out whole, or a front of it where the write failed
-abbrev pub Writes : Answered → Option (List ℕ) → Option (List ℕ) → Result Bool WriteFault → Type 0
-Writes a out out' (Ok well) = (well ≡ a.well) × Appends out out' a.text
+abbrev pub Writes : Answered → Option (List ℕ) → Option (List ℕ) → Result (Option PlayFault) WriteFault → Type 0
+Writes a out out' (Ok fault) = (fault ≡ a.fault) × Appends out out' a.text
 Writes a out out' (Err f) = AppendsFront out out' a.text

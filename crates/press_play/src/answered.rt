@@ -13,10 +13,10 @@ use press_text::{Text, WriteFault, write_once};
 use std::alloc::{AllocError, Global};
 use std::io::{Read, Write};
 
-/// Whether a file gave its lines, and what is written for it.
+/// Why a file gave no lines, where it gave none, and what is written for it.
 #[derive(Debug, Drop)]
 pub struct Answered {
-    pub well: bool,
+    pub fault: Option<PlayFault>,
     pub text: Text,
 }
 
@@ -24,7 +24,7 @@ fn told(alloc: Global, fault: PlayFault) -> Result<Answered, AllocError>
     ensures { IfOk result (λ a. a ≡ answered (Err fault)) }
 {
     Ok(Answered {
-        well: false,
+        fault: Some(fault),
         text: Text::from_string(fault_line(alloc, fault)?),
     })
 }
@@ -34,7 +34,7 @@ fn outcome(alloc: Global, lines: Result<String, PlayFault>) -> Result<Answered, 
 {
     match lines {
         Ok(text) => Ok(Answered {
-            well: true,
+            fault: None,
             text: Text::from_string(text),
         }),
         Err(fault) => told(alloc, fault),
@@ -47,30 +47,39 @@ const NO_MEMORY: &[u8] = b"{\"fault\":0}\n";
 fn write_said<W: Write>(
     writer: &mut W,
     said: &Result<Answered, AllocError>,
-) -> Result<bool, WriteFault>
+) -> Result<Option<PlayFault>, WriteFault>
     ensures { Writes (or_no_memory said.now) (W.contents writer.old) (W.contents writer.new) result }
 {
     match said {
         Ok(answered) => {
             write_once(writer, answered.text.as_bytes())?;
-            Ok(answered.well)
+            Ok(answered.fault)
         }
         Err(_) => {
             write_once(writer, NO_MEMORY)?;
-            Ok(false)
+            Ok(Some(PlayFault::NoMemory))
         }
     }
 }
 
-/// Plays the file that a reader has left, and writes its lines, or a line that tells its fault; whether all was well.
+/// Plays the file that a reader has left, and writes its lines, or a line that tells its fault; answers the fault.
 pub fn play_input<R: Read, W: Write>(
     alloc: Global,
     reader: &mut R,
     writer: &mut W,
-) -> Result<bool, WriteFault>
+) -> Result<Option<PlayFault>, WriteFault>
     ensures took { TakesAtMost (R.remaining reader.old) (R.remaining reader.new) (file_limit + 1) }
     ensures writes { IfSome (R.remaining reader.old) (λ input. (a : Said) × Answers input a × Writes a (W.contents writer.old) (W.contents writer.new) result) }
 {
     let said = outcome(alloc, read_lines(alloc, reader));
     write_said(writer, &said)
+}
+
+/// Writes the line of a fault, and answers it, or want of memory in its place.
+pub fn write_fault<W: Write>(
+    alloc: Global,
+    fault: PlayFault,
+    writer: &mut W,
+) -> Result<Option<PlayFault>, WriteFault> {
+    write_said(writer, &told(alloc, fault))
 }
