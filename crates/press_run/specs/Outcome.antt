@@ -1,5 +1,5 @@
 -- What the machine's calls say of the meaning: an Ok is its answer, Limit stands exactly where there is none, and want of memory may come at any time.
-use Rattle.std.specs.Prelude.{◌≡◌, ℕ, ◌+◌, ◌≤◌, List, [], ◌∷◌, ◌++◌, Option, Some, None, Result, Ok, Err, Bool, true, false, ltb}
+use Rattle.std.specs.Prelude.{◌≡◌, ℕ, ◌+◌, ◌≤◌, List, [], ◌∷◌, ◌++◌, Option, Some, None, IsSome, Result, Ok, Err, Bool, true, false, ltb}
 use Rattle.press_hooks.specs.declared.open_run.OpenRun.{OpenRun}
 use Rattle.press_hooks.specs.NextEntry.{Table, begun, without_innermost}
 use Rattle.press_scan.specs.declared.tag_row.TagRow.{TagRow}
@@ -69,11 +69,11 @@ GoesAtMost n (Ok (step.Goes call)) = call.turn ≤ n
 GoesAtMost n (Ok (step.Ends text)) = Unit {0}
 GoesAtMost n (Err f) = Unit {0}
 
--- a text is put at the end of an output where that stays within the bytes
+-- a text is put at the end of an output where that stays within the bytes; want of memory stands only there
 abbrev pub Pushes : List ℕ → List ℕ → List ℕ → Result Unit RunFault → Type 0
 Pushes old text new (Ok u) = within (old ++ text) ≡ Some new
 Pushes old text new (Err Limit) = (within (old ++ text) ≡ None) × (new ≡ old)
-Pushes old text new (Err NoMemory) = new ≡ old
+Pushes old text new (Err NoMemory) = IsSome (within (old ++ text)) × (new ≡ old)
 
 -- what a job comes to
 abbrev pub job_meaning : Scripts → Job → State → Option Answer
