@@ -2,4 +2,5 @@ mod applies;
 mod bad_files;
 mod fakes;
 mod fixtures;
+mod kits;
 mod runs;

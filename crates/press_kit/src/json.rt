@@ -1,10 +1,10 @@
 //! The JSON value of a file.
 
-ghost use Rattle.std.specs.Prelude.{◌≡◌};
+ghost use Rattle.std.specs.Prelude.{◌≡◌, ◌<◌, length, IsErrOf};
 ghost use Rattle.serde_json.specs.View.{view};
 ghost use Rattle.press_kit.specs.Gives.{Gives};
 ghost use Rattle.press_kit.specs.Fields.{or_bad};
-ghost use Rattle.press_kit.specs.KitFile.{json_in, file_in};
+ghost use Rattle.press_kit.specs.KitFile.{json_in, file_in, file_limit};
 ghost use Rattle.press_kit.specs.declared.place.Place.TheVariants as place;
 
 use crate::fault::KitFileFault;
@@ -33,7 +33,8 @@ fn json(alloc: Global, bytes: &[u8]) -> Result<Value, KitFileFault>
 /// The value of a file that is not too long.
 #[tactic(auto, unfolding(crate::specs::KitFile::file_in))]
 pub fn file(alloc: Global, bytes: &[u8]) -> Result<Value, KitFileFault>
-    ensures { Gives view result (file_in bytes.now) }
+    ensures gives { Gives view result (file_in bytes.now) }
+    ensures long { file_limit < length bytes.now → IsErrOf result (KitFileFault.BadKitFile place.File) }
 {
     if bytes.len() > FILE_LIMIT {
         return Err(KitFileFault::BadKitFile(Place::File));

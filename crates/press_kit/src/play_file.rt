@@ -1,6 +1,8 @@
-ghost use Rattle.std.specs.Prelude.{◌≡◌, option_and_then, codes, map};
+ghost use Rattle.std.specs.Prelude.{◌≡◌, ◌<◌, length, option_and_then, codes, map, IsErrOf};
 ghost use Rattle.serde_json.specs.View.{view};
 ghost use Rattle.press_kit.specs.Gives.{Gives};
+ghost use Rattle.press_kit.specs.KitFile.{file_limit};
+ghost use Rattle.press_kit.specs.declared.place.Place.TheVariants as place;
 ghost use Rattle.press_kit.specs.Fields.{only, number_in};
 ghost use Rattle.press_kit.specs.PlayFile as spec;
 
@@ -162,7 +164,8 @@ fn play_file(alloc: Global, value: &Value) -> Result<PlayFile, KitFileFault>
 /// The key `shows` is for whoever reads the file. A file has at most 4,194,304 bytes.
 #[tactic(auto, unfolding(crate::specs::PlayFile::play_file_in))]
 pub fn read_play_file(alloc: Global, bytes: &[u8]) -> Result<PlayFile, KitFileFault>
-    ensures { Gives (λ f. f) result (spec.play_file_in bytes.now) }
+    ensures gives { Gives (λ f. f) result (spec.play_file_in bytes.now) }
+    ensures long { file_limit < length bytes.now → IsErrOf result (KitFileFault.BadKitFile place.File) }
 {
     let value = file(alloc, bytes)?;
     play_file(alloc, &value)
