@@ -1,5 +1,5 @@
 -- What an object has at its keys (RFC 8259, 4), or the place that is bad. Of a repeated key the last counts, as the kit's `serde_json` reads it.
-use Rattle.std.specs.Prelude.{ℕ, ◌+◌, ◌^◌, ℤ, pos, List, [], ◌∷◌, Bool, true, false, bytes_eq, if◌then◌else◌, nat_lt, nat_le, ◌&&◌, option_and_then, option_map, Option, Some, None, Result, Ok, Err, codes}
+use Rattle.std.specs.Prelude.{ℕ, ◌+◌, ◌^◌, ℤ, pos, List, [], ◌∷◌, Bool, false, bytes_eq, if◌then◌else◌, nat_lt, option_and_then, option_map, Option, Some, None, Result, Ok, Err, codes}
 use Rattle.std.specs.List.{list_any, list_all}
 use Rattle.serde_json.specs.Data.{Data, Items, no_items, item, Members, no_members, member}
 use Rattle.serde_json.specs.Find.{get, as_str, as_number, as_u64, as_i64, as_array, as_object}

@@ -1,6 +1,6 @@
 -- Kit file: the callbacks and plugins that a JSON document (RFC 8259) gives, or the first place at which it is bad (own).
 -- A text is a list of parts, of which a string is this very text. Keys that nobody names are bad, so that a misspelt one does not pass for a default.
-use Rattle.std.specs.Prelude.{ℕ, ◌^◌, ℤ, List, [], ◌∷◌, length, nat_le, if◌then◌else◌, Bool, true, false, bytes_eq, Option, Some, None, is_some, option_map, option_and_then, Result, Ok, Err, codes}
+use Rattle.std.specs.Prelude.{ℕ, ◌^◌, ℤ, List, [], ◌∷◌, length, nat_le, if◌then◌else◌, bytes_eq, Option, Some, None, is_some, option_map, option_and_then, Result, Ok, Err, codes}
 use Rattle.std.specs.Str.{is_utf8}
 use Rattle.serde_json.specs.Data.{Data}
 use Rattle.serde_json.specs.Read.{read}

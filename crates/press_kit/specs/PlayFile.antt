@@ -1,6 +1,6 @@
 -- Play file: a kit, the plugins that are active, and what is to be played on them in turn, as a JSON document gives it (own).
 -- The key `shows` is for whoever reads the file.
-use Rattle.std.specs.Prelude.{ℕ, ◌^◌, List, [], ◌∷◌, nat_lt, ◌&&◌, if◌then◌else◌, Option, Some, None, is_some, option_and_then, Result, Ok, Err, codes}
+use Rattle.std.specs.Prelude.{ℕ, ◌^◌, List, [], ◌∷◌, nat_lt, ◌&&◌, if◌then◌else◌, Option, Some, None, is_some, option_and_then, Result, Ok, codes}
 use Rattle.serde_json.specs.Data.{Data}
 use Rattle.serde_json.specs.Find.{get, as_str}
 use Rattle.press_kit.specs.declared.place.Place.{Place}

@@ -1,5 +1,5 @@
 -- What is told for a play file.
-use Rattle.std.proofs.Common.{◌≡◌, ◌⊎◌, inl, inr, ◌∙◌, sym, ap, ℕ, List, [], ◌∷◌, codes, refl, arith, Option, Some, None, Result, Ok, Err, IfOk}
+use Rattle.std.proofs.Common.{◌≡◌, inl, inr, ◌∙◌, sym, ap, ℕ, List, [], ◌∷◌, codes, refl, arith, Option, Some, None, Result, Ok, Err, IfOk}
 use Rattle.std.specs.Prelude.{String, string_bytes, IfSome}
 use Rattle.press_text.specs.declared.streams.WriteFault.{WriteFault}
 use Rattle.std.specs.Fmt.{decimal}

@@ -1,5 +1,5 @@
 -- The number that tells each fault of a play, and its place where it has one (own).
-use Rattle.std.specs.Prelude.{ℕ, Option, Some, None, Result, Ok, Err}
+use Rattle.std.specs.Prelude.{ℕ, Option, Some, None}
 use Rattle.press_callbacks.specs.declared.kit_fault.KitFault.{KitFault}
 use Rattle.press_callbacks.specs.declared.kit_fault.KitFault.TheVariants as kit
 use Rattle.press_kit.specs.declared.place.Place.{Place}

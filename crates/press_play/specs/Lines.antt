@@ -5,7 +5,6 @@ use Rattle.std.specs.declared.alloc.AllocError.{AllocError}
 use Rattle.serde_json.specs.Data.{Data, string, boolean, object, member, no_members}
 use Rattle.serde_json.specs.Written.{compact_text}
 use Rattle.press_callbacks.specs.Kits.{Scripts}
-use Rattle.press_run.specs.declared.job.Fire.{Fire}
 use Rattle.press_run.specs.declared.job.Job.{Job}
 use Rattle.press_run.specs.declared.job.Job.TheVariants as job
 use Rattle.press_run.specs.Run.{Answer, State, answer}

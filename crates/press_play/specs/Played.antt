@@ -5,7 +5,6 @@ use Rattle.press_callbacks.specs.Kits.{Scripts, KitView, view_of, kit_fault, by_
 use Rattle.press_run.specs.Boot.{booted_with}
 use Rattle.press_run.specs.Outcome.{started}
 use Rattle.press_kit.specs.declared.place.Place.{Place}
-use Rattle.press_kit.specs.declared.kit_parts.KitParts.{KitParts}
 use Rattle.press_kit.specs.declared.kit_parts.Scripted.{Scripted}
 use Rattle.press_kit.specs.declared.play_file.Play.{Play}
 use Rattle.press_kit.specs.declared.play_file.PlayFile.{PlayFile}

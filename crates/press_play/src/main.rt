@@ -68,16 +68,20 @@ fn words_of(rt: &HostRuntime) -> io::Result<Vec<String>> {
     Ok(words)
 }
 
+// Tells a fault that is no file's.
+fn stop(rt: &HostRuntime, number: u8) -> ExitCode {
+    let _ = eprintln!(rt; "press_play: fault {number}");
+    ExitCode::from(2)
+}
+
 // After a write that failed there is no other.
 fn main(rt: HostRuntime) -> ExitCode {
-    let told = match words_of(&rt) {
-        Ok(words) => match play_all(&rt, &words) {
-            Ok(true) => return ExitCode::from(0),
-            Ok(false) => Ok(()),
-            Err(WriteFault) => eprintln!(&rt; "press_play: fault 42"),
-        },
-        Err(_) => eprintln!(&rt; "press_play: fault 0"),
+    let Ok(words) = words_of(&rt) else {
+        return stop(&rt, 0);
     };
-    let _ = told;
-    ExitCode::from(2)
+    match play_all(&rt, &words) {
+        Ok(true) => ExitCode::from(0),
+        Ok(false) => ExitCode::from(2),
+        Err(WriteFault) => stop(&rt, 42),
+    }
 }

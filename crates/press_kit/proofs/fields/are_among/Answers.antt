@@ -1,4 +1,4 @@
-use Rattle.std.proofs.Common.{◌≡◌, ◌∙◌, List, ℕ, map, rules, tests}
+use Rattle.std.proofs.Common.{◌∙◌, List, ℕ, map, rules, tests}
 use Rattle.std.specs.Prelude.{string_bytes}
 use Rattle.std.specs.Map.{keys_of}
 use Rattle.std.proofs.lemmas.Iterator.Consumers.{YieldsList-from_rest}
