@@ -22,6 +22,9 @@ fn demonstration_kits_are_the_same(rt: HostRuntime) -> Result<(), Fail> {
         }
         kits.push(Kit::build(alloc, callbacks, parts.plugins)?)?;
     }
-    assert!(rt; kits[0].same(&kits[1]));
+    let [first, again] = kits.as_slice() else {
+        return Err(Fail::from("two kits"));
+    };
+    assert!(rt; first.same(again));
     Ok(())
 }
