@@ -11,7 +11,7 @@ use Rattle.press_play.specs.declared.fault.PlayFault.{PlayFault}
 use Rattle.press_play.specs.declared.fault.PlayFault.TheVariants.{NoMemory, ReadFault, TwoNames, UnknownCallback, BadLoad, BadKitFile}
 use Rattle.press_play.specs.Lines.{line}
 use Rattle.press_play.specs.Played.{Gives, played_in}
-use Rattle.press_play.specs.Answers.{fault_data, answered, bytes_in, or_no_memory, Answers, Writes}
+use Rattle.press_play.specs.Answers.{fault_data, answered, bytes_in, or_no_memory, Answers, Tells, Writes}
 
 -- the line of want of memory, which is written without taking any
 pub no_memory_line : line (fault_data NoMemory) ≡ codes "{\"fault\":0}\n"
@@ -36,3 +36,7 @@ pub written : {A : Type 0} (known : Option (List ℕ)) (lines : Result (String A
     → IfSome known (λ input. (a : Answered) × Answers input a × Writes a out out' result)
 written None lines told out out' result gives h w = tt
 written (Some input) lines told out out' result gives h w = (or_no_memory told, said lines told input gives h, w)
+
+pub told : (fault : PlayFault) (a : Result Answered AllocError) → IfOk a (λ b. b ≡ answered (Err fault)) → Tells fault (or_no_memory a)
+told fault (Ok b) h = inl h
+told fault (Err e) h = inr refl

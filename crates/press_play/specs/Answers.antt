@@ -40,6 +40,10 @@ bytes_in (Err fault) = Err fault
 abbrev pub Answers : List ℕ → Answered → Type 0
 Answers input a = (a ≡ answered (played_in input)) ⊎ ((a ≡ answered (Err NoMemory)) ⊎ (a ≡ answered (Err ReadFault)))
 
+-- what is told of a fault met before a file's text: it, or want of memory
+abbrev pub Tells : PlayFault → Answered → Type 0
+Tells fault a = (a ≡ answered (Err fault)) ⊎ (a ≡ answered (Err NoMemory))
+
 -- the text went out whole, or a front of it where the write failed
 abbrev pub Writes : Answered → Option (List ℕ) → Option (List ℕ) → Result (Option PlayFault) WriteFault → Type 0
 Writes a out out' (Ok fault) = (fault ≡ a.fault) × Appends out out' a.text

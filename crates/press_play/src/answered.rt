@@ -4,7 +4,7 @@ ghost use Rattle.std.specs.Prelude.{◌≡◌, ◌+◌, Err, IfSome, IfOk};
 ghost use Rattle.press_text.specs.Streams.{TakesAtMost};
 ghost use Rattle.press_kit.specs.KitFile.{file_limit};
 ghost use Rattle.press_play.specs.declared.answered.Answered.{Answered as Said};
-ghost use Rattle.press_play.specs.Answers.{Answers, Writes, answered, bytes_in, or_no_memory};
+ghost use Rattle.press_play.specs.Answers.{Answers, Tells, Writes, answered, bytes_in, or_no_memory};
 
 use crate::fault::PlayFault;
 use crate::line::fault_line;
@@ -80,6 +80,9 @@ pub fn write_fault<W: Write>(
     alloc: Global,
     fault: PlayFault,
     writer: &mut W,
-) -> Result<Option<PlayFault>, WriteFault> {
-    write_said(writer, &told(alloc, fault))
+) -> Result<Option<PlayFault>, WriteFault>
+    ensures { (a : Said) × Tells fault a × Writes a (W.contents writer.old) (W.contents writer.new) result }
+{
+    let said = told(alloc, fault);
+    write_said(writer, &said)
 }
