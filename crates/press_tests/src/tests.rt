@@ -1,5 +1,6 @@
 mod callbacks;
 mod hooks;
+mod posts;
 mod runs;
 mod scans;
 mod scripts;
