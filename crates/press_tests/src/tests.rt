@@ -1,4 +1,5 @@
 mod callbacks;
+mod events;
 mod hooks;
 mod posts;
 mod runs;
