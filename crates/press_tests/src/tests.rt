@@ -1,5 +1,7 @@
 mod callbacks;
+mod events;
 mod hooks;
+mod posts;
 mod runs;
 mod scans;
 mod scripts;

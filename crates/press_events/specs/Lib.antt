@@ -1,0 +1,2 @@
+pub mod DueEvents
+pub mod Faults

@@ -1,0 +1,164 @@
+//! The events that stand.
+
+ghost use Rattle.std.specs.Prelude.{◌≡◌, [], ◌<◌, ◌≤◌, length, position, unwrap_or, IfOk, IfSome, is_some, vec_len, vec_capacity};
+ghost use Rattle.std.specs.List.{list_any};
+ghost use Rattle.press_events.specs.DueEvents.{is_later, place_of, stands, place_in, Adds, add_event, cancelled, cancels, due, take_event, put_again};
+
+use crate::event::Event;
+use crate::fault::EventFault;
+use press_text::{Copied, HookName, Items, Moment, copied_all};
+use std::alloc::{AllocError, Global};
+use std::marker::Model;
+
+const MOST_ARG: usize = 256;
+
+const MOST_EVENTS: usize = 4096;
+
+/// The scheduled events, by time, then in the order in which they were scheduled.
+#[derive(Debug, Drop)]
+pub struct Events {
+    alloc: Global,
+    events: Vec<Event>,
+}
+
+impl Model for Events {
+    ghost use Rattle.std.specs.Prelude.{List};
+    ghost use Rattle.press_events.specs.declared.event.Event.{Event};
+
+    ghost Value = { List Event };
+
+    ghost view = { λ e. e.events.items };
+}
+
+impl Events {
+    /// No events, which takes no memory.
+    pub fn new(alloc: Global) -> Events
+        ensures { result ≡ [] }
+    {
+        Events {
+            alloc,
+            events: Vec::new(alloc),
+        }
+    }
+
+    /// Schedules an event; false, and no change, where one of its identity stands (`wp_schedule_event`).
+    pub fn add(&mut self, event: Event) -> Result<bool, EventFault>
+        ensures { Adds result (add_event event self.old) self.old self.new }
+    {
+        if event.arg.len() > MOST_ARG {
+            return Err(EventFault::TooLong);
+        }
+        if stands(&self.events, &event) {
+            return Ok(false);
+        }
+        if self.events.len() >= MOST_EVENTS {
+            return Err(EventFault::TooManyEvents);
+        }
+        let place = place_in(&self.events, event.time);
+        self.events.insert(place, event)?;
+        Ok(true)
+    }
+
+    /// Takes out every event of that hook and argument; whether one stood (`wp_clear_scheduled_hook`).
+    pub fn cancel(&mut self, hook: &HookName, arg: &str) -> bool
+        ensures answer { result ≡ cancels hook.now arg.now self.old }
+        ensures after { self.new ≡ cancelled hook.now arg.now self.old }
+    {
+        let stood = self.events.iter().any(|e| e.is_of(hook, arg));
+        cancel(&mut self.events, hook, arg);
+        stood
+    }
+
+    /// The events whose time has come.
+    pub fn due(&self, now: Moment) -> Result<Items<Event>, AllocError>
+        ensures { IfOk result (λ es. es ≡ due now self.now) }
+    {
+        due(self.alloc, self.events.as_slice(), now)
+    }
+
+    /// Takes the event of that identity off where it stands as Once, and else schedules it anew, at its first time after now
+    /// (`wp_reschedule_event`). False, and no change, where it doesn't stand. Takes no memory.
+    pub fn take(&mut self, event: &Event, now: Moment) -> bool
+        ensures answer { result ≡ is_some (place_of event.now self.old) }
+        ensures after { self.new ≡ take_event event.now now self.old }
+    {
+        let Some(place) = place_of(&self.events, event) else {
+            return false;
+        };
+        let mut taken = self.events.remove(place);
+        if let Some(time) = taken.next(now) {
+            taken.time = time;
+            put_again(&mut self.events, taken);
+        }
+        true
+    }
+
+    /// The same events once more.
+    pub fn copy(&self) -> Result<Events, AllocError>
+        ensures { IfOk result (λ e. e ≡ self.now) }
+    {
+        Ok(Events {
+            alloc: self.alloc,
+            events: copied_all(self.alloc, self.events.as_slice())?,
+        })
+    }
+}
+
+fn cancel(events: &mut Vec<Event>, hook: &HookName, arg: &str)
+    ensures { events.new.items ≡ cancelled hook.now arg.now events.old.items }
+{
+    events.retain(|e| !e.is_of(hook, arg));
+}
+
+fn stands(events: &[Event], event: &Event) -> bool
+    ensures { result ≡ stands event.now events.now }
+{
+    events.iter().any(|e| e.is_same(event))
+}
+
+fn place_of(events: &[Event], event: &Event) -> Option<usize>
+    ensures place { result ≡ place_of event.now events.now }
+    ensures within { IfSome result (λ i. i < length events.now) }
+{
+    events.iter().position(|e| e.is_same(event))
+}
+
+fn place_in(events: &[Event], time: Moment) -> usize
+    ensures place { result ≡ place_in time events.now }
+    ensures within { result ≤ length events.now }
+{
+    first_later(events, time).unwrap_or(events.len())
+}
+
+fn first_later(events: &[Event], time: Moment) -> Option<usize>
+    ensures place { result ≡ position (is_later time) events.now }
+    ensures within { IfSome result (λ i. i < length events.now) }
+{
+    events.iter().position(|e| e.is_later(time))
+}
+
+// Schedules an event in the room that it left, if none of its identity stands.
+fn put_again(events: &mut Vec<Event>, event: Event)
+    requires { vec_len events.old < vec_capacity events.old }
+    ensures { events.new.items ≡ put_again event events.old.items }
+{
+    if stands(events, &event) {
+        return;
+    }
+    let place = place_in(events, event.time);
+    let Ok(()) = events.insert(place, event) else {
+        unreachable!()
+    };
+}
+
+fn due(alloc: Global, events: &[Event], now: Moment) -> Result<Items<Event>, AllocError>
+    ensures { IfOk result (λ es. es ≡ due now events.now) }
+{
+    let mut found = Vec::new(alloc);
+    for event in events {
+        if event.is_due(now) {
+            found.push(event.copied(alloc)?)?;
+        }
+    }
+    Ok(Items::from_vec(found))
+}

@@ -1,0 +1,12 @@
+//! Scheduled events: which hook is to be done when, and what is due.
+//!
+//! They stand by time, and those of one time in the order in which they were scheduled.
+#![tactic(auto)]
+
+mod event;
+mod events;
+mod fault;
+
+pub use event::Event;
+pub use events::Events;
+pub use fault::EventFault;

@@ -1,0 +1,4 @@
+pub mod Faults
+pub mod PostChange
+pub mod Published
+pub mod Transitions

@@ -1,0 +1,181 @@
+-- What a change of posts comes to: the posts after it, what it fires, and which events of `publish_future_post` go and come; or the first refusal
+-- (Plugin Handbook, Post Status Transitions; ids, limits, the trash and the order of refusals are own).
+-- A post stands at a place for good: ids are 1, 2, .. by place, and the place of a deleted post stays empty.
+use Rattle.std.specs.Prelude.{◌≡◌, ℕ, zero, suc, ◌+◌, ◌-◌, ◌^◌, List, [], ◌∷◌, ◌++◌, length, filter, set, slice_index_or, Bool, true, false, ◌&&◌, ◌||◌, nat_lt, nat_le, if◌then◌else◌, Option, Some, None, is_some, Result, Ok, Err}
+use Rattle.press_posts.specs.declared.fault.PostFault.{PostFault}
+use Rattle.press_posts.specs.declared.fault.PostFault.TheVariants.{NoMemory, TooLong, NoSuchPost, NotTrashed, IsTrashed, TooManyPosts}
+use Rattle.press_posts.specs.declared.fire.Fire.{Fire}
+use Rattle.press_posts.specs.declared.post.Move.{Move}
+use Rattle.press_posts.specs.declared.post.Move.TheVariants as move
+use Rattle.press_posts.specs.declared.post.Post.{Post}
+use Rattle.press_posts.specs.declared.status.Status.{Status}
+use Rattle.press_posts.specs.declared.status.Status.TheVariants.{Publish, Future, Draft, Pending, Private, Trash}
+use Rattle.press_posts.specs.Transitions.{transition, inserts, updates}
+
+pub data Change : Type 0 where
+  Insert : (title content : List ℕ) (status : Status) (date : ℕ) → Change
+  Edit : (id : ℕ) (title content : List ℕ) (status : Status) (date : ℕ) → Change
+  Moves : (id : ℕ) (move : Move) → Change
+  Delete : (id : ℕ) → Change
+
+-- what is fired, and of the events of `publish_future_post` with this id as argument: whether they go, and then the moment of the one that comes
+pub record Changed : Type 0 where
+  pub posts : List (Option Post)
+  pub id : ℕ
+  pub fires : List Fire
+  pub goes : Bool
+  pub comes : Option ℕ
+
+-- ---- statuses
+
+abbrev pub is_trash : Status → Bool
+is_trash Trash = true
+is_trash Publish = false
+is_trash Future = false
+is_trash Draft = false
+is_trash Pending = false
+is_trash Private = false
+
+abbrev pub is_future : Status → Bool
+is_future Future = true
+is_future Publish = false
+is_future Draft = false
+is_future Pending = false
+is_future Private = false
+is_future Trash = false
+
+abbrev pub is_publish : Status → Bool
+is_publish Publish = true
+is_publish Future = false
+is_publish Draft = false
+is_publish Pending = false
+is_publish Private = false
+is_publish Trash = false
+
+-- publish dated strictly after now becomes future, and future dated not after now becomes publish
+abbrev pub settled : Status → ℕ → ℕ → Status
+settled Publish date now = if nat_lt now date then Future else Publish
+settled Future date now = if nat_lt now date then Future else Publish
+settled Draft date now = Draft
+settled Pending date now = Pending
+settled Private date now = Private
+settled Trash date now = Trash
+
+abbrev pub is_due : ℕ → Post → Bool
+is_due now p = is_future p.status && nat_le p.date now
+
+-- ---- places
+
+-- the post of an id
+abbrev pub post_at : List (Option Post) → ℕ → Option Post
+post_at posts zero = None
+post_at posts (suc i) = slice_index_or posts i None
+
+abbrev pub put_at : List (Option Post) → ℕ → Option Post → List (Option Post)
+put_at posts id post = set posts (id - 1) post
+
+-- the posts that stand
+abbrev pub standing : List (Option Post) → ℕ
+standing posts = length (filter (λ p. is_some p) posts)
+
+-- ---- refusals
+
+abbrev pub is_too_long : List ℕ → List ℕ → Bool
+is_too_long title content = nat_lt 1024 (length title) || nat_lt 65536 (length content)
+
+-- also where no greater id is left
+abbrev pub is_full : List (Option Post) → Bool
+is_full posts = nat_le 10000 (standing posts) || nat_le (2 ^ 64 - 1) (length posts)
+
+abbrev pub insert_fault : List ℕ → List ℕ → Status → List (Option Post) → Option PostFault
+insert_fault title content status posts =
+    if is_trash status then Some IsTrashed else
+    (if is_too_long title content then Some TooLong else
+    (if is_full posts then Some TooManyPosts else None))
+
+abbrev pub edit_fault : List ℕ → List ℕ → Status → Post → Option PostFault
+edit_fault title content status p =
+    if is_trash p.status || is_trash status then Some IsTrashed else
+    (if is_too_long title content then Some TooLong else None)
+
+-- ---- changes
+
+-- the event comes where the new status is future
+abbrev pub comes : Status → ℕ → Option ℕ
+comes status date = if is_future status then Some date else None
+
+abbrev pub inserted : List ℕ → List ℕ → Status → ℕ → List (Option Post) → Changed
+inserted title content status date posts =
+    let id = length posts + 1 in
+    record { posts = posts ++ Some (record { id = id; title = title; content = content; status = status; date = date }) ∷ []; id = id; fires = inserts status id; goes = true; comes = comes status date }
+
+abbrev pub edited : ℕ → List ℕ → List ℕ → Status → ℕ → Post → List (Option Post) → Changed
+edited id title content status date p posts =
+    record { posts = put_at posts id (Some (record { id = id; title = title; content = content; status = status; date = date })); id = id; fires = updates p.status status id; goes = true; comes = comes status date }
+
+abbrev pub with_status : Status → Post → Post
+with_status status p = record p { status = status }
+
+abbrev pub turned_to : ℕ → Status → Post → List (Option Post) → Changed
+turned_to id status p posts =
+    record { posts = put_at posts id (Some (with_status status p)); id = id; fires = transition (Some p.status) status id; goes = true; comes = comes status p.date }
+
+abbrev pub untouched : ℕ → List (Option Post) → Changed
+untouched id posts = record { posts = posts; id = id; fires = []; goes = false; comes = None }
+
+-- the status that a move gives; none where it leaves the post as it is
+abbrev pub status_moved : Move → Post → Result (Option Status) PostFault
+status_moved move.Trash p = if is_trash p.status then Err IsTrashed else Ok (Some Trash)
+status_moved move.Untrash p = if is_trash p.status then Ok (Some Draft) else Err NotTrashed
+status_moved (move.PublishDue now) p = if is_trash p.status then Err IsTrashed else (if is_due now p then Ok (Some Publish) else Ok None)
+
+abbrev pub moved_to : ℕ → Result (Option Status) PostFault → Post → List (Option Post) → Result Changed PostFault
+moved_to id (Ok (Some status)) p posts = Ok (turned_to id status p posts)
+moved_to id (Ok None) p posts = Ok (untouched id posts)
+moved_to id (Err fault) p posts = Err fault
+
+abbrev pub deleted : ℕ → List (Option Post) → Changed
+deleted id posts = record { posts = put_at posts id None; id = id; fires = []; goes = true; comes = None }
+
+abbrev pub unless : Option PostFault → Changed → Result Changed PostFault
+unless None c = Ok c
+unless (Some fault) c = Err fault
+
+-- what becomes of the post, where it stands
+abbrev pub of_post : Option Post → (Post → Result Changed PostFault) → Result Changed PostFault
+of_post None change = Err NoSuchPost
+of_post (Some p) change = change p
+
+abbrev pub post_change : List (Option Post) → Change → ℕ → Result Changed PostFault
+post_change posts (Insert title content status date) now = unless (insert_fault title content status posts) (inserted title content (settled status date now) date posts)
+post_change posts (Edit id title content status date) now =
+    of_post (post_at posts id) (λ p. unless (edit_fault title content status p) (edited id title content (settled status date now) date p posts))
+post_change posts (Moves id move) now = of_post (post_at posts id) (λ p. moved_to id (status_moved move p) p posts)
+post_change posts (Delete id) now = of_post (post_at posts id) (λ p. if is_trash p.status then Ok (deleted id posts) else Err NotTrashed)
+
+-- ---- what a call answers: a part of the change, and the posts are those after it; or its refusal, and they are as they were.
+-- Want of memory stands only where something is fired.
+
+abbrev pub Done : {A : Type 0} → (Changed → A) → A → List (Option Post) → Result Changed PostFault → Type 0
+Done part answer new (Ok c) = (answer ≡ part c) × (new ≡ c.posts)
+Done part answer new (Err f) = ⊥
+
+abbrev pub is_fired : List Fire → Bool
+is_fired [] = false
+is_fired (f ∷ fs) = true
+
+abbrev pub Fires : Result Changed PostFault → Type 0
+Fires (Ok c) = is_fired c.fires ≡ true
+Fires (Err f) = ⊥
+
+abbrev pub IsRefused : PostFault → Result Changed PostFault → Type 0
+IsRefused NoMemory meant = Fires meant
+IsRefused TooLong meant = meant ≡ Err TooLong
+IsRefused NoSuchPost meant = meant ≡ Err NoSuchPost
+IsRefused NotTrashed meant = meant ≡ Err NotTrashed
+IsRefused IsTrashed meant = meant ≡ Err IsTrashed
+IsRefused TooManyPosts meant = meant ≡ Err TooManyPosts
+
+abbrev pub Changes : {A : Type 0} → (Changed → A) → Result A PostFault → Result Changed PostFault → List (Option Post) → List (Option Post) → Type 0
+Changes part (Ok answer) meant old new = Done part answer new meant
+Changes part (Err f) meant old new = IsRefused f meant × (new ≡ old)

@@ -1,0 +1,27 @@
+-- The published posts, newest date first, then greatest id (the order of a front page; own where dates are the same).
+use Rattle.std.specs.Prelude.{ℕ, List, [], ◌∷◌, length, insert, position, unwrap_or, map, Bool, ◌&&◌, ◌||◌, nat_lt, nat_eq, if◌then◌else◌, Option, Some, None}
+use Rattle.press_posts.specs.declared.post.Post.{Post}
+use Rattle.press_posts.specs.declared.posts.Dated.{Dated}
+use Rattle.press_posts.specs.PostChange.{is_publish}
+
+abbrev pub dated_of : Option Post → Option Dated
+dated_of None = None
+dated_of (Some p) = if is_publish p.status then Some (record { date = p.date; id = p.id }) else None
+
+abbrev pub is_older : Dated → Dated → Bool
+is_older a b = nat_lt a.date b.date || (nat_eq a.date b.date && nat_lt a.id b.id)
+
+-- before the first that is older, or last
+abbrev pub place_in : Dated → List Dated → ℕ
+place_in d ds = unwrap_or (position (λ e. is_older e d) ds) (length ds)
+
+abbrev pub with_dated : Option Dated → List Dated → List Dated
+with_dated None ds = ds
+with_dated (Some d) ds = insert ds (place_in d ds) d
+
+abbrev pub newest_first : List (Option Post) → List Dated
+newest_first [] = []
+newest_first (p ∷ ps) = with_dated (dated_of p) (newest_first ps)
+
+abbrev pub published : List (Option Post) → List ℕ
+published posts = map (λ (d : Dated). d.id) (newest_first posts)

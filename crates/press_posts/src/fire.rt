@@ -1,0 +1,140 @@
+//! The actions that a change of a post fires.
+
+ghost use Rattle.std.specs.Prelude.{◌≡◌, ◌++◌, ◌∷◌, [], None, IfOk, codes, decimal, string_bytes};
+ghost use Rattle.press_text.specs.Names.{name_fault};
+ghost use Rattle.press_posts.specs.Transitions.{old_word, transition, general, turned_name, turned, reached_name, reached, saved, inserts, updates};
+
+use crate::status::Status;
+use press_text::{HookName, Items, NameFault, Text};
+use std::alloc::{AllocError, Global};
+
+/// An action, and the arguments that its callbacks get.
+#[derive(Debug, Drop)]
+pub struct Fire {
+    pub hook: HookName,
+    pub args: Items<Text>,
+}
+
+// What a transition of a post fires; None for the status before the post was.
+pub fn transition(
+    alloc: Global,
+    old: Option<Status>,
+    new: Status,
+    id: u64,
+) -> Result<Vec<Fire>, AllocError>
+    ensures { IfOk result (λ fs. fs.items ≡ transition old new id) }
+{
+    let general = general(alloc, old, new, id)?;
+    let turned = turned(alloc, old, new, id)?;
+    let reached = reached(alloc, new, id)?;
+    Ok(vec![in alloc; general, turned, reached]?)
+}
+
+/// What an insert fires.
+pub fn inserts(alloc: Global, new: Status, id: u64) -> Result<Items<Fire>, AllocError>
+    ensures { IfOk result (λ fs. fs ≡ inserts new id) }
+{
+    let mut fires = transition(alloc, None, new, id)?;
+    fires.push(saved(alloc, id, "")?)?;
+    Ok(Items::from_vec(fires))
+}
+
+/// What an update fires.
+pub fn updates(alloc: Global, old: Status, new: Status, id: u64) -> Result<Items<Fire>, AllocError>
+    ensures { IfOk result (λ fs. fs ≡ updates old new id) }
+{
+    let mut fires = transition(alloc, Some(old), new, id)?;
+    fires.push(saved(alloc, id, "1")?)?;
+    Ok(Items::from_vec(fires))
+}
+
+fn general(alloc: Global, old: Option<Status>, new: Status, id: u64) -> Result<Fire, AllocError>
+    ensures { IfOk result (λ f. f ≡ general old new id) }
+{
+    let new = Text::from_str(alloc, new.word())?;
+    let old = Text::from_str(alloc, old_word(old))?;
+    let id = decimal(alloc, id)?;
+    let args = Items::from_vec(vec![in alloc; new, old, id]?);
+    Ok(Fire {
+        hook: hook_named(alloc, "transition_post_status")?,
+        args,
+    })
+}
+
+fn turned(alloc: Global, old: Option<Status>, new: Status, id: u64) -> Result<Fire, AllocError>
+    ensures { IfOk result (λ f. f ≡ turned old new id) }
+{
+    let name = turned_name(alloc, old_word(old), new.word())?;
+    of_id(alloc, name.as_str(), id)
+}
+
+fn turned_name(alloc: Global, old: &str, new: &str) -> Result<String, AllocError>
+    ensures { IfOk result (λ t. string_bytes t ≡ turned_name old.now new.now) }
+{
+    format!(in alloc; "{old}_to_{new}")
+}
+
+fn reached(alloc: Global, new: Status, id: u64) -> Result<Fire, AllocError>
+    ensures { IfOk result (λ f. f ≡ reached new id) }
+{
+    let name = reached_name(alloc, new.word())?;
+    of_id(alloc, name.as_str(), id)
+}
+
+fn reached_name(alloc: Global, new: &str) -> Result<String, AllocError>
+    ensures { IfOk result (λ t. string_bytes t ≡ reached_name new.now) }
+{
+    format!(in alloc; "{new}_post")
+}
+
+fn saved(alloc: Global, id: u64, update: &str) -> Result<Fire, AllocError>
+    ensures { IfOk result (λ f. f ≡ saved id update.now) }
+{
+    let update = Text::from_str(alloc, update)?;
+    let id = decimal(alloc, id)?;
+    let args = Items::from_vec(vec![in alloc; id, update]?);
+    Ok(Fire {
+        hook: hook_named(alloc, "save_post")?,
+        args,
+    })
+}
+
+// An action with a post's id alone.
+fn of_id(alloc: Global, name: &str, id: u64) -> Result<Fire, AllocError>
+    requires { name_fault 64 name.now ≡ None }
+    ensures { IfOk result (λ f. f ≡ record { hook = name.now; args = decimal id ∷ [] }) }
+{
+    let id = decimal(alloc, id)?;
+    let args = Items::from_vec(vec![in alloc; id]?);
+    Ok(Fire {
+        hook: hook_named(alloc, name)?,
+        args,
+    })
+}
+
+fn hook_named(alloc: Global, name: &str) -> Result<HookName, AllocError>
+    requires { name_fault 64 name.now ≡ None }
+    ensures { IfOk result (λ h. h ≡ name.now) }
+{
+    match HookName::new(alloc, name) {
+        Ok(hook) => Ok(hook),
+        Err(NameFault::NoMemory) => Err(AllocError),
+        Err(NameFault::BadName) | Err(NameFault::TooLong) => unreachable!(),
+    }
+}
+
+fn old_word(old: Option<Status>) -> &'static str
+    ensures { result.now ≡ old_word old }
+{
+    match old {
+        None => "new",
+        Some(status) => status.word(),
+    }
+}
+
+fn decimal(alloc: Global, n: u64) -> Result<Text, AllocError>
+    ensures { IfOk result (λ t. t ≡ decimal n) }
+{
+    let text = format!(in alloc; "{n}")?;
+    Text::from_str(alloc, text.as_str())
+}

@@ -1,0 +1,14 @@
+//! Posts: what a change of them comes to, which actions each change of a status fires, and which posts are published.
+#![tactic(auto)]
+
+mod fault;
+mod fire;
+mod post;
+mod posts;
+mod status;
+
+pub use fault::PostFault;
+pub use fire::Fire;
+pub use post::{Move, Post};
+pub use posts::Posts;
+pub use status::Status;

@@ -1,0 +1,86 @@
+ghost use Rattle.std.specs.Prelude.{◌≡◌};
+ghost use Rattle.press_posts.specs.PostChange.{is_due, is_too_long, edit_fault, status_moved};
+
+use crate::fault::PostFault;
+use crate::status::Status;
+use press_text::{Copied, Moment, Text};
+use std::alloc::{AllocError, Global};
+
+const MOST_TITLE: usize = 1024;
+
+const MOST_CONTENT: usize = 65_536;
+
+#[derive(Debug, Drop)]
+pub struct Post {
+    pub id: u64,
+    pub title: Text,
+    pub content: Text,
+    pub status: Status,
+    pub date: Moment,
+}
+
+/// A change of a post's status alone.
+#[derive(Clone, Copy, Debug)]
+pub enum Move {
+    Trash,
+    /// Out of the trash, to draft.
+    Untrash,
+    /// Where the post is future and its date isn't after this moment.
+    PublishDue(Moment),
+}
+
+impl Post {
+    /// Whether it is to be published at that moment.
+    pub fn is_due(&self, now: Moment) -> bool
+        ensures { result ≡ is_due now self.now }
+    {
+        self.status.is_future() && self.date.seconds() <= now.seconds()
+    }
+
+    /// Why an edit of it is refused, where it is.
+    pub fn edit_fault(&self, title: &str, content: &str, status: Status) -> Option<PostFault>
+        ensures { result ≡ edit_fault title.now content.now status self.now }
+    {
+        if self.status.is_trash() || status.is_trash() {
+            return Some(PostFault::IsTrashed);
+        }
+        if is_too_long(title, content) {
+            return Some(PostFault::TooLong);
+        }
+        None
+    }
+
+    /// The status that a move gives it; None where the move leaves it as it is.
+    pub fn moved(&self, to: Move) -> Result<Option<Status>, PostFault>
+        ensures { result ≡ status_moved to self.now }
+    {
+        let trashed = self.status.is_trash();
+        match to {
+            Move::Untrash if trashed => Ok(Some(Status::Draft)),
+            Move::Untrash => Err(PostFault::NotTrashed),
+            Move::Trash | Move::PublishDue(_) if trashed => Err(PostFault::IsTrashed),
+            Move::Trash => Ok(Some(Status::Trash)),
+            Move::PublishDue(now) if self.is_due(now) => Ok(Some(Status::Publish)),
+            Move::PublishDue(_) => Ok(None),
+        }
+    }
+}
+
+/// Whether a title or a content is longer than a post may have it.
+pub fn is_too_long(title: &str, content: &str) -> bool
+    ensures { result ≡ is_too_long title.now content.now }
+{
+    title.len() > MOST_TITLE || content.len() > MOST_CONTENT
+}
+
+impl Copied for Post {
+    fn copied(&self, alloc: Global) -> Result<Post, AllocError> {
+        Ok(Post {
+            id: self.id,
+            title: self.title.copy(alloc)?,
+            content: self.content.copy(alloc)?,
+            status: self.status,
+            date: self.date,
+        })
+    }
+}
