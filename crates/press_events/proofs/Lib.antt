@@ -1,1 +1,2 @@
+pub mod ByTime
 pub mod Vectors
