@@ -1,10 +1,10 @@
 -- Scheduling, cancelling and taking events keep them by time.
-use Rattle.std.proofs.Common.{◌≡◌, refl, sym, subst, ap, ℕ, zero, suc, ◌+◌, ◌<◌, ◌≤◌, List, [], ◌∷◌, ◌++◌, length, take, drop, filter, Bool, true, false, not, cond, nat_lt, nat_le, Option, Some, None, arith}
-use Rattle.std.specs.Prelude.{insert, remove, position, unwrap_or, slice_index_or}
-use Rattle.std.specs.List.{prefix_len, position_or_len}
+use Rattle.std.proofs.Common.{◌≡◌, refl, ap, ℕ, zero, suc, ◌+◌, ◌≤◌, List, [], ◌∷◌, length, filter, Bool, true, false, not, cond, nat_lt, Some, None, arith}
+use Rattle.std.specs.Prelude.{insert, remove, unwrap_or}
+use Rattle.std.specs.List.{position_or_len}
 use Rattle.std.proofs.lemmas.Bool.Decides.{nat_tests}
 use Rattle.press_events.specs.declared.event.Event.{Event}
-use Rattle.press_events.specs.DueEvents.{NoneBefore, IsByTime, is_later, is_due, is_of, place_in, place_of, stands, scheduled, cancelled, due, put_again, again, taken_at, take_event, moment_next}
+use Rattle.press_events.specs.DueEvents.{NoneBefore, IsByTime, is_later, place_in, stands, scheduled, put_again}
 
 none_weaker : (s t : ℕ) (es : List Event) → s ≤ t → NoneBefore t es → NoneBefore s es
 none_weaker s t [] h k = tt
