@@ -1,1 +1,1 @@
-mod Vectors
+pub mod Vectors

@@ -1,5 +1,6 @@
 -- The published posts, newest date first, then greatest id (the order of a front page; own where dates are the same).
-use Rattle.std.specs.Prelude.{ℕ, List, [], ◌∷◌, length, insert, position, unwrap_or, map, Bool, ◌&&◌, ◌||◌, nat_lt, nat_eq, if◌then◌else◌, Option, Some, None}
+use Rattle.std.specs.Prelude.{ℕ, ◌-◌, List, [], ◌∷◌, length, insert, map, Bool, ◌&&◌, ◌||◌, nat_lt, nat_eq, if◌then◌else◌, Option, Some, None}
+use Rattle.std.specs.List.{suffix_len}
 use Rattle.press_posts.specs.declared.post.Post.{Post}
 use Rattle.press_posts.specs.declared.posts.Dated.{Dated}
 use Rattle.press_posts.specs.PostChange.{is_publish}
@@ -11,9 +12,9 @@ dated_of (Some p) = if is_publish p.status then Some (record { date = p.date; id
 abbrev pub is_older : Dated → Dated → Bool
 is_older a b = nat_lt a.date b.date || (nat_eq a.date b.date && nat_lt a.id b.id)
 
--- before the first that is older, or last
+-- before the older ones at the end
 abbrev pub place_in : Dated → List Dated → ℕ
-place_in d ds = unwrap_or (position (λ e. is_older e d) ds) (length ds)
+place_in d ds = length ds - suffix_len (λ e. is_older e d) ds
 
 abbrev pub with_dated : Option Dated → List Dated → List Dated
 with_dated None ds = ds
