@@ -1,1 +1,2 @@
+pub mod Order
 pub mod Vectors

@@ -1,5 +1,5 @@
 -- The published posts, newest date first, then greatest id (the order of a front page; own where dates are the same).
-use Rattle.std.specs.Prelude.{ℕ, ◌-◌, List, [], ◌∷◌, length, insert, map, Bool, ◌&&◌, ◌||◌, nat_lt, nat_eq, if◌then◌else◌, Option, Some, None}
+use Rattle.std.specs.Prelude.{◌≡◌, ℕ, ◌-◌, List, reverse, IsPermutation, false, [], ◌∷◌, length, insert, map, Bool, ◌&&◌, ◌||◌, nat_lt, nat_eq, if◌then◌else◌, Option, Some, None}
 use Rattle.std.specs.List.{suffix_len}
 use Rattle.press_posts.specs.declared.post.Post.{Post}
 use Rattle.press_posts.specs.declared.posts.Dated.{Dated}
@@ -26,3 +26,26 @@ newest_first (p ∷ ps) = with_dated (dated_of p) (newest_first ps)
 
 abbrev pub published : List (Option Post) → List ℕ
 published posts = map (λ (d : Dated). d.id) (newest_first posts)
+
+-- ---- what the order is: each published post once, and read from the end, none is older than one before it
+
+abbrev pub with_listed : Option Dated → List Dated → List Dated
+with_listed None ds = ds
+with_listed (Some d) ds = d ∷ ds
+
+-- the published posts in the order of their ids
+abbrev pub listed : List (Option Post) → List Dated
+listed [] = []
+listed (p ∷ ps) = with_listed (dated_of p) (listed ps)
+
+abbrev pub NoneOlder : Dated → List Dated → Type 0
+NoneOlder d [] = Unit {0}
+NoneOlder d (e ∷ es) = (is_older e d ≡ false) × NoneOlder d es
+
+abbrev pub IsOldestFirst : List Dated → Type 0
+IsOldestFirst [] = Unit {0}
+IsOldestFirst (d ∷ ds) = NoneOlder d ds × IsOldestFirst ds
+
+pub record IsInOrder (posts : List (Option Post)) : Type 0 where
+  pub once : IsPermutation (listed posts) (newest_first posts)
+  pub order : IsOldestFirst (reverse (newest_first posts))
