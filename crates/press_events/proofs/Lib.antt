@@ -1,1 +1,3 @@
+pub mod ByTime
+pub mod Moments
 pub mod Vectors

@@ -1,7 +1,7 @@
 -- Scheduled events (Plugin Handbook, Cron: `wp_schedule_event`, `wp_clear_scheduled_hook`, `wp_reschedule_event`, `wp_get_schedules`; that nearness in time
 -- refuses nothing, limits and what a taken event becomes are own).
 -- Events stand by time, then in the order in which they were scheduled. The identity of one is its time, hook and argument.
-use Rattle.std.specs.Prelude.{◌≡◌, ℕ, ◌+◌, ◌-◌, ◌*◌, ◌/◌, List, length, filter, insert, remove, position, unwrap_or, slice_index_or, Bool, true, false, not, ◌&&◌, nat_eq, nat_lt, nat_le, bytes_eq, if◌then◌else◌, Option, Some, None, Result, Ok, Err}
+use Rattle.std.specs.Prelude.{◌≡◌, ℕ, ◌<◌, ◌≤◌, ◌+◌, ◌-◌, ◌*◌, ◌/◌, List, [], ◌∷◌, length, filter, insert, remove, position, unwrap_or, slice_index_or, Bool, true, false, not, ◌&&◌, nat_eq, nat_lt, nat_le, bytes_eq, if◌then◌else◌, Option, Some, None, Result, Ok, Err}
 use Rattle.std.specs.List.{list_any}
 use Rattle.press_text.specs.Moments.{moment_of}
 use Rattle.press_text.specs.declared.every.Every.{Every}
@@ -30,6 +30,16 @@ is_later moment e = nat_lt moment e.time
 
 abbrev pub is_due : ℕ → Event → Bool
 is_due now e = nat_le e.time now
+
+-- ---- the order: none of the events behind one is earlier
+
+abbrev pub NoneBefore : ℕ → List Event → Type 0
+NoneBefore time [] = Unit {0}
+NoneBefore time (e ∷ es) = (time ≤ e.time) × NoneBefore time es
+
+abbrev pub IsByTime : List Event → Type 0
+IsByTime [] = Unit {0}
+IsByTime (e ∷ es) = NoneBefore e.time es × IsByTime es
 
 -- ---- scheduling: before the first event that is later, or last
 
@@ -70,6 +80,12 @@ interval Daily = Some 86400
 
 abbrev pub moment_after : ℕ → ℕ → ℕ → ℕ
 moment_after interval time now = time + ((now - time) / interval + 1) * interval
+
+-- a moment by which so many intervals, at least one, have passed since the time; it is after now, and no such moment is earlier
+pub record IsLeastAfter (interval time now moment : ℕ) : Type 0 where
+  pub counts : (n : ℕ) × ((1 ≤ n) × (moment ≡ time + n * interval))
+  pub later : now < moment
+  pub least : (n : ℕ) → 1 ≤ n → now < time + n * interval → moment ≤ time + n * interval
 
 abbrev pub moment_again : Option ℕ → ℕ → ℕ → Option ℕ
 moment_again None time now = None

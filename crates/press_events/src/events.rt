@@ -2,7 +2,7 @@
 
 ghost use Rattle.std.specs.Prelude.{◌≡◌, [], ◌<◌, ◌≤◌, length, position, unwrap_or, IfOk, IfSome, is_some, vec_len, vec_capacity};
 ghost use Rattle.std.specs.List.{list_any};
-ghost use Rattle.press_events.specs.DueEvents.{is_later, place_of, stands, place_in, Adds, add_event, cancelled, cancels, due, take_event, put_again};
+ghost use Rattle.press_events.specs.DueEvents.{is_later, place_of, stands, place_in, IsByTime, Adds, add_event, cancelled, cancels, due, take_event, put_again};
 
 use crate::event::Event;
 use crate::fault::EventFault;
@@ -23,11 +23,14 @@ pub struct Events {
 
 impl Model for Events {
     ghost use Rattle.std.specs.Prelude.{List};
+    ghost use Rattle.press_events.specs.DueEvents.{IsByTime};
     ghost use Rattle.press_events.specs.declared.event.Event.{Event};
 
     ghost Value = { List Event };
 
     ghost view = { λ e. e.events.items };
+
+    ghost invariant = { λ e. IsByTime e.events.items };
 }
 
 impl Events {
@@ -71,7 +74,8 @@ impl Events {
 
     /// The events whose time has come.
     pub fn due(&self, now: Moment) -> Result<Items<Event>, AllocError>
-        ensures { IfOk result (λ es. es ≡ due now self.now) }
+        ensures events { IfOk result (λ es. es ≡ due now self.now) }
+        ensures order { IfOk result (λ es. IsByTime es) }
     {
         due(self.alloc, self.events.as_slice(), now)
     }

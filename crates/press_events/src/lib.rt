@@ -6,7 +6,9 @@
 mod event;
 mod events;
 mod fault;
+mod laws;
 
 pub use event::Event;
 pub use events::Events;
 pub use fault::EventFault;
+pub use laws::comes_again_first;

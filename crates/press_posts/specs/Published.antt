@@ -1,5 +1,6 @@
 -- The published posts, newest date first, then greatest id (the order of a front page; own where dates are the same).
-use Rattle.std.specs.Prelude.{ℕ, List, [], ◌∷◌, length, insert, position, unwrap_or, map, Bool, ◌&&◌, ◌||◌, nat_lt, nat_eq, if◌then◌else◌, Option, Some, None}
+use Rattle.std.specs.Prelude.{◌≡◌, ℕ, ◌-◌, List, reverse, IsPermutation, false, [], ◌∷◌, length, insert, map, Bool, ◌&&◌, ◌||◌, nat_lt, nat_eq, if◌then◌else◌, Option, Some, None}
+use Rattle.std.specs.List.{suffix_len}
 use Rattle.press_posts.specs.declared.post.Post.{Post}
 use Rattle.press_posts.specs.declared.posts.Dated.{Dated}
 use Rattle.press_posts.specs.PostChange.{is_publish}
@@ -11,9 +12,9 @@ dated_of (Some p) = if is_publish p.status then Some (record { date = p.date; id
 abbrev pub is_older : Dated → Dated → Bool
 is_older a b = nat_lt a.date b.date || (nat_eq a.date b.date && nat_lt a.id b.id)
 
--- before the first that is older, or last
+-- before the older ones at the end
 abbrev pub place_in : Dated → List Dated → ℕ
-place_in d ds = unwrap_or (position (λ e. is_older e d) ds) (length ds)
+place_in d ds = length ds - suffix_len (λ e. is_older e d) ds
 
 abbrev pub with_dated : Option Dated → List Dated → List Dated
 with_dated None ds = ds
@@ -25,3 +26,26 @@ newest_first (p ∷ ps) = with_dated (dated_of p) (newest_first ps)
 
 abbrev pub published : List (Option Post) → List ℕ
 published posts = map (λ (d : Dated). d.id) (newest_first posts)
+
+-- ---- what the order is: each published post once, and read from the end, none is older than one before it
+
+abbrev pub with_listed : Option Dated → List Dated → List Dated
+with_listed None ds = ds
+with_listed (Some d) ds = d ∷ ds
+
+-- the published posts in the order of their ids
+abbrev pub listed : List (Option Post) → List Dated
+listed [] = []
+listed (p ∷ ps) = with_listed (dated_of p) (listed ps)
+
+abbrev pub NoneOlder : Dated → List Dated → Type 0
+NoneOlder d [] = Unit {0}
+NoneOlder d (e ∷ es) = (is_older e d ≡ false) × NoneOlder d es
+
+abbrev pub IsOldestFirst : List Dated → Type 0
+IsOldestFirst [] = Unit {0}
+IsOldestFirst (d ∷ ds) = NoneOlder d ds × IsOldestFirst ds
+
+pub record IsInOrder (posts : List (Option Post)) : Type 0 where
+  pub once : IsPermutation (listed posts) (newest_first posts)
+  pub order : IsOldestFirst (reverse (newest_first posts))

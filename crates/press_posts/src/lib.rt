@@ -3,12 +3,14 @@
 
 mod fault;
 mod fire;
+mod laws;
 mod post;
 mod posts;
 mod status;
 
 pub use fault::PostFault;
 pub use fire::Fire;
+pub use laws::published_in_order;
 pub use post::{Move, Post};
 pub use posts::Posts;
 pub use status::Status;

@@ -1,6 +1,6 @@
 //! The posts of a site, each at the place of its id.
 
-ghost use Rattle.std.specs.Prelude.{◌≡◌, ℕ, [], ◌<◌, ◌≤◌, length, position, unwrap_or, insert, map, option_map, IfOk, IfSome, OnOk, OnErr, is_some, true, Some};
+ghost use Rattle.std.specs.Prelude.{◌≡◌, ℕ, [], ◌<◌, ◌≤◌, length, map, option_map, IfOk, IfSome, OnOk, OnErr, is_some, true, Some};
 ghost use Rattle.press_posts.specs.PostChange.{Changes, post_change, post_at, put_at, with_status, standing, is_full, insert_fault};
 ghost use Rattle.press_posts.specs.Transitions.{transition};
 ghost use Rattle.press_posts.specs.PostChange.Change.{Insert, Edit, Moves, Delete};
@@ -150,7 +150,7 @@ impl Posts {
         }
     }
 
-    /// The published posts, newest date first, then greatest id. It puts them in order anew at each call.
+    /// The published posts, newest date first, then greatest id. It puts them in order anew at each call, in one pass where they are dated in the order of their ids.
     pub fn published(&self) -> Result<Items<u64>, AllocError>
         ensures { IfOk result (λ ids. ids ≡ published self.now) }
     {
@@ -245,7 +245,7 @@ fn put_dated(found: &mut Vec<Dated>, dated: Option<Dated>) -> Result<(), AllocEr
     let Some(dated) = dated else {
         return Ok(());
     };
-    let place = place_of(found, &dated);
+    let place = place_in(found, &dated);
     found.insert(place, dated)?;
     Ok(())
 }
@@ -262,18 +262,16 @@ fn dated_of(place: &Option<Post>) -> Option<Dated>
     }
 }
 
-fn place_of(found: &[Dated], dated: &Dated) -> usize
+// Looked for from the end: where posts are dated in the order of their ids, it is found at once.
+fn place_in(found: &[Dated], dated: &Dated) -> usize
     ensures place { result ≡ place_in dated.now found.now }
     ensures within { result ≤ length found.now }
 {
-    first_older(found, dated).unwrap_or(found.len())
-}
-
-fn first_older(found: &[Dated], dated: &Dated) -> Option<usize>
-    ensures place { result ≡ position (λ e. is_older e dated.now) found.now }
-    ensures within { IfSome result (λ i. i < length found.now) }
-{
-    found.iter().position(|e| is_older(e, dated))
+    let mut place = found.len();
+    while place > 0 && is_older(&found[place - 1], dated) {
+        place -= 1;
+    }
+    place
 }
 
 fn is_older(a: &Dated, b: &Dated) -> bool

@@ -1,0 +1,4 @@
+use Rattle.press_events.proofs.events.Events.new.Goals as goal
+
+pub invariant_of-result : goal.invariant_of-result
+invariant_of-result c = rw c.new.ensures.items tt
