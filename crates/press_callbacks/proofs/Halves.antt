@@ -83,10 +83,10 @@ slotted name x y ys n false e o k =
     let first : is_before (name x) (name y) ≡ true = before (is_before (name x) (name y)) e in
     let not_back : is_before (name y) (name x) ≡ false = weak.one_way (name x) (name y) first in
     and _ _
-      (and (not (is_before (name y) (name x))) _ (ap not not_back)
-        (all_weaker (λ z. not (is_before (name z) (name y))) (λ z. not (is_before (name z) (name x)))
-          (λ z h. ap not (weak.chain (name z) (name y) (name x) (not_true (is_before (name z) (name y)) h) not_back)) ys b.0))
-      o
+    (and (not (is_before (name y) (name x))) _ (ap not not_back)
+    (all_weaker (λ z. not (is_before (name z) (name y))) (λ z. not (is_before (name z) (name x)))
+    (λ z h. ap not (weak.chain (name z) (name y) (name x) (not_true (is_before (name z) (name y)) h) not_back)) ys b.0))
+    o
   where
     before : (b : Bool) → not b ≡ false → b ≡ true
     before true e = refl
@@ -131,7 +131,7 @@ parted name n (x ∷ xs) o zero (suc j) d le lt t =
     let b = both (list_all (λ z. not (is_before (name z) (name x))) xs) (in_order name xs) o in
     let in' : j < length xs = omega arith in
     earlier (name x) (name (get_or xs j d)) n (is_before (name x) n) refl
-      (not_true (is_before (name (get_or xs j d)) (name x)) (all_at (λ z. not (is_before (name z) (name x))) xs j d b.0 in')) t
+    (not_true (is_before (name (get_or xs j d)) (name x)) (all_at (λ z. not (is_before (name z) (name x))) xs j d b.0 in')) t
 parted name n (x ∷ xs) o (suc i) zero d le lt t = absurd (omega arith)
 parted name n (x ∷ xs) o (suc i) (suc j) d le lt t =
     let b = both (list_all (λ z. not (is_before (name z) (name x))) xs) (in_order name xs) o in

@@ -18,4 +18,4 @@ returns g c =
     let within : c.first_not_before-place.result < length c.args.sorted.now = omega arith in
     let e : bytes_eq (g.T.Named.name c.index-sorted-place.result) c.args.name.now ≡ false = cc in
     sym (missed g.T.Named.name c.args.name.now c.args.sorted.now c.first_not_before-place.result c.index-sorted-place.result c.requires c.first_not_before-place.ensures.parts.0 c.first_not_before-place.ensures.parts.1 within
-      (ap (λ x. bytes_eq (g.T.Named.name x) c.args.name.now) (sym c.index-sorted-place.is) ∙ e))
+    (ap (λ x. bytes_eq (g.T.Named.name x) c.args.name.now) (sym c.index-sorted-place.is) ∙ e))
