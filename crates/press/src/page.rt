@@ -12,7 +12,7 @@ use crate::site::{Post, Site};
 use crate::template;
 use press_callbacks::{Kit, Tables};
 use press_run::{Fire, Job, Machine, Out, RunFault, boot};
-use press_text::{HookName, Items, Name, NameFault, Text, esc_html};
+use press_text::{HookName, Items, Name, NameFault, Text, Texts, esc_html};
 use std::alloc::{AllocError, Global};
 
 /// What is asked of a site.
@@ -111,7 +111,8 @@ fn body_of(alloc: Global, active: &[Name], kit: &Kit, post: &Post) -> Result<Tex
         out: Out::new(alloc),
     };
     rendering.post_page(alloc, kit, name.as_str(), post)?;
-    Ok(Text::from_string(rendering.out.into_text()))
+    let body = Text::from_string(rendering.out.into_text())?;
+    Ok(body)
 }
 
 impl Rendering {
@@ -191,7 +192,7 @@ impl Rendering {
         &mut self,
         kit: &Kit,
         hook: HookName,
-        args: Items<Text>,
+        args: Texts,
     ) -> Result<(), RunFault>
         ensures { Steps (puts_filtered (callbacks_of (scripts_in kit.now)) hook args (state_in self.old)) (state_in self.new) result }
     {
@@ -230,7 +231,7 @@ fn bare(alloc: Global, hook: &str) -> Result<Fire, AllocError>
 {
     Ok(Fire {
         hook: hook_named(alloc, hook)?,
-        args: Items::new(alloc),
+        args: Texts::new(alloc),
     })
 }
 
@@ -251,17 +252,17 @@ fn boot_actions(alloc: Global) -> Result<Items<Fire>, AllocError>
     Ok(Items::from_vec(vec![in alloc; loaded, init, ready]?))
 }
 
-fn title_args(alloc: Global, post: &Post) -> Result<Items<Text>, AllocError>
+fn title_args(alloc: Global, post: &Post) -> Result<Texts, AllocError>
     ensures { IfOk result (λ ts. ts ≡ post.now.title ∷ decimal post.now.id ∷ []) }
 {
     let title = post.title.copy(alloc)?;
     let id = template::decimal(alloc, post.id)?;
-    Ok(Items::from_vec(vec![in alloc; title, id]?))
+    Texts::from_vec(vec![in alloc; title, id]?)
 }
 
-fn content_args(alloc: Global, post: &Post) -> Result<Items<Text>, AllocError>
+fn content_args(alloc: Global, post: &Post) -> Result<Texts, AllocError>
     ensures { IfOk result (λ ts. ts ≡ post.now.content ∷ []) }
 {
     let content = post.content.copy(alloc)?;
-    Ok(Items::from_vec(vec![in alloc; content]?))
+    Texts::from_vec(vec![in alloc; content]?)
 }

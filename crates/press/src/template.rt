@@ -37,12 +37,12 @@ fn fixed_text(alloc: Global, line: &str) -> Result<String, AllocError>
 pub fn fixed_body(alloc: Global, line: &str) -> Result<Text, AllocError>
     ensures { IfOk result (λ t. t ≡ spec.fixed_body line.now) }
 {
-    Ok(Text::from_string(fixed_text(alloc, line)?))
+    Text::from_string(fixed_text(alloc, line)?)
 }
 
 pub fn decimal(alloc: Global, n: u64) -> Result<Text, AllocError>
     ensures { IfOk result (λ t. t ≡ decimal n) }
 {
     let text = format!(in alloc; "{n}")?;
-    Ok(Text::from_string(text))
+    Text::from_string(text)
 }

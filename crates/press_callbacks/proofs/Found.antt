@@ -1,12 +1,14 @@
 -- The first thing of a name, as a list is walked.
 use Rattle.std.proofs.Common.{◌≡◌, refl, sym, ◌∙◌, ap, ℕ, zero, suc, ◌+◌, ◌<◌, ◌≤◌, true, false, cond, bytes_eq, List, [], ◌∷◌, map, length, get_or, drop, Bool, Option, Some, None, arith, add-one, drop-cons}
-use Rattle.std.specs.Prelude.{◌||◌}
+use Rattle.std.specs.Prelude.{◌||◌, option_map, slice_get, IfSome, IsNone}
+use Rattle.std.proofs.lemmas.Slice.Eq.{bytes_eq-Decides}
 use Rattle.std.specs.List.{list_any}
 use Rattle.std.proofs.Math.ListN.{drop_of_length-le}
 use Rattle.std.proofs.lemmas.List.{length-map}
 use Rattle.press_callbacks.specs.declared.script.Op.{Op}
 use Rattle.press_callbacks.specs.declared.plugin.Plugin.{Plugin}
 use Rattle.press_callbacks.specs.Kits.{Scripts, script_of, script_at, name_at, is_named, plugin_of, has_two}
+use Rattle.press_callbacks.specs.Order.{place_of}
 
 script_step : {A : Type 0} (f : A → List ℕ × List Op) (id : List ℕ) (xs : List A) (i : ℕ) (x : A) → i < length xs → x ≡ get_or xs i x → script_of id (drop i (map f xs)) ≡ cond (bytes_eq (f x).0 id) (Some (f x).1) (script_of id (drop (i + 1) (map f xs)))
 script_step f id [] i x h e = absurd (omega arith)
@@ -64,3 +66,50 @@ two_found name xs i x h e t = two_step name xs i x h e ∙ ap (λ b. b || has_tw
 
 pub two_passed : {A : Type 0} (name : A → List ℕ) (xs : List A) (i : ℕ) (x : A) → i < length xs → x ≡ get_or xs i x → list_any (λ y. bytes_eq (name y) (name x)) (drop (i + 1) xs) ≡ false → has_two name (drop (i + 1) xs) ≡ has_two name (drop i xs)
 two_passed name xs i x h e t = sym (two_step name xs i x h e ∙ ap (λ b. b || has_two name (drop (i + 1) xs)) t)
+
+-- ---- the first of a name, by its place
+
+script_later : (c : List ℕ × List Op) (cs : Scripts) (place : Option ℕ) → script_at (option_map suc place) (c ∷ cs) ≡ script_at place cs
+script_later c cs None = refl
+script_later c cs (Some i) = refl
+
+script_where : (b : Bool) (c : List ℕ × List Op) (cs : Scripts) (place : Option ℕ) (rest : Option (List Op)) → script_at place cs ≡ rest → script_at (cond b (Some 0) (option_map suc place)) (c ∷ cs) ≡ cond b (Some c.1) rest
+script_where true c cs place rest e = refl
+script_where false c cs place rest e = script_later c cs place ∙ e
+
+pub script_placed : {A : Type 0} (f : A → List ℕ × List Op) (id : List ℕ) (xs : List A) → script_at (place_of (λ x. (f x).0) id xs) (map f xs) ≡ script_of id (map f xs)
+script_placed f id [] = refl
+script_placed f id (x ∷ xs) = script_where (bytes_eq (f x).0 id) (f x) (map f xs) (place_of (λ x. (f x).0) id xs) (script_of id (map f xs)) (script_placed f id xs)
+
+abbrev pub Names : Option ℕ → List ℕ → Scripts → Type 0
+Names place id cs = IfSome place (λ i. name_at i cs ≡ Some id)
+
+names_later : (c : List ℕ × List Op) (cs : Scripts) (id : List ℕ) (place : Option ℕ) → Names place id cs → Names (option_map suc place) id (c ∷ cs)
+names_later c cs id None h = h
+names_later c cs id (Some i) h = h
+
+names_where : (b : Bool) (c : List ℕ × List Op) (cs : Scripts) (id : List ℕ) (place : Option ℕ) → b ≡ bytes_eq c.0 id → Names place id cs → Names (cond b (Some 0) (option_map suc place)) id (c ∷ cs)
+names_where true c cs id place e h = ap (λ n. Some n) ((bytes_eq-Decides c.0 id).0 (sym e))
+names_where false c cs id place e h = names_later c cs id place h
+
+pub name_placed : {A : Type 0} (f : A → List ℕ × List Op) (id : List ℕ) (xs : List A) → Names (place_of (λ x. (f x).0) id xs) id (map f xs)
+name_placed f id [] = tt
+name_placed f id (x ∷ xs) = names_where (bytes_eq (f x).0 id) (f x) (map f xs) id (place_of (λ x. (f x).0) id xs) refl (name_placed f id xs)
+
+abbrev pub plugin_at : Option ℕ → List Plugin → Option Plugin
+plugin_at None ps = None
+plugin_at (Some i) ps = slice_get ps i
+
+plugin_where : (b : Bool) (p : Plugin) (ps : List Plugin) (name : List ℕ) (place : Option ℕ) (rest : Option Plugin) → plugin_at place ps ≡ rest → plugin_at (cond b (Some 0) (option_map suc place)) (p ∷ ps) ≡ cond b (Some p) rest
+plugin_where true p ps name place rest e = refl
+plugin_where false p ps name None rest e = e
+plugin_where false p ps name (Some i) rest e = e
+
+pub plugin_placed : (name : List ℕ) (ps : List Plugin) → plugin_at (place_of (λ p. p.name) name ps) ps ≡ plugin_of name ps
+plugin_placed name [] = refl
+plugin_placed name (p ∷ ps) = plugin_where (bytes_eq p.name name) p ps name (place_of (λ p. p.name) name ps) (plugin_of name ps) (plugin_placed name ps)
+
+-- no place, no script
+pub nothing : (place : Option ℕ) (cs : Scripts) → IsNone place → script_at place cs ≡ None
+nothing None cs h = refl
+nothing (Some i) cs h = cc

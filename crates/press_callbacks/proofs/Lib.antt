@@ -1,4 +1,5 @@
 pub mod Found
+pub mod Halves
 pub mod Naturals
 pub mod Plays
 pub mod Popped

@@ -1,11 +1,8 @@
 -- A kit as plain data, by name: each callback's script and each plugin's loads, in the order of the names.
 -- A kit is refused where a name stands twice or is that of a built-in callback, where a load or a script names
 -- a callback that is neither there nor built in, or for too many loads (own).
-use Rattle.std.specs.Prelude.{ℕ, List, [], ◌∷◌, length, Bool, true, false, not, ◌||◌, ◌&&◌, cond, if◌then◌else◌, nat_lt, bytes_eq, map, insert, position, unwrap_or, sum_by, count_by, Option, Some, None, option_map, slice_get, ◌≡◌, Result, Ok, Err}
+use Rattle.std.specs.Prelude.{ℕ, List, [], ◌∷◌, length, Bool, true, false, not, ◌||◌, ◌&&◌, cond, if◌then◌else◌, nat_lt, bytes_eq, map, sum_by, count_by, Option, Some, None, option_map, slice_get, ◌≡◌, Result, Ok, Err}
 use Rattle.std.specs.List.{list_any, list_all}
-use Rattle.std.specs.Cmp.Lexicographic.{slice_cmp}
-use Rattle.std.specs.Ordering.{nat_cmp}
-use Rattle.std.specs.declared.cmp.Ordering.TheVariants.{Less, Equal, Greater}
 use Rattle.press_callbacks.specs.declared.script.Op.{Op}
 use Rattle.press_callbacks.specs.declared.script.Op.TheVariants.{Set, AddHook, RemoveHook, RemoveAll, AddTag, RemoveTag, SkipIf, Apply, Do, Shortcodes, Ask, Echo, Return}
 use Rattle.press_callbacks.specs.declared.script.Ask.TheVariants as ask
@@ -16,6 +13,7 @@ use Rattle.press_callbacks.specs.declared.plugin.Load.TheVariants.{Hook, Tag}
 use Rattle.press_callbacks.specs.declared.plugin.LoadKind.{LoadKind}
 use Rattle.press_callbacks.specs.declared.plugin.LoadKind.TheVariants as kind
 use Rattle.press_callbacks.specs.BuiltIns.{is_built_in}
+use Rattle.press_callbacks.specs.Order.{by_name}
 use Rattle.press_callbacks.specs.declared.kit_fault.KitFault.{KitFault}
 use Rattle.press_callbacks.specs.declared.kit_fault.KitFault.TheVariants.{NoMemory, TwoNames, UnknownCallback, BadLoad}
 use Rattle.press_callbacks.specs.declared.stored.Stored.{Stored}
@@ -38,22 +36,6 @@ script_of id (c ∷ cs) = cond (bytes_eq c.0 id) (Some c.1) (script_of id cs)
 abbrev pub plugin_of : List ℕ → List Plugin → Option Plugin
 plugin_of name [] = None
 plugin_of name (p ∷ ps) = cond (bytes_eq p.name name) (Some p) (plugin_of name ps)
-
--- ---- the order of names
-
-abbrev pub is_before : List ℕ → List ℕ → Bool
-is_before a b = elim (slice_cmp nat_cmp a b) [ Less ↦ true | Equal ↦ false | Greater ↦ false ]
-
--- before the first of a later name, or last
-abbrev pub place_by_name : {T : Type 0} → (T → List ℕ) → T → List T → ℕ
-place_by_name name x xs = unwrap_or (position (λ y. is_before (name x) (name y)) xs) (length xs)
-
-abbrev pub put_by_name : {T : Type 0} → (T → List ℕ) → T → List T → List T
-put_by_name name x xs = insert xs (place_by_name name x xs) x
-
-abbrev pub by_name : {T : Type 0} → (T → List ℕ) → List T → List T
-by_name name [] = []
-by_name name (x ∷ xs) = put_by_name name x (by_name name xs)
 
 -- ---- what a kit shows
 

@@ -1,96 +1,14 @@
-ghost use Rattle.std.specs.Prelude.{◌≡◌, Some, IfOk, IfSome, IsNone, IsTrue, option_map, slice_get};
-ghost use Rattle.press_callbacks.specs.Kits.{id_of, script_in, scripts_in, plugins_in, callbacks_in, by_name, name_at, is_missing, kit_view, scripts_given, view_of, kit_fault, Builds, script_of, script_at, plugin_of};
+ghost use Rattle.std.specs.Prelude.{◌≡◌, true};
+ghost use Rattle.press_callbacks.specs.Order.{in_order};
 
-use crate::kit_fault::KitFault;
-use crate::known::fault_of;
-use crate::named::sorted_by_name;
 use crate::plugin::Plugin;
 use crate::stored::Stored;
-use press_text::{CallbackId, Name};
-use std::alloc::Global;
 
 /// The callbacks and plugins of a program, in the order of their names.
 #[derive(Drop)]
 pub struct Kit {
-    callbacks: Vec<Stored>,
-    plugins: Vec<Plugin>,
-}
-
-impl Kit {
-    /// Refuses by TwoNames (two callbacks or two plugins of one name, or a callback with the name of a built-in one), then
-    /// UnknownCallback (a load or a script names a callback that is neither there nor built in), then BadLoad (more than 1,000
-    /// hook loads or 128 tag loads in all plugins together). The kit's callbacks are those given, closures and all.
-    pub fn build(
-        alloc: Global,
-        callbacks: Vec<Stored>,
-        plugins: Vec<Plugin>,
-    ) -> Result<Kit, KitFault>
-        ensures builds { Builds kit_view result (kit_fault (scripts_given callbacks.items) plugins.items) (view_of (scripts_given callbacks.items) plugins.items) }
-        ensures kept { IfOk result (λ kit. callbacks_in kit ≡ by_name id_of callbacks.items) }
-    {
-        if let Some(fault) = fault_of(callbacks.as_slice(), plugins.as_slice()) {
-            return Err(fault);
-        }
-        let callbacks = sorted_by_name(alloc, callbacks)?;
-        let plugins = sorted_by_name(alloc, plugins)?;
-        Ok(Kit { callbacks, plugins })
-    }
-
-    /// The callback of that name.
-    pub fn callback(&self, id: CallbackId) -> Option<&Stored>
-        ensures found { option_map (λ c. script_in c.now) result ≡ script_of id (scripts_in self.now) }
-        ensures named { IfSome result (λ c. id_of c.now ≡ id) }
-    {
-        for c in self.callbacks.as_slice() {
-            if c.id().is(id) {
-                return Some(c);
-            }
-        }
-        None
-    }
-
-    /// The place of the callback of that name, which serves for many turns.
-    pub fn place(&self, id: CallbackId) -> Option<usize>
-        ensures script { script_at result (scripts_in self.now) ≡ script_of id (scripts_in self.now) }
-        ensures named { IfSome result (λ place. name_at place (scripts_in self.now) ≡ Some id) }
-        ensures missing { IsNone result → IsTrue (is_missing id (scripts_in self.now)) }
-    {
-        for (i, c) in self.callbacks.as_slice().iter().enumerate() {
-            if c.id().is(id) {
-                return Some(i);
-            }
-        }
-        None
-    }
-
-    /// The callback at a place.
-    pub fn at(&self, place: usize) -> Option<&Stored>
-        ensures { option_map (λ c. (id_of c.now, script_in c.now)) result ≡ slice_get (scripts_in self.now) place }
-    {
-        self.callbacks.as_slice().get(place)
-    }
-
-    /// The plugin of that name.
-    pub fn plugin(&self, name: &Name) -> Option<&Plugin>
-        ensures { option_map (λ p. p.now) result ≡ plugin_of name.now (plugins_in self.now) }
-    {
-        for p in self.plugins.as_slice() {
-            if p.name.is(name) {
-                return Some(p);
-            }
-        }
-        None
-    }
-
-    pub(crate) fn callbacks(&self) -> &[Stored]
-        ensures { result.now ≡ self.now.callbacks.items }
-    {
-        self.callbacks.as_slice()
-    }
-
-    pub(crate) fn plugins(&self) -> &[Plugin]
-        ensures { result.now ≡ self.now.plugins.items }
-    {
-        self.plugins.as_slice()
-    }
+    pub(crate) callbacks: Vec<Stored>,
+    pub(crate) plugins: Vec<Plugin>,
+    ghost callbacks_in_order: { in_order (λ c. c.id) callbacks.items ≡ true },
+    ghost plugins_in_order: { in_order (λ p. p.name) plugins.items ≡ true },
 }

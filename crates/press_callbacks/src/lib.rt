@@ -8,6 +8,7 @@ mod callback;
 mod copies;
 mod kit;
 mod kit_fault;
+mod kits;
 mod known;
 mod named;
 mod plugin;

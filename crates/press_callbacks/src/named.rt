@@ -1,7 +1,9 @@
 //! Things with a name: whether a name stands twice, and their order by name.
 
-ghost use Rattle.std.specs.Prelude.{◌≡◌, ◌≤◌, ◌<◌, ℕ, List, IfOk, IfSome, OnOk, length, position, unwrap_or, bytes_eq};
-ghost use Rattle.press_callbacks.specs.Kits.{by_name, put_by_name, place_by_name, has_two, is_before, is_named as named_in};
+ghost use Rattle.std.specs.Prelude.{◌≡◌, ◌≤◌, ◌<◌, ℕ, List, IfOk, IfSome, OnOk, length, position, unwrap_or, bytes_eq, true, false};
+ghost use Rattle.std.specs.List.Sorted.{IsPartitionPoint};
+ghost use Rattle.press_callbacks.specs.Kits.{has_two, is_named as named_in};
+ghost use Rattle.press_callbacks.specs.Order.{by_name, put_by_name, place_by_name, place_of, in_order, is_before};
 
 use crate::plugin::Plugin;
 use crate::stored::Stored;
@@ -100,6 +102,30 @@ fn first_after<T: Named>(sorted: &[T], name: &[u8]) -> Option<usize>
     ensures within { IfSome result (λ i. i < length sorted.now) }
 {
     sorted.iter().position(|y| is_before(name, y.name_bytes()))
+}
+
+/// Where the first of that name stands among these in the order of their names, found by halves.
+pub fn place_of<T: Named>(sorted: &[T], name: &[u8]) -> Option<usize>
+    requires { in_order T.name sorted.now ≡ true }
+    ensures { result ≡ place_of T.name name.now sorted.now }
+{
+    let place = first_not_before(sorted, name);
+    if place == sorted.len() {
+        return None;
+    }
+    if is_named(&sorted[place], name) {
+        return Some(place);
+    }
+    None
+}
+
+// Where the names that stand before a name end.
+fn first_not_before<T: Named>(sorted: &[T], name: &[u8]) -> usize
+    requires { in_order T.name sorted.now ≡ true }
+    ensures parts { IsPartitionPoint (λ y. is_before (T.name y) name.now ≡ true) (λ y. is_before (T.name y) name.now ≡ false) sorted.now result }
+    ensures within { result ≤ length sorted.now }
+{
+    sorted.partition_point(|y| is_before(y.name_bytes(), name))
 }
 
 fn is_before(a: &[u8], b: &[u8]) -> bool

@@ -1,5 +1,5 @@
 use press_scan::{AttKey, Atts};
-use press_text::{CallbackId, HookName, Items, Text};
+use press_text::{CallbackId, HookName, Items, Text, Texts};
 
 /// A piece of a text that a script makes. A missing argument or attribute is the empty text.
 #[derive(Debug, Drop)]
@@ -102,7 +102,7 @@ pub type Script = Items<Op>;
 /// A callback of a hook has no attributes and empty `content` and `tag`; one of a shortcode has no arguments.
 #[derive(Debug, Drop)]
 pub struct CallIn {
-    pub args: Items<Text>,
+    pub args: Texts,
     pub atts: Atts,
     pub content: Text,
     pub tag: Text,
@@ -140,11 +140,11 @@ pub enum Turn {
     Skip(u16),
     Apply {
         hook: HookName,
-        texts: Items<Text>,
+        texts: Texts,
     },
     Do {
         hook: HookName,
-        texts: Items<Text>,
+        texts: Texts,
     },
     Shortcodes(Text),
     Ask(Ask),

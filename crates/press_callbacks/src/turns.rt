@@ -2,7 +2,7 @@ ghost use Rattle.std.specs.Prelude.{◌≡◌, ◌∷◌, ◌++◌, map, IfOk, O
 ghost use Rattle.press_callbacks.specs.Turns.{part_text, text_of, turn_of_op, turn_of, skipped};
 
 use crate::script::{Ask, CallIn, Op, Part, Parts, Script, Turn};
-use press_text::{Copied, Items, Text};
+use press_text::{Copied, Items, Text, Texts};
 use std::alloc::{AllocError, Global};
 
 /// What one turn of a script asks for: that of the op at place `turn`, and past the last op Return of the value.
@@ -94,21 +94,21 @@ fn value_and_more(
     value: &Parts,
     more: &Items<Parts>,
     call: &CallIn,
-) -> Result<Items<Text>, AllocError>
+) -> Result<Texts, AllocError>
     ensures { IfOk result (λ ts. ts ≡ text_of call.now value.now ∷ map (text_of call.now) more.now) }
 {
     let mut texts = Vec::new(alloc);
     texts.push(text_of(alloc, value, call)?)?;
     push_texts(alloc, &mut texts, more, call)?;
-    Ok(Items::from_vec(texts))
+    Texts::from_vec(texts)
 }
 
-fn texts_of(alloc: Global, all: &Items<Parts>, call: &CallIn) -> Result<Items<Text>, AllocError>
+fn texts_of(alloc: Global, all: &Items<Parts>, call: &CallIn) -> Result<Texts, AllocError>
     ensures { IfOk result (λ ts. ts ≡ map (text_of call.now) all.now) }
 {
     let mut texts = Vec::new(alloc);
     push_texts(alloc, &mut texts, all, call)?;
-    Ok(Items::from_vec(texts))
+    Texts::from_vec(texts)
 }
 
 fn push_texts(
@@ -139,18 +139,18 @@ fn push_part(text: &mut Text, part: &Part, call: &CallIn) -> Result<(), AllocErr
     ensures { OnOk result (text.new ≡ text.old ++ part_text call.now part.now) }
 {
     match part {
-        Part::Lit(t) => text.push_str(t.as_str()),
+        Part::Lit(t) => text.push(t),
         Part::Arg(n) => match call.args.as_slice().get(*n) {
             None => Ok(()),
-            Some(t) => text.push_str(t.as_str()),
+            Some(t) => text.push(t),
         },
         Part::Att(key) => match call.atts.get(key) {
             None => Ok(()),
             Some(value) => text.push_str(value),
         },
-        Part::Content => text.push_str(call.content.as_str()),
-        Part::Tag => text.push_str(call.tag.as_str()),
-        Part::Value => text.push_str(call.value.as_str()),
-        Part::Last => text.push_str(call.last.as_str()),
+        Part::Content => text.push(&call.content),
+        Part::Tag => text.push(&call.tag),
+        Part::Value => text.push(&call.value),
+        Part::Last => text.push(&call.last),
     }
 }

@@ -12,7 +12,7 @@ use crate::json::file;
 use crate::kit_parts::{KitParts, kit};
 use crate::listed::{Listed, each};
 use crate::place::Place;
-use press_text::{HookName, Items, Name, NameFault, Text};
+use press_text::{HookName, Items, Name, NameFault, Text, Texts};
 use serde_json::Value;
 use std::alloc::Global;
 
@@ -30,7 +30,7 @@ pub enum PlayKind {
 pub struct Play {
     pub kind: PlayKind,
     pub hook: HookName,
-    pub args: Items<Text>,
+    pub args: Texts,
     /// How often it is done, at least once.
     pub times: u32,
 }
@@ -73,14 +73,15 @@ fn count(value: &Value) -> Option<u32>
 }
 
 impl<'v> Fields<'v> {
-    fn args(&self) -> Result<Items<Text>, KitFileFault>
+    fn args(&self) -> Result<Texts, KitFileFault>
         ensures { Gives (λ ts. ts) result (spec.args_at self.now.at (view self.now.value.now)) }
     {
         match self.value.get("args") {
-            None => Ok(Items::new(self.alloc)),
+            None => Ok(Texts::new(self.alloc)),
             Some(told) => {
                 let values = list(told).ok_or(self.at)?;
-                each(self.alloc, self.at, values)
+                let texts = each(self.alloc, self.at, values)?;
+                Ok(Texts::from_vec(texts.into_vec())?)
             }
         }
     }

@@ -1,7 +1,8 @@
 -- What a play file comes to: the lines of its plays on a fresh boot with the active plugins in the order of their names, or its fault (own).
 use Rattle.std.specs.Prelude.{◌≡◌, ℕ, List, map, Option, Some, None, Result, Ok, Err}
 use Rattle.press_callbacks.specs.declared.kit_fault.KitFault.{KitFault}
-use Rattle.press_callbacks.specs.Kits.{Scripts, KitView, view_of, kit_fault, by_name}
+use Rattle.press_callbacks.specs.Kits.{Scripts, KitView, view_of, kit_fault}
+use Rattle.press_callbacks.specs.Order.{by_name}
 use Rattle.press_run.specs.Boot.{booted_with}
 use Rattle.press_run.specs.Outcome.{started}
 use Rattle.press_kit.specs.declared.place.Place.{Place}

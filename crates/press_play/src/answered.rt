@@ -25,7 +25,7 @@ fn told(alloc: Global, fault: PlayFault) -> Result<Answered, AllocError>
 {
     Ok(Answered {
         fault: Some(fault),
-        text: Text::from_string(fault_line(alloc, fault)?),
+        text: Text::from_string(fault_line(alloc, fault)?)?,
     })
 }
 
@@ -35,7 +35,7 @@ fn outcome(alloc: Global, lines: Result<String, PlayFault>) -> Result<Answered, 
     match lines {
         Ok(text) => Ok(Answered {
             fault: None,
-            text: Text::from_string(text),
+            text: Text::from_string(text)?,
         }),
         Err(fault) => told(alloc, fault),
     }

@@ -10,7 +10,7 @@ use crate::line::{answer_line, limit_line};
 use press_callbacks::{Kit, Tables};
 use press_kit::{Play, PlayKind};
 use press_run::{Fire, Job, Machine, Out, RunFault, boot};
-use press_text::{Copied, Items, Name};
+use press_text::{Items, Name};
 use std::alloc::{AllocError, Global};
 
 /// What plays go on with: tables, counts and output.
@@ -79,7 +79,7 @@ fn job(alloc: Global, play: &Play) -> Result<Job, AllocError>
     ensures { IfOk result (λ j. j ≡ job_of play.now) }
 {
     let hook = play.hook.copy(alloc)?;
-    let args = play.args.copied(alloc)?;
+    let args = play.args.copy()?;
     match play.kind {
         PlayKind::Apply => Ok(Job::Apply { hook, args }),
         PlayKind::Do => {

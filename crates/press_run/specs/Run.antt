@@ -3,6 +3,7 @@
 use Rattle.std.specs.Prelude.{ℕ, zero, suc, ◌+◌, ◌-◌, ℤ, List, [], ◌∷◌, ◌++◌, length, take, slice_range, Bool, true, false, ◌&&◌, ltb, leb, bytes_eq, Option, Some, None, is_some, codes, decimal, count_by}
 use Rattle.std.specs.List.{list_any, list_all}
 use Rattle.std.specs.Fmt.{signed_decimal}
+use Rattle.press_text.specs.Lists.{with_first}
 use Rattle.press_hooks.specs.declared.row.Row.{Row}
 use Rattle.press_hooks.specs.declared.entry.Entry.{Entry}
 use Rattle.press_hooks.specs.declared.open_run.OpenRun.{OpenRun}
@@ -98,8 +99,7 @@ first_text (t ∷ ts) = t
 
 abbrev pub handed_on : Kind → List ℕ → List (List ℕ) → List (List ℕ)
 handed_on Action t args = args
-handed_on Filter t [] = t ∷ []
-handed_on Filter t (u ∷ us) = t ∷ us
+handed_on Filter t args = with_first t args
 
 -- the call of a hook's callback on the arguments that it accepts
 abbrev pub hook_call : List (List ℕ) → CallIn

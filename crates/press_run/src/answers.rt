@@ -34,7 +34,7 @@ pub fn decimal(alloc: Global, n: usize) -> Result<Text, AllocError>
     ensures { IfOk result (λ t. t ≡ decimal n) }
 {
     let text = format!(in alloc; "{n}")?;
-    Ok(Text::from_string(text))
+    Text::from_string(text)
 }
 
 pub fn decimal_or_empty(alloc: Global, priority: Option<i64>) -> Result<Text, AllocError>
@@ -50,5 +50,5 @@ fn signed(alloc: Global, p: i64) -> Result<Text, AllocError>
     ensures { IfOk result (λ t. t ≡ signed_decimal p) }
 {
     let text = format!(in alloc; "{p}")?;
-    Ok(Text::from_string(text))
+    Text::from_string(text)
 }

@@ -19,7 +19,7 @@ use crate::{edits, shortcodes, texts};
 use press_callbacks::{Ask, CallIn, Kit, Tables, Turn, is_built_in};
 use press_hooks::RunId;
 use press_scan::{Scan, ScanStep, Shortcode, computes_first, ends_within};
-use press_text::{CallbackId, HookName, Items, Text, copied_all};
+use press_text::{CallbackId, HookName, Text, Texts, copied_all};
 use std::alloc::{AllocError, Global};
 use std::marker::Model;
 
@@ -102,7 +102,7 @@ impl Machine {
                 )?
             }
         };
-        Ok(text.into_string())
+        Ok(text.into_string()?)
     }
 
     // The actions, one after the other.
@@ -117,7 +117,7 @@ impl Machine {
         ensures { Gives (do_fires (callbacks_of (K.scripts kit.now)) fires.now (state_of (stage tables.old self.old out.old))) (around (stage tables.old self.old out.old)) (stage tables.new self.new out.new) result }
     {
         for fire in fires {
-            let args = texts::copied(alloc, fire.args.as_slice())?;
+            let args = fire.args.copy()?;
             self.do_hook(alloc, kit, tables, out, MOST_OPEN, &fire.hook, args)?;
         }
         Ok(Text::new(alloc))
@@ -133,7 +133,7 @@ impl Machine {
         out: &mut Out,
         depth: u32,
         hook: &HookName,
-        args: Items<Text>,
+        args: Texts,
     ) -> Result<Text, RunFault>
         ensures { Gives (do_hook (at_depth depth (K.scripts kit.now)) hook.now args (state_of (stage tables.old self.old out.old))) (around (stage tables.old self.old out.old)) (stage tables.new self.new out.new) result }
     {
@@ -154,12 +154,13 @@ impl Machine {
         depth: u32,
         kind: Kind,
         hook: &HookName,
-        args: Items<Text>,
+        args: Texts,
     ) -> Result<Text, RunFault>
         ensures { Gives (run_hook (at_depth depth (K.scripts kit.now)) kind hook.now args (state_of (stage tables.old self.old out.old))) (around (stage tables.old self.old out.old)) (stage tables.new self.new out.new) result }
     {
         if !tables.hooks.has_any(hook) {
-            return Ok(texts::into_first(alloc, args));
+            let first = texts::first_text(alloc, &args)?;
+            return Ok(first);
         }
         self.enter(hook)?;
         let run = tables.hooks.begin(hook)?;
@@ -180,7 +181,7 @@ impl Machine {
         depth: u32,
         kind: Kind,
         run: RunId,
-        mut args: Items<Text>,
+        mut args: Texts,
     ) -> Result<Text, RunFault>
         requires { IsTrue (is_innermost run tables.old.hooks.open_runs) }
         ensures given { GivesWithin (run_entries (at_depth depth (K.scripts kit.now)) kind fuel args (innermost tables.old.hooks.open_runs) (state_of (stage tables.old self.old out.old))) (around_innermost (stage tables.old self.old out.old)) (stage tables.new self.new out.new) result }
@@ -188,7 +189,8 @@ impl Machine {
     {
         for _entry in 0..FUEL {
             let Some(entry) = tables.hooks.next(run)? else {
-                return Ok(texts::into_first(alloc, args));
+                let first = texts::first_text(alloc, &args)?;
+                return Ok(first);
             };
             let call = texts::hook_call(alloc, &args, entry.accepted)?;
             let text = self.callback(alloc, kit, tables, out, depth, entry.callback, call)?;
@@ -240,7 +242,7 @@ impl Machine {
         if !self.counts_turn() {
             return Err(RunFault::Limit);
         }
-        let text = texts::into_first(alloc, call.args);
+        let text = texts::first_text(alloc, &call.args)?;
         self.scan(alloc, kit, tables, out, depth, text)
     }
 
@@ -263,9 +265,11 @@ impl Machine {
         }
         computes_first();
         ends_within();
-        let mut scan = Scan::new(alloc, text.into_string());
+        let inside = text.into_string()?;
+        let mut scan = Scan::new(alloc, inside);
         while self.piece(alloc, kit, tables, out, depth, &mut scan)? {}
-        Ok(Text::from_string(scan.finish()))
+        let given = Text::from_string(scan.finish())?;
+        Ok(given)
     }
 
     // The next piece of a scan: the text up to a shortcode, an escape, or an answered shortcode. False where nothing is left.

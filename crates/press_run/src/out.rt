@@ -2,7 +2,6 @@ ghost use Rattle.std.specs.Prelude.{◌≡◌, [], IfOk, string_bytes};
 ghost use Rattle.press_run.specs.Outcome.{Pushes};
 
 use crate::run_fault::RunFault;
-use press_text::Text;
 use std::alloc::{AllocError, Global};
 use std::marker::Model;
 
@@ -12,17 +11,17 @@ pub(crate) const MOST_BYTES: usize = 1_048_576;
 /// What a page or a command has written so far: at most 1,048,576 bytes.
 #[derive(Debug, Drop)]
 pub struct Out {
-    text: Text,
+    text: String,
 }
 
 impl Model for Out {
-    ghost use Rattle.std.specs.Prelude.{ℕ, List, ◌≤◌, length};
+    ghost use Rattle.std.specs.Prelude.{ℕ, List, ◌≤◌, length, string_bytes};
 
     ghost Value = { List ℕ };
 
-    ghost view = { λ o. o.text };
+    ghost view = { λ o. string_bytes o.text };
 
-    ghost invariant = { λ o. length o.text ≤ 1048576 };
+    ghost invariant = { λ o. length (string_bytes o.text) ≤ 1048576 };
 }
 
 impl Out {
@@ -31,7 +30,7 @@ impl Out {
         ensures { result ≡ [] }
     {
         Out {
-            text: Text::new(alloc),
+            text: String::new(alloc),
         }
     }
 
@@ -40,7 +39,7 @@ impl Out {
         ensures { IfOk result (λ o. o ≡ self.now) }
     {
         Ok(Out {
-            text: self.text.copy(alloc)?,
+            text: String::from_str(alloc, self.text.as_str())?,
         })
     }
 
@@ -65,6 +64,6 @@ impl Out {
     pub fn into_text(self) -> String
         ensures { string_bytes result ≡ self }
     {
-        self.text.into_string()
+        self.text
     }
 }

@@ -13,7 +13,7 @@ use press_callbacks::CallIn;
 use press_scan::{
     Atts, Scan, Shortcode, Span, TagTable, attributes, computes_attributes, has_parts,
 };
-use press_text::{Items, Text};
+use press_text::{Text, Texts};
 use std::alloc::{AllocError, Global};
 
 // The call of the callback of a shortcode's tag.
@@ -29,7 +29,7 @@ pub fn shortcode_call(
 {
     has_parts(text, tags, shortcode);
     Ok(CallIn {
-        args: Items::new(alloc),
+        args: Texts::new(alloc),
         atts: attributes_of(alloc, part(text, shortcode.atts))?,
         content: content_of(alloc, text, shortcode.content)?,
         tag: Text::from_str(alloc, part(text, shortcode.tag))?,

@@ -8,20 +8,11 @@ use crate::out::MOST_BYTES;
 use crate::step::Kind;
 use press_callbacks::{CallIn, Turn};
 use press_scan::Atts;
-use press_text::{Items, Text, copied_all};
+use press_text::{Text, Texts, copied_all};
 use std::alloc::{AllocError, Global};
 
-// The first text itself, without a copy.
-pub fn into_first(alloc: Global, texts: Items<Text>) -> Text
-    ensures { result ≡ first_text texts }
-{
-    match texts.into_vec().into_iter().next() {
-        None => Text::new(alloc),
-        Some(t) => t,
-    }
-}
-
-fn first_text(alloc: Global, texts: &Items<Text>) -> Result<Text, AllocError>
+// The first text, or the empty one.
+pub fn first_text(alloc: Global, texts: &Texts) -> Result<Text, AllocError>
     ensures { IfOk result (λ t. t ≡ first_text texts.now) }
 {
     match texts.as_slice().first() {
@@ -31,39 +22,31 @@ fn first_text(alloc: Global, texts: &Items<Text>) -> Result<Text, AllocError>
 }
 
 // The arguments of the next callback, after one has answered.
-pub fn handed_on(kind: Kind, args: Items<Text>, answer: Text) -> Result<Items<Text>, AllocError>
+pub fn handed_on(kind: Kind, mut args: Texts, answer: Text) -> Result<Texts, AllocError>
     ensures { IfOk result (λ ts. ts ≡ handed_on kind answer args) }
 {
     match kind {
         Kind::Action => Ok(args),
-        Kind::Filter => with_first(args.into_vec(), answer),
+        Kind::Filter => {
+            args.set_first(answer)?;
+            Ok(args)
+        }
     }
-}
-
-fn with_first(mut args: Vec<Text>, first: Text) -> Result<Items<Text>, AllocError>
-    ensures { IfOk result (λ ts. ts ≡ handed_on Kind.Filter first args.items) }
-{
-    if args.is_empty() {
-        args.push(first)?;
-    } else {
-        args[0] = first;
-    }
-    Ok(Items::from_vec(args))
 }
 
 // An action without arguments hands over one empty text.
-pub fn or_one_empty(alloc: Global, args: Items<Text>) -> Result<Items<Text>, AllocError>
+pub fn or_one_empty(alloc: Global, args: Texts) -> Result<Texts, AllocError>
     ensures { IfOk result (λ ts. ts ≡ or_one_empty args) }
 {
-    let mut args = args.into_vec();
-    if args.is_empty() {
-        args.push(Text::new(alloc))?;
+    if !args.as_slice().is_empty() {
+        return Ok(args);
     }
-    Ok(Items::from_vec(args))
+    let empty = Text::new(alloc);
+    Texts::from_vec(vec![in alloc; empty]?)
 }
 
 // The call of a hook's callback that accepts so many arguments.
-pub fn hook_call(alloc: Global, texts: &Items<Text>, accepted: u32) -> Result<CallIn, AllocError>
+pub fn hook_call(alloc: Global, texts: &Texts, accepted: u32) -> Result<CallIn, AllocError>
     ensures { IfOk result (λ c. c ≡ hook_call (take accepted texts.now)) }
 {
     let args = taken(alloc, texts, accepted)?;
@@ -79,21 +62,15 @@ pub fn hook_call(alloc: Global, texts: &Items<Text>, accepted: u32) -> Result<Ca
     })
 }
 
-fn taken(alloc: Global, texts: &Items<Text>, accepted: u32) -> Result<Items<Text>, AllocError>
+fn taken(alloc: Global, texts: &Texts, accepted: u32) -> Result<Texts, AllocError>
     ensures { IfOk result (λ ts. ts ≡ take accepted texts.now) }
 {
     let all = texts.as_slice();
     if (accepted as usize) < all.len() {
-        copied(alloc, &all[..accepted as usize])
+        Texts::from_vec(copied_all(alloc, &all[..accepted as usize])?)
     } else {
-        copied(alloc, all)
+        texts.copy()
     }
-}
-
-pub fn copied(alloc: Global, texts: &[Text]) -> Result<Items<Text>, AllocError>
-    ensures { IfOk result (λ ts. ts ≡ texts.now) }
-{
-    Ok(Items::from_vec(copied_all(alloc, texts)?))
 }
 
 pub fn is_short(text: &Text) -> bool

@@ -73,7 +73,7 @@ fn lower(alloc: Global, text: &str, span: Span) -> Result<Text, AllocError>
     ensures { IfOk result (λ t. t ≡ str_to_ascii_lowercase (cut text.now span)) }
 {
     let name = text[span.start..span.end].to_ascii_lowercase(alloc)?;
-    Ok(Text::from_string(name))
+    Text::from_string(name)
 }
 
 // Takes a token.

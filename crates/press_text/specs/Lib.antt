@@ -1,7 +1,9 @@
 pub mod Decimals
 pub mod Escapes
 pub mod Faults
+pub mod Lists
 pub mod Moments
 pub mod Names
 pub mod Padded
 pub mod Streams
+pub mod Texts

@@ -3,24 +3,25 @@ ghost use Rattle.press_text.specs.Names.{NameGives, IsName};
 
 use crate::class::fault_of;
 use crate::name_fault::NameFault;
+use crate::text::Text;
 use std::alloc::{AllocError, Global};
 use std::marker::Model;
 
 /// The name of an action or a filter: 1 to 64 bytes of `[A-Za-z0-9_-]` (Plugin Handbook, Hooks).
 #[derive(Debug, Drop)]
 pub struct HookName {
-    inside: String,
+    inside: Text,
 }
 
 impl Model for HookName {
-    ghost use Rattle.std.specs.Prelude.{ℕ, List, string_bytes};
+    ghost use Rattle.std.specs.Prelude.{ℕ, List};
     ghost use Rattle.press_text.specs.Names.{IsName};
 
     ghost Value = { List ℕ };
 
-    ghost view = { λ n. string_bytes n.inside };
+    ghost view = { λ n. n.inside };
 
-    ghost invariant = { λ n. IsName 64 (string_bytes n.inside) };
+    ghost invariant = { λ n. IsName 64 n.inside };
 }
 
 impl HookName {
@@ -31,7 +32,7 @@ impl HookName {
         if let Some(fault) = fault_of(64, text.as_bytes()) {
             return Err(fault);
         }
-        let inside = String::from_str(alloc, text)?;
+        let inside = Text::from_str(alloc, text)?;
         Ok(HookName { inside })
     }
 
@@ -43,11 +44,11 @@ impl HookName {
         self.inside.as_str()
     }
 
-    /// The same name once more.
+    /// The same name once more; takes no memory.
     pub fn copy(&self, alloc: Global) -> Result<HookName, AllocError>
         ensures { IfOk result (λ n. n ≡ self.now) }
     {
-        let inside = String::from_str(alloc, self.inside.as_str())?;
+        let inside = self.inside.copy(alloc)?;
         Ok(HookName { inside })
     }
 

@@ -15,9 +15,11 @@ mod moment;
 mod name;
 mod name_fault;
 mod opt_name;
+mod short;
 mod streams;
 mod tag;
 mod text;
+mod texts;
 
 pub use callback_id::CallbackId;
 pub use copied::{Copied, copied_all};
@@ -33,3 +35,4 @@ pub use opt_name::OptName;
 pub use streams::{ReadLimitedFault, WriteFault, read_limited, write_once};
 pub use tag::Tag;
 pub use text::Text;
+pub use texts::Texts;

@@ -1,20 +1,42 @@
-ghost use Rattle.std.specs.Prelude.{◌≡◌, [], ◌++◌, ◌==◌, length, string_bytes, OnOk, OnErr, IfOk};
+ghost use Rattle.std.specs.Prelude.{◌≡◌, ◌≤◌, [], ◌++◌, ◌==◌, length, string_bytes, OnOk, OnErr, IfOk};
+ghost use Rattle.press_text.specs.Texts.{bytes_of};
 
+use crate::short::{MOST, Short};
 use std::alloc::{AllocError, Global};
+use std::fmt;
+use std::fmt::{Debug, Formatter, Write};
 use std::marker::Model;
+use std::rc::Rc;
+
+#[derive(Drop)]
+enum Held {
+    Inline(Short),
+    Shared(Rc<String>),
+}
 
 /// A text, which contracts see as its bytes.
-#[derive(Debug, Drop)]
+///
+/// Up to 22 bytes lie in the value itself; a longer text is shared by its copies, so that a copy takes no memory at any length.
+/// An append to a text that is shared makes a text of its own first.
+#[derive(Drop)]
 pub struct Text {
-    inside: String,
+    inside: Held,
+    alloc: Global,
 }
 
 impl Model for Text {
-    ghost use Rattle.std.specs.Prelude.{ℕ, List, string_bytes};
+    ghost use Rattle.std.specs.Prelude.{ℕ, List};
+    ghost use Rattle.press_text.specs.Texts.{bytes_of};
 
     ghost Value = { List ℕ };
 
-    ghost view = { λ t. string_bytes t.inside };
+    ghost view = { λ t. bytes_of t.inside };
+}
+
+impl Debug for Text {
+    fn fmt<W: Write>(&self, f: &mut Formatter<W>) -> fmt::Result {
+        Debug::fmt(self.as_str(), f)
+    }
 }
 
 impl Text {
@@ -23,54 +45,73 @@ impl Text {
         ensures { result ≡ [] }
     {
         Text {
-            inside: String::new(alloc),
+            inside: Held::Inline(Short::empty()),
+            alloc,
         }
     }
 
-    /// Takes no memory.
-    pub fn from_string(inside: String) -> Text
-        ensures { result ≡ string_bytes inside }
+    /// Takes memory past 22 bytes alone, and for no byte of the text.
+    pub fn from_string(text: String) -> Result<Text, AllocError>
+        ensures { IfOk result (λ t. t ≡ string_bytes text) }
     {
-        Text { inside }
+        let alloc = *text.allocator();
+        let inside = if text.len() <= MOST {
+            Held::Inline(Short::from_str(text.as_str()))
+        } else {
+            Held::Shared(Rc::new(alloc, text)?)
+        };
+        Ok(Text { inside, alloc })
     }
 
+    /// Takes memory past 22 bytes alone.
     pub fn from_str(alloc: Global, text: &str) -> Result<Text, AllocError>
         ensures { IfOk result (λ t. t ≡ text.now) }
     {
-        let inside = String::from_str(alloc, text)?;
-        Ok(Text { inside })
+        let inside = if text.len() <= MOST {
+            Held::Inline(Short::from_str(text))
+        } else {
+            Held::Shared(Rc::new(alloc, String::from_str(alloc, text)?)?)
+        };
+        Ok(Text { inside, alloc })
     }
 
-    /// Takes no memory.
-    pub fn into_string(self) -> String
-        ensures { string_bytes result ≡ self }
+    /// Takes no memory where a text past 22 bytes has no other holder.
+    pub fn into_string(self) -> Result<String, AllocError>
+        ensures { IfOk result (λ s. string_bytes s ≡ self) }
     {
-        self.inside
+        let Text { inside, alloc } = self;
+        match inside {
+            Held::Inline(short) => String::from_str(alloc, short.as_str()),
+            Held::Shared(rc) => Rc::unwrap_or_clone(rc),
+        }
     }
 
     pub fn as_str(&self) -> &str
         ensures { result.now ≡ self.now }
     {
-        self.inside.as_str()
+        match &self.inside {
+            Held::Inline(short) => short.as_str(),
+            Held::Shared(rc) => rc.as_ref().as_str(),
+        }
     }
 
     pub fn as_bytes(&self) -> &[u8]
         ensures { result.now ≡ self.now }
     {
-        self.inside.as_bytes()
+        self.as_str().as_bytes()
     }
 
     /// How many bytes the text has.
     pub fn len(&self) -> usize
         ensures { result ≡ length self.now }
     {
-        self.inside.len()
+        self.as_str().len()
     }
 
     pub fn is_empty(&self) -> bool
         ensures { result ≡ (length self.now == 0) }
     {
-        self.inside.is_empty()
+        self.len() == 0
     }
 
     /// Appends; where memory is wanting the text stays as it was.
@@ -78,13 +119,49 @@ impl Text {
         ensures ok { OnOk result (self.new ≡ self.old ++ more.now) }
         ensures err { OnErr result (self.new ≡ self.old) }
     {
-        self.inside.push_str(more)
+        match &mut self.inside {
+            Held::Inline(short) => {
+                let inside = joined(self.alloc, short.as_str(), more)?;
+                self.inside = inside;
+                Ok(())
+            }
+            Held::Shared(rc) => Rc::make_mut(rc)?.push_str(more),
+        }
     }
 
-    /// The same text once more.
+    /// Appends; an empty text then shares what the other holds. Where memory is wanting the text stays as it was.
+    pub fn push(&mut self, more: &Text) -> Result<(), AllocError>
+        ensures ok { OnOk result (self.new ≡ self.old ++ more.now) }
+        ensures err { OnErr result (self.new ≡ self.old) }
+    {
+        if !self.is_empty() {
+            return self.push_str(more.as_str());
+        }
+        *self = more.copy(self.alloc)?;
+        Ok(())
+    }
+
+    /// The same text once more; takes no memory.
     pub fn copy(&self, alloc: Global) -> Result<Text, AllocError>
         ensures { IfOk result (λ t. t ≡ self.now) }
     {
-        Text::from_str(alloc, self.as_str())
+        let inside = match &self.inside {
+            Held::Inline(short) => Held::Inline(short.copy()),
+            Held::Shared(rc) => Held::Shared(rc.clone()?),
+        };
+        Ok(Text { inside, alloc })
     }
+}
+
+// One text behind another.
+fn joined(alloc: Global, first: &str, more: &str) -> Result<Held, AllocError>
+    requires { length first.now ≤ 22 }
+    ensures { IfOk result (λ h. bytes_of h ≡ first.now ++ more.now) }
+{
+    if more.len() <= MOST - first.len() {
+        return Ok(Held::Inline(Short::joined(first, more)));
+    }
+    let mut long = String::from_str(alloc, first)?;
+    long.push_str(more)?;
+    Ok(Held::Shared(Rc::new(alloc, long)?))
 }

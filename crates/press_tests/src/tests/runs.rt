@@ -1,7 +1,7 @@
 use super::scripts::{appending, fails_once, plugin};
 use press_callbacks::{BoxedTurns, CallIn, Kit, Stored, script_turn};
 use press_run::{Job, Machine, Out, RunFault, boot};
-use press_text::{CallbackId, HookName, Items, Name, Text};
+use press_text::{CallbackId, HookName, Name, Text, Texts};
 use std::alloc::Global;
 use std::cell::Cell;
 use std::test::Fail;
@@ -21,7 +21,7 @@ fn filter_of(alloc: Global, text: &str) -> Result<Job, Fail> {
     let text = Text::from_str(alloc, text)?;
     Ok(Job::Apply {
         hook: HookName::new(alloc, "h")?,
-        args: Items::from_vec(vec![in alloc; text]?),
+        args: Texts::from_vec(vec![in alloc; text]?)?,
     })
 }
 

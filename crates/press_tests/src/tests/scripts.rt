@@ -7,7 +7,7 @@ ghost use Rattle.press_callbacks.specs.declared.script.Part.TheVariants as part;
 
 use press_callbacks::{CallIn, Load, Op, Part, Plugin, Script, Stored, Turn, script_turn};
 use press_scan::attributes;
-use press_text::{CallbackId, HookName, Items, Name, Text};
+use press_text::{CallbackId, HookName, Items, Name, Text, Texts};
 use std::alloc::{AllocError, Global};
 use std::cell::Cell;
 use std::test::Fail;
@@ -41,7 +41,7 @@ pub fn fails_once(
 /// A call at a turn, with the value `v`.
 pub fn called(alloc: Global, turn: usize) -> Result<CallIn, AllocError> {
     Ok(CallIn {
-        args: Items::new(alloc),
+        args: Texts::new(alloc),
         atts: attributes(alloc, "")?,
         content: Text::new(alloc),
         tag: Text::new(alloc),

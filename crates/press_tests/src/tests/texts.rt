@@ -1,5 +1,6 @@
 use press_text::{
-    CallbackId, HookName, Items, Moment, Name, NameFault, OptName, Tag, Text, dec_u64, esc_html,
+    CallbackId, HookName, Items, Moment, Name, NameFault, OptName, Tag, Text, Texts, dec_u64,
+    esc_html,
 };
 use std::test::Fail;
 
@@ -47,9 +48,25 @@ fn texts_grow(rt: HostRuntime) -> Result<(), Fail> {
     let mut text = Text::from_str(alloc, "ab")?;
     text.push_str("é")?;
     assert_eq!(rt; text.copy(alloc)?.as_str(), "abé");
-    assert_eq!(rt; text.into_string().len(), 4);
+    assert_eq!(rt; text.into_string()?.len(), 4);
     let list = Items::from_vec(vec![in alloc; 1u8, 2]?);
     assert_eq!(rt; list.into_vec().as_slice(), [1, 2].as_slice());
+    Ok(())
+}
+
+#[test]
+fn what_is_shared_stays(rt: HostRuntime) -> Result<(), Fail> {
+    let alloc = rt.alloc();
+    let mut text = Text::from_str(alloc, "more than twenty-two bytes")?;
+    let held = text.copy(alloc)?;
+    text.push_str("!")?;
+    assert_eq!(rt; held.as_str(), "more than twenty-two bytes");
+    assert_eq!(rt; text.as_str(), "more than twenty-two bytes!");
+    let mut list = Texts::from_vec(vec![in alloc; held]?)?;
+    let shared = list.copy()?;
+    list.set_first(text)?;
+    assert_eq!(rt; shared.as_slice()[0].len(), 26);
+    assert_eq!(rt; list.as_slice()[0].len(), 27);
     Ok(())
 }
 

@@ -11,4 +11,4 @@ returns g c =
     let shown = rw (c.new.ensures, c.new-2.ensures, c.as_str.ensures.value, c.in_ok-name.ensures) at c.in_ok-post_page.ensures in
     let page : post_page (callbacks_of (scripts_in c.args.kit.now)) site_name c.args.post.now (started _) ≡ Some (state_in c.post_page.new.self)
     = subst (λ (s : State). post_page (callbacks_of (scripts_in c.args.kit.now)) site_name c.args.post.now s ≡ Some (state_in c.post_page.new.self)) (ap started c.in_ok-boot.ensures.0) shown in
-    (state_in c.post_page.new.self, page, sym (c.from_string.ensures ∙ c.into_text.ensures))
+    (state_in c.post_page.new.self, page, sym (c.in_ok-body.ensures ∙ c.into_text.ensures))

@@ -1,5 +1,5 @@
 use Rattle.std.proofs.Common.{◌≡◌, ◌∙◌, sym, ap, arith, length, vec_len}
-use Rattle.press_callbacks.specs.Kits.{by_name, put_by_name}
+use Rattle.press_callbacks.specs.Order.{by_name, put_by_name}
 use Rattle.press_callbacks.proofs.Popped.{popped_left, popped_rest}
 use Rattle.press_callbacks.proofs.named.sorted_by_name.Goals as goal
 

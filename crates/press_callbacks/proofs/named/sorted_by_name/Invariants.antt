@@ -1,5 +1,5 @@
 use Rattle.std.proofs.Common.{◌≡◌, ◌≤◌, drop, take, vec_len, length}
-use Rattle.press_callbacks.specs.Kits.{by_name}
+use Rattle.press_callbacks.specs.Order.{by_name}
 use Rattle.press_callbacks.proofs.named.sorted_by_name.Given as goal
 
 abbrev pub invariant-loop-x : goal.invariant-loop-x

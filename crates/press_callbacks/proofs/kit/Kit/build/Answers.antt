@@ -2,6 +2,7 @@ use Rattle.std.proofs.Common.{◌∙◌, ap, ap₂, sym, List, map}
 use Rattle.std.proofs.lemmas.Result.{err_from_is_err_and}
 use Rattle.press_callbacks.specs.declared.plugin.Plugin.{Plugin}
 use Rattle.press_callbacks.specs.Kits.{Scripts}
+use Rattle.press_callbacks.proofs.Halves.{in_order_by_name}
 use Rattle.press_callbacks.proofs.Naturals.{fault-map, by_name-map, refused}
 use Rattle.press_callbacks.proofs.kit.Kit.build.Goals as goal
 
@@ -33,3 +34,9 @@ returns-in_err-plugins-clause-builds g c =
     rw (p.1, p.2)
     (fault-map (λ s. (s.id, s.script)) (λ e. e.0) (λ e. e.1) c.args.callbacks.items c.args.plugins.items
     ∙ rw (← c.as_slice.ensures.value, ← c.as_slice-2.ensures.value) (sym c.fault_of.ensures.fault ∙ c.in_default.is))
+
+pub invariant_of-result : goal.invariant_of-result
+invariant_of-result g c = record {
+  callbacks_in_order = rw c.in_ok-callbacks.ensures (in_order_by_name (λ s. s.id) c.args.callbacks.items);
+  plugins_in_order = rw c.in_ok-plugins.ensures (in_order_by_name (λ p. p.name) c.args.plugins.items);
+}

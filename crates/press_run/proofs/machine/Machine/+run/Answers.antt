@@ -34,7 +34,7 @@ entries-returns-in_default-clause-given g t c =
     let none : None ≡ entry_next c.loop-entry.tables.hooks.rows c.loop-entry.tables.hooks.open_runs = sym c.in_default.is ∙ c.in_ok-entry.ensures.given in (
       sym c.loop-entry.invariant.meaning
           ∙ (entries_end (at_depth c.args.depth (g.K.Callbacks.scripts c.args.kit.now)) c.args.kind c.loop-entry.args c.args.run c.loop-entry.tables.hooks c.next.new.self c.loop-entry.tables.tags c.loop-entry.self c.loop-entry.out _ _ f c.loop-entry.invariant.is_open c.in_ok-entry.ensures.advanced none
-          ∙ ap (λ (x : List ℕ). answer x (state_of (at_table c.next.new.self c.loop-entry.tables.tags c.loop-entry.self c.loop-entry.out))) (sym c.into_first.ensures)),
+          ∙ ap (λ (x : List ℕ). answer x (state_of (at_table c.next.new.self c.loop-entry.tables.tags c.loop-entry.self c.loop-entry.out))) (sym c.in_ok-first.ensures)),
       ap (λ r. record { open_runs = r; doing = c.loop-entry.self.doing }) (around_kept (at_depth c.args.depth (g.K.Callbacks.scripts c.args.kit.now)) c.args.kind c.loop-entry.args c.args.run c.loop-entry.tables.hooks c.next.new.self c.loop-entry.tables.tags c.loop-entry.self c.loop-entry.out _ _ f c.loop-entry.invariant.is_open c.in_ok-entry.ensures.advanced) ∙ c.loop-entry.invariant.around,
     )
 
@@ -156,7 +156,7 @@ piece-returns-in_err-answered-in-Call g t c =
 
 pub scan-returns-in_err-piece-clause-given : goal.scan-returns-in_err-piece-clause-given
 scan-returns-in_err-piece-clause-given g t c =
-    let p = err_from_is_err_and c.from_residual.result c.from_residual.ensures.1 in
+    let p = err_from_is_err_and c.from_residual-in_err-piece.result c.from_residual-in_err-piece.ensures.1 in
     let callback = at_depth c.args.depth (g.K.Callbacks.scripts c.args.kit.now) in
     rw (p.1, p.2) (scan_err _ callback (stage c.loop-scan.tables c.loop-scan.self c.loop-scan.out) c.loop-scan.scan (around (stage c.args.tables.now c.args.self.now c.args.out.now)) (stage c.piece.new.tables c.piece.new.self c.piece.new.out) c.in_err-piece.field-0.0 c.loop-scan.invariant.means c.in_err-piece.ensures)
 
@@ -166,5 +166,5 @@ scan-returns-clause-given g t c =
     let left = stage c.loop-scan.tables c.loop-scan.self c.loop-scan.out in
     let done = rw c.if-branch.false at c.in_ok-piece.ensures in
     let whole = means_all c.computes_first.ensures.some c.computes_first.ensures.none c.ends_within.ensures callback c.loop-scan.scan.text (state_of left) _ c.loop-scan.scan.at c.loop-scan.scan.output done.0 c.loop-scan.invariant.means in
-    let text : c.loop-scan.scan.output ≡ c.from_string.result = ap (λ (x : Progress). x.output) (sym done.1) ∙ sym c.finish.ensures ∙ sym c.from_string.ensures in
+    let text : c.loop-scan.scan.output ≡ c.in_ok-given.given = ap (λ (x : Progress). x.output) (sym done.1) ∙ sym c.finish.ensures ∙ sym c.in_ok-given.ensures in
     (whole ∙ ap₂ (λ (x : List ℕ) (w : Stage). answer x (state_of w)) text (sym done.2), ap around done.2 ∙ c.loop-scan.invariant.around)
