@@ -188,12 +188,7 @@ impl Rendering {
 
     // A filter over its first argument, whose answer goes to the output.
     #[tactic(auto, unfolding(crate::specs::Page::puts_filtered))]
-    fn puts_filtered(
-        &mut self,
-        kit: &Kit,
-        hook: HookName,
-        args: Texts,
-    ) -> Result<(), RunFault>
+    fn puts_filtered(&mut self, kit: &Kit, hook: HookName, args: Texts) -> Result<(), RunFault>
         ensures { Steps (puts_filtered (callbacks_of (scripts_in kit.now)) hook args (state_in self.old)) (state_in self.new) result }
     {
         let text = self.machine.run(
