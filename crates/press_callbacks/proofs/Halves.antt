@@ -1,9 +1,9 @@
 -- Names in their order: an insert keeps it, and a search by halves finds the first of a name.
-use Rattle.std.proofs.Common.{◌≡◌, refl, sym, ◌∙◌, ap, ap₂, ℕ, zero, suc, ◌+◌, ◌<◌, ◌≤◌, Bool, true, false, not, cond, bytes_eq, List, [], ◌∷◌, ◌++◌, length, get_or, take, drop, Option, Some, None, arith}
-use Rattle.std.specs.Prelude.{◌&&◌, option_map, insert, unwrap_or, position, nat_lt}
+use Rattle.std.proofs.Common.{◌≡◌, refl, sym, ◌∙◌, ap, ℕ, zero, suc, ◌+◌, ◌<◌, ◌≤◌, Bool, true, false, not, cond, bytes_eq, List, [], ◌∷◌, length, get_or, Some, None, arith}
+use Rattle.std.specs.Prelude.{◌&&◌, option_map, insert, unwrap_or, nat_lt}
 use Rattle.std.specs.List.{list_all, prefix_len, AllWithin}
-use Rattle.std.specs.List.Sorted.{IsPartitionedBy, IsPartitionPoint}
-use Rattle.std.specs.Cmp.{IsStrictWeakOrder, IsTotalOrder}
+use Rattle.std.specs.List.Sorted.{IsPartitionedBy}
+use Rattle.std.specs.Cmp.{IsStrictWeakOrder}
 use Rattle.std.specs.Cmp.Lexicographic.{slice_cmp}
 use Rattle.std.specs.Ordering.{nat_cmp, is_lt, is_eq, ordering_reverse}
 use Rattle.std.specs.declared.cmp.Ordering.{Ordering}
@@ -14,7 +14,7 @@ use Rattle.std.proofs.lemmas.List.MinMax.{ranks_by}
 use Rattle.std.proofs.lemmas.List.Sums.{prefix_len-le-length}
 use Rattle.std.proofs.lemmas.Map.Text.{is_eq-slice_cmp}
 use Rattle.std.proofs.lemmas.Slice.Eq.{bytes_eq-Decides}
-use Rattle.press_callbacks.specs.Order.{is_before, place_by_name, put_by_name, by_name, in_order, place_of}
+use Rattle.press_callbacks.specs.Order.{is_before, place_by_name, by_name, in_order, place_of}
 
 weak : IsStrictWeakOrder is_before
 weak = ranks_by nat_list_cmp_total (λ (x : List ℕ). x)

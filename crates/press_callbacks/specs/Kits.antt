@@ -1,7 +1,7 @@
 -- A kit as plain data, by name: each callback's script and each plugin's loads, in the order of the names.
 -- A kit is refused where a name stands twice or is that of a built-in callback, where a load or a script names
 -- a callback that is neither there nor built in, or for too many loads (own).
-use Rattle.std.specs.Prelude.{ℕ, List, [], ◌∷◌, length, Bool, true, false, not, ◌||◌, ◌&&◌, cond, if◌then◌else◌, nat_lt, bytes_eq, map, sum_by, count_by, Option, Some, None, option_map, slice_get, ◌≡◌, Result, Ok, Err}
+use Rattle.std.specs.Prelude.{ℕ, List, [], ◌∷◌, Bool, true, false, not, ◌||◌, ◌&&◌, cond, if◌then◌else◌, nat_lt, bytes_eq, map, sum_by, count_by, Option, Some, None, option_map, slice_get, ◌≡◌, Result, Ok, Err}
 use Rattle.std.specs.List.{list_any, list_all}
 use Rattle.press_callbacks.specs.declared.script.Op.{Op}
 use Rattle.press_callbacks.specs.declared.script.Op.TheVariants.{Set, AddHook, RemoveHook, RemoveAll, AddTag, RemoveTag, SkipIf, Apply, Do, Shortcodes, Ask, Echo, Return}

@@ -1,5 +1,5 @@
 use Rattle.std.proofs.Common.{◌≡◌, ◌∙◌, sym, ap, refl}
-use Rattle.press_callbacks.specs.Kits.{plugins_in, plugin_of}
+use Rattle.press_callbacks.specs.Kits.{plugins_in}
 use Rattle.press_callbacks.specs.Order.{place_of}
 use Rattle.press_callbacks.proofs.Found.{plugin_at, plugin_placed}
 use Rattle.press_callbacks.proofs.kit.Kit.plugin.Goals as goal
