@@ -1,6 +1,6 @@
 //! The posts of a site, each at the place of its id.
 
-ghost use Rattle.std.specs.Prelude.{◌≡◌, ℕ, [], ◌<◌, ◌≤◌, length, position, unwrap_or, insert, map, option_map, IfOk, IfSome, OnOk, OnErr, is_some, true, Some};
+ghost use Rattle.std.specs.Prelude.{◌≡◌, ℕ, ◌+◌, [], ◌<◌, ◌≤◌, length, position, unwrap_or, insert, map, option_map, IfOk, IfSome, OnOk, OnErr, is_some, true, false, Some};
 ghost use Rattle.press_posts.specs.PostChange.{Changes, post_change, post_at, put_at, with_status, standing, is_full, insert_fault};
 ghost use Rattle.press_posts.specs.Transitions.{transition};
 ghost use Rattle.press_posts.specs.PostChange.Change.{Insert, Edit, Moves, Delete};
@@ -167,6 +167,14 @@ impl Posts {
             alloc: self.alloc,
             places: copied_places(self.alloc, self.places.as_slice())?,
         })
+    }
+
+    /// The id that the next post gets.
+    pub fn next_id(&self) -> u64
+        requires { is_full self.now ≡ false }
+        ensures { result ≡ length self.now + 1 }
+    {
+        self.places.len() as u64 + 1
     }
 
     /// Why an insert is refused, where it is.
