@@ -169,6 +169,14 @@ impl Posts {
         })
     }
 
+    /// The id that the next post gets.
+    pub fn next_id(&self) -> u64
+        requires { is_full self.now ≡ false }
+        ensures { result ≡ length self.now + 1 }
+    {
+        self.places.len() as u64 + 1
+    }
+
     /// Why an insert is refused, where it is.
     pub fn insert_fault(&self, title: &str, content: &str, status: Status) -> Option<PostFault>
         ensures { result ≡ insert_fault title.now content.now status self.now }

@@ -1,0 +1,71 @@
+-- The events beside a post: once those of its id are out, its own is put in wherever there is room.
+use Rattle.std.proofs.Common.{◌≡◌, refl, sym, ◌∙◌, ap, ℕ, ◌<◌, ◌≤◌, ◌^◌, Bool, true, false, not, cond, List, [], ◌∷◌, length, Option, Some, None, arith}
+use Rattle.std.specs.Prelude.{nat_eq, nat_lt, nat_le, if◌then◌else◌, decimal, Result, Ok, Err}
+use Rattle.std.proofs.lemmas.Bool.{and_right, le-ltb}
+use Rattle.std.proofs.lemmas.Fmt.{length-decimal-le}
+use Rattle.press_events.specs.declared.event.Event.{Event}
+use Rattle.press_events.specs.declared.fault.EventFault.{EventFault}
+use Rattle.press_events.specs.declared.fault.EventFault.TheVariants as event
+use Rattle.press_events.specs.DueEvents as events
+use Rattle.press_events.specs.DueEvents.{is_of, is_same, stands, cancelled, add_event, scheduled}
+use Rattle.press_site.specs.declared.fault.SiteFault.TheVariants.{TooManyEvents}
+use Rattle.press_site.specs.Becomes.{IsRefused, MayGrow}
+use Rattle.press_site.specs.Contents.{publish_event, events_without, events_of}
+use Rattle.press_site.specs.Faults.{of_events}
+
+kept : (e event : Event) (rest : List Event) (b : Bool) → is_of event.hook event.arg e ≡ b → stands event rest ≡ false → stands event (cond (not b) (e ∷ rest) rest) ≡ false
+kept e event rest true h s = s
+kept e event rest false h s = rw (and_right (nat_eq e.time event.time) (is_of event.hook event.arg e) h) s
+
+stands_not : (event : Event) (es : List Event) → stands event (cancelled event.hook event.arg es) ≡ false
+stands_not event [] = refl
+stands_not event (e ∷ es) = kept e event (cancelled event.hook event.arg es) (is_of event.hook event.arg e) refl (stands_not event es)
+
+abbrev Added : Type 0
+Added = Result (List Event × Bool) EventFault
+
+abbrev put_new : List Event → Added
+put_new new = Ok (new, true)
+
+abbrev already : List Event → Added
+already es = Ok (es, false)
+
+chosen : (long there full : Bool) (es new : List Event) → long ≡ false → there ≡ false →
+    (if long then Err event.TooLong else (if there then already es else (if full then Err event.TooManyEvents else put_new new))) ≡ (if full then Err event.TooManyEvents else put_new new)
+chosen long there full es new l t = rw (l, t) refl
+
+added : (id date : ℕ) (es : List Event) → id < 2 ^ 64 → add_event (publish_event id date) (events_without id es) ≡ (if nat_le 4096 (length (events_without id es)) then Err event.TooManyEvents else put_new (scheduled (publish_event id date) (events_without id es)))
+added id date es small =
+    let short : length (decimal id) ≤ 20 = length-decimal-le 20 id (omega arith) (omega arith) small in
+    chosen (nat_lt 256 (length (decimal id))) (stands (publish_event id date) (events_without id es)) (nat_le 4096 (length (events_without id es))) (events_without id es) (scheduled (publish_event id date) (events_without id es))
+    (le-ltb 256 (length (decimal id)) (omega arith)) (stands_not (publish_event id date) es)
+
+put_of : (full : Bool) (new after : List Event) (b : Bool) → (if full then Err event.TooManyEvents else put_new new) ≡ Ok (after, b) → (if full then Err TooManyEvents else Ok new) ≡ Ok after
+put_of true new after b e = absurd (cc)
+put_of false new after b e = let same : (new, true) ≡ (after, b) = cc in ap (λ (p : List Event × Bool). Ok p.0) same
+
+-- what is put in
+pub put_in : (id date : ℕ) (es after : List Event) (b : Bool) → id < 2 ^ 64 → add_event (publish_event id date) (events_without id es) ≡ Ok (after, b) → events_of (Some date) id es ≡ Ok after
+put_in id date es after b small e =
+    put_of (nat_le 4096 (length (events_without id es))) (scheduled (publish_event id date) (events_without id es)) after b (sym (added id date es small) ∙ e)
+
+grows : (full : Bool) (new : List Event) → MayGrow (if full then Err TooManyEvents else Ok new)
+grows true new = tt
+grows false new = tt
+
+-- want of memory
+pub may_grow : (comes : Option ℕ) (id : ℕ) (es : List Event) → MayGrow (events_of comes id es)
+may_grow None id es = tt
+may_grow (Some date) id es = grows (nat_le 4096 (length (events_without id es))) (scheduled (publish_event id date) (events_without id es))
+
+refused_of : (f : EventFault) (full : Bool) (new : List Event) → events.IsRefused f (if full then Err event.TooManyEvents else put_new new) → IsRefused (of_events f) (if full then Err TooManyEvents else Ok new)
+refused_of event.NoMemory full new h = grows full new
+refused_of event.TooLong true new h = cc
+refused_of event.TooLong false new h = cc
+refused_of event.TooManyEvents true new h = refl
+refused_of event.TooManyEvents false new h = cc
+
+-- a refusal
+pub refused : (id date : ℕ) (es : List Event) (f : EventFault) → id < 2 ^ 64 → events.IsRefused f (add_event (publish_event id date) (events_without id es)) → IsRefused (of_events f) (events_of (Some date) id es)
+refused id date es f small h =
+    refused_of f (nat_le 4096 (length (events_without id es))) (scheduled (publish_event id date) (events_without id es)) (rw (sym (added id date es small)) h)

@@ -1,0 +1,4 @@
+mod Beside
+mod Bytes
+mod Hooks
+mod Joined

@@ -1,0 +1,47 @@
+-- Options by name, in the order of their names (Options API: `add_option_{name}`, `update_option_{name}`, `update_option`; arguments and limits are own).
+use Rattle.std.specs.Prelude.{ℕ, String, List, [], ◌∷◌, ◌++◌, length, map, nat_lt, nat_le, bytes_eq, if◌then◌else◌, codes, string_bytes, Option, Some, None, Result, Ok, Err}
+use Rattle.std.specs.BTreeMap.{insert_entry, is_at}
+use Rattle.std.specs.Cmp.Lexicographic.{slice_cmp}
+use Rattle.std.specs.Map.{lookup}
+use Rattle.std.specs.Ordering.{nat_cmp}
+use Rattle.press_posts.specs.declared.fire.Fire.{Fire}
+use Rattle.press_site.specs.declared.fault.SiteFault.{SiteFault}
+use Rattle.press_site.specs.declared.fault.SiteFault.TheVariants.{TooLong, TooManyOptions}
+
+abbrev pub Values : Type 0
+Values = List (List ℕ × List ℕ)
+
+-- entries of a map, read by the bytes of their names
+abbrev pub by_bytes : {S : Type 0} → List (String S × List ℕ) → Values
+by_bytes entries = map (λ e. (string_bytes e.0, e.1)) entries
+
+abbrev pub option_of : List ℕ → Values → Option (List ℕ)
+option_of name values = lookup (is_at (slice_cmp nat_cmp name)) values
+
+abbrev pub put_option : List ℕ → List ℕ → Values → Values
+put_option name value values = insert_entry (slice_cmp nat_cmp) values name value
+
+-- ---- what is fired
+
+abbrev pub updated_name : List ℕ → List ℕ
+updated_name name = codes "update_option_" ++ name
+
+abbrev pub updated_fire : List ℕ → List ℕ → List ℕ → Fire
+updated_fire name old new = record { hook = updated_name name; args = old ∷ new ∷ name ∷ [] }
+
+abbrev pub added_name : List ℕ → List ℕ
+added_name name = codes "add_option_" ++ name
+
+abbrev pub added_fire : List ℕ → List ℕ → Fire
+added_fire name value = record { hook = added_name name; args = name ∷ value ∷ [] }
+
+-- ---- setting an option, given the value that it has: the options after it and what is fired, if anything, or its refusal
+
+abbrev pub set_over : Option (List ℕ) → List ℕ → List ℕ → Values → Result (Values × Option Fire) SiteFault
+set_over (Some old) name value values =
+    if bytes_eq old value then Ok (values, None) else Ok (put_option name value values, Some (updated_fire name old value))
+set_over None name value values =
+    if nat_le 1024 (length values) then Err TooManyOptions else Ok (put_option name value values, Some (added_fire name value))
+
+abbrev pub set_option : List ℕ → List ℕ → Values → Result (Values × Option Fire) SiteFault
+set_option name value values = if nat_lt 4096 (length value) then Err TooLong else set_over (option_of name values) name value values

@@ -1,0 +1,150 @@
+ghost use Rattle.std.specs.Prelude.{◌≡◌, [], ◌<◌, ◌++◌, length, None, IfOk, OnOk, OnErr, option_map, codes, string_bytes};
+ghost use Rattle.press_site.specs.Becomes.{Becomes};
+ghost use Rattle.press_site.specs.Options.{option_of, put_option, set_option, set_over, added_fire, updated_fire, added_name, updated_name};
+
+use crate::fault::SiteFault;
+use crate::hook::hook_named;
+use press_posts::Fire;
+use press_text::{HookName, Items, OptName, Text};
+use std::alloc::{AllocError, Global};
+use std::collections::BTreeMap;
+use std::marker::Model;
+
+const MOST_OPTIONS: usize = 1024;
+
+const MOST_VALUE: usize = 4096;
+
+/// Options by name.
+#[derive(Debug, Drop)]
+pub struct Options {
+    alloc: Global,
+    values: BTreeMap<String, Text>,
+}
+
+impl Model for Options {
+    ghost use Rattle.std.specs.Prelude.{ℕ, List};
+    ghost use Rattle.press_site.specs.Options.{by_bytes};
+
+    ghost Value = { List (List ℕ × List ℕ) };
+
+    ghost view = { λ o. by_bytes o.values.entries };
+}
+
+impl Options {
+    /// No options, which takes no memory.
+    pub fn new(alloc: Global) -> Options
+        ensures { result ≡ [] }
+    {
+        Options {
+            alloc,
+            values: BTreeMap::new(alloc),
+        }
+    }
+
+    /// The value of an option.
+    pub fn get(&self, name: &OptName) -> Option<&str>
+        ensures { option_map (λ v. v.now) result ≡ option_of name.now self.now }
+    {
+        match self.value(name.as_str()) {
+            Some(value) => Some(value.as_str()),
+            None => None,
+        }
+    }
+
+    /// Gives an option a value; what that fires, and None where it has that value already. Refused by TooLong, then TooManyOptions.
+    pub fn set(&mut self, name: &OptName, value: Text) -> Result<Option<Fire>, SiteFault>
+        ensures { Becomes result (set_option name.now value self.old) self.old self.new }
+    {
+        if value.len() > MOST_VALUE {
+            return Err(SiteFault::TooLong);
+        }
+        let Some(old) = self.value(name.as_str()) else {
+            return self.add(name, value);
+        };
+        if old.as_str() == value.as_str() {
+            return Ok(None);
+        }
+        let fire = updated_fire(self.alloc, name, old.as_str(), value.as_str())?;
+        self.put(name.as_str(), value)?;
+        Ok(Some(fire))
+    }
+
+    fn add(&mut self, name: &OptName, value: Text) -> Result<Option<Fire>, SiteFault>
+        ensures { Becomes result (set_over None name.now value self.old) self.old self.new }
+    {
+        if self.values.len() >= MOST_OPTIONS {
+            return Err(SiteFault::TooManyOptions);
+        }
+        let fire = added_fire(self.alloc, name, value.as_str())?;
+        self.put(name.as_str(), value)?;
+        Ok(Some(fire))
+    }
+
+    fn value(&self, name: &str) -> Option<&Text>
+        ensures { option_map (λ v. v.now) result ≡ option_of name.now self.now }
+    {
+        self.values.get(name)
+    }
+
+    fn put(&mut self, name: &str, value: Text) -> Result<(), AllocError>
+        ensures ok { OnOk result (self.new ≡ put_option name.now value self.old) }
+        ensures err { OnErr result (self.new ≡ self.old) }
+    {
+        let name = String::from_str(self.alloc, name)?;
+        self.values.insert(name, value)?;
+        Ok(())
+    }
+}
+
+fn updated_fire(alloc: Global, name: &OptName, old: &str, new: &str) -> Result<Fire, AllocError>
+    ensures { IfOk result (λ f. f ≡ updated_fire name.now old.now new.now) }
+{
+    let old = Text::from_str(alloc, old)?;
+    let new = Text::from_str(alloc, new)?;
+    let last = Text::from_str(alloc, name.as_str())?;
+    let args = Items::from_vec(vec![in alloc; old, new, last]?);
+    Ok(Fire {
+        hook: updated_hook(alloc, name)?,
+        args,
+    })
+}
+
+fn added_fire(alloc: Global, name: &OptName, value: &str) -> Result<Fire, AllocError>
+    ensures { IfOk result (λ f. f ≡ added_fire name.now value.now) }
+{
+    let first = Text::from_str(alloc, name.as_str())?;
+    let value = Text::from_str(alloc, value)?;
+    let args = Items::from_vec(vec![in alloc; first, value]?);
+    Ok(Fire {
+        hook: added_hook(alloc, name)?,
+        args,
+    })
+}
+
+#[tactic(auto, using(crate::proofs::Hooks::updated_fits))]
+fn updated_hook(alloc: Global, name: &OptName) -> Result<HookName, AllocError>
+    ensures { IfOk result (λ h. h ≡ updated_name name.now) }
+{
+    let hook = updated_name(alloc, name.as_str())?;
+    hook_named(alloc, hook.as_str())
+}
+
+fn updated_name(alloc: Global, name: &str) -> Result<String, AllocError>
+    ensures { IfOk result (λ t. string_bytes t ≡ updated_name name.now) }
+{
+    format!(in alloc; "update_option_{name}")
+}
+
+#[tactic(auto, using(crate::proofs::Hooks::added_fits))]
+fn added_hook(alloc: Global, name: &OptName) -> Result<HookName, AllocError>
+    ensures { IfOk result (λ h. h ≡ added_name name.now) }
+{
+    let hook = added_name(alloc, name.as_str())?;
+    hook_named(alloc, hook.as_str())
+}
+
+fn added_name(alloc: Global, name: &str) -> Result<String, AllocError>
+    ensures { IfOk result (λ t. string_bytes t ≡ added_name name.now) }
+{
+    format!(in alloc; "add_option_{name}")
+}

@@ -1,0 +1,51 @@
+ghost use Rattle.std.specs.Prelude.{◌≡◌, [], None, OnOk, OnErr};
+ghost use Rattle.press_site.specs.Outcomes.{outcome_of, with_outcome};
+
+use crate::token::{Outcome, Token};
+use std::alloc::{AllocError, Global};
+use std::collections::BTreeMap;
+use std::marker::Model;
+
+/// What became of each command, by its token.
+#[derive(Debug, Drop)]
+pub struct Outcomes {
+    kept: BTreeMap<Token, Outcome>,
+}
+
+impl Model for Outcomes {
+    ghost use Rattle.std.specs.Prelude.{List};
+    ghost use Rattle.press_site.specs.declared.token.Token.{Token};
+    ghost use Rattle.press_site.specs.declared.token.Outcome.{Outcome};
+
+    ghost Value = { List (Token × Outcome) };
+
+    ghost view = { λ o. o.kept.entries };
+}
+
+impl Outcomes {
+    /// No outcomes, which takes no memory.
+    pub fn new(alloc: Global) -> Outcomes
+        ensures { result ≡ [] }
+    {
+        Outcomes {
+            kept: BTreeMap::new(alloc),
+        }
+    }
+
+    /// What became of the command with that token.
+    pub fn result_of(&self, token: &Token) -> Option<Outcome>
+        ensures { result ≡ outcome_of token.now self.now }
+    {
+        self.kept.get(token).copied()
+    }
+
+    /// Keeps what became of a command, for good.
+    pub fn keep(&mut self, token: Token, outcome: Outcome) -> Result<(), AllocError>
+        requires { outcome_of token self.old ≡ None }
+        ensures ok { OnOk result (self.new ≡ with_outcome token outcome self.old) }
+        ensures err { OnErr result (self.new ≡ self.old) }
+    {
+        self.kept.insert(token, outcome)?;
+        Ok(())
+    }
+}
