@@ -2,3 +2,4 @@ mod Beside
 mod Bytes
 mod Hooks
 mod Joined
+mod Lifted
