@@ -3,3 +3,4 @@ mod Bytes
 mod Hooks
 mod Joined
 mod Lifted
+mod Vectors
