@@ -2,3 +2,5 @@ mod Beside
 mod Bytes
 mod Hooks
 mod Joined
+mod Lifted
+mod Vectors

@@ -1,7 +1,9 @@
 pub mod Becomes
-pub mod Contents
 pub mod ContentView
+pub mod Contents
+pub mod Effects
 pub mod Faults
 pub mod Options
 pub mod Outcomes
 pub mod Plugins
+pub mod SiteView

@@ -37,11 +37,11 @@ added_fire name value = record { hook = added_name name; args = name ∷ value �
 
 -- ---- setting an option, given the value that it has: the options after it and what is fired, if anything, or its refusal
 
-abbrev pub set_over : Option (List ℕ) → List ℕ → List ℕ → Values → Result (Values × Option Fire) SiteFault
+abbrev pub set_over : Option (List ℕ) → List ℕ → List ℕ → Values → Result (Values × Option (List Fire)) SiteFault
 set_over (Some old) name value values =
-    if bytes_eq old value then Ok (values, None) else Ok (put_option name value values, Some (updated_fire name old value))
+    if bytes_eq old value then Ok (values, None) else Ok (put_option name value values, Some (updated_fire name old value ∷ []))
 set_over None name value values =
-    if nat_le 1024 (length values) then Err TooManyOptions else Ok (put_option name value values, Some (added_fire name value))
+    if nat_le 1024 (length values) then Err TooManyOptions else Ok (put_option name value values, Some (added_fire name value ∷ []))
 
-abbrev pub set_option : List ℕ → List ℕ → Values → Result (Values × Option Fire) SiteFault
+abbrev pub set_option : List ℕ → List ℕ → Values → Result (Values × Option (List Fire)) SiteFault
 set_option name value values = if nat_lt 4096 (length value) then Err TooLong else set_over (option_of name values) name value values

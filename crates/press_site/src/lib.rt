@@ -5,17 +5,17 @@
 
 mod changed;
 mod content;
+mod effect;
 mod fault;
 mod hook;
 mod options;
 mod outcomes;
 mod plugins;
+mod site;
 mod token;
 
 pub use changed::Changed;
-pub use content::Content;
+pub use effect::Effect;
 pub use fault::SiteFault;
-pub use options::Options;
-pub use outcomes::Outcomes;
-pub use plugins::Plugins;
+pub use site::Site;
 pub use token::{Outcome, Token};

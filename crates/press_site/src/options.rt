@@ -52,7 +52,7 @@ impl Options {
     }
 
     /// Gives an option a value; what that fires, and None where it has that value already. Refused by TooLong, then TooManyOptions.
-    pub fn set(&mut self, name: &OptName, value: Text) -> Result<Option<Fire>, SiteFault>
+    pub fn set(&mut self, name: &OptName, value: Text) -> Result<Option<Items<Fire>>, SiteFault>
         ensures { Becomes result (set_option name.now value self.old) self.old self.new }
     {
         if value.len() > MOST_VALUE {
@@ -65,19 +65,21 @@ impl Options {
             return Ok(None);
         }
         let fire = updated_fire(self.alloc, name, old.as_str(), value.as_str())?;
+        let fires = Items::from_vec(vec![in self.alloc; fire]?);
         self.put(name.as_str(), value)?;
-        Ok(Some(fire))
+        Ok(Some(fires))
     }
 
-    fn add(&mut self, name: &OptName, value: Text) -> Result<Option<Fire>, SiteFault>
+    fn add(&mut self, name: &OptName, value: Text) -> Result<Option<Items<Fire>>, SiteFault>
         ensures { Becomes result (set_over None name.now value self.old) self.old self.new }
     {
         if self.values.len() >= MOST_OPTIONS {
             return Err(SiteFault::TooManyOptions);
         }
         let fire = added_fire(self.alloc, name, value.as_str())?;
+        let fires = Items::from_vec(vec![in self.alloc; fire]?);
         self.put(name.as_str(), value)?;
-        Ok(Some(fire))
+        Ok(Some(fires))
     }
 
     fn value(&self, name: &str) -> Option<&Text>

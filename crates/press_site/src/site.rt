@@ -1,0 +1,266 @@
+//! The whole site as one value.
+
+ghost use Rattle.std.specs.Prelude.{◌≡◌, None, Ok, true, IfOk, OnOk, OnErr, option_map};
+ghost use Rattle.press_posts.specs.PostChange.{post_at};
+ghost use Rattle.press_posts.specs.Published.{published};
+ghost use Rattle.press_events.specs.DueEvents.{due};
+ghost use Rattle.press_site.specs.Becomes.{Becomes};
+ghost use Rattle.press_site.specs.Contents.{no_post};
+ghost use Rattle.press_site.specs.Effects.{no_site, effect_on, fired};
+ghost use Rattle.press_site.specs.Options.{option_of};
+ghost use Rattle.press_site.specs.Outcomes.{outcome_of, with_outcome};
+
+use crate::changed::Changed;
+use crate::content::Content;
+use crate::effect::Effect;
+use crate::fault::SiteFault;
+use crate::options::Options;
+use crate::outcomes::Outcomes;
+use crate::plugins::Plugins;
+use crate::token::{Outcome, Token};
+use press_events::Event;
+use press_posts::{Fire, Move, Post, Status};
+use press_text::{Items, Moment, Name, OptName, Text};
+use std::alloc::{AllocError, Global};
+use std::marker::Model;
+
+const PROFILE: u8 = 1;
+
+/// Posts, events, options, active plugins, and what became of each command, at a moment.
+#[derive(Debug, Drop)]
+pub struct Site {
+    alloc: Global,
+    moment: Moment,
+    content: Content,
+    options: Options,
+    plugins: Plugins,
+    outcomes: Outcomes,
+}
+
+impl Model for Site {
+    ghost use Rattle.press_site.specs.SiteView.{SiteView};
+
+    ghost Value = { SiteView };
+
+    ghost view = { λ s. record { moment = s.moment; posts = s.content.posts; events = s.content.events; options = s.options; active = s.plugins; outcomes = s.outcomes } };
+}
+
+impl Site {
+    /// A site with nothing in it, at the first moment; takes no memory.
+    pub fn new(alloc: Global) -> Site
+        ensures { result ≡ no_site }
+    {
+        Site {
+            alloc,
+            moment: Moment::zero(),
+            content: Content::new(alloc),
+            options: Options::new(alloc),
+            plugins: Plugins::new(alloc),
+            outcomes: Outcomes::new(alloc),
+        }
+    }
+
+    /// The version of the rules that it goes by.
+    pub fn profile(&self) -> u8
+        ensures { result ≡ 1 }
+    {
+        PROFILE
+    }
+
+    /// The latest moment of a command so far.
+    pub fn now(&self) -> Moment
+        ensures { result ≡ self.now.moment }
+    {
+        self.moment
+    }
+
+    pub fn set_now(&mut self, moment: Moment)
+        ensures { self.new ≡ record self.old { moment = moment } }
+    {
+        self.moment = moment;
+    }
+
+    pub fn option(&self, name: &OptName) -> Option<&str>
+        ensures { option_map (λ v. v.now) result ≡ option_of name.now self.now.options }
+    {
+        self.options.get(name)
+    }
+
+    /// The post with that id, found by its place.
+    pub fn post(&self, id: u64) -> Option<&Post>
+        ensures { option_map (λ p. p.now) result ≡ post_at self.now.posts id }
+    {
+        self.content.post(id)
+    }
+
+    /// The published posts, newest date first, then greatest id.
+    pub fn published(&self) -> Result<Items<u64>, AllocError>
+        ensures { IfOk result (λ ids. ids ≡ published self.now.posts) }
+    {
+        self.content.published()
+    }
+
+    /// The events whose time has come, by time, then in the order in which they were scheduled.
+    pub fn due(&self) -> Result<Items<Event>, AllocError>
+        ensures { IfOk result (λ es. es ≡ due self.now.moment self.now.events) }
+    {
+        self.content.due(self.moment)
+    }
+
+    /// The active plugins, in the order of their names.
+    pub fn active(&self) -> &[Name]
+        ensures { result.now ≡ self.now.active }
+    {
+        self.plugins.as_slice()
+    }
+
+    /// What became of the command with that token.
+    pub fn result_of(&self, token: &Token) -> Option<Outcome>
+        ensures { result ≡ outcome_of token.now self.now.outcomes }
+    {
+        self.outcomes.result_of(token)
+    }
+
+    /// Keeps what became of a command, for good.
+    pub fn keep(&mut self, token: Token, outcome: Outcome) -> Result<(), AllocError>
+        requires { outcome_of token self.old.outcomes ≡ None }
+        ensures ok { OnOk result (self.new ≡ record self.old { outcomes = with_outcome token outcome self.old.outcomes }) }
+        ensures err { OnErr result (self.new ≡ self.old) }
+    {
+        self.outcomes.keep(token, outcome)
+    }
+
+    /// Makes a change: what it did and what is to be fired. After a refusal the site is as it was.
+    pub fn effect(&mut self, effect: Effect) -> Result<Changed, SiteFault>
+        ensures { Becomes result (effect_on self.old effect) self.old self.new }
+    {
+        match effect {
+            Effect::Insert {
+                title,
+                content,
+                status,
+                date,
+            } => self.insert(title, content, status, date),
+            Effect::Edit {
+                id,
+                title,
+                content,
+                status,
+                date,
+            } => self.edit(id, title, content, status, date),
+            Effect::Move { id, to } => self.move_post(id, to),
+            Effect::Delete { id } => self.delete(id),
+            Effect::SetOption { name, value } => self.set_option(&name, value),
+            Effect::Schedule(event) => self.schedule(event),
+            Effect::Take(event) => Ok(self.take(&event)),
+            Effect::Activate { plugin } => self.activate(plugin),
+            Effect::Deactivate { plugin } => self.deactivate(&plugin),
+        }
+    }
+
+    #[tactic(auto, using(crate::proofs::Lifted::content_refused))]
+    fn insert(
+        &mut self,
+        title: Text,
+        content: Text,
+        status: Status,
+        date: Moment,
+    ) -> Result<Changed, SiteFault>
+        ensures { Becomes result (effect_on self.old (Effect.Insert title content status date)) self.old self.new }
+    {
+        let now = self.moment;
+        self.content.insert(title, content, status, date, now)
+    }
+
+    #[tactic(auto, using(crate::proofs::Lifted::content_refused))]
+    fn edit(
+        &mut self,
+        id: u64,
+        title: Text,
+        content: Text,
+        status: Status,
+        date: Moment,
+    ) -> Result<Changed, SiteFault>
+        ensures { Becomes result (effect_on self.old (Effect.Edit id title content status date)) self.old self.new }
+    {
+        let now = self.moment;
+        self.content.edit(id, title, content, status, date, now)
+    }
+
+    fn move_post(&mut self, id: u64, to: Move) -> Result<Changed, SiteFault>
+        ensures { Becomes result (effect_on self.old (Effect.Move id to)) self.old self.new }
+    {
+        self.content.set_status(id, to)
+    }
+
+    fn delete(&mut self, id: u64) -> Result<Changed, SiteFault>
+        ensures { Becomes result (effect_on self.old (Effect.Delete id)) self.old self.new }
+    {
+        self.content.delete(id)
+    }
+
+    #[tactic(auto, using(crate::proofs::Lifted::content_refused))]
+    fn schedule(&mut self, event: Event) -> Result<Changed, SiteFault>
+        ensures { Becomes result (effect_on self.old (Effect.Schedule event)) self.old self.new }
+    {
+        self.content.schedule(event)
+    }
+
+    fn take(&mut self, event: &Event) -> Changed
+        ensures { effect_on self.old (Effect.Take event.now) ≡ Ok (self.new, result) }
+    {
+        let now = self.moment;
+        self.content.take(event, now)
+    }
+
+    #[tactic(auto, using(crate::proofs::Lifted::options_refused))]
+    fn set_option(&mut self, name: &OptName, value: Text) -> Result<Changed, SiteFault>
+        ensures { Becomes result (effect_on self.old (Effect.SetOption name.now value)) self.old self.new }
+    {
+        let fires = self.options.set(name, value)?;
+        Ok(fired(self.alloc, fires))
+    }
+
+    #[tactic(auto, using(crate::proofs::Lifted::plugins_refused))]
+    fn activate(&mut self, plugin: Name) -> Result<Changed, SiteFault>
+        ensures { Becomes result (effect_on self.old (Effect.Activate plugin)) self.old self.new }
+    {
+        self.plugins.activate(plugin)?;
+        Ok(no_post(self.alloc))
+    }
+
+    #[tactic(auto, using(crate::proofs::Lifted::plugins_refused))]
+    fn deactivate(&mut self, plugin: &Name) -> Result<Changed, SiteFault>
+        ensures { Becomes result (effect_on self.old (Effect.Deactivate plugin.now)) self.old self.new }
+    {
+        self.plugins.deactivate(plugin)?;
+        Ok(no_post(self.alloc))
+    }
+}
+
+// What the setting of an option did.
+fn fired(alloc: Global, fires: Option<Items<Fire>>) -> Changed
+    ensures { result ≡ fired fires }
+{
+    let id = 0;
+    match fires {
+        Some(fires) => Changed {
+            id,
+            did: true,
+            fires,
+        },
+        None => Changed {
+            id,
+            did: false,
+            fires: Items::new(alloc),
+        },
+    }
+}
+
+// A change that is about no post.
+fn no_post(alloc: Global) -> Changed
+    ensures { result ≡ no_post true }
+{
+    let (id, did, fires) = (0, true, Items::new(alloc));
+    Changed { id, did, fires }
+}
