@@ -5,5 +5,6 @@ mod posts;
 mod runs;
 mod scans;
 mod scripts;
+mod site;
 mod texts;
 mod twin;
