@@ -64,6 +64,10 @@ cancels hook arg events = list_any (is_of hook arg) events
 abbrev pub cancelled : List ℕ → List ℕ → List Event → List Event
 cancelled hook arg events = filter (λ e. not (is_of hook arg e)) events
 
+-- whether no event more may stand once these are out
+abbrev pub is_full_without : List ℕ → List ℕ → List Event → Bool
+is_full_without hook arg events = nat_le 4096 (length (cancelled hook arg events))
+
 -- ---- due events: those of a time at most now
 
 abbrev pub due : ℕ → List Event → List Event

@@ -18,14 +18,15 @@ impl Event {
     pub fn is_same(&self, other: &Event) -> bool
         ensures { result ≡ is_same self.now other.now }
     {
-        self.time.seconds() == other.time.seconds() && self.is_of(&other.hook, other.arg.as_str())
+        self.time.seconds() == other.time.seconds()
+            && self.is_of(other.hook.as_str(), other.arg.as_str())
     }
 
     /// Whether it does that hook with that argument, at whatever time.
-    pub fn is_of(&self, hook: &HookName, arg: &str) -> bool
+    pub fn is_of(&self, hook: &str, arg: &str) -> bool
         ensures { result ≡ is_of hook.now arg.now self.now }
     {
-        self.hook.is(hook) && self.arg.as_str() == arg
+        self.hook.as_str() == hook && self.arg.as_str() == arg
     }
 
     /// Whether its time is after that moment.

@@ -2,7 +2,7 @@
 
 ghost use Rattle.std.specs.Prelude.{◌≡◌, [], ◌<◌, ◌≤◌, length, position, unwrap_or, IfOk, IfSome, is_some, vec_len, vec_capacity};
 ghost use Rattle.std.specs.List.{list_any};
-ghost use Rattle.press_events.specs.DueEvents.{is_later, place_of, stands, place_in, IsByTime, Adds, add_event, cancelled, cancels, due, take_event, put_again};
+ghost use Rattle.press_events.specs.DueEvents.{is_later, place_of, stands, place_in, IsByTime, Adds, add_event, cancelled, cancels, is_full_without, due, take_event, put_again};
 
 use crate::event::Event;
 use crate::fault::EventFault;
@@ -67,9 +67,16 @@ impl Events {
         ensures answer { result ≡ cancels hook.now arg.now self.old }
         ensures after { self.new ≡ cancelled hook.now arg.now self.old }
     {
-        let stood = self.events.iter().any(|e| e.is_of(hook, arg));
+        let stood = self.events.iter().any(|e| e.is_of(hook.as_str(), arg));
         cancel(&mut self.events, hook, arg);
         stood
+    }
+
+    /// Whether no event more may stand once every event of that hook and argument is out.
+    pub fn is_full_without(&self, hook: &str, arg: &str) -> bool
+        ensures { result ≡ is_full_without hook.now arg.now self.now }
+    {
+        others(&self.events, hook, arg) >= MOST_EVENTS
     }
 
     /// The events whose time has come.
@@ -111,7 +118,14 @@ impl Events {
 fn cancel(events: &mut Vec<Event>, hook: &HookName, arg: &str)
     ensures { events.new.items ≡ cancelled hook.now arg.now events.old.items }
 {
-    events.retain(|e| !e.is_of(hook, arg));
+    events.retain(|e| !e.is_of(hook.as_str(), arg));
+}
+
+// How many events are not of that hook and argument.
+fn others(events: &[Event], hook: &str, arg: &str) -> usize
+    ensures { result ≡ length (cancelled hook.now arg.now events.now) }
+{
+    events.iter().filter(|e| !e.is_of(hook, arg)).count()
 }
 
 fn stands(events: &[Event], event: &Event) -> bool

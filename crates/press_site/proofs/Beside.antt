@@ -1,5 +1,5 @@
 -- The events beside a post: once those of its id are out, its own is put in wherever there is room.
-use Rattle.std.proofs.Common.{◌≡◌, refl, sym, ◌∙◌, ap, ℕ, ◌<◌, ◌≤◌, ◌^◌, Bool, true, false, not, cond, List, [], ◌∷◌, length, Option, Some, None, arith}
+use Rattle.std.proofs.Common.{◌≡◌, refl, sym, ◌∙◌, ap, ℕ, ◌<◌, ◌≤◌, ◌^◌, Bool, true, false, not, cond, List, [], ◌∷◌, length, Some, arith}
 use Rattle.std.specs.Prelude.{nat_eq, nat_lt, nat_le, if◌then◌else◌, decimal, Result, Ok, Err}
 use Rattle.std.proofs.lemmas.Bool.{and_right, le-ltb}
 use Rattle.std.proofs.lemmas.Fmt.{length-decimal-le}
@@ -9,7 +9,7 @@ use Rattle.press_events.specs.declared.fault.EventFault.TheVariants as event
 use Rattle.press_events.specs.DueEvents as events
 use Rattle.press_events.specs.DueEvents.{is_of, is_same, stands, cancelled, add_event, scheduled}
 use Rattle.press_site.specs.declared.fault.SiteFault.TheVariants.{TooManyEvents}
-use Rattle.press_site.specs.Becomes.{IsRefused, MayGrow}
+use Rattle.press_site.specs.Becomes.{IsRefused}
 use Rattle.press_site.specs.Contents.{publish_event, events_without, events_of}
 use Rattle.press_site.specs.Faults.{of_events}
 
@@ -49,23 +49,15 @@ pub put_in : (id date : ℕ) (es after : List Event) (b : Bool) → id < 2 ^ 64 
 put_in id date es after b small e =
     put_of (nat_le 4096 (length (events_without id es))) (scheduled (publish_event id date) (events_without id es)) after b (sym (added id date es small) ∙ e)
 
-grows : (full : Bool) (new : List Event) → MayGrow (if full then Err TooManyEvents else Ok new)
-grows true new = tt
-grows false new = tt
+refused_of : (f : EventFault) (full : Bool) (new : List Event) → full ≡ false → events.IsRefused f (if full then Err event.TooManyEvents else put_new new) → IsRefused (of_events f) (if full then Err TooManyEvents else Ok new)
+refused_of event.NoMemory true new e h = absurd (cc)
+refused_of event.NoMemory false new e h = tt
+refused_of event.TooLong true new e h = absurd (cc)
+refused_of event.TooLong false new e h = cc
+refused_of event.TooManyEvents true new e h = absurd (cc)
+refused_of event.TooManyEvents false new e h = cc
 
--- want of memory
-pub may_grow : (comes : Option ℕ) (id : ℕ) (es : List Event) → MayGrow (events_of comes id es)
-may_grow None id es = tt
-may_grow (Some date) id es = grows (nat_le 4096 (length (events_without id es))) (scheduled (publish_event id date) (events_without id es))
-
-refused_of : (f : EventFault) (full : Bool) (new : List Event) → events.IsRefused f (if full then Err event.TooManyEvents else put_new new) → IsRefused (of_events f) (if full then Err TooManyEvents else Ok new)
-refused_of event.NoMemory full new h = grows full new
-refused_of event.TooLong true new h = cc
-refused_of event.TooLong false new h = cc
-refused_of event.TooManyEvents true new h = refl
-refused_of event.TooManyEvents false new h = cc
-
--- a refusal
-pub refused : (id date : ℕ) (es : List Event) (f : EventFault) → id < 2 ^ 64 → events.IsRefused f (add_event (publish_event id date) (events_without id es)) → IsRefused (of_events f) (events_of (Some date) id es)
-refused id date es f small h =
-    refused_of f (nat_le 4096 (length (events_without id es))) (scheduled (publish_event id date) (events_without id es)) (rw (sym (added id date es small)) h)
+-- a refusal, where there is room
+pub refused : (id date : ℕ) (es : List Event) (f : EventFault) → id < 2 ^ 64 → nat_le 4096 (length (events_without id es)) ≡ false → events.IsRefused f (add_event (publish_event id date) (events_without id es)) → IsRefused (of_events f) (events_of (Some date) id es)
+refused id date es f small room h =
+    refused_of f (nat_le 4096 (length (events_without id es))) (scheduled (publish_event id date) (events_without id es)) room (rw (sym (added id date es small)) h)

@@ -25,16 +25,7 @@ done part answer new meant x m d = subst (λ r. post.Done part answer new r) m d
 
 grown : (x : post.Changed) (r : Result (List Event) SiteFault) → MayGrow r → MayGrow (beside x r)
 grown x (Ok es) h = tt
-grown x (Err TooManyEvents) h = tt
-grown x (Err NoMemory) h = h
-grown x (Err TooLong) h = h
-grown x (Err NoSuchPost) h = h
-grown x (Err NotTrashed) h = h
-grown x (Err IsTrashed) h = h
-grown x (Err TooManyPosts) h = h
-grown x (Err AlreadyActive) h = h
-grown x (Err NotActive) h = h
-grown x (Err TooManyOptions) h = h
+grown x (Err f) h = absurd h
 
 passed : (f : SiteFault) (x : post.Changed) (r : Result (List Event) SiteFault) → IsRefused f r → IsRefused f (beside x r)
 passed NoMemory x r h = grown x r h

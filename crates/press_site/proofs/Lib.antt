@@ -1,5 +1,6 @@
 mod Beside
 mod Bytes
+mod Copies
 mod Hooks
 mod Joined
 mod Lifted

@@ -14,16 +14,7 @@ use Rattle.press_site.specs.SiteView.{SiteView}
 -- the change of a part, put into the site
 refused_by : {A B : Type 0} (h : Result A SiteFault → Result B SiteFault) → ((x : A) → MayGrow (h (Ok x))) → ((f : SiteFault) → h (Err f) ≡ Err f) → (f : SiteFault) (r : Result A SiteFault) → IsRefused f r → IsRefused f (h r)
 refused_by h g e NoMemory (Ok x) i = g x
-refused_by h g e NoMemory (Err NoMemory) i = rw (e NoMemory) i
-refused_by h g e NoMemory (Err TooLong) i = rw (e TooLong) i
-refused_by h g e NoMemory (Err NoSuchPost) i = rw (e NoSuchPost) i
-refused_by h g e NoMemory (Err NotTrashed) i = rw (e NotTrashed) i
-refused_by h g e NoMemory (Err IsTrashed) i = rw (e IsTrashed) i
-refused_by h g e NoMemory (Err TooManyPosts) i = rw (e TooManyPosts) i
-refused_by h g e NoMemory (Err TooManyEvents) i = rw (e TooManyEvents) i
-refused_by h g e NoMemory (Err AlreadyActive) i = rw (e AlreadyActive) i
-refused_by h g e NoMemory (Err NotActive) i = rw (e NotActive) i
-refused_by h g e NoMemory (Err TooManyOptions) i = rw (e TooManyOptions) i
+refused_by h g e NoMemory (Err f) i = absurd i
 refused_by h g e TooLong r i = ap h i ∙ e TooLong
 refused_by h g e NoSuchPost r i = ap h i ∙ e NoSuchPost
 refused_by h g e NotTrashed r i = ap h i ∙ e NotTrashed

@@ -1,21 +1,12 @@
 -- What a change answers: the state after it, or its refusal, which leaves the state as it was (own).
--- Want of memory stands only where the change isn't refused before anything grows: the events beside a post are counted once its own event is made.
+-- Every refusal is found before anything grows: want of memory stands only where the change isn't refused.
 use Rattle.std.specs.Prelude.{◌≡◌, ⊤, Result, Ok, Err}
 use Rattle.press_site.specs.declared.fault.SiteFault.{SiteFault}
 use Rattle.press_site.specs.declared.fault.SiteFault.TheVariants.{NoMemory, TooLong, NoSuchPost, NotTrashed, IsTrashed, TooManyPosts, TooManyEvents, AlreadyActive, NotActive, TooManyOptions}
 
 abbrev pub MayGrow : {A : Type 0} → Result A SiteFault → Type 0
 MayGrow (Ok after) = ⊤
-MayGrow (Err TooManyEvents) = ⊤
-MayGrow (Err NoMemory) = ⊥
-MayGrow (Err TooLong) = ⊥
-MayGrow (Err NoSuchPost) = ⊥
-MayGrow (Err NotTrashed) = ⊥
-MayGrow (Err IsTrashed) = ⊥
-MayGrow (Err TooManyPosts) = ⊥
-MayGrow (Err AlreadyActive) = ⊥
-MayGrow (Err NotActive) = ⊥
-MayGrow (Err TooManyOptions) = ⊥
+MayGrow (Err fault) = ⊥
 
 abbrev pub IsRefused : {A : Type 0} → SiteFault → Result A SiteFault → Type 0
 IsRefused NoMemory meant = MayGrow meant

@@ -1,6 +1,6 @@
 //! Posts and events as one: each change of a post takes its event of `publish_future_post` along.
 
-ghost use Rattle.std.specs.Prelude.{◌≡◌, ℕ, [], IfOk, None, Some, Ok, false, codes, decimal, option_map};
+ghost use Rattle.std.specs.Prelude.{◌≡◌, ℕ, [], IfOk, None, Some, Ok, false, length, nat_le, codes, decimal, option_map};
 ghost use Rattle.press_events.specs.DueEvents.{due};
 ghost use Rattle.press_posts.specs.PostChange.{comes, post_at};
 ghost use Rattle.press_posts.specs.PostChange.Change.{Insert, Edit, Moves, Delete};
@@ -11,11 +11,15 @@ ghost use Rattle.press_site.specs.Contents.{Gives, beside_move, events_of, event
 use crate::changed::Changed;
 use crate::fault::SiteFault;
 use crate::hook::hook_named;
+use itoa::Buffer;
 use press_events::{Event, Events};
 use press_posts::{Move, Post, Posts, Status};
 use press_text::{Every, HookName, Items, Moment, Text};
 use std::alloc::{AllocError, Global};
 use std::marker::Model;
+
+// The hook that is done when a post's moment comes.
+const PUBLISH_HOOK: &str = "publish_future_post";
 
 /// Posts and events.
 #[derive(Debug, Drop)]
@@ -156,6 +160,17 @@ impl Content {
         Changed { id, did, fires }
     }
 
+    /// The same posts and events once more.
+    pub fn copy(&self) -> Result<Content, AllocError>
+        ensures { IfOk result (λ c. c ≡ self.now) }
+    {
+        Ok(Content {
+            alloc: self.alloc,
+            posts: self.posts.copy()?,
+            events: self.events.copy()?,
+        })
+    }
+
     fn turn(&mut self, id: u64, to: Move, events: Events) -> Result<Changed, SiteFault>
         requires { beside_move (post_at self.old.posts id) to id self.old.events ≡ Ok (Some events) }
         ensures { (now : ℕ) → Becomes result (post_effect self.old (Moves id to) now) self.old self.new }
@@ -193,10 +208,21 @@ impl Content {
     fn events_with(&self, id: u64, date: Moment) -> Result<Events, SiteFault>
         ensures { Gives result (events_of (Some date) id self.now.events) }
     {
+        if self.is_full_beside(id) {
+            return Err(SiteFault::TooManyEvents);
+        }
         let event = publish_event(self.alloc, id, date)?;
         let mut events = self.events_without(id)?;
         events.add(event)?;
         Ok(events)
+    }
+
+    // Whether the others leave no room for the event of that post.
+    fn is_full_beside(&self, id: u64) -> bool
+        ensures { result ≡ nat_le 4096 (length (events_without id self.now.events)) }
+    {
+        let mut digits = Buffer::new();
+        self.events.is_full_without(PUBLISH_HOOK, digits.format(id))
     }
 
     fn events_without(&self, id: u64) -> Result<Events, AllocError>
@@ -231,12 +257,12 @@ fn publish_event(alloc: Global, id: u64, date: Moment) -> Result<Event, AllocErr
 fn publish_hook(alloc: Global) -> Result<HookName, AllocError>
     ensures { IfOk result (λ h. h ≡ codes "publish_future_post") }
 {
-    hook_named(alloc, "publish_future_post")
+    hook_named(alloc, PUBLISH_HOOK)
 }
 
 fn decimal(alloc: Global, n: u64) -> Result<Text, AllocError>
     ensures { IfOk result (λ t. t ≡ decimal n) }
 {
-    let text = format!(in alloc; "{n}")?;
-    Text::from_str(alloc, text.as_str())
+    let mut digits = Buffer::new();
+    Text::from_str(alloc, digits.format(n))
 }

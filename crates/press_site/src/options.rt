@@ -41,6 +41,17 @@ impl Options {
         }
     }
 
+    /// The same options once more.
+    pub fn copy(&self) -> Result<Options, AllocError>
+        ensures { IfOk result (λ o. o ≡ self.now) }
+    {
+        let values = self.values.clone()?;
+        Ok(Options {
+            alloc: self.alloc,
+            values,
+        })
+    }
+
     /// The value of an option.
     pub fn get(&self, name: &OptName) -> Option<&str>
         ensures { option_map (λ v. v.now) result ≡ option_of name.now self.now }

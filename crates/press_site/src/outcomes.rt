@@ -1,4 +1,4 @@
-ghost use Rattle.std.specs.Prelude.{◌≡◌, [], None, OnOk, OnErr};
+ghost use Rattle.std.specs.Prelude.{◌≡◌, [], None, IfOk, OnOk, OnErr};
 ghost use Rattle.press_site.specs.Outcomes.{outcome_of, with_outcome};
 
 use crate::token::{Outcome, Token};
@@ -30,6 +30,14 @@ impl Outcomes {
         Outcomes {
             kept: BTreeMap::new(alloc),
         }
+    }
+
+    /// The same outcomes once more.
+    pub fn copy(&self) -> Result<Outcomes, AllocError>
+        ensures { IfOk result (λ o. o ≡ self.now) }
+    {
+        let kept = self.kept.clone()?;
+        Ok(Outcomes { kept })
     }
 
     /// What became of the command with that token.

@@ -1,10 +1,10 @@
-ghost use Rattle.std.specs.Prelude.{◌≡◌, [], ◌<◌, ◌≤◌, length, position, unwrap_or, IfSome};
+ghost use Rattle.std.specs.Prelude.{◌≡◌, [], ◌<◌, ◌≤◌, length, position, unwrap_or, IfSome, IfOk};
 ghost use Rattle.press_site.specs.Becomes.{Turns};
 ghost use Rattle.press_site.specs.Plugins.{is_active, is_before, place_in, activated, deactivated, without};
 
 use crate::fault::SiteFault;
 use press_text::Name;
-use std::alloc::Global;
+use std::alloc::{AllocError, Global};
 use std::cmp::Ordering;
 use std::marker::Model;
 
@@ -30,6 +30,14 @@ impl Plugins {
         Plugins {
             names: Vec::new(alloc),
         }
+    }
+
+    /// The same plugins once more.
+    pub fn copy(&self) -> Result<Plugins, AllocError>
+        ensures { IfOk result (λ p. p ≡ self.now) }
+    {
+        let names = self.names.clone()?;
+        Ok(Plugins { names })
     }
 
     pub fn as_slice(&self) -> &[Name]

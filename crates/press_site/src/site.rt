@@ -60,6 +60,20 @@ impl Site {
         }
     }
 
+    /// The same site once more. What it takes grows with posts, events, options, plugins and outcomes, and hardly with their texts, which are shared.
+    pub fn copy(&self) -> Result<Site, AllocError>
+        ensures { IfOk result (λ s. s ≡ self.now) }
+    {
+        Ok(Site {
+            alloc: self.alloc,
+            moment: self.moment,
+            content: self.content.copy()?,
+            options: self.options.copy()?,
+            plugins: self.plugins.copy()?,
+            outcomes: self.outcomes.copy()?,
+        })
+    }
+
     /// The version of the rules that it goes by.
     pub fn profile(&self) -> u8
         ensures { result ≡ 1 }

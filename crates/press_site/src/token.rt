@@ -5,7 +5,7 @@ ghost use Rattle.std.specs.Cmp.{partial_order_from_own_ties};
 ghost use Rattle.std.specs.Cmp.Rules.{comparing};
 ghost use Rattle.std.specs.Cmp.Lexicographic.{slice_cmp, pointwise};
 ghost use Rattle.std.specs.Ordering.{nat_cmp, on, then_cmp, as_partial_cmp, eq_of_both};
-ghost use Rattle.std.specs.Prelude.{◌==◌, nat_eq};
+ghost use Rattle.std.specs.Prelude.{◌≡◌, ◌==◌, nat_eq};
 
 use press_text::{Copied, Name};
 use std::alloc::{AllocError, Global};
@@ -23,6 +23,17 @@ pub struct Token {
 pub enum Outcome {
     Done(u64),
     Refused(u8),
+}
+
+impl Clone for Token {
+    ghost is_clone = { λ t u. u ≡ t };
+
+    fn clone(&self) -> Result<Token, AllocError> {
+        Ok(Token {
+            editor: self.editor.clone()?,
+            seq: self.seq,
+        })
+    }
 }
 
 impl PartialEq for Token {

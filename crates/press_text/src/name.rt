@@ -23,6 +23,15 @@ impl Model for Name {
     ghost invariant = { λ n. IsName 32 (string_bytes n.inside) };
 }
 
+impl Clone for Name {
+    ghost is_clone = { λ n m. m ≡ n };
+
+    fn clone(&self) -> Result<Name, AllocError> {
+        let inside = self.inside.clone()?;
+        Ok(Name { inside })
+    }
+}
+
 impl Name {
     /// Refuses by BadName (empty), then TooLong (over 32 bytes), then BadName (a byte outside the class).
     pub fn new(alloc: Global, text: &str) -> Result<Name, NameFault>

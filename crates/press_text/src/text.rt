@@ -33,6 +33,14 @@ impl Model for Text {
     ghost view = { λ t. bytes_of t.inside };
 }
 
+impl Clone for Text {
+    ghost is_clone = { λ t u. u ≡ t };
+
+    fn clone(&self) -> Result<Text, AllocError> {
+        self.copy(self.alloc)
+    }
+}
+
 impl Debug for Text {
     fn fmt<W: Write>(&self, f: &mut Formatter<W>) -> fmt::Result {
         Debug::fmt(self.as_str(), f)

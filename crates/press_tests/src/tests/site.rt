@@ -1,15 +1,32 @@
-use press_posts::Status;
-use press_site::{Effect, Outcome, Site, Token};
-use press_text::{Moment, Name, NameFault, Text};
+use press_events::Event;
+use press_posts::{Move, Status};
+use press_site::{Changed, Effect, Outcome, Site, SiteFault, Token};
+use press_text::{Every, HookName, Moment, Name, NameFault, OptName, Text};
 use std::alloc::{AllocError, Global};
 use std::test::Fail;
 
-fn publish(alloc: Global) -> Result<Effect, AllocError> {
+fn moment(seconds: u64) -> Moment {
+    match Moment::new(seconds) {
+        Some(moment) => moment,
+        None => Moment::zero(),
+    }
+}
+
+fn publish(alloc: Global, date: u64) -> Result<Effect, AllocError> {
     Ok(Effect::Insert {
         title: Text::from_str(alloc, "x")?,
         content: Text::from_str(alloc, "y")?,
         status: Status::Publish,
-        date: Moment::zero(),
+        date: moment(date),
+    })
+}
+
+fn daily(alloc: Global, time: u64) -> Result<Event, NameFault> {
+    Ok(Event {
+        time: moment(time),
+        hook: HookName::new(alloc, "h")?,
+        arg: Text::from_str(alloc, "a")?,
+        every: Every::Daily,
     })
 }
 
@@ -20,14 +37,94 @@ fn token(alloc: Global, seq: u64) -> Result<Token, NameFault> {
     })
 }
 
+// Whether so many actions are fired, of which the last is of that hook and has that last argument.
+fn ends_with(changed: Changed, fires: usize, hook: &str, arg: &str) -> bool {
+    let Some(fire) = changed.fires.as_slice().last() else {
+        return false;
+    };
+    let Some(last) = fire.args.as_slice().last() else {
+        return false;
+    };
+    changed.fires.as_slice().len() == fires && fire.hook.as_str() == hook && last.as_str() == arg
+}
+
+// Takes the events that are due, and tells how many there were.
+fn take_due(site: &mut Site) -> Result<usize, SiteFault> {
+    let due = site.due()?.into_vec();
+    let count = due.len();
+    for event in due {
+        site.effect(Effect::Take(event))?;
+    }
+    Ok(count)
+}
+
 #[test]
-fn a_post_is_published(rt: HostRuntime) -> Result<(), Fail> {
+fn a_scheduled_post_is_published(rt: HostRuntime) -> Result<(), Fail> {
     let alloc = rt.alloc();
     let mut site = Site::new(alloc);
-    let changed = site.effect(publish(alloc)?)?;
-    assert_eq!(rt; changed.id, 1);
-    assert_eq!(rt; changed.fires.as_slice().len(), 4);
-    assert_eq!(rt; site.published()?.as_slice(), [1].as_slice());
+    site.set_now(moment(100));
+    assert!(rt; ends_with(site.effect(publish(alloc, 100)?)?, 4, "save_post", ""));
+    assert!(rt; ends_with(site.effect(publish(alloc, 101)?)?, 4, "save_post", ""));
+    assert_eq!(rt; take_due(&mut site)?, 0);
+    site.set_now(moment(101));
+    assert_eq!(rt; take_due(&mut site)?, 1);
+    let to = Move::PublishDue(moment(101));
+    assert!(rt; ends_with(site.effect(Effect::Move { id: 2, to })?, 3, "publish_post", "2"));
+    assert_eq!(rt; take_due(&mut site)?, 0);
+    assert!(rt; !site.effect(Effect::Move { id: 1, to })?.did);
+    assert_eq!(rt; site.published()?.as_slice(), [2, 1].as_slice());
+    Ok(())
+}
+
+#[test]
+fn a_daily_event_comes_again(rt: HostRuntime) -> Result<(), Fail> {
+    let alloc = rt.alloc();
+    let mut site = Site::new(alloc);
+    assert!(rt; site.effect(Effect::Schedule(daily(alloc, 100)?))?.did);
+    site.set_now(moment(172_900));
+    assert!(rt; site.effect(Effect::Take(daily(alloc, 100)?))?.did);
+    assert!(rt; !site.effect(Effect::Schedule(daily(alloc, 259_300)?))?.did);
+    Ok(())
+}
+
+#[test]
+fn a_future_post_finds_no_room(rt: HostRuntime) -> Result<(), Fail> {
+    let alloc = rt.alloc();
+    let mut site = Site::new(alloc);
+    for time in 0..4096 {
+        assert!(rt; site.effect(Effect::Schedule(daily(alloc, time)?))?.did);
+    }
+    match site.effect(publish(alloc, 1)?) {
+        Ok(_) => assert!(rt; false),
+        Err(fault) => assert_eq!(rt; fault, SiteFault::TooManyEvents),
+    }
+    assert!(rt; site.post(1).is_none());
+    Ok(())
+}
+
+#[test]
+fn a_copy_stays_as_the_site_was(rt: HostRuntime) -> Result<(), Fail> {
+    let alloc = rt.alloc();
+    let mut site = Site::new(alloc);
+    let name = OptName::new(alloc, "blogname")?;
+    let value = Text::from_str(alloc, "A")?;
+    site.effect(Effect::SetOption { name, value })?;
+    let plugin = Name::new(alloc, "letters")?;
+    site.effect(Effect::Activate { plugin })?;
+    site.effect(publish(alloc, 1)?)?;
+    site.keep(token(alloc, 1)?, Outcome::Done(1))?;
+    let copy = site.copy()?;
+    site.set_now(moment(1));
+    let to = Move::Trash;
+    site.effect(Effect::Move { id: 1, to })?;
+    let plugin = Name::new(alloc, "letters")?;
+    site.effect(Effect::Deactivate { plugin })?;
+    assert_eq!(rt; copy.now().seconds(), 0);
+    assert_eq!(rt; copy.option(&OptName::new(alloc, "blogname")?), Some("A"));
+    assert_eq!(rt; copy.active().len(), 1);
+    assert_eq!(rt; copy.result_of(&token(alloc, 1)?), Some(Outcome::Done(1)));
+    assert!(rt; copy.post(1).is_some_and(|p| p.status.is_future()));
+    assert_eq!(rt; site.active().len(), 0);
     Ok(())
 }
 
