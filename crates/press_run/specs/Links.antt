@@ -9,7 +9,7 @@ use Rattle.press_site.specs.declared.effect.Effect.{Effect}
 use Rattle.press_site.specs.declared.effect.Effect.TheVariants.{Move, Schedule}
 use Rattle.press_site.specs.declared.fault.SiteFault.{SiteFault}
 use Rattle.press_site.specs.Contents.{no_post}
-use Rattle.press_site.specs.Effects.{effect_on}
+use Rattle.press_site.specs.Effects.{no_site}
 use Rattle.press_site.specs.SiteView.{SiteView}
 
 abbrev pub Changes : Type 0
@@ -21,6 +21,10 @@ no_change = no_post false
 -- every change of a site that is only read is empty
 abbrev pub read_only : Changes
 read_only site effect = Ok (site, no_change)
+
+-- what no change of a site touches: its moment, and what became of commands
+abbrev pub kept : SiteView → SiteView
+kept s = record no_site { moment = s.moment; outcomes = s.outcomes }
 
 -- in a run a refused change changes nothing
 abbrev pub or_no_change : SiteView → Result (SiteView × Changed) SiteFault → SiteView × Changed

@@ -15,7 +15,7 @@ pub trait SiteLink {
 
     ghost view: { Self → SiteView };
 
-    /// What no change touches.
+    /// What no change touches: of a site its moment and its outcomes, and all of one that is only read.
     ghost fixed: { Self → Option SiteView };
 
     fn site(&self) -> &Site
@@ -28,19 +28,21 @@ pub trait SiteLink {
 }
 
 impl SiteLink for Site {
-    ghost use Rattle.std.specs.Prelude.{None};
+    ghost use Rattle.std.specs.Prelude.{Some};
     ghost use Rattle.press_site.specs.Effects.{effect_on};
+    ghost use Rattle.press_run.specs.Links.{kept};
 
     ghost changes = { effect_on };
 
     ghost view = { λ s. s };
 
-    ghost fixed = { λ _. None };
+    ghost fixed = { λ s. Some (kept s) };
 
     fn site(&self) -> &Site {
         self
     }
 
+    #[tactic(auto, using(crate::proofs::Kept::becomes_kept))]
     fn change(&mut self, _alloc: Global, effect: Effect) -> Result<Changed, SiteFault> {
         self.effect(effect)
     }
