@@ -9,7 +9,9 @@ use Rattle.press_callbacks.specs.Kits.{Scripts}
 use Rattle.press_run.specs.declared.job.Job.{Job}
 use Rattle.press_run.specs.declared.job.Job.TheVariants as job
 use Rattle.press_run.specs.Run.{Answer, State, answer}
-use Rattle.press_run.specs.Outcome.{stage, state_of, job_meaning}
+use Rattle.press_run.specs.Links.{kept}
+use Rattle.press_run.specs.Outcome.{state_of, job_meaning}
+use Rattle.press_run.specs.Outcome as run
 use Rattle.press_kit.specs.declared.play_file.PlayKind.{PlayKind}
 use Rattle.press_kit.specs.declared.play_file.PlayKind.TheVariants.{Apply, Do}
 use Rattle.press_kit.specs.declared.play_file.Play.{Play}
@@ -44,8 +46,11 @@ lines scripts (p ∷ ps) s = lines_where (λ s'. lines scripts ps s') (job_meani
 
 -- ---- what a stage of plays stands for, and what one play writes
 
+abbrev pub standing : Stage → run.Stage
+standing p = run.stage p.tables p.machine p.site (Some (kept p.site)) p.out
+
 abbrev pub state_in : Stage → State
-state_in p = state_of (stage p.tables p.machine p.site None p.out)
+state_in p = state_of (standing p)
 
 -- a play was shown on the stage: its line was written, and the stage is as it left it
 pub record Shows (meaning : Option Answer) (after : State) (old new : List ℕ) : Type 0 where

@@ -8,7 +8,7 @@ use Rattle.press_run.specs.Links.{or_no_change}
 abbrev pub one_active : List ℕ → SiteView → SiteView
 one_active name site = (or_no_change site (effect_on site (Activate name))).0
 
-unfoldable pub all_active : List (List ℕ) → SiteView → SiteView
+abbrev pub all_active : List (List ℕ) → SiteView → SiteView
 all_active [] site = site
 all_active (n ∷ ns) site = all_active ns (one_active n site)
 

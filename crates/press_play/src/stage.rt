@@ -1,11 +1,11 @@
 //! Plays, each on the stage as the ones before it left it.
 
-ghost use Rattle.std.specs.Prelude.{◌≡◌, ◌++◌, None, IfOk, string_bytes};
+ghost use Rattle.std.specs.Prelude.{◌≡◌, ◌++◌, IfOk, string_bytes};
 ghost use Rattle.press_site.specs.Effects.{effect_on};
 ghost use Rattle.press_callbacks.specs.Kits.{scripts_in, plugins_in};
 ghost use Rattle.press_run.specs.Boot.{booted_with};
-ghost use Rattle.press_run.specs.Outcome.{GivesJob, job_meaning, around, stage, state_of, started};
-ghost use Rattle.press_play.specs.Lines.{job_of, lines, state_in, Plays};
+ghost use Rattle.press_run.specs.Outcome.{GivesJob, around, job_meaning, started};
+ghost use Rattle.press_play.specs.Lines.{Plays, job_of, lines, standing, state_in};
 
 use crate::line::{answer_line, limit_line};
 use press_callbacks::{Kit, Tables};
@@ -37,8 +37,7 @@ impl Stage {
     }
 
     fn run(&mut self, kit: &Kit, job: Job) -> Result<String, RunFault>
-        ensures { GivesJob (job_meaning effect_on (scripts_in kit.now) job (state_in self.old)) (around (stage self.old.tables self.old.machine self.old.site None self.old.out))
-            (stage self.new.tables self.new.machine self.new.site None self.new.out) result }
+        ensures { GivesJob (job_meaning effect_on (scripts_in kit.now) job (state_in self.old)) (around (standing self.old)) (standing self.new) result }
     {
         self.machine.run(
             kit,
