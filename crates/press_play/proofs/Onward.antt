@@ -1,6 +1,7 @@
 -- Plays one after the other, as a loop does.
 use Rattle.std.proofs.Common.{◌≡◌, ℕ, ◌+◌, ◌<◌, ◌≤◌, List, [], ◌∷◌, ◌++◌, length, get_or, drop, refl, sym, ◌∙◌, append_assoc, append-nil, add-one, drop-cons}
 use Rattle.std.proofs.Math.ListN.{drop_of_length-le}
+use Rattle.press_site.specs.Effects.{effect_on}
 use Rattle.press_callbacks.specs.Kits.{Scripts}
 use Rattle.press_run.specs.Run.{State}
 use Rattle.press_run.specs.Outcome.{job_meaning}
@@ -12,7 +13,7 @@ module _ (scripts : Scripts) (plays : List Play) where
   abbrev pub rest : ℕ → State → List ℕ
   rest i s = lines scripts (drop i plays) s
 
-  pub goes_on : (old new : List ℕ) (i : ℕ) (p : Play) (s s' : State) (total : List ℕ) → i < length plays → p ≡ get_or plays i p → Shows (job_meaning scripts (job_of p) s) s' old new
+  pub goes_on : (old new : List ℕ) (i : ℕ) (p : Play) (s s' : State) (total : List ℕ) → i < length plays → p ≡ get_or plays i p → Shows (job_meaning effect_on scripts (job_of p) s) s' old new
       → old ++ rest i s ≡ total → new ++ rest (i + 1) s' ≡ total
   unfolding lines
   goes_on old new i p s s' total lt here shows so_far =
@@ -21,7 +22,7 @@ module _ (scripts : Scripts) (plays : List Play) where
       let two : (old ++ line (answer_data shows.text s'.output)) ++ rest (i + 1) s' ≡ total = append_assoc old (line (answer_data shows.text s'.output)) (rest (i + 1) s') ∙ (rw one at so_far) in
       rw shows.written two
 
-  pub stops : (old new : List ℕ) (i : ℕ) (p : Play) (s : State) (total : List ℕ) → i < length plays → p ≡ get_or plays i p → Stops (job_meaning scripts (job_of p) s) old new
+  pub stops : (old new : List ℕ) (i : ℕ) (p : Play) (s : State) (total : List ℕ) → i < length plays → p ≡ get_or plays i p → Stops (job_meaning effect_on scripts (job_of p) s) old new
       → old ++ rest i s ≡ total → new ≡ total
   unfolding lines
   stops old new i p s total lt here stop so_far =

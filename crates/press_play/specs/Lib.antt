@@ -2,3 +2,4 @@ pub mod Answers
 pub mod Faults
 pub mod Lines
 pub mod Played
+pub mod Sites

@@ -1,14 +1,17 @@
--- The lines of plays: what each play gives by *Run* on the state that the ones before it left, as a line of JSON (own).
+-- The lines of plays: what each play gives by *Run* on the state that the ones before it left, the site among it, as a line of JSON (own).
 -- A play that meets a limit is the last.
 use Rattle.std.specs.Prelude.{◌≡◌, ℕ, List, [], ◌∷◌, ◌++◌, Bool, true, false, Option, Some, None, Result, Ok, Err, codes}
 use Rattle.std.specs.declared.alloc.AllocError.{AllocError}
 use Rattle.serde_json.specs.Data.{Data, string, boolean, object, member, no_members}
 use Rattle.serde_json.specs.Written.{compact_text}
+use Rattle.press_site.specs.Effects.{effect_on}
 use Rattle.press_callbacks.specs.Kits.{Scripts}
 use Rattle.press_run.specs.declared.job.Job.{Job}
 use Rattle.press_run.specs.declared.job.Job.TheVariants as job
 use Rattle.press_run.specs.Run.{Answer, State, answer}
-use Rattle.press_run.specs.Outcome.{stage, state_of, job_meaning}
+use Rattle.press_run.specs.Links.{kept}
+use Rattle.press_run.specs.Outcome.{state_of, job_meaning}
+use Rattle.press_run.specs.Outcome as run
 use Rattle.press_kit.specs.declared.play_file.PlayKind.{PlayKind}
 use Rattle.press_kit.specs.declared.play_file.PlayKind.TheVariants.{Apply, Do}
 use Rattle.press_kit.specs.declared.play_file.Play.{Play}
@@ -39,12 +42,15 @@ lines_where rest (Some a) = line (answer_data a.text a.state.output) ++ rest a.s
 
 unfoldable pub lines : Scripts → List Play → State → List ℕ
 lines scripts [] s = []
-lines scripts (p ∷ ps) s = lines_where (λ s'. lines scripts ps s') (job_meaning scripts (job_of p) s)
+lines scripts (p ∷ ps) s = lines_where (λ s'. lines scripts ps s') (job_meaning effect_on scripts (job_of p) s)
 
 -- ---- what a stage of plays stands for, and what one play writes
 
+abbrev pub standing : Stage → run.Stage
+standing p = run.stage p.tables p.machine p.site (Some (kept p.site)) p.out
+
 abbrev pub state_in : Stage → State
-state_in p = state_of (stage p.tables p.machine p.out)
+state_in p = state_of (standing p)
 
 -- a play was shown on the stage: its line was written, and the stage is as it left it
 pub record Shows (meaning : Option Answer) (after : State) (old new : List ℕ) : Type 0 where

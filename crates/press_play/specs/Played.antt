@@ -1,8 +1,8 @@
--- What a play file comes to: the lines of its plays on a fresh boot with the active plugins in the order of their names, or its fault (own).
+-- What a play file comes to: the lines of its plays on a fresh boot of the site with its active plugins, or its fault (own).
 use Rattle.std.specs.Prelude.{◌≡◌, ℕ, List, map, Option, Some, None, Result, Ok, Err}
 use Rattle.press_callbacks.specs.declared.kit_fault.KitFault.{KitFault}
 use Rattle.press_callbacks.specs.Kits.{Scripts, KitView, view_of, kit_fault}
-use Rattle.press_callbacks.specs.Order.{by_name}
+use Rattle.press_site.specs.SiteView.{SiteView}
 use Rattle.press_run.specs.Boot.{booted_with}
 use Rattle.press_run.specs.Outcome.{started}
 use Rattle.press_kit.specs.declared.place.Place.{Place}
@@ -14,20 +14,21 @@ use Rattle.press_play.specs.declared.fault.PlayFault.{PlayFault}
 use Rattle.press_play.specs.declared.fault.PlayFault.TheVariants.{NoMemory, ReadFault, TwoNames, UnknownCallback, BadLoad, BadKitFile}
 use Rattle.press_play.specs.Faults.{of_kit}
 use Rattle.press_play.specs.Lines.{lines}
+use Rattle.press_play.specs.Sites.{site_with}
 
 abbrev pub scripts_of : List Scripted → Scripts
 scripts_of callbacks = map (λ c. (c.id, c.script)) callbacks
 
--- the lines on a kit with these active plugins
-abbrev pub lines_on : KitView → List (List ℕ) → List Play → List ℕ
-lines_on kit active plays = lines kit.scripts plays (started (booted_with kit.plugins (by_name (λ n. n) active)))
+-- the lines on a kit and a site, over a boot of its own
+abbrev pub lines_on : KitView → SiteView → List Play → List ℕ
+lines_on kit site plays = lines kit.scripts plays (started (booted_with kit.plugins site.active) site)
 
 abbrev pub unless : Option KitFault → List ℕ → Result (List ℕ) PlayFault
 unless None lines = Ok lines
 unless (Some fault) lines = Err (of_kit fault)
 
 abbrev pub played : PlayFile → Result (List ℕ) PlayFault
-played f = unless (kit_fault (scripts_of f.kit.callbacks) f.kit.plugins) (lines_on (view_of (scripts_of f.kit.callbacks) f.kit.plugins) f.active f.plays)
+played f = unless (kit_fault (scripts_of f.kit.callbacks) f.kit.plugins) (lines_on (view_of (scripts_of f.kit.callbacks) f.kit.plugins) (site_with f.active) f.plays)
 
 abbrev pub played_where : Result PlayFile Place → Result (List ℕ) PlayFault
 played_where (Err place) = Err (BadKitFile place)

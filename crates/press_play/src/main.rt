@@ -7,6 +7,7 @@ mod answered;
 mod fault;
 mod line;
 mod played;
+mod sites;
 mod stage;
 
 use crate::answered::{play_input, write_fault};

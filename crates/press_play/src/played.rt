@@ -7,8 +7,9 @@ ghost use Rattle.press_kit.specs.PlayFile.{play_file_in};
 ghost use Rattle.press_play.specs.Played.{Gives, file_where, played, played_in};
 
 use crate::fault::PlayFault;
+use crate::sites::site_with;
 use crate::stage::lines_of;
-use press_callbacks::{BoxedTurns, CallIn, Kit, Stored, script_turn, sorted_by_name};
+use press_callbacks::{BoxedTurns, CallIn, Kit, Stored, script_turn};
 use press_kit::{FILE_LIMIT, KitFileFault, KitParts, Place, PlayFile, read_play_file};
 use press_text::{Copied, ReadLimitedFault, read_limited};
 use std::alloc::Global;
@@ -51,8 +52,8 @@ fn lines(alloc: Global, file: PlayFile) -> Result<String, PlayFault>
         callbacks.push(Stored::new(scripted.id, scripted.script, call))?;
     }
     let kit = Kit::build(alloc, callbacks, plugins.into_vec())?;
-    let active = sorted_by_name(alloc, active.into_vec())?;
-    Ok(lines_of(alloc, &kit, &active, plays.as_slice())?)
+    let site = site_with(alloc, active)?;
+    Ok(lines_of(alloc, &kit, site, plays.as_slice())?)
 }
 
 /// The lines of the play file that a reader has left.

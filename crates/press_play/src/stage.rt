@@ -1,41 +1,51 @@
 //! Plays, each on the stage as the ones before it left it.
 
 ghost use Rattle.std.specs.Prelude.{◌≡◌, ◌++◌, IfOk, string_bytes};
+ghost use Rattle.press_site.specs.Effects.{effect_on};
 ghost use Rattle.press_callbacks.specs.Kits.{scripts_in, plugins_in};
 ghost use Rattle.press_run.specs.Boot.{booted_with};
-ghost use Rattle.press_run.specs.Outcome.{GivesJob, job_meaning, around, stage, state_of, started};
-ghost use Rattle.press_play.specs.Lines.{job_of, lines, state_in, Plays};
+ghost use Rattle.press_run.specs.Outcome.{GivesJob, around, job_meaning, started};
+ghost use Rattle.press_play.specs.Lines.{Plays, job_of, lines, standing, state_in};
 
 use crate::line::{answer_line, limit_line};
 use press_callbacks::{Kit, Tables};
 use press_kit::{Play, PlayKind};
-use press_run::{Fire, Job, Machine, Out, RunFault, boot};
-use press_text::{Items, Name};
+use press_posts::Fire;
+use press_run::{Job, Machine, Out, RunFault, boot};
+use press_site::Site;
+use press_text::Items;
 use std::alloc::{AllocError, Global};
 
-/// What plays go on with: tables, counts and output.
+/// What plays go on with: tables, counts, the site and output.
 #[derive(Debug, Drop)]
 pub struct Stage {
     pub tables: Tables,
     pub machine: Machine,
+    pub site: Site,
     pub out: Out,
 }
 
 impl Stage {
-    // A stage with the same rows, tags, counts and output.
+    // A stage with the same rows, tags, counts, site and output.
     fn copy(&self, alloc: Global) -> Result<Stage, AllocError> {
         Ok(Stage {
             tables: self.tables.copy()?,
             machine: self.machine.copy()?,
+            site: self.site.copy()?,
             out: self.out.copy(alloc)?,
         })
     }
 
     fn run(&mut self, kit: &Kit, job: Job) -> Result<String, RunFault>
-        ensures { GivesJob (job_meaning (scripts_in kit.now) job (state_in self.old)) (around (stage self.old.tables self.old.machine self.old.out))
-            (stage self.new.tables self.new.machine self.new.out) result }
+        ensures { GivesJob (job_meaning effect_on (scripts_in kit.now) job (state_in self.old)) (around (standing self.old)) (standing self.new) result }
     {
-        self.machine.run(kit, &mut self.tables, job, &mut self.out)
+        self.machine.run(
+            kit,
+            &mut self.tables,
+            &mut self.site,
+            job,
+            &mut self.out,
+        )
     }
 
     // Does a play once less than it says, each time from where it begins.
@@ -57,7 +67,7 @@ impl Stage {
         play: &Play,
         lines: &mut String,
     ) -> Result<bool, AllocError>
-        ensures { Plays (job_meaning (scripts_in kit.now) (job_of play.now) (state_in self.old)) (state_in self.new) (string_bytes lines.old) (string_bytes lines.new) result }
+        ensures { Plays (job_meaning effect_on (scripts_in kit.now) (job_of play.now) (state_in self.old)) (state_in self.new) (string_bytes lines.old) (string_bytes lines.new) result }
     {
         match self.run(kit, job(alloc, play)?) {
             Ok(text) => {
@@ -89,18 +99,19 @@ fn job(alloc: Global, play: &Play) -> Result<Job, AllocError>
     }
 }
 
-/// The lines of the plays on a fresh boot with these active plugins.
+/// The lines of the plays on a fresh boot of the site.
 pub fn lines_of(
     alloc: Global,
     kit: &Kit,
-    active: &[Name],
+    site: Site,
     plays: &[Play],
 ) -> Result<String, AllocError>
-    ensures { IfOk result (λ t. string_bytes t ≡ lines (scripts_in kit.now) plays.now (started (booted_with (plugins_in kit.now) active.now))) }
+    ensures { IfOk result (λ t. string_bytes t ≡ lines (scripts_in kit.now) plays.now (started (booted_with (plugins_in kit.now) site.active) site)) }
 {
     let mut stage = Stage {
-        tables: boot(alloc, kit, active)?,
+        tables: boot(alloc, kit, &site)?,
         machine: Machine::new(alloc),
+        site,
         out: Out::new(alloc),
     };
     let mut lines = String::new(alloc);

@@ -7,4 +7,4 @@ use Rattle.press_play.proofs.Onward.{rest}
 use Rattle.press_play.proofs.stage.lines_of.Given as goal
 
 abbrev pub invariant-loop-play : goal.invariant-loop-play
-invariant-loop-play g l = string_bytes l.lines ++ rest (scripts_in l.kit) l.plays l.play-index (state_in l.stage) ≡ lines (scripts_in l.kit) l.plays (started (booted_with (plugins_in l.kit) l.active))
+invariant-loop-play g l = string_bytes l.lines ++ rest (scripts_in l.kit) l.plays l.play-index (state_in l.stage) ≡ lines (scripts_in l.kit) l.plays (started (booted_with (plugins_in l.kit) l.fn.site.active) l.fn.site)
