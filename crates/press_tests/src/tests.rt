@@ -8,3 +8,4 @@ mod scripts;
 mod site;
 mod texts;
 mod twin;
+mod wire;

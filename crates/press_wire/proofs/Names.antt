@@ -64,3 +64,6 @@ has_no_name bytes fault e = none (is_name 32 bytes) bytes (λ named. let well : 
 pub no_name : (bytes front rest : List ℕ) → short_at bytes ≡ Ok (front, rest) → only is_utf8 front ≡ None → name_at bytes ≡ Err BadField
 unfolding name_at
 no_name bytes front rest read text = rw (read, names_are_texts front text) refl
+
+pub text_is_utf8 : (bytes : List ℕ) → IsUtf8 bytes → is_utf8 bytes ≡ true
+text_is_utf8 bytes u = is_utf8-from_IsUtf8 bytes u

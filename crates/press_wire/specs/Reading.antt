@@ -21,10 +21,7 @@ use Rattle.press_wire.specs.declared.vote.Vote.{Vote}
 use Rattle.press_wire.specs.Fields.{Reading, ◌>>=◌, byte_at, number4_at, checked, counted, name_at, text_at, number8_at, moment_at, status_at, node_at, slot_at, round_at, ballot_at}
 use Rattle.press_wire.specs.Kinds.{value_kind_of, message_kind_of}
 use Rattle.press_wire.specs.Ranges.{only, is_at_most}
-
--- the most bytes of a value
-abbrev pub longest : ℕ
-longest = 16384
+use Rattle.press_wire.specs.Spelling.{longest}
 
 -- nothing is left
 abbrev pub ended : {A : Type 0} → A × List ℕ → Result A WireFault

@@ -1,5 +1,5 @@
 -- The one spelling of each value and message: its kind and its fields from left to right, numbers big-endian (own).
-use Rattle.std.specs.Prelude.{ℕ, List, [], ◌∷◌, ◌++◌, length, Option, Some, None}
+use Rattle.std.specs.Prelude.{ℕ, List, [], ◌∷◌, ◌++◌, length, nat_lt, Bool, false, Option, Some, None}
 use Rattle.std.specs.Int.{w32, w64, to_be_bytes}
 use Rattle.press_apply.specs.declared.command.Command.{Command}
 use Rattle.press_apply.specs.declared.command.Command.TheVariants.{Insert, Update, Trash, Untrash, Delete, SetOption, Activate, Deactivate, Tick}
@@ -55,6 +55,13 @@ unfoldable pub spelled_command : Value → List ℕ
 spelled_command (Noop at) = 0 ∷ number8 at
 spelled_command (Cmd s) = command_number (kind_of_command s.command) ∷ stamped s
 
+-- the most bytes of a value
+abbrev pub longest : ℕ
+longest = 16384
+
+abbrev pub is_too_long : Value → Bool
+is_too_long v = nat_lt longest (length (spelled_command v))
+
 -- ---- messages
 
 unfoldable pub ballot : Ballot → List ℕ
@@ -80,3 +87,23 @@ body Query = []
 
 unfoldable pub spelled_message : Message → List ℕ
 spelled_message m = message_number (kind_of_body m.body) ∷ m.from ∷ m.to ∷ (number4 m.slot ++ body m.body)
+
+-- the value inside a message
+abbrev pub perhaps_value_of : Option Vote → Option Value
+perhaps_value_of None = None
+perhaps_value_of (Some v) = Some v.value
+
+abbrev pub value_of : Body → Option Value
+value_of (Prepare round) = None
+value_of (Promise b v) = perhaps_value_of v
+value_of (Nack refused promised) = None
+value_of (Accept round v) = Some v
+value_of (Accepted v) = Some v.value
+value_of Query = None
+
+abbrev pub is_too_long_inside : Option Value → Bool
+is_too_long_inside None = false
+is_too_long_inside (Some v) = is_too_long v
+
+abbrev pub is_too_long_message : Message → Bool
+is_too_long_message m = is_too_long_inside (value_of m.body)

@@ -1,4 +1,5 @@
-ghost use Rattle.std.specs.Prelude.{◌≡◌, IfOk};
+ghost use Rattle.std.specs.Prelude.{◌≡◌, IfOk, option_map};
+ghost use Rattle.press_wire.specs.Spelling.{value_of};
 
 use crate::ballot::Ballot;
 use crate::node::Node;
@@ -63,6 +64,21 @@ impl Message {
 }
 
 impl Body {
+    /// The value that the message carries, by itself or in a vote.
+    pub fn value(&self) -> Option<&Value>
+        ensures { option_map (λ v. v.now) result ≡ value_of self.now }
+    {
+        match self {
+            Body::Promise { vote, .. } => match vote {
+                Some(vote) => Some(&vote.value),
+                None => None,
+            },
+            Body::Accept { value, .. } => Some(value),
+            Body::Accepted { vote } => Some(&vote.value),
+            Body::Prepare { .. } | Body::Nack { .. } | Body::Query => None,
+        }
+    }
+
     /// The same body once more.
     pub fn copy(&self, alloc: Global) -> Result<Body, AllocError>
         ensures { IfOk result (λ b. b ≡ self.now) }

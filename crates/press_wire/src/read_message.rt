@@ -10,10 +10,9 @@ use crate::message::{Body, Message};
 use crate::read_value::whole_value;
 use crate::reader::Reader;
 use crate::vote::Vote;
+use crate::write_value::LONGEST;
 use press_apply::Value;
 use std::alloc::Global;
-
-const LONGEST: u32 = 16_384;
 
 impl<'a> Reader<'a> {
     #[tactic(auto, unfolding(crate::specs::Reading::value_at))]
@@ -21,7 +20,7 @@ impl<'a> Reader<'a> {
         ensures { GivesFront result self.new (value_at self.old) }
     {
         let len = self.number4()?;
-        if len > LONGEST {
+        if len as usize > LONGEST {
             return Err(WireFault::BadField);
         }
         match whole_value(alloc, self.cut(len as usize)?) {

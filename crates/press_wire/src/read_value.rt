@@ -1,13 +1,15 @@
 //! Commands, read off the front of bytes.
 
-ghost use Rattle.std.specs.Prelude.{◌≡◌};
+ghost use Rattle.std.specs.Prelude.{◌≡◌, ◌<◌, length, IsErrOf};
 ghost use Rattle.press_wire.specs.Gives.{Gives, GivesFront};
-ghost use Rattle.press_wire.specs.Reading.{post_at, insert_at, update_at, option_at, fields_at, stamped_at, behind_kind, command_at, read_value};
+ghost use Rattle.press_wire.specs.Spelling.{longest};
+ghost use Rattle.press_wire.specs.Reading.{post_at, insert_at, update_at, option_at, fields_at, stamped_at, behind_kind, command_at, read_value, read_command};
 
 use crate::fault::WireFault;
 use crate::kind::{CommandKind, ValueKind};
 use crate::post::PostFields;
 use crate::reader::Reader;
+use crate::write_value::LONGEST;
 use press_apply::{Command, Stamped, Value};
 use press_site::Token;
 use std::alloc::Global;
@@ -140,4 +142,16 @@ pub fn whole_value(alloc: Global, bytes: &[u8]) -> Result<Value, WireFault>
         return Err(WireFault::Extra);
     }
     Ok(value)
+}
+
+/// The same, of at most 16,384 bytes.
+#[tactic(auto, unfolding(crate::specs::Reading::read_command))]
+pub fn short_value(alloc: Global, bytes: &[u8]) -> Result<Value, WireFault>
+    ensures read { Gives result (read_command bytes.now) }
+    ensures long { longest < length bytes.now → IsErrOf result WireFault.TooLong }
+{
+    if bytes.len() > LONGEST {
+        return Err(WireFault::TooLong);
+    }
+    whole_value(alloc, bytes)
 }
