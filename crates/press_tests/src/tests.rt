@@ -9,3 +9,4 @@ mod scripts;
 mod site;
 mod texts;
 mod twin;
+mod wire;
