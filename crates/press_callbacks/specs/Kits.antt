@@ -4,7 +4,7 @@
 use Rattle.std.specs.Prelude.{ℕ, List, [], ◌∷◌, Bool, true, false, not, ◌||◌, ◌&&◌, cond, if◌then◌else◌, nat_lt, bytes_eq, map, sum_by, count_by, Option, Some, None, option_map, slice_get, ◌≡◌, Result, Ok, Err}
 use Rattle.std.specs.List.{list_any, list_all}
 use Rattle.press_callbacks.specs.declared.script.Op.{Op}
-use Rattle.press_callbacks.specs.declared.script.Op.TheVariants.{Set, AddHook, RemoveHook, RemoveAll, AddTag, RemoveTag, SkipIf, Apply, Do, Shortcodes, Ask, Echo, Return}
+use Rattle.press_callbacks.specs.declared.script.Op.TheVariants.{Set, AddHook, RemoveHook, RemoveAll, AddTag, RemoveTag, SkipIf, Apply, Do, Shortcodes, Ask, SetOption, Schedule, Publish, Echo, Return}
 use Rattle.press_callbacks.specs.declared.script.Ask.TheVariants as ask
 use Rattle.press_callbacks.specs.declared.script.Ask as asked
 use Rattle.press_callbacks.specs.declared.plugin.Plugin.{Plugin}
@@ -82,6 +82,7 @@ abbrev pub callback_asked : asked.Ask → Option (List ℕ)
 callback_asked (ask.Did hook) = None
 callback_asked (ask.Doing hook) = None
 callback_asked (ask.Has hook callback) = Some callback
+callback_asked (ask.Option name) = None
 callback_asked (ask.Tag tag) = None
 
 abbrev pub callback_named : Op → Option (List ℕ)
@@ -96,6 +97,9 @@ callback_named (Apply h v more) = None
 callback_named (Do h args) = None
 callback_named (Shortcodes ps) = None
 callback_named (Ask a) = callback_asked a
+callback_named (SetOption n v) = None
+callback_named (Schedule after every h arg) = None
+callback_named (Publish ps) = None
 callback_named (Echo ps) = None
 callback_named (Return ps) = None
 

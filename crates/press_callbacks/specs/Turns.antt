@@ -44,6 +44,9 @@ turn_of_op call (op.Apply h v more) = turn.Apply h (text_of call v ∷ map (text
 turn_of_op call (op.Do h args) = turn.Do h (map (text_of call) args)
 turn_of_op call (op.Shortcodes ps) = turn.Shortcodes (text_of call ps)
 turn_of_op call (op.Ask a) = turn.Ask a
+turn_of_op call (op.SetOption n v) = turn.SetOption n (text_of call v)
+turn_of_op call (op.Schedule after every h arg) = turn.Schedule after every h (text_of call arg)
+turn_of_op call (op.Publish ps) = turn.Publish (text_of call ps)
 turn_of_op call (op.Echo ps) = turn.Echo (text_of call ps)
 turn_of_op call (op.Return ps) = turn.Return (text_of call ps)
 

@@ -1,7 +1,7 @@
 //! The callbacks that every machine has.
 
-ghost use Rattle.std.specs.Prelude.{◌≡◌};
-ghost use Rattle.press_callbacks.specs.BuiltIns.{do_shortcode as named_do_shortcode, is_built_in};
+ghost use Rattle.std.specs.Prelude.{◌≡◌, bytes_eq};
+ghost use Rattle.press_callbacks.specs.BuiltIns.{do_shortcode as named_do_shortcode, check_and_publish_future_post as named_check_and_publish, is_built_in};
 
 use press_text::CallbackId;
 
@@ -15,9 +15,27 @@ pub fn do_shortcode() -> CallbackId
     }
 }
 
+/// The name of the built-in callback that publishes the post whose id is its first argument, if it is future and due, and
+/// answers that argument (`check_and_publish_future_post`).
+pub fn check_and_publish_future_post() -> CallbackId
+    ensures { result ≡ named_check_and_publish }
+{
+    match CallbackId::new("check_and_publish_future_post") {
+        Ok(id) => id,
+        Err(_) => unreachable!(),
+    }
+}
+
+/// Whether a name is that of the built-in `do_shortcode`.
+pub fn is_do_shortcode(name: &[u8]) -> bool
+    ensures { result ≡ bytes_eq name.now named_do_shortcode }
+{
+    name == b"do_shortcode".as_slice()
+}
+
 /// Whether a name is that of a built-in callback.
 pub fn is_built_in(name: &[u8]) -> bool
     ensures { result ≡ is_built_in name.now }
 {
-    name == b"do_shortcode".as_slice()
+    is_do_shortcode(name) || name == b"check_and_publish_future_post".as_slice()
 }

@@ -24,6 +24,7 @@ impl Copied for Ask {
             Ask::Did(hook) => Ok(Ask::Did(hook.copy(alloc)?)),
             Ask::Doing(hook) => Ok(Ask::Doing(hook.copy(alloc)?)),
             Ask::Has(hook, callback) => Ok(Ask::Has(hook.copy(alloc)?, *callback)),
+            Ask::Option(name) => Ok(Ask::Option(name.copy(alloc)?)),
             Ask::Tag(tag) => Ok(Ask::Tag(tag.copy(alloc)?)),
         }
     }
@@ -80,6 +81,22 @@ impl Copied for Op {
             }),
             Op::Shortcodes(parts) => Ok(Op::Shortcodes(parts.copied(alloc)?)),
             Op::Ask(ask) => Ok(Op::Ask(ask.copied(alloc)?)),
+            Op::SetOption { name, value } => Ok(Op::SetOption {
+                name: name.copy(alloc)?,
+                value: value.copied(alloc)?,
+            }),
+            Op::Schedule {
+                after,
+                every,
+                hook,
+                arg,
+            } => Ok(Op::Schedule {
+                after: *after,
+                every: *every,
+                hook: hook.copy(alloc)?,
+                arg: arg.copied(alloc)?,
+            }),
+            Op::Publish(parts) => Ok(Op::Publish(parts.copied(alloc)?)),
             Op::Echo(parts) => Ok(Op::Echo(parts.copied(alloc)?)),
             Op::Return(parts) => Ok(Op::Return(parts.copied(alloc)?)),
         }

@@ -103,9 +103,11 @@ fn knows_op<T: Named>(callbacks: &[T], op: &Op) -> bool
         Op::RemoveHook { callback, .. } => is_known(callbacks, *callback),
         Op::AddTag { callback, .. } => is_known(callbacks, *callback),
         Op::Ask(Ask::Has(_, callback)) => is_known(callbacks, *callback),
-        Op::Ask(Ask::Did(_)) | Op::Ask(Ask::Doing(_)) | Op::Ask(Ask::Tag(_)) => true,
+        Op::Ask(Ask::Did(_)) | Op::Ask(Ask::Doing(_)) => true,
+        Op::Ask(Ask::Option(_)) | Op::Ask(Ask::Tag(_)) => true,
         Op::Set(_) | Op::RemoveAll { .. } | Op::SkipIf { .. } | Op::Apply { .. } => true,
         Op::RemoveTag { .. } | Op::Do { .. } | Op::Shortcodes(_) => true,
+        Op::SetOption { .. } | Op::Schedule { .. } | Op::Publish(_) => true,
         Op::Echo(_) | Op::Return(_) => true,
     }
 }

@@ -18,7 +18,7 @@ mod stored;
 mod tables;
 mod turns;
 
-pub use built_in::{do_shortcode, is_built_in};
+pub use built_in::{check_and_publish_future_post, do_shortcode, is_built_in, is_do_shortcode};
 pub use callback::Callback;
 pub use kit::Kit;
 pub use kit_fault::KitFault;

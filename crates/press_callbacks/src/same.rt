@@ -8,7 +8,7 @@ use crate::known::Scripted;
 use crate::plugin::{Load, Plugin};
 use crate::script::{Ask, Op, Part};
 use press_scan::AttKey;
-use press_text::{CallbackId, HookName, Items, Name, Tag, Text};
+use press_text::{CallbackId, Every, HookName, Items, Name, OptName, Tag, Text};
 
 /// Values that can be compared.
 pub trait Same {
@@ -32,6 +32,18 @@ impl Same for Name {
 impl Same for HookName {
     fn same(&self, other: &HookName) -> bool {
         self.is(other)
+    }
+}
+
+impl Same for OptName {
+    fn same(&self, other: &OptName) -> bool {
+        self.is(other)
+    }
+}
+
+impl Same for Every {
+    fn same(&self, other: &Every) -> bool {
+        *self == *other
     }
 }
 
@@ -116,6 +128,10 @@ impl Same for Ask {
             },
             Ask::Has(a, c) => match other {
                 Ask::Has(b, d) => a.same(b) && c.same(d),
+                _ => false,
+            },
+            Ask::Option(a) => match other {
+                Ask::Option(b) => a.same(b),
                 _ => false,
             },
             Ask::Tag(a) => match other {
@@ -203,6 +219,28 @@ impl Same for Op {
             },
             Op::Ask(a) => match other {
                 Op::Ask(b) => a.same(b),
+                _ => false,
+            },
+            Op::SetOption { name, value } => match other {
+                Op::SetOption { name: n, value: v } => name.same(n) && value.same(v),
+                _ => false,
+            },
+            Op::Schedule {
+                after,
+                every,
+                hook,
+                arg,
+            } => match other {
+                Op::Schedule {
+                    after: n,
+                    every: e,
+                    hook: h,
+                    arg: a,
+                } => *after == *n && every.same(e) && hook.same(h) && arg.same(a),
+                _ => false,
+            },
+            Op::Publish(a) => match other {
+                Op::Publish(b) => a.same(b),
                 _ => false,
             },
             Op::Echo(a) => match other {

@@ -1,5 +1,5 @@
 use press_scan::{AttKey, Atts};
-use press_text::{CallbackId, HookName, Items, Text, Texts};
+use press_text::{CallbackId, Every, HookName, Items, OptName, Text, Texts};
 
 /// A piece of a text that a script makes. A missing argument or attribute is the empty text.
 #[derive(Debug, Drop)]
@@ -32,6 +32,8 @@ pub enum Ask {
     Doing(HookName),
     /// The least priority of the callback on the hook in decimal, or empty (`has_filter`).
     Has(HookName, CallbackId),
+    /// The option's value, or empty (`get_option`).
+    Option(OptName),
     /// `1` where the tag stands, else empty (`shortcode_exists`).
     Tag(Text),
 }
@@ -89,6 +91,20 @@ pub enum Op {
     Shortcodes(Parts),
     /// Asks the machine.
     Ask(Ask),
+    /// Sets an option (`update_option`).
+    SetOption {
+        name: OptName,
+        value: Parts,
+    },
+    /// Schedules an event so many seconds from now (`wp_schedule_single_event`, `wp_schedule_event`).
+    Schedule {
+        after: u64,
+        every: Every,
+        hook: HookName,
+        arg: Parts,
+    },
+    /// Publishes the post with that id in decimal, if it is future and due (`check_and_publish_future_post`).
+    Publish(Parts),
     /// Writes a text to the page.
     Echo(Parts),
     /// Ends the callback with this text.
@@ -148,6 +164,17 @@ pub enum Turn {
     },
     Shortcodes(Text),
     Ask(Ask),
+    SetOption {
+        name: OptName,
+        value: Text,
+    },
+    Schedule {
+        after: u64,
+        every: Every,
+        hook: HookName,
+        arg: Text,
+    },
+    Publish(Text),
     Echo(Text),
     Return(Text),
 }

@@ -65,6 +65,22 @@ fn op_turn(alloc: Global, op: &Op, call: &CallIn) -> Result<Turn, AllocError>
         }
         Op::Shortcodes(parts) => Ok(Turn::Shortcodes(text_of(alloc, parts, call)?)),
         Op::Ask(ask) => Ok(Turn::Ask(ask.copied(alloc)?)),
+        Op::SetOption { name, value } => Ok(Turn::SetOption {
+            name: name.copy(alloc)?,
+            value: text_of(alloc, value, call)?,
+        }),
+        Op::Schedule {
+            after,
+            every,
+            hook,
+            arg,
+        } => Ok(Turn::Schedule {
+            after: *after,
+            every: *every,
+            hook: hook.copy(alloc)?,
+            arg: text_of(alloc, arg, call)?,
+        }),
+        Op::Publish(parts) => Ok(Turn::Publish(text_of(alloc, parts, call)?)),
         Op::Echo(parts) => Ok(Turn::Echo(text_of(alloc, parts, call)?)),
         Op::Return(parts) => Ok(Turn::Return(text_of(alloc, parts, call)?)),
     }

@@ -5,14 +5,14 @@ ghost use Rattle.press_text.specs.Names.{name_fault};
 ghost use Rattle.press_posts.specs.Transitions.{old_word, transition, general, turned_name, turned, reached_name, reached, saved, inserts, updates};
 
 use crate::status::Status;
-use press_text::{HookName, Items, NameFault, Text};
+use press_text::{HookName, Items, NameFault, Text, Texts};
 use std::alloc::{AllocError, Global};
 
 /// An action, and the arguments that its callbacks get.
 #[derive(Debug, Drop)]
 pub struct Fire {
     pub hook: HookName,
-    pub args: Items<Text>,
+    pub args: Texts,
 }
 
 // What a transition of a post fires; None for the status before the post was.
@@ -54,7 +54,7 @@ fn general(alloc: Global, old: Option<Status>, new: Status, id: u64) -> Result<F
     let new = Text::from_str(alloc, new.word())?;
     let old = Text::from_str(alloc, old_word(old))?;
     let id = decimal(alloc, id)?;
-    let args = Items::from_vec(vec![in alloc; new, old, id]?);
+    let args = Texts::from_vec(vec![in alloc; new, old, id]?)?;
     Ok(Fire {
         hook: hook_named(alloc, "transition_post_status")?,
         args,
@@ -92,7 +92,7 @@ fn saved(alloc: Global, id: u64, update: &str) -> Result<Fire, AllocError>
 {
     let update = Text::from_str(alloc, update)?;
     let id = decimal(alloc, id)?;
-    let args = Items::from_vec(vec![in alloc; id, update]?);
+    let args = Texts::from_vec(vec![in alloc; id, update]?)?;
     Ok(Fire {
         hook: hook_named(alloc, "save_post")?,
         args,
@@ -105,7 +105,7 @@ fn of_id(alloc: Global, name: &str, id: u64) -> Result<Fire, AllocError>
     ensures { IfOk result (λ f. f ≡ record { hook = name.now; args = decimal id ∷ [] }) }
 {
     let id = decimal(alloc, id)?;
-    let args = Items::from_vec(vec![in alloc; id]?);
+    let args = Texts::from_vec(vec![in alloc; id]?)?;
     Ok(Fire {
         hook: hook_named(alloc, name)?,
         args,

@@ -15,24 +15,26 @@ use Rattle.press_scan.specs.declared.tag_row.TagRow.{TagRow}
 use Rattle.press_callbacks.specs.Kits.{Scripts, script_of}
 use Rattle.press_callbacks.specs.BuiltIns.{is_built_in}
 use Rattle.press_run.specs.declared.step.Kind.{Kind}
-use Rattle.press_run.specs.declared.job.Fire.{Fire}
+use Rattle.press_posts.specs.declared.fire.Fire.{Fire}
+use Rattle.press_site.specs.SiteView.{SiteView}
+use Rattle.press_run.specs.Links.{Changes}
 use Rattle.press_run.specs.Counts.{Counts}
-use Rattle.press_run.specs.Run.{◌>>=◌, State, Answer, answer, Meaning, Stepped, Goes, Ends, run_entries, do_hook, do_fires, play, at_depth, call_entry, after_step, counted_step, first_text, handed_on, hook_call, fuel, or_empty, without_last, scan_argument, callback_where}
+use Rattle.press_run.specs.Run.{◌>>=◌, State, Answer, answer, Meaning, Stepped, Goes, Ends, run_entries, do_hook, do_fires, play, at_depth, call_entry, after_step, counted_step, first_text, handed_on, hook_call, fuel, or_empty, without_last, built_in, callback_where}
 use Rattle.press_run.specs.Outcome.{Stage, Around, innermost, state_of, Gives, GivesWithin, GivesStep}
 use Rattle.press_run.specs.declared.run_fault.RunFault.{RunFault}
 use Rattle.press_run.specs.declared.run_fault.RunFault.TheVariants.{Limit, NoMemory}
 
-pub no_depth : (scripts : Scripts) (id : List ℕ) (call : CallIn) (s : State) → at_depth 0 scripts id call s ≡ None
+pub no_depth : (changes : Changes) (scripts : Scripts) (id : List ℕ) (call : CallIn) (s : State) → at_depth changes 0 scripts id call s ≡ None
 unfolding at_depth
-no_depth scripts id call s = refl
+no_depth changes scripts id call s = refl
 
-pub some_depth : (d : ℕ) (scripts : Scripts) (id : List ℕ) (call : CallIn) (s : State) → is_built_in id ≡ false → at_depth (suc d) scripts id call s ≡ play (at_depth d scripts) (or_empty (script_of id scripts)) fuel call s
+pub some_depth : (changes : Changes) (d : ℕ) (scripts : Scripts) (id : List ℕ) (call : CallIn) (s : State) → is_built_in id ≡ false → at_depth changes (suc d) scripts id call s ≡ play changes (at_depth changes d scripts) (or_empty (script_of id scripts)) fuel call s
 unfolding at_depth
-some_depth d scripts id call s own = ap (λ b. callback_where (at_depth d scripts) (script_of id scripts) call s b) own
+some_depth changes d scripts id call s own = ap (λ b. callback_where changes (at_depth changes d scripts) id (script_of id scripts) call s b) own
 
-pub built_in_depth : (d : ℕ) (scripts : Scripts) (id : List ℕ) (call : CallIn) (s : State) → is_built_in id ≡ true → at_depth (suc d) scripts id call s ≡ scan_argument (at_depth d scripts) call s
+pub built_in_depth : (changes : Changes) (d : ℕ) (scripts : Scripts) (id : List ℕ) (call : CallIn) (s : State) → is_built_in id ≡ true → at_depth changes (suc d) scripts id call s ≡ built_in changes (at_depth changes d scripts) id call s
 unfolding at_depth
-built_in_depth d scripts id call s own = ap (λ b. callback_where (at_depth d scripts) (script_of id scripts) call s b) own
+built_in_depth changes d scripts id call s own = ap (λ b. callback_where changes (at_depth changes d scripts) id (script_of id scripts) call s b) own
 
 pub no_entries : (m : Meaning) (kind : Kind) (args : List (List ℕ)) (run : OpenRun) (s : State) → run_entries m kind 0 args run s ≡ None
 unfolding run_entries
@@ -42,16 +44,16 @@ pub more_entries : (m : Meaning) (kind : Kind) (n : ℕ) (args : List (List ℕ)
 unfolding run_entries
 more_entries m kind n args run s = refl
 
-pub no_turns : (m : Meaning) (script : List Op) (call : CallIn) (s : State) → play m script 0 call s ≡ None
+pub no_turns : (changes : Changes) (m : Meaning) (script : List Op) (call : CallIn) (s : State) → play changes m script 0 call s ≡ None
 unfolding play
-no_turns m script call s = refl
+no_turns changes m script call s = refl
 
-abbrev pub played_on : Meaning → List Op → ℕ → Stepped → Option Answer
-played_on m script n step = after_step (λ call' s'. play m script n call' s') step
+abbrev pub played_on : Changes → Meaning → List Op → ℕ → Stepped → Option Answer
+played_on changes m script n step = after_step (λ call' s'. play changes m script n call' s') step
 
-pub more_turns : (m : Meaning) (script : List Op) (n : ℕ) (call : CallIn) (s : State) → play m script (suc n) call s ≡ (counted_step m call (turn_of script call) s >>= played_on m script n)
+pub more_turns : (changes : Changes) (m : Meaning) (script : List Op) (n : ℕ) (call : CallIn) (s : State) → play changes m script (suc n) call s ≡ (counted_step changes m call (turn_of script call) s >>= played_on changes m script n)
 unfolding play
-more_turns m script n call s = refl
+more_turns changes m script n call s = refl
 
 pub no_fires : (m : Meaning) (s : State) → do_fires m [] s ≡ answer [] s
 unfolding do_fires
@@ -79,26 +81,26 @@ innermost_entry : (rows : List Row) (runs : List OpenRun) (id : ℕ) → is_inne
 innermost_entry rows [] id h = cc
 innermost_entry rows (r ∷ rs) id h = refl
 
-abbrev pub at_table : Table → List TagRow → Counts → List ℕ → Stage
-at_table t tags counts output = record { hooks = t; tags = tags; counts = counts; output = output }
+abbrev pub at_table : Table → List TagRow → Counts → SiteView → Option SiteView → List ℕ → Stage
+at_table t tags counts site fixed output = record { hooks = t; tags = tags; counts = counts; site = site; fixed = fixed; output = output }
 
 -- ---- the entries of a run, from a table t on to t'
 
-module _ (m : Meaning) (kind : Kind) (args : List (List ℕ)) (id : ℕ) (t t' : Table) (tags : List TagRow) (counts : Counts) (output : List ℕ) (k n : ℕ) (long : k ≡ suc n) (open_run : is_innermost id t.open_runs ≡ true) (on : t' ≡ run_advanced t) where
-  private_step : (o : Option Entry) → o ≡ entry_next t.rows t.open_runs → run_entries m kind k args (innermost t.open_runs) (state_of (at_table t tags counts output)) ≡ call_entry m (λ text s'. run_entries m kind n (handed_on kind text args) (innermost t'.open_runs) s') args (state_of (at_table t' tags counts output)) o
+module _ (m : Meaning) (kind : Kind) (args : List (List ℕ)) (id : ℕ) (t t' : Table) (tags : List TagRow) (counts : Counts) (site : SiteView) (fixed : Option SiteView) (output : List ℕ) (k n : ℕ) (long : k ≡ suc n) (open_run : is_innermost id t.open_runs ≡ true) (on : t' ≡ run_advanced t) where
+  private_step : (o : Option Entry) → o ≡ entry_next t.rows t.open_runs → run_entries m kind k args (innermost t.open_runs) (state_of (at_table t tags counts site fixed output)) ≡ call_entry m (λ text s'. run_entries m kind n (handed_on kind text args) (innermost t'.open_runs) s') args (state_of (at_table t' tags counts site fixed output)) o
   private_step o e =
       let inner : innermost t'.open_runs ≡ next_run t.rows (innermost t.open_runs) = ap (λ (w : Table). innermost w.open_runs) on ∙ innermost_advanced t.rows t.open_runs id open_run in
-      let state : state_of (at_table t' tags counts output) ≡ state_of (at_table t tags counts output) = ap (λ (w : Table). state_of (at_table w tags counts output)) on in
+      let state : state_of (at_table t' tags counts site fixed output) ≡ state_of (at_table t tags counts site fixed output) = ap (λ (w : Table). state_of (at_table w tags counts site fixed output)) on in
       let next : o ≡ next_entry t.rows (innermost t.open_runs) = e ∙ innermost_entry t.rows t.open_runs id open_run in
-      rw (long, inner, state, next) (more_entries m kind n args (innermost t.open_runs) (state_of (at_table t tags counts output)))
+      rw (long, inner, state, next) (more_entries m kind n args (innermost t.open_runs) (state_of (at_table t tags counts site fixed output)))
 
-  pub entries_end : None ≡ entry_next t.rows t.open_runs → run_entries m kind k args (innermost t.open_runs) (state_of (at_table t tags counts output)) ≡ answer (first_text args) (state_of (at_table t' tags counts output))
+  pub entries_end : None ≡ entry_next t.rows t.open_runs → run_entries m kind k args (innermost t.open_runs) (state_of (at_table t tags counts site fixed output)) ≡ answer (first_text args) (state_of (at_table t' tags counts site fixed output))
   entries_end e = private_step None e
 
-  pub entries_limit : (e : Entry) → Some e ≡ entry_next t.rows t.open_runs → m e.callback (hook_call (take e.accepted args)) (state_of (at_table t' tags counts output)) ≡ None → run_entries m kind k args (innermost t.open_runs) (state_of (at_table t tags counts output)) ≡ None
+  pub entries_limit : (e : Entry) → Some e ≡ entry_next t.rows t.open_runs → m e.callback (hook_call (take e.accepted args)) (state_of (at_table t' tags counts site fixed output)) ≡ None → run_entries m kind k args (innermost t.open_runs) (state_of (at_table t tags counts site fixed output)) ≡ None
   entries_limit e q none = private_step (Some e) q ∙ ap (λ o. o >>= λ a. run_entries m kind n (handed_on kind a.text args) (innermost t'.open_runs) a.state) none
 
-  pub entries_more : (e : Entry) (a : Answer) → Some e ≡ entry_next t.rows t.open_runs → m e.callback (hook_call (take e.accepted args)) (state_of (at_table t' tags counts output)) ≡ Some a → run_entries m kind k args (innermost t.open_runs) (state_of (at_table t tags counts output)) ≡ run_entries m kind n (handed_on kind a.text args) (innermost t'.open_runs) a.state
+  pub entries_more : (e : Entry) (a : Answer) → Some e ≡ entry_next t.rows t.open_runs → m e.callback (hook_call (take e.accepted args)) (state_of (at_table t' tags counts site fixed output)) ≡ Some a → run_entries m kind k args (innermost t.open_runs) (state_of (at_table t tags counts site fixed output)) ≡ run_entries m kind n (handed_on kind a.text args) (innermost t'.open_runs) a.state
   entries_more e a q some = private_step (Some e) q ∙ ap (λ o. o >>= λ a. run_entries m kind n (handed_on kind a.text args) (innermost t'.open_runs) a.state) some
 
   pub around_kept : without_innermost t'.open_runs ≡ without_innermost t.open_runs
@@ -109,18 +111,18 @@ module _ (m : Meaning) (kind : Kind) (args : List (List ℕ)) (id : ℕ) (t t' :
 
 -- ---- the turns of a script
 
-module _ (m : Meaning) (script : List Op) (k n : ℕ) (call : CallIn) (s : State) (turn : Turn) (long : k ≡ suc n) (is : turn ≡ turn_of script call) where
-  one_turn : play m script k call s ≡ (counted_step m call turn s >>= played_on m script n)
-  one_turn = rw (long, is) (more_turns m script n call s)
+module _ (changes : Changes) (m : Meaning) (script : List Op) (k n : ℕ) (call : CallIn) (s : State) (turn : Turn) (long : k ≡ suc n) (is : turn ≡ turn_of script call) where
+  one_turn : play changes m script k call s ≡ (counted_step changes m call turn s >>= played_on changes m script n)
+  one_turn = rw (long, is) (more_turns changes m script n call s)
 
-  pub turns_end : (text : List ℕ) (s' : State) → counted_step m call turn s ≡ Some (Ends text s') → play m script k call s ≡ answer text s'
-  turns_end text s' e = one_turn ∙ ap (λ o. o >>= played_on m script n) e
+  pub turns_end : (text : List ℕ) (s' : State) → counted_step changes m call turn s ≡ Some (Ends text s') → play changes m script k call s ≡ answer text s'
+  turns_end text s' e = one_turn ∙ ap (λ o. o >>= played_on changes m script n) e
 
-  pub turns_more : (call' : CallIn) (s' : State) → counted_step m call turn s ≡ Some (Goes call' s') → play m script k call s ≡ play m script n call' s'
-  turns_more call' s' e = one_turn ∙ ap (λ o. o >>= played_on m script n) e
+  pub turns_more : (call' : CallIn) (s' : State) → counted_step changes m call turn s ≡ Some (Goes call' s') → play changes m script k call s ≡ play changes m script n call' s'
+  turns_more call' s' e = one_turn ∙ ap (λ o. o >>= played_on changes m script n) e
 
-  pub turns_limit : counted_step m call turn s ≡ None → play m script k call s ≡ None
-  turns_limit e = one_turn ∙ ap (λ o. o >>= played_on m script n) e
+  pub turns_limit : counted_step changes m call turn s ≡ None → play changes m script k call s ≡ None
+  turns_limit e = one_turn ∙ ap (λ o. o >>= played_on changes m script n) e
 
 -- ---- faults are handed on
 
@@ -136,13 +138,13 @@ pub run_err : (p q : Option Answer) (a b : Around) (w v : Stage) (f : RunFault) 
 run_err p q a b w v Limit h e = h e
 run_err p q a b w v NoMemory h e = tt
 
-pub step_err : (p : Option Stepped) (q : Option Answer) (a b : Around) (w v : Stage) (f : RunFault) → (p ≡ None → q ≡ None) → GivesStep p a w (Err f) → Gives q b v (Err f)
-step_err p q a b w v Limit h e = h e
-step_err p q a b w v NoMemory h e = tt
+pub step_err : (p : Option Stepped) (q : Option Answer) (a b : Around) (w v : Stage) (c : CallIn) (f : RunFault) → (p ≡ None → q ≡ None) → GivesStep p a w c (Err f) → Gives q b v (Err f)
+step_err p q a b w v c Limit h e = h e
+step_err p q a b w v c NoMemory h e = tt
 
-pub turn_err : (p : Option Answer) (q : Option Stepped) (a b : Around) (w v : Stage) (f : RunFault) → (p ≡ None → q ≡ None) → Gives p a w (Err f) → GivesStep q b v (Err f)
-turn_err p q a b w v Limit h e = h e
-turn_err p q a b w v NoMemory h e = tt
+pub turn_err : (p : Option Answer) (q : Option Stepped) (a b : Around) (w v : Stage) (c : CallIn) (f : RunFault) → (p ≡ None → q ≡ None) → Gives p a w (Err f) → GivesStep q b v c (Err f)
+turn_err p q a b w v c Limit h e = h e
+turn_err p q a b w v c NoMemory h e = tt
 
 -- a stack with one more, without its last
 pub without-last : (stack : List (List ℕ)) (hook : List ℕ) → without_last (stack ++ hook ∷ []) ≡ stack

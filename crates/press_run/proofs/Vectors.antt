@@ -12,6 +12,8 @@ use Rattle.press_scan.specs.declared.att_key.AttKey.TheVariants as key
 use Rattle.press_scan.specs.Tags.{add_tag, remove_tag}
 use Rattle.press_scan.specs.FirstShortcode.{shortcode_from}
 use Rattle.press_scan.specs.AttributesOf.{attributes_of}
+use Rattle.press_site.specs.Effects.{no_site}
+use Rattle.press_run.specs.Links.{read_only}
 use Rattle.press_run.specs.Run.{State, Answer, apply_hook, callbacks_of, run_entries, play, at_depth, do_fires, scan, scan_from}
 
 abbrev title : List ℕ
@@ -41,10 +43,10 @@ filter_z = (z, appends (codes "z") ∷ [])
 
 -- nothing counted and nothing written
 abbrev start : List Row → State
-start rows = record { rows = rows; tags = []; did = []; doing = []; turns = 0; output = [] }
+start rows = record { rows = rows; tags = []; did = []; doing = []; turns = 0; output = []; site = no_site }
 
 abbrev applied : Scripts → List ℕ → List Row → Option Answer
-applied scripts text rows = apply_hook (callbacks_of scripts) title (text ∷ []) (start rows)
+applied scripts text rows = apply_hook (callbacks_of read_only scripts) title (text ∷ []) (start rows)
 
 -- the text that the filters give to x
 abbrev text_by : Scripts → List Row → Option (List ℕ)
@@ -194,11 +196,11 @@ open_33 = refl
 -- ---- brackets: tag t answers T
 
 abbrev tagged : List TagRow → State
-tagged tags = record { rows = []; tags = tags; did = []; doing = []; turns = 0; output = [] }
+tagged tags = record { rows = []; tags = tags; did = []; doing = []; turns = 0; output = []; site = no_site }
 
 -- what a text means
 abbrev meant : Scripts → List TagRow → List ℕ → Option (List ℕ)
-meant scripts tags text = option_map (λ (w : Answer). w.text) (scan (callbacks_of scripts) text (tagged tags))
+meant scripts tags text = option_map (λ (w : Answer). w.text) (scan (callbacks_of read_only scripts) text (tagged tags))
 
 abbrev say_t : Scripts
 say_t = (codes "say_t", op.Return (Lit (codes "T") ∷ []) ∷ []) ∷ []

@@ -1,5 +1,6 @@
--- A boot is fresh tables: the built-in `do_shortcode` on `the_content` at 11, then the loads of the active plugins, in the order in which these
--- stand; a plugin that the kit lacks loads nothing (Plugin Handbook, Plugin Basics; Shortcode API, `do_shortcode`; the order is own).
+-- A boot is fresh tables: the built-in `do_shortcode` on `the_content` at 11 and `check_and_publish_future_post` on `publish_future_post` at 10, then
+-- the loads of the active plugins, in the order in which these stand; a plugin that the kit lacks loads nothing (Plugin Handbook, Plugin Basics;
+-- Shortcode API, `do_shortcode`; WP-Cron, `check_and_publish_future_post`; the order is own).
 use Rattle.std.specs.Prelude.{ℕ, pos, List, [], ◌∷◌, Option, Some, None, codes}
 use Rattle.press_hooks.specs.declared.row.Row.{Row}
 use Rattle.press_hooks.specs.HookRows.{add_row}
@@ -8,7 +9,7 @@ use Rattle.press_scan.specs.Tags.{add_tag}
 use Rattle.press_callbacks.specs.declared.plugin.Plugin.{Plugin}
 use Rattle.press_callbacks.specs.declared.plugin.Load.{Load}
 use Rattle.press_callbacks.specs.declared.plugin.Load.TheVariants.{Hook, Tag}
-use Rattle.press_callbacks.specs.BuiltIns.{do_shortcode}
+use Rattle.press_callbacks.specs.BuiltIns.{do_shortcode, check_and_publish_future_post}
 use Rattle.press_callbacks.specs.Kits.{plugin_of}
 
 -- the hook rows and the tags
@@ -35,9 +36,12 @@ plugins_loaded plugins (n ∷ ns) t = plugins_loaded plugins ns (all_loaded (loa
 abbrev pub the_content : List ℕ
 the_content = codes "the_content"
 
+abbrev pub publish_future_post : List ℕ
+publish_future_post = codes "publish_future_post"
+
 -- the tables before any plugin
 abbrev pub fresh : Loaded
-fresh = record { rows = add_row the_content do_shortcode (pos 11) 1 []; tags = [] }
+fresh = record { rows = add_row publish_future_post check_and_publish_future_post (pos 10) 1 (add_row the_content do_shortcode (pos 11) 1 []); tags = [] }
 
 abbrev pub booted_with : List Plugin → List (List ℕ) → Loaded
 booted_with plugins active = plugins_loaded plugins active fresh

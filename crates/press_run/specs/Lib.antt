@@ -1,6 +1,7 @@
 pub mod Boot
 pub mod Counts
 pub mod Faults
+pub mod Links
 pub mod Outcome
 pub mod Run
 pub mod Scanning

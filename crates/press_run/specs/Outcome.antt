@@ -3,6 +3,7 @@ use Rattle.std.specs.Prelude.{◌≡◌, ℕ, ◌+◌, ◌≤◌, List, [], ◌�
 use Rattle.press_hooks.specs.declared.open_run.OpenRun.{OpenRun}
 use Rattle.press_hooks.specs.NextEntry.{Table, begun, without_innermost}
 use Rattle.press_scan.specs.declared.tag_row.TagRow.{TagRow}
+use Rattle.press_callbacks.specs.declared.script.CallIn.{CallIn}
 use Rattle.press_callbacks.specs.declared.tables.Tables.{Tables}
 use Rattle.press_run.specs.declared.run_fault.RunFault.{RunFault}
 use Rattle.press_run.specs.declared.run_fault.RunFault.TheVariants.{Limit, NoMemory}
@@ -10,36 +11,41 @@ use Rattle.press_run.specs.declared.step.Step.{Step}
 use Rattle.press_run.specs.declared.step.Step.TheVariants as step
 use Rattle.press_run.specs.Boot.{Loaded}
 use Rattle.press_run.specs.Counts.{Counts}
+use Rattle.press_run.specs.Links.{Changes}
+use Rattle.press_site.specs.SiteView.{SiteView}
 use Rattle.press_run.specs.declared.job.Job.{Job}
 use Rattle.press_run.specs.declared.job.Job.TheVariants.{Fires, Apply}
 use Rattle.press_run.specs.Run.{Answer, answer, State, Stepped, Goes, Ends, within, do_fires, apply_hook, callbacks_of, most_turns}
 use Rattle.press_callbacks.specs.Kits.{Scripts}
 use Rattle.std.specs.Prelude.{String, string_bytes}
 
--- the tables, the counts of a machine and an output
+-- the tables, the counts of a machine, a site, that site where it is only read, and an output
 pub record Stage : Type 0 where
   pub hooks : Table
   pub tags : List TagRow
   pub counts : Counts
+  pub site : SiteView
+  pub fixed : Option SiteView
   pub output : List ℕ
 
-abbrev pub stage : Tables → Counts → List ℕ → Stage
-stage tables counts output = record { hooks = tables.hooks; tags = tables.tags; counts = counts; output = output }
+abbrev pub stage : Tables → Counts → SiteView → Option SiteView → List ℕ → Stage
+stage tables counts site fixed output = record { hooks = tables.hooks; tags = tables.tags; counts = counts; site = site; fixed = fixed; output = output }
 
 abbrev pub state_of : Stage → State
-state_of w = record { rows = w.hooks.rows; tags = w.tags; did = w.counts.did; doing = w.counts.doing; turns = w.counts.turns; output = w.output }
+state_of w = record { rows = w.hooks.rows; tags = w.tags; did = w.counts.did; doing = w.counts.doing; turns = w.counts.turns; output = w.output; site = w.site }
 
--- what stands round a run: the open runs, and the stack of running hooks
+-- what stands round a run: the open runs, the stack of running hooks, and a site that is only read
 pub record Around : Type 0 where
   pub open_runs : List OpenRun
   pub doing : List (List ℕ)
+  pub fixed : Option SiteView
 
 abbrev pub around : Stage → Around
-around w = record { open_runs = w.hooks.open_runs; doing = w.counts.doing }
+around w = record { open_runs = w.hooks.open_runs; doing = w.counts.doing; fixed = w.fixed }
 
 -- the same, with the innermost open run left out
 abbrev pub around_innermost : Stage → Around
-around_innermost w = record { open_runs = without_innermost w.hooks.open_runs; doing = w.counts.doing }
+around_innermost w = record { open_runs = without_innermost w.hooks.open_runs; doing = w.counts.doing; fixed = w.fixed }
 
 -- the result is that of the meaning, and what stood round it stands as before
 abbrev pub Gives : Option Answer → Around → Stage → Result (List ℕ) RunFault → Type 0
@@ -57,17 +63,12 @@ abbrev pub innermost : List OpenRun → OpenRun
 innermost [] = begun []
 innermost (r ∷ rs) = r
 
-abbrev pub GivesStep : Option Stepped → Around → Stage → Result Step RunFault → Type 0
-GivesStep meaning before after (Ok (step.Goes call)) = (meaning ≡ Some (Goes call (state_of after))) × (around after ≡ before)
-GivesStep meaning before after (Ok (step.Ends text)) = (meaning ≡ Some (Ends text (state_of after))) × (around after ≡ before)
-GivesStep meaning before after (Err Limit) = meaning ≡ None
-GivesStep meaning before after (Err NoMemory) = Unit {0}
-
--- a step goes so many ops further at most
-abbrev pub GoesAtMost : ℕ → Result Step RunFault → Type 0
-GoesAtMost n (Ok (step.Goes call)) = call.turn ≤ n
-GoesAtMost n (Ok (step.Ends text)) = Unit {0}
-GoesAtMost n (Err f) = Unit {0}
+-- one that goes on leaves the next turn's call
+abbrev pub GivesStep : Option Stepped → Around → Stage → CallIn → Result Step RunFault → Type 0
+GivesStep meaning before after call (Ok step.Goes) = (meaning ≡ Some (Goes call (state_of after))) × (around after ≡ before)
+GivesStep meaning before after call (Ok (step.Ends text)) = (meaning ≡ Some (Ends text (state_of after))) × (around after ≡ before)
+GivesStep meaning before after call (Err Limit) = meaning ≡ None
+GivesStep meaning before after call (Err NoMemory) = Unit {0}
 
 -- a text is put at the end of an output where that stays within the bytes; want of memory stands only there
 abbrev pub Pushes : List ℕ → List ℕ → List ℕ → Result Unit RunFault → Type 0
@@ -76,9 +77,9 @@ Pushes old text new (Err Limit) = (within (old ++ text) ≡ None) × (new ≡ ol
 Pushes old text new (Err NoMemory) = IsSome (within (old ++ text)) × (new ≡ old)
 
 -- what a job comes to
-abbrev pub job_meaning : Scripts → Job → State → Option Answer
-job_meaning scripts (Fires fires) s = do_fires (callbacks_of scripts) fires s
-job_meaning scripts (Apply hook args) s = apply_hook (callbacks_of scripts) hook args s
+abbrev pub job_meaning : Changes → Scripts → Job → State → Option Answer
+job_meaning changes scripts (Fires fires) s = do_fires (callbacks_of changes scripts) fires s
+job_meaning changes scripts (Apply hook args) s = apply_hook (callbacks_of changes scripts) hook args s
 
 -- `Gives` at a string
 abbrev pub GivesJob : {A : Type 0} → Option Answer → Around → Stage → Result (String A) RunFault → Type 0
@@ -99,6 +100,6 @@ loaded_in t = record { rows = t.hooks.rows; tags = t.tags }
 abbrev pub BootsWith : Loaded → Tables → Type 0
 BootsWith loaded t = (loaded_in t ≡ loaded) × (t.hooks.open_runs ≡ [])
 
--- tables with nothing counted and nothing written
-abbrev pub started : Loaded → State
-started tables = record { rows = tables.rows; tags = tables.tags; did = []; doing = []; turns = 0; output = [] }
+-- a site's tables with nothing counted and nothing written
+abbrev pub started : Loaded → SiteView → State
+started tables site = record { rows = tables.rows; tags = tables.tags; did = []; doing = []; turns = 0; output = []; site = site }

@@ -20,13 +20,19 @@ use Rattle.press_scan.specs.Scans.{before, behind}
 use Rattle.press_callbacks.specs.declared.script.Op.{Op}
 use Rattle.press_callbacks.specs.declared.script.CallIn.{CallIn}
 use Rattle.press_callbacks.specs.declared.script.Ask as asked
-use Rattle.press_callbacks.specs.declared.script.Ask.TheVariants.{Did, Doing, Has, Tag}
+use Rattle.press_callbacks.specs.declared.script.Ask.TheVariants.{Did, Doing, Has, Option as AskOption, Tag}
 use Rattle.press_callbacks.specs.declared.script.Turn.{Turn}
-use Rattle.press_callbacks.specs.declared.script.Turn.TheVariants.{Go, AddHook, RemoveHook, RemoveAll, AddTag, RemoveTag, Skip, Apply, Do, Shortcodes, Ask, Echo, Return}
+use Rattle.press_callbacks.specs.declared.script.Turn.TheVariants.{Go, AddHook, RemoveHook, RemoveAll, AddTag, RemoveTag, Skip, Apply, Do, Shortcodes, Ask, SetOption, Schedule, Publish, Echo, Return}
 use Rattle.press_callbacks.specs.Turns.{turn_of}
 use Rattle.press_callbacks.specs.Kits.{Scripts, script_of}
-use Rattle.press_callbacks.specs.BuiltIns.{is_built_in}
-use Rattle.press_run.specs.declared.job.Fire.{Fire}
+use Rattle.press_callbacks.specs.BuiltIns.{do_shortcode, is_built_in}
+use Rattle.press_posts.specs.declared.fire.Fire.{Fire}
+use Rattle.press_site.specs.declared.changed.Changed.{Changed}
+use Rattle.press_site.specs.declared.effect.Effect.{Effect}
+use Rattle.press_site.specs.declared.effect.Effect.TheVariants as effect
+use Rattle.press_site.specs.Options.{option_of}
+use Rattle.press_site.specs.SiteView.{SiteView}
+use Rattle.press_run.specs.Links.{Changes, or_no_change, publishes, schedules}
 use Rattle.press_run.specs.declared.step.Kind.{Kind}
 use Rattle.press_run.specs.declared.step.Kind.TheVariants.{Filter, Action}
 
@@ -58,7 +64,7 @@ within text = only_if (is_short text) text
 
 -- ---- states and answers
 
--- what runs change: the hook rows, the tags, the starts of actions, the stack of running hooks, the turns played, the output
+-- what runs change: the hook rows, the tags, the starts of actions, the stack of running hooks, the turns played, the output, the site
 pub record State : Type 0 where
   pub rows : List Row
   pub tags : List TagRow
@@ -66,6 +72,7 @@ pub record State : Type 0 where
   pub doing : List (List ℕ)
   pub turns : ℕ
   pub output : List ℕ
+  pub site : SiteView
 
 -- what is given, with the state after it
 pub record Answer : Type 0 where
@@ -203,23 +210,40 @@ scan callback text s = do
   whole ← within text
   scan_from callback (suc (length whole)) whole 0 [] s
 
--- `do_shortcode`: a call of a built-in callback is one turn
-abbrev pub scan_argument : Meaning → CallIn → State → Option Answer
-scan_argument callback call s = do
-  s' ← one_turn s
-  scan callback (first_text call.args) s'
-
--- ---- one turn
+-- ---- changes of the site: their actions are done within the run, at its depth and turns
 
 abbrev pub one_if : Bool → List ℕ
 one_if true = codes "1"
 one_if false = []
+
+-- what was changed is fired in turn; the answer is `1` where something changed
+abbrev pub fire_change : Meaning → State → SiteView × Changed → Option Answer
+fire_change callback s after = do
+  a ← do_fires callback after.1.fires (record s { site = after.0 })
+  answer (one_if after.1.did) a.state
+
+abbrev pub change_site : Changes → Meaning → State → Option Effect → Option Answer
+change_site changes callback s None = answer [] s
+change_site changes callback s (Some e) = fire_change callback s (or_no_change s.site (changes s.site e))
+
+-- the post with that id is published, if it is future and due, and the id is the answer
+abbrev pub publish : Changes → Meaning → List ℕ → State → Option Answer
+publish changes callback id s = do
+  a ← change_site changes callback s (publishes id s.site.moment)
+  answer id a.state
+
+-- ---- one turn
+
+abbrev pub or_no_text : Option (List ℕ) → List ℕ
+or_no_text None = []
+or_no_text (Some text) = text
 
 abbrev pub decimal_or_empty : Option ℤ → List ℕ
 decimal_or_empty None = []
 decimal_or_empty (Some p) = signed_decimal p
 
 abbrev pub answer_of : asked.Ask → State → List ℕ
+answer_of (AskOption name) s = or_no_text (option_of name s.site.options)
 answer_of (Did hook) s = decimal (count_by (bytes_eq hook) s.did)
 answer_of (Doing hook) s = one_if (list_any (bytes_eq hook) s.doing)
 answer_of (Has hook callback) s = decimal_or_empty (priority_of hook callback s.rows)
@@ -238,6 +262,9 @@ texts_of (Apply h ts) = ts
 texts_of (Do h ts) = ts
 texts_of (Shortcodes t) = t ∷ []
 texts_of (Ask a) = []
+texts_of (SetOption n t) = t ∷ []
+texts_of (Schedule after every h t) = t ∷ []
+texts_of (Publish t) = t ∷ []
 texts_of (Echo t) = t ∷ []
 texts_of (Return t) = t ∷ []
 
@@ -260,35 +287,44 @@ goes call s = Some (Goes call s)
 abbrev pub answers : CallIn → List ℕ → State → Option Stepped
 answers call last s = goes (next_call call call.value last 0) s
 
-abbrev pub turn_step : Meaning → CallIn → State → Turn → Option Stepped
-turn_step callback call s (Go t) = goes (next_call call t call.last 0) s
-turn_step callback call s (AddHook h c p n) = answers call (one_if (adds_row h c p s.rows)) (record s { rows = add_row h c p n s.rows })
-turn_step callback call s (RemoveHook h c p) = answers call (one_if (list_any (is_row h p c) s.rows)) (record s { rows = remove_row h c p s.rows })
-turn_step callback call s (RemoveAll h p) = answers call (codes "1") (record s { rows = remove_rows h p s.rows })
-turn_step callback call s (AddTag t c) = answers call (one_if (adds_tag t s.tags)) (record s { tags = add_tag t c s.tags })
-turn_step callback call s (RemoveTag t) = answers call (one_if (list_any (is_tag t) s.tags)) (record s { tags = remove_tag t s.tags })
-turn_step callback call s (Skip n) = goes (next_call call call.value call.last n) s
-turn_step callback call s (Apply h ts) = do
+abbrev pub turn_step : Changes → Meaning → CallIn → State → Turn → Option Stepped
+turn_step changes callback call s (Go t) = goes (next_call call t call.last 0) s
+turn_step changes callback call s (AddHook h c p n) = answers call (one_if (adds_row h c p s.rows)) (record s { rows = add_row h c p n s.rows })
+turn_step changes callback call s (RemoveHook h c p) = answers call (one_if (list_any (is_row h p c) s.rows)) (record s { rows = remove_row h c p s.rows })
+turn_step changes callback call s (RemoveAll h p) = answers call (codes "1") (record s { rows = remove_rows h p s.rows })
+turn_step changes callback call s (AddTag t c) = answers call (one_if (adds_tag t s.tags)) (record s { tags = add_tag t c s.tags })
+turn_step changes callback call s (RemoveTag t) = answers call (one_if (list_any (is_tag t) s.tags)) (record s { tags = remove_tag t s.tags })
+turn_step changes callback call s (Skip n) = goes (next_call call call.value call.last n) s
+turn_step changes callback call s (Apply h ts) = do
   a ← apply_hook callback h ts s
   answers call a.text a.state
-turn_step callback call s (Do h ts) = do
+turn_step changes callback call s (Do h ts) = do
   a ← do_hook callback h ts s
   answers call [] a.state
-turn_step callback call s (Shortcodes t) = do
+turn_step changes callback call s (Shortcodes t) = do
   a ← scan callback t s
   answers call a.text a.state
-turn_step callback call s (Ask q) = answers call (answer_of q s) s
-turn_step callback call s (Echo t) = do
+turn_step changes callback call s (Ask q) = answers call (answer_of q s) s
+turn_step changes callback call s (Echo t) = do
   output ← within (s.output ++ t)
   goes (next_call call call.value call.last 0) (record s { output = output })
-turn_step callback call s (Return t) = Some (Ends t s)
+turn_step changes callback call s (SetOption n t) = do
+  a ← change_site changes callback s (Some (effect.SetOption n t))
+  answers call a.text a.state
+turn_step changes callback call s (Schedule after every h t) = do
+  a ← change_site changes callback s (schedules after every h t s.site.moment)
+  answers call a.text a.state
+turn_step changes callback call s (Publish t) = do
+  a ← change_site changes callback s (publishes t s.site.moment)
+  answers call a.text a.state
+turn_step changes callback call s (Return t) = Some (Ends t s)
 
 -- a turn counts, and its texts are within the bytes
-abbrev pub counted_step : Meaning → CallIn → Turn → State → Option Stepped
-counted_step callback call turn s = do
+abbrev pub counted_step : Changes → Meaning → CallIn → Turn → State → Option Stepped
+counted_step changes callback call turn s = do
   s' ← one_turn s
   turn' ← only_if (fits turn) turn
-  turn_step callback call s' turn'
+  turn_step changes callback call s' turn'
 
 -- ---- callbacks
 
@@ -297,28 +333,39 @@ after_step rest (Goes call s) = rest call s
 after_step rest (Ends text s) = answer text s
 
 -- the turns of a script up to Return
-unfoldable pub play : Meaning → List Op → ℕ → CallIn → State → Option Answer
-play callback script zero call s = None
-play callback script (suc n) call s = do
-  step ← counted_step callback call (turn_of script call) s
-  after_step (λ call' s'. play callback script n call' s') step
+unfoldable pub play : Changes → Meaning → List Op → ℕ → CallIn → State → Option Answer
+play changes callback script zero call s = None
+play changes callback script (suc n) call s = do
+  step ← counted_step changes callback call (turn_of script call) s
+  after_step (λ call' s'. play changes callback script n call' s') step
 
 -- a callback that is not there returns its value, as an empty script does
 abbrev pub or_empty : Option (List Op) → List Op
 or_empty None = []
 or_empty (Some script) = script
 
+-- `do_shortcode`, else `check_and_publish_future_post`
+abbrev pub built_in_where : Changes → Meaning → List ℕ → State → Bool → Option Answer
+built_in_where changes callback argument s true = scan callback argument s
+built_in_where changes callback argument s false = publish changes callback argument s
+
+-- a call of a built-in callback is one turn
+abbrev pub built_in : Changes → Meaning → List ℕ → CallIn → State → Option Answer
+built_in changes callback id call s = do
+  s' ← one_turn s
+  built_in_where changes callback (first_text call.args) s' (bytes_eq id do_shortcode)
+
 -- built in, or by its script
-abbrev pub callback_where : Meaning → Option (List Op) → CallIn → State → Bool → Option Answer
-callback_where callback script call s true = scan_argument callback call s
-callback_where callback script call s false = play callback (or_empty script) fuel call s
+abbrev pub callback_where : Changes → Meaning → List ℕ → Option (List Op) → CallIn → State → Bool → Option Answer
+callback_where changes callback id script call s true = built_in changes callback id call s
+callback_where changes callback id script call s false = play changes callback (or_empty script) fuel call s
 
 -- a callback, where so many may be open from it on
-unfoldable pub at_depth : ℕ → Scripts → Meaning
-at_depth zero scripts id call s = None
-at_depth (suc depth) scripts id call s = callback_where (at_depth depth scripts) (script_of id scripts) call s (is_built_in id)
+unfoldable pub at_depth : Changes → ℕ → Scripts → Meaning
+at_depth changes zero scripts id call s = None
+at_depth changes (suc depth) scripts id call s = callback_where changes (at_depth changes depth scripts) id (script_of id scripts) call s (is_built_in id)
 
 -- ---- what a page or a command calls
 
-abbrev pub callbacks_of : Scripts → Meaning
-callbacks_of scripts = at_depth most_open scripts
+abbrev pub callbacks_of : Changes → Scripts → Meaning
+callbacks_of changes scripts = at_depth changes most_open scripts

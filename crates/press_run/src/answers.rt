@@ -1,9 +1,9 @@
 //! What the machine answers to a question.
 
-ghost use Rattle.std.specs.Prelude.{◌≡◌, IfOk, decimal, count_by, bytes_eq, string_bytes};
+ghost use Rattle.std.specs.Prelude.{◌≡◌, IfOk, decimal, count_by, bytes_eq, option_map, string_bytes};
 ghost use Rattle.std.specs.Fmt.{signed_decimal};
 ghost use Rattle.std.specs.List.{list_any};
-ghost use Rattle.press_run.specs.Run.{one_if, decimal_or_empty};
+ghost use Rattle.press_run.specs.Run.{one_if, decimal_or_empty, or_no_text};
 
 use press_text::{HookName, Text};
 use std::alloc::{AllocError, Global};
@@ -15,6 +15,15 @@ pub fn one_if(alloc: Global, is: bool) -> Result<Text, AllocError>
         Text::from_str(alloc, "1")
     } else {
         Ok(Text::new(alloc))
+    }
+}
+
+pub fn or_no_text(alloc: Global, text: Option<&str>) -> Result<Text, AllocError>
+    ensures { IfOk result (λ t. t ≡ or_no_text (option_map (λ x. x.now) text.entry)) }
+{
+    match text {
+        None => Ok(Text::new(alloc)),
+        Some(text) => Text::from_str(alloc, text),
     }
 }
 

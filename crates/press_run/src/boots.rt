@@ -1,18 +1,29 @@
-ghost use Rattle.std.specs.Prelude.{◌≡◌, IfOk, OnOk, IfSome, option_map};
+ghost use Rattle.std.specs.Prelude.{◌≡◌, None, IfOk, OnOk, IfSome, option_map};
+ghost use Rattle.press_text.specs.Names.{name_fault};
 ghost use Rattle.press_hooks.specs.NextEntry.{with_rows};
 ghost use Rattle.press_callbacks.specs.Kits.{plugins_in};
-ghost use Rattle.press_run.specs.Boot.{booted_with, fresh, all_loaded, one_loaded, loads_of, the_content};
+ghost use Rattle.press_run.specs.Boot.{booted_with, fresh, all_loaded, one_loaded, loads_of, the_content, publish_future_post};
 ghost use Rattle.press_run.specs.Outcome.{loaded_in, BootsWith};
 
-use press_callbacks::{Kit, Load, Plugin, Tables, do_shortcode};
+use press_callbacks::{
+    Kit, Load, Plugin, Tables, check_and_publish_future_post, do_shortcode,
+};
 use press_hooks::HookTable;
 use press_scan::TagTable;
+use press_site::Site;
 use press_text::{HookName, Name, NameFault};
 use std::alloc::{AllocError, Global};
 
-/// Fresh tables with the built-in `do_shortcode` on `the_content` and the loads of the active plugins, in the order in which these stand.
-/// A plugin that the kit lacks loads nothing.
-pub fn boot(alloc: Global, kit: &Kit, active: &[Name]) -> Result<Tables, AllocError>
+/// Fresh tables with the built-in callbacks on `the_content` and `publish_future_post` and the loads of the site's active plugins, in
+/// the order in which these stand. A plugin that the kit lacks loads nothing.
+pub fn boot(alloc: Global, kit: &Kit, site: &Site) -> Result<Tables, AllocError>
+    ensures { IfOk result (λ t. BootsWith (booted_with (plugins_in kit.now) site.now.active) t) }
+{
+    boot_with(alloc, kit, site.active())
+}
+
+// Fresh tables with the loads of these plugins.
+fn boot_with(alloc: Global, kit: &Kit, active: &[Name]) -> Result<Tables, AllocError>
     ensures { IfOk result (λ t. BootsWith (booted_with (plugins_in kit.now) active.now) t) }
 {
     let mut tables = fresh(alloc)?;
@@ -28,6 +39,7 @@ fn fresh(alloc: Global) -> Result<Tables, AllocError>
 {
     let mut hooks = HookTable::new(alloc);
     hooks.add(&the_content(alloc)?, do_shortcode(), 11, 1)?;
+    hooks.add(&publish_future_post(alloc)?, check_and_publish_future_post(), 10, 1)?;
     let tags = TagTable::new(alloc);
     Ok(Tables { hooks, tags })
 }
@@ -35,7 +47,21 @@ fn fresh(alloc: Global) -> Result<Tables, AllocError>
 fn the_content(alloc: Global) -> Result<HookName, AllocError>
     ensures { IfOk result (λ h. h ≡ the_content) }
 {
-    match HookName::new(alloc, "the_content") {
+    hook_named(alloc, "the_content")
+}
+
+fn publish_future_post(alloc: Global) -> Result<HookName, AllocError>
+    ensures { IfOk result (λ h. h ≡ publish_future_post) }
+{
+    hook_named(alloc, "publish_future_post")
+}
+
+// A hook of a name that is in its class.
+fn hook_named(alloc: Global, name: &str) -> Result<HookName, AllocError>
+    requires { name_fault 64 name.now ≡ None }
+    ensures { IfOk result (λ h. h ≡ name.now) }
+{
+    match HookName::new(alloc, name) {
         Ok(hook) => Ok(hook),
         Err(NameFault::NoMemory) => Err(AllocError),
         Err(NameFault::BadName) | Err(NameFault::TooLong) => unreachable!(),

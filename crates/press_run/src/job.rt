@@ -1,11 +1,5 @@
+use press_posts::Fire;
 use press_text::{HookName, Items, Texts};
-
-/// An action to be started, with its arguments.
-#[derive(Debug, Drop)]
-pub struct Fire {
-    pub hook: HookName,
-    pub args: Texts,
-}
 
 /// What a page or a command has a machine do.
 #[derive(Debug, Drop)]

@@ -1,4 +1,5 @@
-//! The machine that runs hooks and shortcodes over a kit: callbacks edit the running tables, runs nest, and three limits hold.
+//! The machine that runs hooks and shortcodes over a kit and a site: callbacks edit the running tables and change the
+//! site, runs nest, and three limits hold.
 //!
 //! What it gives is a big-step meaning over scripts; what it calls are the kit's closures.
 #![tactic(auto)]
@@ -8,6 +9,8 @@ mod boots;
 mod callbacks;
 mod edits;
 mod job;
+mod link;
+mod links;
 mod machine;
 mod out;
 mod run_fault;
@@ -17,7 +20,8 @@ mod texts;
 
 pub use boots::boot;
 pub use callbacks::Callbacks;
-pub use job::{Fire, Job};
+pub use job::Job;
+pub use link::{Read, SiteLink};
 pub use machine::Machine;
 pub use out::Out;
 pub use run_fault::RunFault;

@@ -13,33 +13,36 @@ pub enum Kind {
     Action,
 }
 
-/// What one turn comes to.
+/// What one turn comes to: the call is then that of the next turn, or the callback has ended.
 #[derive(Debug, Drop)]
 pub enum Step {
-    Goes(CallIn),
+    Goes,
     Ends(Text),
 }
 
-// The next turn's call with the value and the last answer that it has, so many ops further.
-pub fn further(mut call: CallIn, skipped: u16) -> CallIn
-    requires { call.turn < 2 ^ 40 }
-    ensures { result ≡ next_call call call.value call.last skipped }
+// On to the next turn with the value and the last answer that stand, so many ops further.
+pub fn further(call: &mut CallIn, skipped: u16) -> Step
+    requires { call.old.turn < 2 ^ 40 }
+    ensures step { result ≡ Step.Goes }
+    ensures next { call.new ≡ next_call call.old call.old.value call.old.last skipped }
 {
     call.turn += 1 + skipped as usize;
-    call
+    Step::Goes
 }
 
-pub fn with_value(mut call: CallIn, value: Text) -> CallIn
-    requires { call.turn < 2 ^ 40 }
-    ensures { result ≡ next_call call value call.last 0 }
+pub fn with_value(call: &mut CallIn, value: Text) -> Step
+    requires { call.old.turn < 2 ^ 40 }
+    ensures step { result ≡ Step.Goes }
+    ensures next { call.new ≡ next_call call.old value call.old.last 0 }
 {
     call.value = value;
     further(call, 0)
 }
 
-pub fn with_last(mut call: CallIn, last: Text) -> CallIn
-    requires { call.turn < 2 ^ 40 }
-    ensures { result ≡ next_call call call.value last 0 }
+pub fn with_last(call: &mut CallIn, last: Text) -> Step
+    requires { call.old.turn < 2 ^ 40 }
+    ensures step { result ≡ Step.Goes }
+    ensures next { call.new ≡ next_call call.old call.old.value last 0 }
 {
     call.last = last;
     further(call, 0)

@@ -95,6 +95,9 @@ pub fn fits(turn: &Turn) -> bool
         Turn::Do { texts, .. } => are_short(texts.as_slice()),
         Turn::Shortcodes(t) => is_short(t),
         Turn::Ask(_) => true,
+        Turn::SetOption { value, .. } => is_short(value),
+        Turn::Schedule { arg, .. } => is_short(arg),
+        Turn::Publish(t) => is_short(t),
         Turn::Echo(t) => is_short(t),
         Turn::Return(t) => is_short(t),
     }

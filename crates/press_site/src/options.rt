@@ -5,7 +5,7 @@ ghost use Rattle.press_site.specs.Options.{option_of, put_option, set_option, se
 use crate::fault::SiteFault;
 use crate::hook::hook_named;
 use press_posts::Fire;
-use press_text::{HookName, Items, OptName, Text};
+use press_text::{HookName, Items, OptName, Text, Texts};
 use std::alloc::{AllocError, Global};
 use std::collections::BTreeMap;
 use std::marker::Model;
@@ -115,7 +115,7 @@ fn updated_fire(alloc: Global, name: &OptName, old: &str, new: &str) -> Result<F
     let old = Text::from_str(alloc, old)?;
     let new = Text::from_str(alloc, new)?;
     let last = Text::from_str(alloc, name.as_str())?;
-    let args = Items::from_vec(vec![in alloc; old, new, last]?);
+    let args = Texts::from_vec(vec![in alloc; old, new, last]?)?;
     Ok(Fire {
         hook: updated_hook(alloc, name)?,
         args,
@@ -127,7 +127,7 @@ fn added_fire(alloc: Global, name: &OptName, value: &str) -> Result<Fire, AllocE
 {
     let first = Text::from_str(alloc, name.as_str())?;
     let value = Text::from_str(alloc, value)?;
-    let args = Items::from_vec(vec![in alloc; first, value]?);
+    let args = Texts::from_vec(vec![in alloc; first, value]?)?;
     Ok(Fire {
         hook: added_hook(alloc, name)?,
         args,

@@ -2,7 +2,7 @@ use Rattle.std.proofs.Common.{◌≡◌, [], drop}
 use Rattle.press_callbacks.specs.Kits.{plugins_in}
 use Rattle.press_run.specs.Boot.{booted_with, plugins_loaded}
 use Rattle.press_run.specs.Outcome.{loaded_in}
-use Rattle.press_run.proofs.boots.boot.Given as goal
+use Rattle.press_run.proofs.boots.boot_with.Given as goal
 
 abbrev pub invariant-loop-name : goal.invariant-loop-name
 invariant-loop-name g l = record {

@@ -1,0 +1,128 @@
+//! Commands, and the stamp that each carries.
+
+ghost use Rattle.std.specs.Prelude.{◌≡◌, IfOk};
+
+use press_posts::Status;
+use press_site::Token;
+use press_text::{Copied, Moment, Name, OptName, Text};
+use std::alloc::{AllocError, Global};
+
+/// What is to be done to a site.
+#[derive(Debug, Drop)]
+pub enum Command {
+    Insert {
+        title: Text,
+        content: Text,
+        status: Status,
+        date: Moment,
+    },
+    Update {
+        id: u64,
+        title: Text,
+        content: Text,
+        status: Status,
+        date: Moment,
+    },
+    Trash {
+        id: u64,
+    },
+    Untrash {
+        id: u64,
+    },
+    Delete {
+        id: u64,
+    },
+    SetOption {
+        name: OptName,
+        value: Text,
+    },
+    Activate {
+        plugin: Name,
+    },
+    Deactivate {
+        plugin: Name,
+    },
+    /// Does what is due at the command's moment.
+    Tick,
+}
+
+/// A command with its token and its moment.
+#[derive(Debug, Drop)]
+pub struct Stamped {
+    pub token: Token,
+    pub at: Moment,
+    pub command: Command,
+}
+
+impl Command {
+    /// The same command once more.
+    pub fn copy(&self, alloc: Global) -> Result<Command, AllocError>
+        ensures { IfOk result (λ c. c ≡ self.now) }
+    {
+        match self {
+            Command::Insert {
+                title,
+                content,
+                status,
+                date,
+            } => Ok(Command::Insert {
+                title: title.copy(alloc)?,
+                content: content.copy(alloc)?,
+                status: *status,
+                date: *date,
+            }),
+            Command::Update {
+                id,
+                title,
+                content,
+                status,
+                date,
+            } => Ok(Command::Update {
+                id: *id,
+                title: title.copy(alloc)?,
+                content: content.copy(alloc)?,
+                status: *status,
+                date: *date,
+            }),
+            Command::Trash { id } => Ok(Command::Trash { id: *id }),
+            Command::Untrash { id } => Ok(Command::Untrash { id: *id }),
+            Command::Delete { id } => Ok(Command::Delete { id: *id }),
+            Command::SetOption { name, value } => Ok(Command::SetOption {
+                name: name.copy(alloc)?,
+                value: value.copy(alloc)?,
+            }),
+            Command::Activate { plugin } => Ok(Command::Activate {
+                plugin: plugin.copy(alloc)?,
+            }),
+            Command::Deactivate { plugin } => Ok(Command::Deactivate {
+                plugin: plugin.copy(alloc)?,
+            }),
+            Command::Tick => Ok(Command::Tick),
+        }
+    }
+}
+
+impl Stamped {
+    /// The same command once more, with the same token and moment.
+    pub fn copy(&self, alloc: Global) -> Result<Stamped, AllocError>
+        ensures { IfOk result (λ s. s ≡ self.now) }
+    {
+        Ok(Stamped {
+            token: self.token.copied(alloc)?,
+            at: self.at,
+            command: self.command.copy(alloc)?,
+        })
+    }
+}
+
+impl Copied for Command {
+    fn copied(&self, alloc: Global) -> Result<Command, AllocError> {
+        self.copy(alloc)
+    }
+}
+
+impl Copied for Stamped {
+    fn copied(&self, alloc: Global) -> Result<Stamped, AllocError> {
+        self.copy(alloc)
+    }
+}

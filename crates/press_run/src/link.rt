@@ -1,0 +1,73 @@
+ghost use Rattle.std.specs.Prelude.{◌≡◌};
+ghost use Rattle.press_site.specs.Becomes.{Becomes};
+
+use press_site::{Changed, Effect, Site, SiteFault};
+use press_text::Items;
+use std::alloc::Global;
+
+/// What a run has of a site.
+pub trait SiteLink {
+    ghost use Rattle.std.specs.Prelude.{Option};
+    ghost use Rattle.press_site.specs.SiteView.{SiteView};
+    ghost use Rattle.press_run.specs.Links.{Changes};
+
+    ghost changes: { Changes };
+
+    ghost view: { Self → SiteView };
+
+    /// What no change touches: of a site its moment and its outcomes, and all of one that is only read.
+    ghost fixed: { Self → Option SiteView };
+
+    fn site(&self) -> &Site
+        ensures { result.now ≡ view self.now };
+
+    /// Makes a change; after a refusal the site is as it was.
+    fn change(&mut self, alloc: Global, effect: Effect) -> Result<Changed, SiteFault>
+        ensures changes { Becomes result (changes (view self.old) effect) (view self.old) (view self.new) }
+        ensures fixed { fixed self.new ≡ fixed self.old };
+}
+
+impl SiteLink for Site {
+    ghost use Rattle.std.specs.Prelude.{Some};
+    ghost use Rattle.press_site.specs.Effects.{effect_on};
+    ghost use Rattle.press_run.specs.Links.{kept};
+
+    ghost changes = { effect_on };
+
+    ghost view = { λ s. s };
+
+    ghost fixed = { λ s. Some (kept s) };
+
+    fn site(&self) -> &Site {
+        self
+    }
+
+    #[tactic(auto, using(crate::proofs::Kept::becomes_kept))]
+    fn change(&mut self, _alloc: Global, effect: Effect) -> Result<Changed, SiteFault> {
+        self.effect(effect)
+    }
+}
+
+/// A site that is only read: every change is empty.
+#[derive(Drop)]
+pub struct Read<'a>(pub &'a Site);
+
+impl<'a> SiteLink for Read<'a> {
+    ghost use Rattle.std.specs.Prelude.{Some};
+    ghost use Rattle.press_run.specs.Links.{read_only};
+
+    ghost changes = { read_only };
+
+    ghost view = { λ r. r.0.now };
+
+    ghost fixed = { λ r. Some (r.0.now) };
+
+    fn site(&self) -> &Site {
+        self.0
+    }
+
+    fn change(&mut self, alloc: Global, _effect: Effect) -> Result<Changed, SiteFault> {
+        let (id, did, fires) = (0, false, Items::new(alloc));
+        Ok(Changed { id, did, fires })
+    }
+}

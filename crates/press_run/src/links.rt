@@ -1,0 +1,67 @@
+//! The changes of a site that a callback asks for.
+
+ghost use Rattle.std.specs.Prelude.{◌≡◌, IfOk, OnOk};
+ghost use Rattle.press_run.specs.Links.{or_no_change, publishes, schedules};
+
+use crate::link::SiteLink;
+use press_events::Event;
+use press_posts::Move;
+use press_site::{Changed, Effect, SiteFault};
+use press_text::{Every, HookName, Items, Moment, Text, dec_u64};
+use std::alloc::{AllocError, Global};
+
+// A change through the link; a refused one changes nothing.
+pub fn change<L: SiteLink>(
+    alloc: Global,
+    link: &mut L,
+    effect: Effect,
+) -> Result<Changed, AllocError>
+    ensures changed { IfOk result (λ c. (L.view link.new, c) ≡ or_no_change (L.view link.old) (L.changes (L.view link.old) effect)) }
+    ensures fixed { OnOk result (L.fixed link.new ≡ L.fixed link.old) }
+{
+    match link.change(alloc, effect) {
+        Ok(changed) => Ok(changed),
+        Err(SiteFault::NoMemory) => Err(AllocError),
+        Err(_) => {
+            let (id, did, fires) = (0, false, Items::new(alloc));
+            Ok(Changed { id, did, fires })
+        }
+    }
+}
+
+// The change that publishes the post with that id in decimal, if it is future and due at that moment.
+pub fn publishes(id: &Text, now: Moment) -> Option<Effect>
+    ensures { result ≡ publishes id.now now }
+{
+    match dec_u64(id.as_str()) {
+        None => None,
+        Some(id) => Some(Effect::Move {
+            id,
+            to: Move::PublishDue(now),
+        }),
+    }
+}
+
+// The change that schedules an event so many seconds after that moment, where that is a moment.
+pub fn schedules(
+    after: u64,
+    every: Every,
+    hook: HookName,
+    arg: Text,
+    now: Moment,
+) -> Option<Effect>
+    ensures { result ≡ schedules after every hook arg now }
+{
+    let Some(seconds) = now.seconds().checked_add(after) else {
+        return None;
+    };
+    match Moment::new(seconds) {
+        None => None,
+        Some(time) => Some(Effect::Schedule(Event {
+            time,
+            hook,
+            arg,
+            every,
+        })),
+    }
+}
