@@ -16,6 +16,12 @@ abbrev pub or_bad : {A : Type 0} → Place → Option A → Result A Place
 or_bad at None = Err at
 or_bad at (Some x) = Ok x
 
+-- what is made of one field
+abbrev pub made : {A B : Type 0} → (A → B) → Result A Place → Result B Place
+made make field = do
+  x ← field
+  Ok (make x)
+
 -- ---- keys
 
 abbrev pub keys_in : Members → List (List ℕ)
@@ -50,6 +56,10 @@ name_at most at key d = or_bad at (option_and_then (name_in most) (option_and_th
 
 abbrev pub number_in : Data → Option ℕ
 number_in d = option_and_then as_u64 (as_number d)
+
+-- a whole number below 2^64
+abbrev pub number_at : Place → List ℕ → Data → Result ℕ Place
+number_at at key d = or_bad at (option_and_then number_in (get key d))
 
 abbrev pub signed_in : Data → Option ℤ
 signed_in d = option_and_then as_i64 (as_number d)

@@ -7,6 +7,8 @@ use Rattle.serde_json.specs.Read.{read}
 use Rattle.serde_json.specs.Find.{get, as_str}
 use Rattle.press_scan.specs.declared.att_key.AttKey.{AttKey}
 use Rattle.press_scan.specs.declared.att_key.AttKey.TheVariants.{Name, Place as Numbered}
+use Rattle.press_text.specs.declared.every.Every.{Every}
+use Rattle.press_text.specs.declared.every.Every.TheVariants.{Once, Hourly, TwiceDaily, Daily}
 use Rattle.press_callbacks.specs.declared.script.Part.{Part}
 use Rattle.press_callbacks.specs.declared.script.Part.TheVariants.{Lit, Arg, Att, Content, Tag, Value, Last}
 use Rattle.press_callbacks.specs.declared.script.Ask.TheVariants as ask
@@ -21,7 +23,7 @@ use Rattle.press_kit.specs.declared.op_kind.OpKind.{OpKind}
 use Rattle.press_kit.specs.declared.op_kind.OpKind.TheVariants as kind
 use Rattle.press_kit.specs.declared.kit_parts.Scripted.{Scripted}
 use Rattle.press_kit.specs.declared.kit_parts.KitParts.{KitParts}
-use Rattle.press_kit.specs.Fields.{◌>>=◌, or_bad, only, text_at, name_at, number_in, below, default, signed_in, has_only, priority_at, accepted_at, list_in, list_at, each}
+use Rattle.press_kit.specs.Fields.{◌>>=◌, or_bad, only, text_at, name_at, number_in, number_at, below, default, signed_in, made, has_only, priority_at, accepted_at, list_in, list_at, each}
 use Rattle.press_kit.specs.Ops.{kind_of, keys_of}
 
 -- ---- files
@@ -171,11 +173,34 @@ hook_asked at d = do
   callback ← callback_at at d
   Ok (op.Ask (ask.Has hook callback))
 
--- a step made of one field
-abbrev pub made : {A : Type 0} → (A → Op) → Result A Place → Result Op Place
-made step field = do
-  x ← field
-  Ok (step x)
+-- a recurrence (`wp_get_schedules`), or once
+abbrev pub every_of : List ℕ → Option Every
+every_of word =
+    if bytes_eq word (codes "once") then Some Once else
+    (if bytes_eq word (codes "hourly") then Some Hourly else
+    (if bytes_eq word (codes "twicedaily") then Some TwiceDaily else
+    (if bytes_eq word (codes "daily") then Some Daily else None)))
+
+abbrev pub every_in : Data → Option Every
+every_in d = option_and_then every_of (as_str d)
+
+-- once, where none is told (`wp_schedule_single_event`)
+abbrev pub every_at : Place → Data → Result Every Place
+every_at at d = or_bad at (default Once every_in (get (codes "every") d))
+
+unfoldable pub scheduled : Place → Data → Result Op Place
+scheduled at d = do
+  after ← number_at at (codes "after") d
+  every ← every_at at d
+  hook ← hook_at at d
+  arg ← parts_at at (codes "arg") d
+  Ok (op.Schedule after every hook arg)
+
+unfoldable pub option_set : Place → Data → Result Op Place
+option_set at d = do
+  name ← name_at 32 at (codes "name") d
+  value ← parts_at at (codes "value") d
+  Ok (op.SetOption name value)
 
 unfoldable pub op_by : OpKind → Place → Data → Result Op Place
 op_by kind.Set at d = made op.Set (parts_at at (codes "text") d)
@@ -192,6 +217,10 @@ op_by kind.Did at d = made (λ hook. op.Ask (ask.Did hook)) (hook_at at d)
 op_by kind.Doing at d = made (λ hook. op.Ask (ask.Doing hook)) (hook_at at d)
 op_by kind.HasHook at d = hook_asked at d
 op_by kind.HasTag at d = made (λ tag. op.Ask (ask.Tag tag)) (text_at at (codes "tag") d)
+op_by kind.ReadOption at d = made (λ name. op.Ask (ask.Option name)) (name_at 32 at (codes "name") d)
+op_by kind.SetOption at d = option_set at d
+op_by kind.Schedule at d = scheduled at d
+op_by kind.Publish at d = made op.Publish (parts_at at (codes "post") d)
 op_by kind.Echo at d = made op.Echo (parts_at at (codes "text") d)
 op_by kind.Return at d = made op.Return (parts_at at (codes "text") d)
 

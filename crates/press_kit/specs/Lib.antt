@@ -4,3 +4,4 @@ pub mod KitFile
 pub mod Ops
 pub mod Places
 pub mod PlayFile
+pub mod SiteFile

@@ -1,9 +1,10 @@
 -- The kinds of steps, by the names that a kit file gives them, and the keys that each may have (own; the names follow the Plugin Handbook's
 -- functions: `add_filter`, `remove_filter`, `remove_all_filters`, `apply_filters`, `do_action`, `did_action`, `doing_filter`, `has_filter`,
--- and the Shortcode API's: `add_shortcode`, `remove_shortcode`, `do_shortcode`, `shortcode_exists`).
+-- the Shortcode API's: `add_shortcode`, `remove_shortcode`, `do_shortcode`, `shortcode_exists`; the Options API's: `update_option`, `get_option`;
+-- and WP-Cron's: `wp_schedule_event`, `check_and_publish_future_post`).
 use Rattle.std.specs.Prelude.{ℕ, List, [], ◌∷◌, bytes_eq, if◌then◌else◌, Option, Some, None, codes}
 use Rattle.press_kit.specs.declared.op_kind.OpKind.{OpKind}
-use Rattle.press_kit.specs.declared.op_kind.OpKind.TheVariants.{Set, AddHook, RemoveHook, RemoveAll, AddTag, RemoveTag, SkipIf, Apply, Do, Shortcodes, Did, Doing, HasHook, HasTag, Echo, Return}
+use Rattle.press_kit.specs.declared.op_kind.OpKind.TheVariants.{Set, AddHook, RemoveHook, RemoveAll, AddTag, RemoveTag, SkipIf, Apply, Do, Shortcodes, Did, Doing, HasHook, HasTag, ReadOption, SetOption, Schedule, Publish, Echo, Return}
 
 abbrev pub kind_of : List ℕ → Option OpKind
 kind_of name =
@@ -21,8 +22,12 @@ kind_of name =
     (if bytes_eq name (codes "doing") then Some Doing else
     (if bytes_eq name (codes "has_hook") then Some HasHook else
     (if bytes_eq name (codes "has_tag") then Some HasTag else
+    (if bytes_eq name (codes "option") then Some ReadOption else
+    (if bytes_eq name (codes "set_option") then Some SetOption else
+    (if bytes_eq name (codes "schedule") then Some Schedule else
+    (if bytes_eq name (codes "publish") then Some Publish else
     (if bytes_eq name (codes "echo") then Some Echo else
-    (if bytes_eq name (codes "return") then Some Return else None)))))))))))))))
+    (if bytes_eq name (codes "return") then Some Return else None)))))))))))))))))))
 
 abbrev pub keys_of : OpKind → List (List ℕ)
 keys_of Set = codes "op" ∷ codes "text" ∷ []
@@ -39,5 +44,9 @@ keys_of Did = codes "op" ∷ codes "hook" ∷ []
 keys_of Doing = codes "op" ∷ codes "hook" ∷ []
 keys_of HasHook = codes "op" ∷ codes "hook" ∷ codes "callback" ∷ []
 keys_of HasTag = codes "op" ∷ codes "tag" ∷ []
+keys_of ReadOption = codes "op" ∷ codes "name" ∷ []
+keys_of SetOption = codes "op" ∷ codes "name" ∷ codes "value" ∷ []
+keys_of Schedule = codes "op" ∷ codes "after" ∷ codes "every" ∷ codes "hook" ∷ codes "arg" ∷ []
+keys_of Publish = codes "op" ∷ codes "post" ∷ []
 keys_of Echo = codes "op" ∷ codes "text" ∷ []
 keys_of Return = codes "op" ∷ codes "text" ∷ []

@@ -1,8 +1,9 @@
--- Play file: a kit, the plugins that are active, and what is to be played on them in turn, as a JSON document gives it (own).
+-- Play file: a kit, the plugins that are active or the commands that make the site, and what is to be played on it in turn, as a JSON document gives it (own).
 -- The key `shows` is for whoever reads the file.
-use Rattle.std.specs.Prelude.{ℕ, ◌^◌, List, [], ◌∷◌, nat_lt, ◌&&◌, if◌then◌else◌, Option, Some, None, is_some, option_and_then, Result, Ok, codes}
+use Rattle.std.specs.Prelude.{ℕ, ◌^◌, List, [], ◌∷◌, Bool, true, false, nat_lt, ◌&&◌, if◌then◌else◌, Option, Some, None, is_some, option_and_then, Result, Ok, codes}
 use Rattle.serde_json.specs.Data.{Data}
 use Rattle.serde_json.specs.Find.{get, as_str}
+use Rattle.press_apply.specs.declared.command.Stamped.{Stamped}
 use Rattle.press_kit.specs.declared.place.Place.{Place}
 use Rattle.press_kit.specs.declared.place.Place.TheVariants as place
 use Rattle.press_kit.specs.declared.play_file.PlayKind.{PlayKind}
@@ -11,6 +12,7 @@ use Rattle.press_kit.specs.declared.play_file.Play.{Play}
 use Rattle.press_kit.specs.declared.play_file.PlayFile.{PlayFile}
 use Rattle.press_kit.specs.Fields.{◌>>=◌, or_bad, only, name_in, name_at, number_in, default, list_in, list_at, each}
 use Rattle.press_kit.specs.KitFile.{file_in, kit_of}
+use Rattle.press_kit.specs.SiteFile.{commands_of}
 
 -- ---- plays
 
@@ -64,19 +66,38 @@ play_of at d = play_by (kind_of d) at d
 abbrev pub active_of : Place → Data → Result (List ℕ) Place
 active_of at d = or_bad at (option_and_then (name_in 32) (as_str d))
 
-abbrev pub file_keys : List (List ℕ)
-file_keys = codes "kit" ∷ codes "active" ∷ codes "plays" ∷ codes "shows" ∷ []
+-- commands may stand in place of the active plugins
+abbrev pub has_commands : Data → Bool
+has_commands d = is_some (get (codes "commands") d)
+
+abbrev pub file_keys : Bool → List (List ℕ)
+file_keys true = codes "kit" ∷ codes "commands" ∷ codes "plays" ∷ codes "shows" ∷ []
+file_keys false = codes "kit" ∷ codes "active" ∷ codes "plays" ∷ codes "shows" ∷ []
+
+unfoldable pub active_where : Bool → Data → Result (List (List ℕ)) Place
+active_where true d = Ok []
+active_where false d = do
+  names ← list_at place.Active (codes "active") d
+  each active_of place.Active 0 names
+
+abbrev pub commands_where : Bool → Data → Result (List Stamped) Place
+commands_where true d = commands_of d
+commands_where false d = Ok []
+
+unfoldable pub plays_of : Data → Result (List Play) Place
+plays_of d = do
+  ds ← list_at place.Plays (codes "plays") d
+  each play_of place.Plays 0 ds
 
 unfoldable pub play_file_of : Data → Result PlayFile Place
 play_file_of d = do
-  whole ← only place.File file_keys d
+  whole ← only place.File (file_keys (has_commands d)) d
   it ← or_bad place.File (get (codes "kit") whole)
   kit ← kit_of it
-  names ← list_at place.Active (codes "active") whole
-  active ← each active_of place.Active 0 names
-  ds ← list_at place.Plays (codes "plays") whole
-  plays ← each play_of place.Plays 0 ds
-  Ok (record { kit = kit; active = active; plays = plays })
+  active ← active_where (has_commands d) whole
+  commands ← commands_where (has_commands d) whole
+  plays ← plays_of whole
+  Ok (record { kit = kit; active = active; commands = commands; plays = plays })
 
 unfoldable pub play_file_in : List ℕ → Result PlayFile Place
 play_file_in bytes = do

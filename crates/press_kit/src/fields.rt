@@ -9,7 +9,7 @@ ghost use Rattle.press_kit.specs.Fields as spec;
 
 use crate::fault::KitFileFault;
 use crate::place::Place;
-use press_text::{CallbackId, HookName, Name, NameFault, Tag, Text};
+use press_text::{CallbackId, HookName, Name, NameFault, OptName, Tag, Text};
 use serde_json::{Map, Value};
 use std::alloc::Global;
 
@@ -103,6 +103,26 @@ impl<'v> Fields<'v> {
             Err(NameFault::NoMemory) => Err(KitFileFault::NoMemory),
             Err(NameFault::BadName | NameFault::TooLong) => Err(KitFileFault::BadKitFile(self.at)),
         }
+    }
+
+    /// The name of an option.
+    pub fn option(&self, key: &str) -> Result<OptName, KitFileFault>
+        ensures { Gives (λ n. n) result (spec.name_at 32 self.now.at key.now (view self.now.value.now)) }
+    {
+        let text = self.str(key).ok_or(self.at)?;
+        match OptName::new(self.alloc, text) {
+            Ok(name) => Ok(name),
+            Err(NameFault::NoMemory) => Err(KitFileFault::NoMemory),
+            Err(NameFault::BadName | NameFault::TooLong) => Err(KitFileFault::BadKitFile(self.at)),
+        }
+    }
+
+    /// A whole number.
+    pub fn number(&self, key: &str) -> Result<u64, KitFileFault>
+        ensures { Gives (λ n. n) result (spec.number_at self.now.at key.now (view self.now.value.now)) }
+    {
+        let told = self.value.get(key).and_then(Value::as_u64);
+        Ok(told.ok_or(self.at)?)
     }
 
     /// The name of a shortcode.

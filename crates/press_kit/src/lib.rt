@@ -1,8 +1,10 @@
-//! Kit files and play files: callbacks with their scripts, plugins and plays, as their author writes them in JSON.
+//! Kit files, play files and site files: callbacks with their scripts, plugins, plays and commands, as their author writes them in JSON.
 //!
 //! A file gives what the definitions give, or the first place at which it is bad.
 #![tactic(auto)]
 
+mod command_kind;
+mod commands;
 mod fault;
 mod fields;
 mod json;
@@ -14,9 +16,11 @@ mod ops;
 mod parts;
 mod place;
 mod play_file;
+mod site_file;
 
 pub use fault::KitFileFault;
 pub use json::FILE_LIMIT;
 pub use kit_parts::{KitParts, Scripted, read_kit_file};
 pub use place::Place;
 pub use play_file::{Play, PlayFile, PlayKind, read_play_file};
+pub use site_file::read_site_file;

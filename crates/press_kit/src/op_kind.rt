@@ -18,6 +18,10 @@ pub(crate) enum OpKind {
     Doing,
     HasHook,
     HasTag,
+    ReadOption,
+    SetOption,
+    Schedule,
+    Publish,
     Echo,
     Return,
 }
@@ -55,6 +59,14 @@ impl OpKind {
             Some(OpKind::HasHook)
         } else if name == "has_tag" {
             Some(OpKind::HasTag)
+        } else if name == "option" {
+            Some(OpKind::ReadOption)
+        } else if name == "set_option" {
+            Some(OpKind::SetOption)
+        } else if name == "schedule" {
+            Some(OpKind::Schedule)
+        } else if name == "publish" {
+            Some(OpKind::Publish)
         } else if name == "echo" {
             Some(OpKind::Echo)
         } else if name == "return" {

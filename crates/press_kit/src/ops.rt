@@ -14,8 +14,35 @@ use crate::listed::Listed;
 use crate::op_kind::OpKind;
 use crate::place::Place;
 use press_callbacks::{Ask, Op};
+use press_text::Every;
 use serde_json::Value;
 use std::alloc::Global;
+
+fn every_named(word: &str) -> Option<Every>
+    ensures { result ≡ spec.every_of word.now }
+{
+    if word == "once" {
+        Some(Every::Once)
+    } else if word == "hourly" {
+        Some(Every::Hourly)
+    } else if word == "twicedaily" {
+        Some(Every::TwiceDaily)
+    } else if word == "daily" {
+        Some(Every::Daily)
+    } else {
+        None
+    }
+}
+
+// How often an event comes again.
+fn every(value: &Value) -> Option<Every>
+    ensures { result ≡ spec.every_in (view value.now) }
+{
+    match value.as_str() {
+        None => None,
+        Some(word) => every_named(word),
+    }
+}
 
 impl<'v> Fields<'v> {
     // The priority that is told, or all of them.
@@ -41,6 +68,38 @@ impl<'v> Fields<'v> {
             Ok(n) => Ok(n),
             Err(_) => Err(KitFileFault::BadKitFile(self.at)),
         }
+    }
+
+    // Once, where nothing is told.
+    fn every(&self) -> Result<Every, KitFileFault>
+        ensures { Gives (λ e. e) result (spec.every_at self.now.at (view self.now.value.now)) }
+    {
+        match self.value.get("every") {
+            None => Ok(Every::Once),
+            Some(told) => Ok(every(told).ok_or(self.at)?),
+        }
+    }
+
+    #[tactic(auto, unfolding(crate::specs::KitFile::scheduled))]
+    fn schedule(&self) -> Result<Op, KitFileFault>
+        ensures { Gives (λ o. o) result (spec.scheduled self.now.at (view self.now.value.now)) }
+    {
+        Ok(Op::Schedule {
+            after: self.number("after")?,
+            every: self.every()?,
+            hook: self.hook("hook")?,
+            arg: self.parts("arg")?,
+        })
+    }
+
+    #[tactic(auto, unfolding(crate::specs::KitFile::option_set))]
+    fn set_option(&self) -> Result<Op, KitFileFault>
+        ensures { Gives (λ o. o) result (spec.option_set self.now.at (view self.now.value.now)) }
+    {
+        Ok(Op::SetOption {
+            name: self.option("name")?,
+            value: self.parts("value")?,
+        })
     }
 
     #[tactic(auto, unfolding(crate::specs::KitFile::hook_added))]
@@ -148,6 +207,10 @@ impl<'v> Fields<'v> {
             OpKind::Doing => Ok(Op::Ask(Ask::Doing(self.hook("hook")?))),
             OpKind::HasHook => self.has_hook(),
             OpKind::HasTag => Ok(Op::Ask(Ask::Tag(self.text("tag")?))),
+            OpKind::ReadOption => Ok(Op::Ask(Ask::Option(self.option("name")?))),
+            OpKind::SetOption => self.set_option(),
+            OpKind::Schedule => self.schedule(),
+            OpKind::Publish => Ok(Op::Publish(self.parts("post")?)),
             OpKind::Echo => Ok(Op::Echo(self.parts("text")?)),
             OpKind::Return => Ok(Op::Return(self.parts("text")?)),
         }
@@ -178,6 +241,10 @@ impl<'v> Fields<'v> {
             OpKind::Do => self.has_only(&["op", "hook", "args"]),
             OpKind::Did | OpKind::Doing => self.has_only(&["op", "hook"]),
             OpKind::HasHook => self.has_only(&["op", "hook", "callback"]),
+            OpKind::ReadOption => self.has_only(&["op", "name"]),
+            OpKind::SetOption => self.has_only(&["op", "name", "value"]),
+            OpKind::Schedule => self.has_only(&["op", "after", "every", "hook", "arg"]),
+            OpKind::Publish => self.has_only(&["op", "post"]),
             OpKind::Set | OpKind::Shortcodes | OpKind::Echo | OpKind::Return => {
                 self.has_only(&["op", "text"])
             }

@@ -17,6 +17,8 @@ pub enum Place {
     Load { plugin: usize, load: usize },
     Active,
     ActiveName(usize),
+    Commands,
+    Command(usize),
     Plays,
     Play(usize),
 }
@@ -36,6 +38,8 @@ impl Place {
             Place::Load { plugin, load } => Place::Load { plugin, load },
             Place::Active => Place::ActiveName(n),
             Place::ActiveName(name) => Place::ActiveName(name),
+            Place::Commands => Place::Command(n),
+            Place::Command(command) => Place::Command(command),
             Place::Plays => Place::Play(n),
             Place::Play(play) => Place::Play(play),
         }
@@ -55,6 +59,8 @@ impl Place {
             Place::Load { plugin, load } => format!(in alloc; "plugins[{plugin}].load[{load}]"),
             Place::Active => String::from_str(alloc, "active"),
             Place::ActiveName(n) => format!(in alloc; "active[{n}]"),
+            Place::Commands => String::from_str(alloc, "commands"),
+            Place::Command(n) => format!(in alloc; "commands[{n}]"),
             Place::Plays => String::from_str(alloc, "plays"),
             Place::Play(n) => format!(in alloc; "plays[{n}]"),
         }

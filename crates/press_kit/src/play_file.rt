@@ -12,6 +12,8 @@ use crate::json::file;
 use crate::kit_parts::{KitParts, kit};
 use crate::listed::{Listed, each};
 use crate::place::Place;
+use crate::site_file::commands;
+use press_apply::Stamped;
 use press_text::{HookName, Items, Name, NameFault, Text, Texts};
 use serde_json::Value;
 use std::alloc::Global;
@@ -35,11 +37,12 @@ pub struct Play {
     pub times: u32,
 }
 
-/// A kit, the plugins that are active, and what is to be played on them in turn.
+/// A kit, the plugins that are active or the commands that make the site, and what is to be played on it in turn.
 #[derive(Debug, Drop)]
 pub struct PlayFile {
     pub kit: KitParts,
     pub active: Items<Name>,
+    pub commands: Items<Stamped>,
     pub plays: Items<Play>,
 }
 
@@ -145,22 +148,75 @@ impl Listed for Play {
     }
 }
 
+// Whether commands stand in place of the active plugins.
+fn has_commands(value: &Value) -> bool
+    ensures { result ≡ spec.has_commands (view value.now) }
+{
+    value.get("commands").is_some()
+}
+
+fn has_file_keys(fields: &Fields<'_>, commanded: bool) -> Result<(), KitFileFault>
+    ensures { Gives (λ u. view fields.now.value.now) result (only fields.now.at (spec.file_keys commanded) (view fields.now.value.now)) }
+{
+    if commanded {
+        fields.has_only(&["kit", "commands", "plays", "shows"])
+    } else {
+        fields.has_only(&["kit", "active", "plays", "shows"])
+    }
+}
+
+#[tactic(auto, unfolding(crate::specs::PlayFile::active_where))]
+fn active(alloc: Global, value: &Value, commanded: bool) -> Result<Items<Name>, KitFileFault>
+    ensures { Gives (λ ns. ns) result (spec.active_where commanded (view value.now)) }
+{
+    if commanded {
+        return Ok(Items::new(alloc));
+    }
+    let at = Place::Active;
+    each(alloc, at, Fields { alloc, at, value }.list("active")?)
+}
+
+fn commands_if(
+    alloc: Global,
+    value: &Value,
+    commanded: bool,
+) -> Result<Items<Stamped>, KitFileFault>
+    ensures { Gives (λ cs. cs) result (spec.commands_where commanded (view value.now)) }
+{
+    if commanded {
+        commands(alloc, value)
+    } else {
+        Ok(Items::new(alloc))
+    }
+}
+
+#[tactic(auto, unfolding(crate::specs::PlayFile::plays_of))]
+fn plays(alloc: Global, value: &Value) -> Result<Items<Play>, KitFileFault>
+    ensures { Gives (λ ps. ps) result (spec.plays_of (view value.now)) }
+{
+    let at = Place::Plays;
+    each(alloc, at, Fields { alloc, at, value }.list("plays")?)
+}
+
 #[tactic(auto, unfolding(crate::specs::PlayFile::play_file_of))]
 fn play_file(alloc: Global, value: &Value) -> Result<PlayFile, KitFileFault>
     ensures { Gives (λ f. f) result (spec.play_file_of (view value.now)) }
 {
     let at = Place::File;
-    let fields = Fields { alloc, at, value };
-    fields.has_only(&["kit", "active", "plays", "shows"])?;
+    let commanded = has_commands(value);
+    has_file_keys(&Fields { alloc, at, value }, commanded)?;
     let kit = kit(alloc, value.get("kit").ok_or(at)?)?;
-    let at = Place::Active;
-    let active = each(alloc, at, Fields { alloc, at, value }.list("active")?)?;
-    let at = Place::Plays;
-    let plays = each(alloc, at, Fields { alloc, at, value }.list("plays")?)?;
-    Ok(PlayFile { kit, active, plays })
+    let active = active(alloc, value, commanded)?;
+    let commands = commands_if(alloc, value, commanded)?;
+    Ok(PlayFile {
+        kit,
+        active,
+        commands,
+        plays: plays(alloc, value)?,
+    })
 }
 
-/// The kit, the active plugins and the plays that the bytes of a play file give.
+/// The kit, the active plugins or the commands, and the plays that the bytes of a play file give.
 ///
 /// The key `shows` is for whoever reads the file. A file has at most 4,194,304 bytes.
 #[tactic(auto, unfolding(crate::specs::PlayFile::play_file_in))]

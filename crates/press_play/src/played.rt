@@ -37,7 +37,12 @@ fn file<R: Read>(alloc: Global, reader: &mut R) -> Result<PlayFile, PlayFault>
 fn lines(alloc: Global, file: PlayFile) -> Result<String, PlayFault>
     ensures { Gives (λ t. string_bytes t) result (played file) }
 {
-    let PlayFile { kit, active, plays } = file;
+    let PlayFile {
+        kit,
+        active,
+        commands: _,
+        plays,
+    } = file;
     let KitParts {
         callbacks: parts,
         plugins,

@@ -39,13 +39,8 @@ impl Stage {
     fn run(&mut self, kit: &Kit, job: Job) -> Result<String, RunFault>
         ensures { GivesJob (job_meaning effect_on (scripts_in kit.now) job (state_in self.old)) (around (standing self.old)) (standing self.new) result }
     {
-        self.machine.run(
-            kit,
-            &mut self.tables,
-            &mut self.site,
-            job,
-            &mut self.out,
-        )
+        self.machine
+            .run(kit, &mut self.tables, &mut self.site, job, &mut self.out)
     }
 
     // Does a play once less than it says, each time from where it begins.
@@ -100,12 +95,7 @@ fn job(alloc: Global, play: &Play) -> Result<Job, AllocError>
 }
 
 /// The lines of the plays on a fresh boot of the site.
-pub fn lines_of(
-    alloc: Global,
-    kit: &Kit,
-    site: Site,
-    plays: &[Play],
-) -> Result<String, AllocError>
+pub fn lines_of(alloc: Global, kit: &Kit, site: Site, plays: &[Play]) -> Result<String, AllocError>
     ensures { IfOk result (λ t. string_bytes t ≡ lines (scripts_in kit.now) plays.now (started (booted_with (plugins_in kit.now) site.active) site)) }
 {
     let mut stage = Stage {

@@ -37,6 +37,10 @@ fn token(alloc: Global, seq: u64) -> Result<Token, NameFault> {
     })
 }
 
+fn change(site: &mut Site, effect: Effect) -> Result<Changed, SiteFault> {
+    site.effect(effect)
+}
+
 // Whether so many actions are fired, of which the last is of that hook and has that last argument.
 fn ends_with(changed: Changed, fires: usize, hook: &str, arg: &str) -> bool {
     let Some(fire) = changed.fires.as_slice().last() else {
@@ -53,7 +57,7 @@ fn take_due(site: &mut Site) -> Result<usize, SiteFault> {
     let due = site.due()?.into_vec();
     let count = due.len();
     for event in due {
-        site.effect(Effect::Take(event))?;
+        change(site, Effect::Take(event))?;
     }
     Ok(count)
 }
@@ -63,15 +67,22 @@ fn a_scheduled_post_is_published(rt: HostRuntime) -> Result<(), Fail> {
     let alloc = rt.alloc();
     let mut site = Site::new(alloc);
     site.set_now(moment(100));
-    assert!(rt; ends_with(site.effect(publish(alloc, 100)?)?, 4, "save_post", ""));
-    assert!(rt; ends_with(site.effect(publish(alloc, 101)?)?, 4, "save_post", ""));
+    assert!(rt; ends_with(change(&mut site, publish(alloc, 100)?)?, 4, "save_post", ""));
+    assert!(rt; ends_with(change(&mut site, publish(alloc, 101)?)?, 4, "save_post", ""));
     assert_eq!(rt; take_due(&mut site)?, 0);
     site.set_now(moment(101));
     assert_eq!(rt; take_due(&mut site)?, 1);
     let to = Move::PublishDue(moment(101));
-    assert!(rt; ends_with(site.effect(Effect::Move { id: 2, to })?, 3, "publish_post", "2"));
+    assert!(rt;
+        ends_with(
+            change(&mut site, Effect::Move { id: 2, to })?,
+            3,
+            "publish_post",
+            "2"
+        )
+    );
     assert_eq!(rt; take_due(&mut site)?, 0);
-    assert!(rt; !site.effect(Effect::Move { id: 1, to })?.did);
+    assert!(rt; !change(&mut site, Effect::Move { id: 1, to })?.did);
     assert_eq!(rt; site.published()?.as_slice(), [2, 1].as_slice());
     Ok(())
 }
@@ -80,10 +91,10 @@ fn a_scheduled_post_is_published(rt: HostRuntime) -> Result<(), Fail> {
 fn a_daily_event_comes_again(rt: HostRuntime) -> Result<(), Fail> {
     let alloc = rt.alloc();
     let mut site = Site::new(alloc);
-    assert!(rt; site.effect(Effect::Schedule(daily(alloc, 100)?))?.did);
+    assert!(rt; change(&mut site, Effect::Schedule(daily(alloc, 100)?))?.did);
     site.set_now(moment(172_900));
-    assert!(rt; site.effect(Effect::Take(daily(alloc, 100)?))?.did);
-    assert!(rt; !site.effect(Effect::Schedule(daily(alloc, 259_300)?))?.did);
+    assert!(rt; change(&mut site, Effect::Take(daily(alloc, 100)?))?.did);
+    assert!(rt; !change(&mut site, Effect::Schedule(daily(alloc, 259_300)?))?.did);
     Ok(())
 }
 
@@ -92,9 +103,9 @@ fn a_future_post_finds_no_room(rt: HostRuntime) -> Result<(), Fail> {
     let alloc = rt.alloc();
     let mut site = Site::new(alloc);
     for time in 0..4096 {
-        assert!(rt; site.effect(Effect::Schedule(daily(alloc, time)?))?.did);
+        assert!(rt; change(&mut site, Effect::Schedule(daily(alloc, time)?))?.did);
     }
-    match site.effect(publish(alloc, 1)?) {
+    match change(&mut site, publish(alloc, 1)?) {
         Ok(_) => assert!(rt; false),
         Err(fault) => assert_eq!(rt; fault, SiteFault::TooManyEvents),
     }
@@ -102,29 +113,57 @@ fn a_future_post_finds_no_room(rt: HostRuntime) -> Result<(), Fail> {
     Ok(())
 }
 
+fn letters(alloc: Global) -> Result<Name, NameFault> {
+    Name::new(alloc, "letters")
+}
+
+fn blogname(alloc: Global) -> Result<OptName, NameFault> {
+    OptName::new(alloc, "blogname")
+}
+
+fn set_blogname(alloc: Global, value: &str) -> Result<Effect, NameFault> {
+    Ok(Effect::SetOption {
+        name: blogname(alloc)?,
+        value: Text::from_str(alloc, value)?,
+    })
+}
+
+// One of everything.
+fn fill(alloc: Global, site: &mut Site) -> Result<(), Fail> {
+    change(site, set_blogname(alloc, "A")?)?;
+    let plugin = letters(alloc)?;
+    change(site, Effect::Activate { plugin })?;
+    change(site, publish(alloc, 1)?)?;
+    Ok(())
+}
+
+fn is_filled(alloc: Global, site: &Site) -> Result<bool, Fail> {
+    let named = site.option(&blogname(alloc)?) == Some("A");
+    let kept = site.result_of(&token(alloc, 1)?) == Some(Outcome::Done(1));
+    let hidden = site.published()?.as_slice().is_empty();
+    Ok(named && kept && hidden && site.active().len() == 1 && site.due()?.as_slice().is_empty())
+}
+
+fn empty(alloc: Global, site: &mut Site) -> Result<(), Fail> {
+    change(site, set_blogname(alloc, "B")?)?;
+    let plugin = letters(alloc)?;
+    change(site, Effect::Deactivate { plugin })?;
+    site.set_now(moment(1));
+    let to = Move::PublishDue(moment(1));
+    change(site, Effect::Move { id: 1, to })?;
+    Ok(())
+}
+
 #[test]
 fn a_copy_stays_as_the_site_was(rt: HostRuntime) -> Result<(), Fail> {
     let alloc = rt.alloc();
     let mut site = Site::new(alloc);
-    let name = OptName::new(alloc, "blogname")?;
-    let value = Text::from_str(alloc, "A")?;
-    site.effect(Effect::SetOption { name, value })?;
-    let plugin = Name::new(alloc, "letters")?;
-    site.effect(Effect::Activate { plugin })?;
-    site.effect(publish(alloc, 1)?)?;
     site.keep(token(alloc, 1)?, Outcome::Done(1))?;
+    fill(alloc, &mut site)?;
     let copy = site.copy()?;
-    site.set_now(moment(1));
-    let to = Move::Trash;
-    site.effect(Effect::Move { id: 1, to })?;
-    let plugin = Name::new(alloc, "letters")?;
-    site.effect(Effect::Deactivate { plugin })?;
-    assert_eq!(rt; copy.now().seconds(), 0);
-    assert_eq!(rt; copy.option(&OptName::new(alloc, "blogname")?), Some("A"));
-    assert_eq!(rt; copy.active().len(), 1);
-    assert_eq!(rt; copy.result_of(&token(alloc, 1)?), Some(Outcome::Done(1)));
-    assert!(rt; copy.post(1).is_some_and(|p| p.status.is_future()));
-    assert_eq!(rt; site.active().len(), 0);
+    empty(alloc, &mut site)?;
+    assert!(rt; is_filled(alloc, &copy)?);
+    assert!(rt; !is_filled(alloc, &site)?);
     Ok(())
 }
 

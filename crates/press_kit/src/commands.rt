@@ -1,0 +1,214 @@
+//! The fields of a command.
+
+ghost use Rattle.std.specs.Prelude.{◌≡◌, option_and_then, codes};
+ghost use Rattle.serde_json.specs.Find.{get, as_str};
+ghost use Rattle.serde_json.specs.View.{view};
+ghost use Rattle.press_kit.specs.Gives.{Gives};
+ghost use Rattle.press_kit.specs.SiteFile as spec;
+
+use crate::command_kind::CommandKind;
+use crate::fault::KitFileFault;
+use crate::fields::Fields;
+use crate::listed::Listed;
+use crate::place::Place;
+use press_apply::{Command, Stamped};
+use press_posts::Status;
+use press_site::Token;
+use press_text::{Moment, Text};
+use serde_json::Value;
+use std::alloc::Global;
+
+/// A post as it is written.
+#[derive(Debug, Drop)]
+pub(crate) struct Written {
+    pub title: Text,
+    pub content: Text,
+    pub status: Status,
+    pub date: Moment,
+}
+
+fn status_named(word: &str) -> Option<Status>
+    ensures { result ≡ spec.status_of word.now }
+{
+    if word == "publish" {
+        Some(Status::Publish)
+    } else if word == "future" {
+        Some(Status::Future)
+    } else if word == "draft" {
+        Some(Status::Draft)
+    } else if word == "pending" {
+        Some(Status::Pending)
+    } else if word == "private" {
+        Some(Status::Private)
+    } else if word == "trash" {
+        Some(Status::Trash)
+    } else {
+        None
+    }
+}
+
+fn status(value: &Value) -> Option<Status>
+    ensures { result ≡ spec.status_in (view value.now) }
+{
+    match value.as_str() {
+        None => None,
+        Some(word) => status_named(word),
+    }
+}
+
+fn moment(value: &Value) -> Option<Moment>
+    ensures { result ≡ spec.moment_in (view value.now) }
+{
+    match value.as_u64() {
+        None => None,
+        Some(seconds) => Moment::new(seconds),
+    }
+}
+
+impl<'v> Fields<'v> {
+    // Draft, where nothing is told.
+    fn status(&self) -> Result<Status, KitFileFault>
+        ensures { Gives (λ s. s) result (spec.status_at self.now.at (view self.now.value.now)) }
+    {
+        match self.value.get("status") {
+            None => Ok(Status::Draft),
+            Some(told) => Ok(status(told).ok_or(self.at)?),
+        }
+    }
+
+    fn moment(&self, key: &str) -> Result<Moment, KitFileFault>
+        ensures { Gives (λ m. m) result (spec.moment_at self.now.at key.now (view self.now.value.now)) }
+    {
+        let told = self.value.get(key).ok_or(self.at)?;
+        Ok(moment(told).ok_or(self.at)?)
+    }
+
+    // The command's own moment, where nothing is told.
+    fn date(&self, now: Moment) -> Result<Moment, KitFileFault>
+        ensures { Gives (λ m. m) result (spec.date_at now self.now.at (view self.now.value.now)) }
+    {
+        match self.value.get("date") {
+            None => Ok(now),
+            Some(told) => Ok(moment(told).ok_or(self.at)?),
+        }
+    }
+
+    #[tactic(auto, unfolding(crate::specs::SiteFile::written))]
+    fn written(&self, now: Moment) -> Result<Written, KitFileFault>
+        ensures { Gives (λ w. w) result (spec.written now self.now.at (view self.now.value.now)) }
+    {
+        Ok(Written {
+            title: self.text("title")?,
+            content: self.text("content")?,
+            status: self.status()?,
+            date: self.date(now)?,
+        })
+    }
+
+    #[tactic(auto, unfolding(crate::specs::SiteFile::updated))]
+    fn update(&self, now: Moment) -> Result<Command, KitFileFault>
+        ensures { Gives (λ c. c) result (spec.updated now self.now.at (view self.now.value.now)) }
+    {
+        let id = self.number("id")?;
+        let Written {
+            title,
+            content,
+            status,
+            date,
+        } = self.written(now)?;
+        Ok(Command::Update {
+            id,
+            title,
+            content,
+            status,
+            date,
+        })
+    }
+
+    #[tactic(auto, unfolding(crate::specs::SiteFile::option_set))]
+    fn option_command(&self) -> Result<Command, KitFileFault>
+        ensures { Gives (λ c. c) result (spec.option_set self.now.at (view self.now.value.now)) }
+    {
+        Ok(Command::SetOption {
+            name: self.option("name")?,
+            value: self.text("value")?,
+        })
+    }
+
+    #[tactic(auto, unfolding(crate::specs::SiteFile::command_by))]
+    fn command(&self, kind: CommandKind, now: Moment) -> Result<Command, KitFileFault>
+        ensures { Gives (λ c. c) result (spec.command_by kind now self.now.at (view self.now.value.now)) }
+    {
+        match kind {
+            CommandKind::Insert => {
+                let Written {
+                    title,
+                    content,
+                    status,
+                    date,
+                } = self.written(now)?;
+                Ok(Command::Insert {
+                    title,
+                    content,
+                    status,
+                    date,
+                })
+            }
+            CommandKind::Update => self.update(now),
+            CommandKind::Trash => Ok(Command::Trash {
+                id: self.number("id")?,
+            }),
+            CommandKind::Untrash => Ok(Command::Untrash {
+                id: self.number("id")?,
+            }),
+            CommandKind::Delete => Ok(Command::Delete {
+                id: self.number("id")?,
+            }),
+            CommandKind::SetOption => self.option_command(),
+            CommandKind::Activate => Ok(Command::Activate {
+                plugin: self.name("plugin")?,
+            }),
+            CommandKind::Deactivate => Ok(Command::Deactivate {
+                plugin: self.name("plugin")?,
+            }),
+            CommandKind::Tick => Ok(Command::Tick),
+        }
+    }
+
+    #[tactic(auto, unfolding(crate::specs::SiteFile::token_of))]
+    fn token(&self) -> Result<Token, KitFileFault>
+        ensures { Gives (λ t. t) result (spec.token_of self.now.at (view self.now.value.now)) }
+    {
+        Ok(Token {
+            editor: self.name("editor")?,
+            seq: self.number("seq")?,
+        })
+    }
+
+    fn command_kind(&self) -> Option<CommandKind>
+        ensures { result ≡ option_and_then spec.kind_of (option_and_then as_str (get (codes "kind") (view self.now.value.now))) }
+    {
+        match self.value.get("kind").and_then(Value::as_str) {
+            None => None,
+            Some(name) => CommandKind::named(name),
+        }
+    }
+}
+
+impl Listed for Stamped {
+    ghost read = { spec.command_of };
+
+    #[tactic(auto, unfolding(crate::specs::SiteFile::command_of))]
+    fn read(alloc: Global, at: Place, value: &Value) -> Result<Stamped, KitFileFault> {
+        let fields = Fields { alloc, at, value };
+        let token = fields.token()?;
+        let now = fields.moment("at")?;
+        let kind = fields.command_kind().ok_or(at)?;
+        let command = fields.command(kind, now)?;
+        Ok(Stamped {
+            token,
+            at: now,
+            command,
+        })
+    }
+}

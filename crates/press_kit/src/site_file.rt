@@ -1,0 +1,55 @@
+//! Site files.
+
+ghost use Rattle.std.specs.Prelude.{◌≡◌, ◌<◌, length, map, option_map, IsErrOf};
+ghost use Rattle.serde_json.specs.View.{view};
+ghost use Rattle.press_kit.specs.Gives.{Gives};
+ghost use Rattle.press_kit.specs.KitFile.{file_limit};
+ghost use Rattle.press_kit.specs.declared.place.Place.TheVariants as place;
+ghost use Rattle.press_kit.specs.SiteFile as spec;
+
+use crate::fault::KitFileFault;
+use crate::fields::Fields;
+use crate::json::file;
+use crate::listed::each;
+use crate::place::Place;
+use press_apply::Stamped;
+use press_text::Items;
+use serde_json::Value;
+use std::alloc::Global;
+
+/// The most commands that a list may have.
+const COMMAND_LIMIT: usize = 100_000;
+
+// The values, where there are not too many.
+fn few(values: &[Value]) -> Option<&[Value]>
+    ensures { option_map (λ vs. map view vs.now) result ≡ spec.few (map view values.now) }
+{
+    if values.len() > COMMAND_LIMIT {
+        None
+    } else {
+        Some(values)
+    }
+}
+
+/// The commands that stand at `commands`.
+#[tactic(auto, unfolding(crate::specs::SiteFile::commands_of))]
+pub(crate) fn commands(alloc: Global, value: &Value) -> Result<Items<Stamped>, KitFileFault>
+    ensures { Gives (λ cs. cs) result (spec.commands_of (view value.now)) }
+{
+    let at = Place::Commands;
+    let all = Fields { alloc, at, value }.list("commands")?;
+    let values = few(all).ok_or(at)?;
+    each(alloc, at, values)
+}
+
+/// The commands that the bytes of a site file give, in their order.
+///
+/// Keys that nobody names are passed over; of a key that is repeated the last one counts. A file has at most 4,194,304 bytes and 100,000 commands.
+#[tactic(auto, unfolding(crate::specs::SiteFile::site_in))]
+pub fn read_site_file(alloc: Global, bytes: &[u8]) -> Result<Items<Stamped>, KitFileFault>
+    ensures gives { Gives (λ cs. cs) result (spec.site_in bytes.now) }
+    ensures long { file_limit < length bytes.now → IsErrOf result (KitFileFault.BadKitFile place.File) }
+{
+    let value = file(alloc, bytes)?;
+    commands(alloc, &value)
+}
