@@ -12,8 +12,8 @@ use crate::fault::ApplyFault;
 use crate::value::Value;
 use crate::work::Work;
 use press_callbacks::Kit;
-use press_site::{Effect, Outcome, Site, Token};
 use press_posts::Status;
+use press_site::{Effect, Outcome, Site, Token};
 use press_text::{Copied, Moment, Name, OptName, Text};
 use std::alloc::{AllocError, Global};
 
@@ -93,12 +93,7 @@ fn done(
 }
 
 // The work of a command: the site after it, and the id of the post that it is about, or 0.
-fn work(
-    alloc: Global,
-    kit: &Kit,
-    site: Site,
-    command: &Command,
-) -> Result<(Site, u64), ApplyFault>
+fn work(alloc: Global, kit: &Kit, site: Site, command: &Command) -> Result<(Site, u64), ApplyFault>
     ensures { Works (work_of (kit_view kit.now) site command.now) site result }
 {
     match command {
@@ -167,12 +162,7 @@ fn update(
 }
 
 #[tactic(auto, using(crate::proofs::Refusals::boot_refused, crate::proofs::Refusals::work_refused, crate::proofs::Refusals::work_done))]
-fn trash(
-    alloc: Global,
-    kit: &Kit,
-    site: Site,
-    id: u64,
-) -> Result<(Site, u64), ApplyFault>
+fn trash(alloc: Global, kit: &Kit, site: Site, id: u64) -> Result<(Site, u64), ApplyFault>
     ensures { Works (booted (kit_view kit.now) site (trashes (callbacks_on (kit_view kit.now)) id)) site result }
 {
     let mut work = Work::booted(alloc, kit, site)?;
@@ -181,12 +171,7 @@ fn trash(
 }
 
 #[tactic(auto, using(crate::proofs::Refusals::boot_refused, crate::proofs::Refusals::work_refused, crate::proofs::Refusals::work_done))]
-fn untrash(
-    alloc: Global,
-    kit: &Kit,
-    site: Site,
-    id: u64,
-) -> Result<(Site, u64), ApplyFault>
+fn untrash(alloc: Global, kit: &Kit, site: Site, id: u64) -> Result<(Site, u64), ApplyFault>
     ensures { Works (booted (kit_view kit.now) site (untrashes (callbacks_on (kit_view kit.now)) id)) site result }
 {
     let mut work = Work::booted(alloc, kit, site)?;
@@ -195,12 +180,7 @@ fn untrash(
 }
 
 #[tactic(auto, using(crate::proofs::Refusals::boot_refused, crate::proofs::Refusals::work_refused, crate::proofs::Refusals::work_done))]
-fn delete(
-    alloc: Global,
-    kit: &Kit,
-    site: Site,
-    id: u64,
-) -> Result<(Site, u64), ApplyFault>
+fn delete(alloc: Global, kit: &Kit, site: Site, id: u64) -> Result<(Site, u64), ApplyFault>
     ensures { Works (booted (kit_view kit.now) site (deletes (callbacks_on (kit_view kit.now)) id)) site result }
 {
     let mut work = Work::booted(alloc, kit, site)?;
@@ -224,11 +204,7 @@ fn set_option(
 }
 
 #[tactic(auto, using(crate::proofs::Refusals::boot_refused, crate::proofs::Refusals::work_refused, crate::proofs::Refusals::work_done))]
-fn tick(
-    alloc: Global,
-    kit: &Kit,
-    site: Site,
-) -> Result<(Site, u64), ApplyFault>
+fn tick(alloc: Global, kit: &Kit, site: Site) -> Result<(Site, u64), ApplyFault>
     ensures { Works (booted (kit_view kit.now) site (ticks (callbacks_on (kit_view kit.now)))) site result }
 {
     let mut work = Work::booted(alloc, kit, site)?;
@@ -236,12 +212,7 @@ fn tick(
     Ok((work.site, id))
 }
 
-fn activate(
-    alloc: Global,
-    kit: &Kit,
-    site: Site,
-    plugin: &Name,
-) -> Result<(Site, u64), ApplyFault>
+fn activate(alloc: Global, kit: &Kit, site: Site, plugin: &Name) -> Result<(Site, u64), ApplyFault>
     ensures { Works (work_of (kit_view kit.now) site (Command.Activate plugin.now)) site result }
 {
     if !has_plugin(kit, plugin) {

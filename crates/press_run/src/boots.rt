@@ -5,9 +5,7 @@ ghost use Rattle.press_callbacks.specs.Kits.{plugins_in};
 ghost use Rattle.press_run.specs.Boot.{booted_with, fresh, all_loaded, one_loaded, loads_of, the_content, publish_future_post};
 ghost use Rattle.press_run.specs.Outcome.{loaded_in, BootsWith};
 
-use press_callbacks::{
-    Kit, Load, Plugin, Tables, check_and_publish_future_post, do_shortcode,
-};
+use press_callbacks::{Kit, Load, Plugin, Tables, check_and_publish_future_post, do_shortcode};
 use press_hooks::HookTable;
 use press_scan::TagTable;
 use press_site::Site;
@@ -39,7 +37,12 @@ fn fresh(alloc: Global) -> Result<Tables, AllocError>
 {
     let mut hooks = HookTable::new(alloc);
     hooks.add(&the_content(alloc)?, do_shortcode(), 11, 1)?;
-    hooks.add(&publish_future_post(alloc)?, check_and_publish_future_post(), 10, 1)?;
+    hooks.add(
+        &publish_future_post(alloc)?,
+        check_and_publish_future_post(),
+        10,
+        1,
+    )?;
     let tags = TagTable::new(alloc);
     Ok(Tables { hooks, tags })
 }

@@ -43,13 +43,7 @@ pub fn publishes(id: &Text, now: Moment) -> Option<Effect>
 }
 
 // The change that schedules an event so many seconds after that moment, where that is a moment.
-pub fn schedules(
-    after: u64,
-    every: Every,
-    hook: HookName,
-    arg: Text,
-    now: Moment,
-) -> Option<Effect>
+pub fn schedules(after: u64, every: Every, hook: HookName, arg: Text, now: Moment) -> Option<Effect>
     ensures { result ≡ schedules after every hook arg now }
 {
     let Some(seconds) = now.seconds().checked_add(after) else {

@@ -151,7 +151,17 @@ impl Machine {
     {
         self.start(hook)?;
         let args = texts::or_one_empty(alloc, args)?;
-        self.run_hook(alloc, kit, tables, link, out, depth, Kind::Action, hook, args)?;
+        self.run_hook(
+            alloc,
+            kit,
+            tables,
+            link,
+            out,
+            depth,
+            Kind::Action,
+            hook,
+            args,
+        )?;
         Ok(Text::new(alloc))
     }
 
@@ -305,7 +315,15 @@ impl Machine {
         };
         let changed = links::change(alloc, link, effect)?;
         let last = one_if(alloc, changed.did)?;
-        self.do_fires(alloc, kit, tables, link, out, depth, changed.fires.as_slice())?;
+        self.do_fires(
+            alloc,
+            kit,
+            tables,
+            link,
+            out,
+            depth,
+            changed.fires.as_slice(),
+        )?;
         Ok(last)
     }
 

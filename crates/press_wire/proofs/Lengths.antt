@@ -68,8 +68,15 @@ length_fields Tick = refl
 length_stamped : (s : Stamped) → length (stamped s) ≡ 17 + length s.token.editor + length (fields s.command)
 unfolding stamped
 length_stamped s =
-    omega (arith, length-append (name s.token.editor) (number8 s.token.seq ++ (number8 s.at ++ fields s.command)), length-append (number8 s.token.seq) (number8 s.at ++ fields s.command), length-append (number8 s.at) (fields s.command),
-    length_name s.token.editor, length_number8 s.token.seq, length_number8 s.at)
+    omega (
+      arith,
+      length-append (name s.token.editor) (number8 s.token.seq ++ (number8 s.at ++ fields s.command)),
+      length-append (number8 s.token.seq) (number8 s.at ++ fields s.command),
+      length-append (number8 s.at) (fields s.command),
+      length_name s.token.editor,
+      length_number8 s.token.seq,
+      length_number8 s.at,
+    )
 
 -- the length of a value, by that of its fields
 abbrev pub value_len : Value → ℕ

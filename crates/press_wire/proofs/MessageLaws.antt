@@ -101,7 +101,7 @@ flagged_takes false bytes v rest fits e =
 flagged_takes true bytes v rest fits e =
     let s = step vote_codec _ (v, rest) bytes fits e in
     subst (λ (p : Option Vote × List ℕ). (one 1 ++ bytes ≡ perhaps_vote p.0 ++ p.1) × IsBytes p.1 × FitsPerhaps p.0) (ok_is (Some s.value, s.rest) (v, rest) s.next)
-      (ap (λ (t : List ℕ). one 1 ++ t) s.took.parts ∙ ap (λ (t : List ℕ). t ++ s.rest) (sym (some_vote s.value)), s.took.rest_fits, s.took.fits)
+    (ap (λ (t : List ℕ). one 1 ++ t) s.took.parts ∙ ap (λ (t : List ℕ). t ++ s.rest) (sym (some_vote s.value)), s.took.rest_fits, s.took.fits)
 
 perhaps_takes : (bytes : List ℕ) (v : Option Vote) (rest : List ℕ) → IsBytes bytes → perhaps_vote_at bytes ≡ Ok (v, rest) → Takes perhaps_vote FitsPerhaps bytes v rest
 unfolding perhaps_vote_at
@@ -204,8 +204,8 @@ message_takes bytes v rest fits e =
     let d = step (body_codec k.value) _ (v, rest) c.rest c.took.rest_fits c.next in
     let made : Message = record { from = a.value; to = b.value; slot = c.value; body = d.value } in
     let all = join bytes (one (message_number k.value)) k.rest (one a.value ++ (one b.value ++ (number4 c.value ++ body d.value))) d.rest k.took.parts
-        (join k.rest (one a.value) a.rest (one b.value ++ (number4 c.value ++ body d.value)) d.rest a.took.parts
-        (join a.rest (one b.value) b.rest (number4 c.value ++ body d.value) d.rest b.took.parts (join b.rest (number4 c.value) c.rest (body d.value) d.rest c.took.parts d.took.parts))) in
+    (join k.rest (one a.value) a.rest (one b.value ++ (number4 c.value ++ body d.value)) d.rest a.took.parts
+    (join a.rest (one b.value) b.rest (number4 c.value ++ body d.value) d.rest b.took.parts (join b.rest (number4 c.value) c.rest (body d.value) d.rest c.took.parts d.took.parts))) in
     subst (λ (p : Message × List ℕ). Takes spelled_message FitsMessage bytes p.0 p.1) (ok_is (made, d.rest) (v, rest) d.next) (record {
       parts = all ∙ ap (λ (l : MessageKind). message_number l ∷ a.value ∷ b.value ∷ ((number4 c.value ++ body d.value) ++ d.rest)) (sym d.took.fits.1);
       rest_fits = d.took.rest_fits;

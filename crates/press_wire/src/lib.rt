@@ -28,7 +28,9 @@ pub use ballot::Ballot;
 pub use decode::{decode_cmd, decode_msg};
 pub use encode::{encode_cmd, encode_msg};
 pub use fault::WireFault;
-pub use laws::{messages_have_one_spelling, messages_read_back, values_have_one_spelling, values_read_back};
+pub use laws::{
+    messages_have_one_spelling, messages_read_back, values_have_one_spelling, values_read_back,
+};
 pub use message::{Body, Message};
 pub use node::Node;
 pub use round::Round;

@@ -23,28 +23,15 @@ pub struct Message {
 #[derive(Debug, Drop)]
 pub enum Body {
     /// Asks for a promise; the ballot is this round with the sender.
-    Prepare {
-        round: Round,
-    },
+    Prepare { round: Round },
     /// Promises the ballot, and tells the sender's vote for the slot, if it has one.
-    Promise {
-        ballot: Ballot,
-        vote: Option<Vote>,
-    },
+    Promise { ballot: Ballot, vote: Option<Vote> },
     /// Refuses a ballot, because another was promised.
-    Nack {
-        refused: Ballot,
-        promised: Ballot,
-    },
+    Nack { refused: Ballot, promised: Ballot },
     /// Asks for a vote; the ballot is this round with the sender.
-    Accept {
-        round: Round,
-        value: Value,
-    },
+    Accept { round: Round, value: Value },
     /// Tells the sender's vote.
-    Accepted {
-        vote: Vote,
-    },
+    Accepted { vote: Vote },
     /// Asks for the receiver's vote.
     Query,
 }

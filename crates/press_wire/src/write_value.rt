@@ -20,7 +20,13 @@ pub const LONGEST: usize = 16_384;
 
 impl Writer {
     #[tactic(auto, using(crate::proofs::Lengths::regroup), unfolding(crate::specs::Spelling::post))]
-    fn post(&mut self, title: &Text, content: &Text, status: Status, date: Moment) -> Result<(), AllocError>
+    fn post(
+        &mut self,
+        title: &Text,
+        content: &Text,
+        status: Status,
+        date: Moment,
+    ) -> Result<(), AllocError>
         requires { (length title.now ≤ longest) × (length content.now ≤ longest) }
         ensures { OnOk result (self.new ≡ self.old ++ spell.post title.now content.now status date) }
     {

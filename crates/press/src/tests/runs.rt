@@ -31,11 +31,19 @@ fn other_plugins_make_other_pages(rt: HostRuntime) -> Result<(), Fail> {
     for (plugin, title, content, shown) in [
         ("none", "x", "Hello", "Hello"),
         ("grow", "xae", "Hello", "Hello"),
-        ("tags", "x", "[box]a [greet name=Bo] b[/box]", "<div>a Hello Bo b</div>"),
+        (
+            "tags",
+            "x",
+            "[box]a [greet name=Bo] b[/box]",
+            "<div>a Hello Bo b</div>",
+        ),
     ] {
         let file = file_of(rt.alloc(), plugin, content)?;
         let page = page_of(rt.alloc(), title, shown)?;
-        assert!(rt; ran(&rt, file.as_bytes()).left(0, page.as_str(), ""), "at {plugin}");
+        assert!(rt;
+            ran(&rt, file.as_bytes()).left(0, page.as_str(), ""),
+            "at {plugin}"
+        );
     }
     Ok(())
 }

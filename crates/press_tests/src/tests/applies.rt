@@ -59,9 +59,15 @@ fn plugins_are_refused(rt: HostRuntime) -> Result<(), Fail> {
     let unknown = stamped(alloc, 1, 10, activate(alloc, "none")?)?;
     let known = stamped(alloc, 2, 10, activate(alloc, "plain")?)?;
     let twice = stamped(alloc, 3, 10, activate(alloc, "plain")?)?;
-    assert_eq!(rt; apply(alloc, &mut site, &kit, &unknown)?, Outcome::Refused(15));
+    assert_eq!(rt;
+        apply(alloc, &mut site, &kit, &unknown)?,
+        Outcome::Refused(15)
+    );
     assert_eq!(rt; apply(alloc, &mut site, &kit, &known)?, Outcome::Done(0));
-    assert_eq!(rt; apply(alloc, &mut site, &kit, &twice)?, Outcome::Refused(16));
+    assert_eq!(rt;
+        apply(alloc, &mut site, &kit, &twice)?,
+        Outcome::Refused(16)
+    );
     Ok(())
 }
 
@@ -73,7 +79,10 @@ fn moments_move_on(rt: HostRuntime) -> Result<(), Fail> {
     let mut site = Site::new(alloc);
     let at = Moment::new(7).ok_or("no moment")?;
     let tick = stamped(alloc, 1, 5, Command::Tick)?;
-    assert_eq!(rt; apply(alloc, &mut site, &kit, &Value::Noop { at })?, Outcome::Done(0));
+    assert_eq!(rt;
+        apply(alloc, &mut site, &kit, &Value::Noop { at })?,
+        Outcome::Done(0)
+    );
     assert_eq!(rt; apply(alloc, &mut site, &kit, &tick)?, Outcome::Done(0));
     assert_eq!(rt; site.now().seconds(), 7);
     Ok(())

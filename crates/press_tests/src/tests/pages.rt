@@ -25,7 +25,8 @@ y
 </html>
 ";
 
-const POST_IN_JSON: &str = "{\"content\":{\"rendered\":\"y\"},\"date\":0,\"id\":1,\"status\":\"publish\",\"title\":{\"rendered\":\"x\"}}";
+const POST_IN_JSON: &str =
+    "{\"content\":{\"rendered\":\"y\"},\"date\":0,\"id\":1,\"status\":\"publish\",\"title\":{\"rendered\":\"x\"}}";
 
 fn moment(seconds: u64) -> Moment {
     match Moment::new(seconds) {
@@ -113,6 +114,9 @@ fn an_outcome_is_shown(rt: HostRuntime) -> Result<(), Fail> {
     site.keep(token(alloc, 2)?, Outcome::Done(1))?;
     let reply = shown(alloc, &site, &Target::Result(token(alloc, 2)?))?;
     assert_eq!(rt; reply.body.as_str(), "{\"done\":1}");
-    assert_eq!(rt; shown(alloc, &site, &Target::Result(token(alloc, 1)?))?.status, 404);
+    assert_eq!(rt;
+        shown(alloc, &site, &Target::Result(token(alloc, 1)?))?.status,
+        404
+    );
     Ok(())
 }

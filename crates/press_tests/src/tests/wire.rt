@@ -181,7 +181,10 @@ fn a_value_is_too_long(rt: HostRuntime) -> Result<(), Fail> {
     assert_eq!(rt; encode_cmd(alloc, &value).err(), Some(WireFault::TooLong));
     let vote = vote(value).ok_or(WireFault::BadField)?;
     let accepted = message(Body::Accepted { vote }).ok_or(WireFault::BadField)?;
-    assert_eq!(rt; encode_msg(alloc, &accepted).err(), Some(WireFault::TooLong));
+    assert_eq!(rt;
+        encode_msg(alloc, &accepted).err(),
+        Some(WireFault::TooLong)
+    );
     long.push_str("01234567890123456789012345678901234")?;
     assert_eq!(rt; long.len(), 16_386);
     assert_eq!(rt; command_fault(alloc, long.as_str().as_bytes()), 2);
