@@ -1,6 +1,6 @@
 //! The scripts and plugins of the demonstration kit. Their closures stand in boxes, which `run` makes.
 
-ghost use Rattle.std.specs.Prelude.{◌≡◌, ◌∷◌, ◌++◌, [], IfOk, None, pos, map, codes};
+ghost use Rattle.std.specs.Prelude.{◌≡◌, ◌∷◌, ◌++◌, [], IfOk, OnOk, None, pos, map, codes};
 ghost use Rattle.press_text.specs.Names.{name_fault};
 ghost use Rattle.press_callbacks.specs.Turns.{turn_of};
 ghost use Rattle.press.specs.Demonstration as spec;
@@ -143,13 +143,33 @@ pub fn grow() -> CallbackId
 fn growing(alloc: Global) -> Result<Script, AllocError>
     ensures { IfOk result (λ s. s ≡ spec.growing) }
 {
-    let ops = vec![in alloc;
-        add_op(alloc, "add_d", 10)?,
-        add_op(alloc, "add_e", 11)?,
-        add_op(alloc, "add_f", 9)?,
-        append(alloc, "a")?,
-    ]?;
+    let mut ops = Vec::new(alloc);
+    push_add(alloc, &mut ops, "add_d", 10)?;
+    push_add(alloc, &mut ops, "add_e", 11)?;
+    push_add(alloc, &mut ops, "add_f", 9)?;
+    push_append(alloc, &mut ops, "a")?;
     Ok(Items::from_vec(ops))
+}
+
+// (One step at a time: a list of four made at once is too much for the prover.)
+fn push_add(
+    alloc: Global,
+    ops: &mut Vec<Op>,
+    callback: &str,
+    priority: i64,
+) -> Result<(), AllocError>
+    requires { name_fault 32 callback.now ≡ None }
+    ensures { OnOk result (ops.new.items ≡ ops.old.items ++ Op.AddHook spec.the_title callback.now priority 1 ∷ []) }
+{
+    ops.push(add_op(alloc, callback, priority)?)?;
+    Ok(())
+}
+
+fn push_append(alloc: Global, ops: &mut Vec<Op>, text: &str) -> Result<(), AllocError>
+    ensures { OnOk result (ops.new.items ≡ ops.old.items ++ spec.append text.now ∷ []) }
+{
+    ops.push(append(alloc, text)?)?;
+    Ok(())
 }
 
 fn add_op(alloc: Global, callback: &str, priority: i64) -> Result<Op, AllocError>
