@@ -1,6 +1,7 @@
 mod callbacks;
 mod events;
 mod hooks;
+mod pages;
 mod posts;
 mod runs;
 mod scans;

@@ -1,0 +1,182 @@
+//! One value applied to a site.
+
+ghost use Rattle.std.specs.Prelude.{◌≡◌, None, Ok, max, IfOk, IfSome, OnErr};
+ghost use Rattle.press_callbacks.specs.Kits.{kit_view};
+ghost use Rattle.press_site.specs.Effects.{effect_on};
+ghost use Rattle.press_site.specs.Outcomes.{outcome_of, with_outcome};
+ghost use Rattle.press_apply.specs.Apply.{alone, applied, applied_where, at_moment, work_of};
+ghost use Rattle.press_apply.specs.Works.{TakesNone, Works};
+
+use crate::command::{Command, Stamped};
+use crate::fault::ApplyFault;
+use crate::value::Value;
+use crate::work::Work;
+use press_callbacks::Kit;
+use press_site::{Effect, Outcome, Site, Token};
+use press_text::{Copied, Moment, Name};
+use std::alloc::{AllocError, Global};
+
+/// Applies a value: its outcome, which the site keeps under the command's token. A known token answers the outcome that it has and moves
+/// the moment alone, without memory. A refused command leaves nothing else behind; after want of memory the site is as it was.
+/// The command works on a copy of the site, which costs a step for each post, event, option and outcome.
+pub fn apply(
+    alloc: Global,
+    site: &mut Site,
+    kit: &Kit,
+    value: &Value,
+) -> Result<Outcome, AllocError>
+    ensures applied { IfOk result (λ outcome. (site.new, outcome) ≡ applied (kit_view kit.now) site.old value.now) }
+    ensures known { TakesNone value.now site.old result }
+    ensures err { OnErr result (site.new ≡ site.old) }
+{
+    match value {
+        Value::Noop { at } => {
+            site.set_now(later(site.now(), *at));
+            Ok(Outcome::Done(0))
+        }
+        Value::Cmd(stamped) => apply_command(alloc, site, kit, stamped),
+    }
+}
+
+fn later(a: Moment, b: Moment) -> Moment
+    ensures { result ≡ max a b }
+{
+    if a.seconds() < b.seconds() { b } else { a }
+}
+
+fn apply_command(
+    alloc: Global,
+    site: &mut Site,
+    kit: &Kit,
+    stamped: &Stamped,
+) -> Result<Outcome, AllocError>
+    ensures applied { IfOk result (λ outcome. (site.new, outcome) ≡ applied_where (kit_view kit.now) (at_moment stamped.now.at site.old) stamped.now (outcome_of stamped.now.token site.old.outcomes)) }
+    ensures known { IfSome (outcome_of stamped.now.token site.old.outcomes) (λ outcome. result ≡ Ok outcome) }
+    ensures err { OnErr result (site.new ≡ site.old) }
+{
+    let now = later(site.now(), stamped.at);
+    if let Some(outcome) = site.result_of(&stamped.token) {
+        site.set_now(now);
+        return Ok(outcome);
+    }
+    let mut before = site.copy()?;
+    before.set_now(now);
+    match work(alloc, kit, before, &stamped.command) {
+        Ok((after, id)) => done(alloc, site, after, &stamped.token, id),
+        Err(ApplyFault::NoMemory) => Err(AllocError),
+        Err(fault) => {
+            let outcome = Outcome::Refused(fault.number());
+            site.keep(stamped.token.copied(alloc)?, outcome)?;
+            site.set_now(now);
+            Ok(outcome)
+        }
+    }
+}
+
+// The site after a command's work takes the place of the one before it.
+fn done(
+    alloc: Global,
+    site: &mut Site,
+    mut after: Site,
+    token: &Token,
+    id: u64,
+) -> Result<Outcome, AllocError>
+    requires { outcome_of token.now after.outcomes ≡ None }
+    ensures ok { IfOk result (λ outcome. (outcome ≡ Outcome.Done id) × (site.new ≡ record after { outcomes = with_outcome token.now (Outcome.Done id) after.outcomes })) }
+    ensures err { OnErr result (site.new ≡ site.old) }
+{
+    let outcome = Outcome::Done(id);
+    after.keep(token.copied(alloc)?, outcome)?;
+    *site = after;
+    Ok(outcome)
+}
+
+// The work of a command: the site after it, and the id of the post that it is about, or 0.
+#[tactic(auto, using(crate::proofs::Refusals::boot_refused, crate::proofs::Refusals::work_refused, crate::proofs::Refusals::work_done))]
+fn work(
+    alloc: Global,
+    kit: &Kit,
+    site: Site,
+    command: &Command,
+) -> Result<(Site, u64), ApplyFault>
+    ensures { Works (work_of (kit_view kit.now) site command.now) site result }
+{
+    match command {
+        Command::Insert {
+            title,
+            content,
+            status,
+            date,
+        } => {
+            let mut work = Work::booted(alloc, kit, site)?;
+            let id = work.insert(alloc, kit, title, content, *status, *date)?;
+            Ok((work.site, id))
+        }
+        Command::Update {
+            id,
+            title,
+            content,
+            status,
+            date,
+        } => {
+            let mut work = Work::booted(alloc, kit, site)?;
+            let id = work.update(alloc, kit, *id, title, content, *status, *date)?;
+            Ok((work.site, id))
+        }
+        Command::Trash { id } => {
+            let mut work = Work::booted(alloc, kit, site)?;
+            let id = work.trash(alloc, kit, *id)?;
+            Ok((work.site, id))
+        }
+        Command::Untrash { id } => {
+            let mut work = Work::booted(alloc, kit, site)?;
+            let id = work.untrash(alloc, kit, *id)?;
+            Ok((work.site, id))
+        }
+        Command::Delete { id } => {
+            let mut work = Work::booted(alloc, kit, site)?;
+            let id = work.delete(alloc, kit, *id)?;
+            Ok((work.site, id))
+        }
+        Command::SetOption { name, value } => {
+            let (name, value) = (name.copy(alloc)?, value.copy(alloc)?);
+            let mut work = Work::booted(alloc, kit, site)?;
+            let id = work.does(kit, Effect::SetOption { name, value })?;
+            Ok((work.site, id))
+        }
+        Command::Activate { plugin } => activate(alloc, kit, site, plugin),
+        Command::Deactivate { plugin } => {
+            let plugin = plugin.copy(alloc)?;
+            alone(site, Effect::Deactivate { plugin })
+        }
+        Command::Tick => {
+            let mut work = Work::booted(alloc, kit, site)?;
+            let id = work.tick(alloc, kit)?;
+            Ok((work.site, id))
+        }
+    }
+}
+
+fn activate(
+    alloc: Global,
+    kit: &Kit,
+    site: Site,
+    plugin: &Name,
+) -> Result<(Site, u64), ApplyFault>
+    ensures { Works (work_of (kit_view kit.now) site (Command.Activate plugin.now)) site result }
+{
+    if kit.plugin(plugin).is_none() {
+        return Err(ApplyFault::NoSuchPlugin);
+    }
+    let plugin = plugin.copy(alloc)?;
+    alone(site, Effect::Activate { plugin })
+}
+
+// A change that boots nothing and runs no hook.
+#[tactic(auto, using(crate::proofs::Refusals::alone_refused, crate::proofs::Refusals::site_keeps))]
+fn alone(mut site: Site, effect: Effect) -> Result<(Site, u64), ApplyFault>
+    ensures { Works (alone (effect_on site effect)) site result }
+{
+    let changed = site.effect(effect)?;
+    Ok((site, changed.id))
+}

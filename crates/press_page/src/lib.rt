@@ -1,0 +1,13 @@
+//! Pages of a site: what is asked of it, and the reply.
+//!
+//! A page comes from a fresh boot of its own and only reads the site.
+#![tactic(auto)]
+
+mod hooks;
+mod pages;
+mod rendering;
+mod reply;
+mod template;
+
+pub use pages::page;
+pub use reply::{ContentKind, Reply, Target};

@@ -1,0 +1,114 @@
+//! The reply to what is asked of a site.
+
+ghost use Rattle.std.specs.Prelude.{◌≡◌, ◌∷◌, [], IfOk, codes, option_map, string_bytes, take};
+ghost use Rattle.press_callbacks.specs.Kits.{kit_view, scripts_in};
+ghost use Rattle.press_posts.specs.Published.{published};
+ghost use Rattle.press_run.specs.Links.{read_only};
+ghost use Rattle.press_run.specs.Run.{callbacks_of};
+ghost use Rattle.press_page.specs.Page.{Shows, booted, is_public, page_of, page_with, site_name, whole_page};
+ghost use Rattle.press_page.specs.Template.{fixed_body};
+
+use crate::rendering::Rendering;
+use crate::reply::{ContentKind, Reply, Target};
+use crate::template;
+use press_callbacks::Kit;
+use press_posts::Post;
+use press_run::RunFault;
+use press_site::Site;
+use press_text::{NameFault, OptName, Text, esc_html};
+use std::alloc::{AllocError, Global};
+
+/// How many posts a front page lists.
+const MOST_LISTED: usize = 10;
+
+/// The reply to a request: the page of the posts asked for, from a fresh boot, or 404 for a post that isn't there or isn't published.
+/// A limit gives 500. The site is only read.
+pub fn page(alloc: Global, site: &Site, kit: &Kit, target: &Target) -> Result<Reply, AllocError>
+    ensures { IfOk result (λ r. r ≡ page_of (kit_view kit.now) site.now target.now) }
+{
+    match target {
+        Target::Front => front(alloc, site, kit),
+        Target::Post(id) => post(alloc, site, kit, *id),
+    }
+}
+
+fn front(alloc: Global, site: &Site, kit: &Kit) -> Result<Reply, AllocError>
+    ensures { IfOk result (λ r. r ≡ page_with (kit_view kit.now) site.now (take 10 (published site.now.posts))) }
+{
+    let mut ids = site.published()?.into_vec();
+    ids.truncate(MOST_LISTED);
+    page_with(alloc, site, kit, ids.as_slice())
+}
+
+fn post(alloc: Global, site: &Site, kit: &Kit, id: u64) -> Result<Reply, AllocError>
+    ensures { IfOk result (λ r. r ≡ page_of (kit_view kit.now) site.now (Target.Post id)) }
+{
+    if !is_public(site.post(id)) {
+        return fixed(alloc, 404, "404 Not Found");
+    }
+    page_with(alloc, site, kit, &[id])
+}
+
+// Whether a post is there and published.
+fn is_public(post: Option<&Post>) -> bool
+    ensures { result ≡ is_public (option_map (λ p. p.now) post.entry) }
+{
+    match post {
+        Some(post) => post.status.is_publish(),
+        None => false,
+    }
+}
+
+fn fixed(alloc: Global, status: u16, line: &str) -> Result<Reply, AllocError>
+    ensures { IfOk result (λ r. r ≡ record { status = status; kind = ContentKind.Html; body = fixed_body line.now }) }
+{
+    Ok(Reply {
+        status,
+        kind: ContentKind::Html,
+        body: template::fixed_body(alloc, line)?,
+    })
+}
+
+// The page of the posts of these ids.
+fn page_with(alloc: Global, site: &Site, kit: &Kit, ids: &[u64]) -> Result<Reply, AllocError>
+    ensures { IfOk result (λ r. r ≡ page_with (kit_view kit.now) site.now ids.now) }
+{
+    match body_of(alloc, site, kit, ids) {
+        Ok(body) => Ok(Reply {
+            status: 200,
+            kind: ContentKind::Html,
+            body,
+        }),
+        Err(RunFault::Limit) => fixed(alloc, 500, "500 Internal Server Error"),
+        Err(RunFault::NoMemory) => Err(AllocError),
+    }
+}
+
+// What that page shows.
+fn body_of(alloc: Global, site: &Site, kit: &Kit, ids: &[u64]) -> Result<Text, RunFault>
+    ensures { Shows (whole_page (callbacks_of read_only (scripts_in kit.now)) (site_name site.now) site.now.posts ids.now (booted (kit_view kit.now) site.now)) result }
+{
+    let name = site_name(alloc, site)?;
+    let mut rendering = Rendering::new(alloc, site, kit)?;
+    rendering.whole_page(alloc, site, kit, name.as_str(), ids)?;
+    let body = Text::from_string(rendering.out.into_text())?;
+    Ok(body)
+}
+
+// The name of the site, as it stands in a page.
+fn site_name(alloc: Global, site: &Site) -> Result<String, AllocError>
+    ensures { IfOk result (λ t. string_bytes t ≡ site_name site.now) }
+{
+    let name = blogname(alloc)?;
+    esc_html(alloc, site.option(&name).unwrap_or("Press"))
+}
+
+fn blogname(alloc: Global) -> Result<OptName, AllocError>
+    ensures { IfOk result (λ n. n ≡ codes "blogname") }
+{
+    match OptName::new(alloc, "blogname") {
+        Ok(name) => Ok(name),
+        Err(NameFault::NoMemory) => Err(AllocError),
+        Err(NameFault::BadName) | Err(NameFault::TooLong) => unreachable!(),
+    }
+}
