@@ -4,6 +4,7 @@
 #![tactic(auto)]
 
 mod answered;
+mod commands;
 mod fault;
 mod line;
 mod played;
