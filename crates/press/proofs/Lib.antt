@@ -1,4 +1,3 @@
 pub mod Loop
 pub mod Json
-pub mod Pages
 pub mod Told

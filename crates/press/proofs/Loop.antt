@@ -4,7 +4,7 @@ use Rattle.std.proofs.Math.ListN.{drop_of_length-le}
 use Rattle.serde_json.specs.Data.{Data}
 use Rattle.press.specs.declared.fault.ReplayFault.{ReplayFault}
 use Rattle.press.specs.declared.fault.ReplayFault.TheVariants.{NoMemory, ReadFault, WriteFault, BadSchedule}
-use Rattle.press.specs.declared.command.Stamped.{Stamped}
+use Rattle.press_apply.specs.declared.command.Stamped.{Stamped}
 use Rattle.press.specs.Gives.{Misses}
 use Rattle.serde_json.specs.View.{items_of}
 use Rattle.press.specs.SiteFile.{◌>>=◌, command_of, commands_of, list_of, site_of}

@@ -1,18 +1,19 @@
 -- What the program does for its words and its input (own).
-use Rattle.std.specs.Prelude.{◌≡◌, ◌⊎◌, ℕ, List, [], ◌∷◌, nat_eq, if◌then◌else◌, Option, Some, None, Result, Ok, Err, codes}
+use Rattle.std.specs.Prelude.{◌≡◌, ◌⊎◌, ℕ, List, [], ◌∷◌, map, nat_eq, if◌then◌else◌, Option, Some, None, Result, Ok, Err, codes}
 use Rattle.std.specs.Io.KnownBytes.{Appends, Keeps}
 use Rattle.press_callbacks.specs.Kits.{KitView}
-use Rattle.press.specs.declared.command.Stamped.{Stamped}
+use Rattle.press_apply.specs.declared.command.Stamped.{Stamped}
+use Rattle.press_apply.specs.declared.value.Value.TheVariants.{Cmd}
+use Rattle.press_apply.specs.Apply.{site_after}
 use Rattle.press.specs.declared.fault.ReplayFault.{ReplayFault}
 use Rattle.press.specs.declared.fault.ReplayFault.TheVariants.{NoMemory, ReadFault, WriteFault, BadSchedule}
-use Rattle.press.specs.declared.page.Reply.{Reply}
-use Rattle.press.specs.declared.page.Target.TheVariants.{Post}
+use Rattle.press_page.specs.declared.reply.Reply.{Reply}
+use Rattle.press_page.specs.declared.reply.Target.TheVariants.{Post}
+use Rattle.press_page.specs.Page.{page_of}
 use Rattle.press.specs.declared.ending.Ending.{Ending}
 use Rattle.press.specs.declared.ending.Ending.TheVariants.{Printed, Fault}
 use Rattle.press.specs.SiteFile.{site_in}
 use Rattle.press_text.specs.Streams.{AppendsFront}
-use Rattle.press.specs.Apply.{site_after}
-use Rattle.press.specs.Page.{page_of}
 
 -- 0 for a page, 1 for any other reply
 abbrev pub exit_status : ℕ → ℕ
@@ -24,7 +25,7 @@ printed reply = Printed (exit_status reply.status) reply.body
 -- the end of a run on a file, where nothing outside fails: the page of post 1 after its commands
 abbrev pub page_ending : KitView → Option (List Stamped) → Ending
 page_ending kit None = Fault BadSchedule
-page_ending kit (Some commands) = printed (page_of kit (site_after kit.plugins commands) (Post 1))
+page_ending kit (Some commands) = printed (page_of kit (site_after kit (map (λ c. Cmd c) commands)) (Post 1))
 
 -- a fault ends a run as well
 abbrev pub ending_of : Result Ending ReplayFault → Ending

@@ -1,12 +1,6 @@
-pub mod Apply
 pub mod Demonstration
 pub mod Endings
 pub mod Faults
 pub mod Gives
-pub mod Page
-pub mod Rendering
 pub mod SiteFile
-pub mod SiteView
-pub mod Sites
 pub mod Streams
-pub mod Template

@@ -6,10 +6,11 @@ use Rattle.serde_json.specs.Read.{read}
 use Rattle.serde_json.specs.Find.{get, as_str, as_number, as_u64, as_array}
 use Rattle.press_text.specs.Names.{is_name}
 use Rattle.press_text.specs.Moments.{moment_of}
-use Rattle.press.specs.declared.command.Command.{Command}
-use Rattle.press.specs.declared.command.Command.TheVariants.{Insert, Activate}
-use Rattle.press.specs.declared.command.Stamped.{Stamped}
-use Rattle.press.specs.declared.command.Token.{Token}
+use Rattle.press_posts.specs.declared.status.Status.TheVariants.{Publish}
+use Rattle.press_site.specs.declared.token.Token.{Token}
+use Rattle.press_apply.specs.declared.command.Command.{Command}
+use Rattle.press_apply.specs.declared.command.Command.TheVariants.{Insert, Activate}
+use Rattle.press_apply.specs.declared.command.Stamped.{Stamped}
 
 infixl 10 ◌>>=◌
 abbrev pub ◌>>=◌ : {A B : Type 0} → Option A → (A → Option B) → Option B
@@ -50,7 +51,7 @@ insert_of at d = do
   content ← text_at (codes "content") d
   status ← text_at (codes "status") d
   date ← date_or at (get (codes "date") d)
-  if bytes_eq status (codes "publish") && nat_le date at then Some (Insert title content date) else None
+  if bytes_eq status (codes "publish") && nat_le date at then Some (Insert title content Publish date) else None
 
 unfoldable pub activate_of : Data → Option Command
 activate_of d = do

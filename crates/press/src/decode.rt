@@ -6,8 +6,10 @@ ghost use Rattle.serde_json.specs.View.{view, items_view};
 ghost use Rattle.press.specs.Gives.{Gives};
 ghost use Rattle.press.specs.SiteFile as spec;
 
-use crate::command::{Command, Stamped, Token};
 use crate::fault::ReplayFault;
+use press_apply::{Command, Stamped};
+use press_posts::Status;
+use press_site::Token;
 use press_text::{Moment, Name, NameFault, Text};
 use serde_json::Value;
 use std::alloc::Global;
@@ -80,6 +82,7 @@ fn insert(alloc: Global, at: Moment, value: &Value) -> Result<Command, ReplayFau
         Ok(Command::Insert {
             title,
             content,
+            status: Status::Publish,
             date,
         })
     } else {

@@ -6,13 +6,13 @@ ghost use Rattle.press.specs.SiteFile.{site_in, file_limit};
 ghost use Rattle.press_text.specs.Streams.{TakesAtMost};
 ghost use Rattle.press.specs.Endings.{page_ending, printed, EndsPage};
 
-use crate::apply::apply_all;
-use crate::command::Stamped;
+use crate::commands::apply_all;
 use crate::fault::ReplayFault;
 use crate::input::read_site;
-use crate::page::{Reply, Target, page};
-use crate::site::Site;
+use press_apply::Stamped;
 use press_callbacks::Kit;
+use press_page::{Reply, Target, page};
+use press_site::Site;
 use press_text::Text;
 use std::alloc::{AllocError, Global};
 use std::io::Read;
@@ -38,8 +38,8 @@ fn page_after(alloc: Global, kit: &Kit, commands: Vec<Stamped>) -> Result<Ending
     ensures { IfOk result (λ end. end ≡ page_ending (kit_view kit.now) (Some commands.items)) }
 {
     let mut site = Site::new(alloc);
-    apply_all(&mut site, kit, commands)?;
-    let reply = page(alloc, &site, kit, Target::Post(1))?;
+    apply_all(alloc, &mut site, kit, commands)?;
+    let reply = page(alloc, &site, kit, &Target::Post(1))?;
     Ok(printed(reply))
 }
 

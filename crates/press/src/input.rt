@@ -5,9 +5,9 @@ ghost use Rattle.press_text.specs.Streams.{TakesAtMost};
 ghost use Rattle.press.specs.Streams.{ReadGives};
 ghost use Rattle.press.specs.SiteFile.{site_in, file_limit};
 
-use crate::command::Stamped;
 use crate::decode::{LIMIT, decode_site};
 use crate::fault::ReplayFault;
+use press_apply::Stamped;
 use press_text::read_limited;
 use std::alloc::Global;
 use std::io::Read;

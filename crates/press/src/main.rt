@@ -1,17 +1,13 @@
 //! The program: it reads a site file from standard input and prints the page of its first post.
 #![tactic(auto)]
 
-mod apply;
-mod command;
+mod commands;
 mod decode;
 mod demonstration;
 mod ending;
 mod fault;
 mod input;
-mod page;
 mod run;
-mod site;
-mod template;
 #[cfg(test)]
 mod tests;
 

@@ -1,4 +1,3 @@
-mod applies;
 mod bad_files;
 mod fakes;
 mod fixtures;

@@ -1,10 +1,10 @@
 //! One value applied to a site.
 
-ghost use Rattle.std.specs.Prelude.{◌≡◌, None, Ok, max, IfOk, IfSome, OnErr};
-ghost use Rattle.press_callbacks.specs.Kits.{kit_view};
+ghost use Rattle.std.specs.Prelude.{◌≡◌, None, Ok, max, IfOk, IfSome, OnErr, is_some};
+ghost use Rattle.press_callbacks.specs.Kits.{kit_view, plugin_of, plugins_in};
 ghost use Rattle.press_site.specs.Effects.{effect_on};
 ghost use Rattle.press_site.specs.Outcomes.{outcome_of, with_outcome};
-ghost use Rattle.press_apply.specs.Apply.{alone, applied, applied_where, at_moment, work_of};
+ghost use Rattle.press_apply.specs.Apply.{alone, applied, applied_where, at_moment, booted, callbacks_on, deletes, does, inserts, ticks, trashes, untrashes, updates, work_of};
 ghost use Rattle.press_apply.specs.Works.{TakesNone, Works};
 
 use crate::command::{Command, Stamped};
@@ -13,7 +13,8 @@ use crate::value::Value;
 use crate::work::Work;
 use press_callbacks::Kit;
 use press_site::{Effect, Outcome, Site, Token};
-use press_text::{Copied, Moment, Name};
+use press_posts::Status;
+use press_text::{Copied, Moment, Name, OptName, Text};
 use std::alloc::{AllocError, Global};
 
 /// Applies a value: its outcome, which the site keeps under the command's token. A known token answers the outcome that it has and moves
@@ -92,7 +93,6 @@ fn done(
 }
 
 // The work of a command: the site after it, and the id of the post that it is about, or 0.
-#[tactic(auto, using(crate::proofs::Refusals::boot_refused, crate::proofs::Refusals::work_refused, crate::proofs::Refusals::work_done))]
 fn work(
     alloc: Global,
     kit: &Kit,
@@ -107,54 +107,133 @@ fn work(
             content,
             status,
             date,
-        } => {
-            let mut work = Work::booted(alloc, kit, site)?;
-            let id = work.insert(alloc, kit, title, content, *status, *date)?;
-            Ok((work.site, id))
-        }
+        } => insert(alloc, kit, site, title, content, *status, *date),
         Command::Update {
             id,
             title,
             content,
             status,
             date,
-        } => {
-            let mut work = Work::booted(alloc, kit, site)?;
-            let id = work.update(alloc, kit, *id, title, content, *status, *date)?;
-            Ok((work.site, id))
-        }
-        Command::Trash { id } => {
-            let mut work = Work::booted(alloc, kit, site)?;
-            let id = work.trash(alloc, kit, *id)?;
-            Ok((work.site, id))
-        }
-        Command::Untrash { id } => {
-            let mut work = Work::booted(alloc, kit, site)?;
-            let id = work.untrash(alloc, kit, *id)?;
-            Ok((work.site, id))
-        }
-        Command::Delete { id } => {
-            let mut work = Work::booted(alloc, kit, site)?;
-            let id = work.delete(alloc, kit, *id)?;
-            Ok((work.site, id))
-        }
+        } => update(alloc, kit, site, *id, title, content, *status, *date),
+        Command::Trash { id } => trash(alloc, kit, site, *id),
+        Command::Untrash { id } => untrash(alloc, kit, site, *id),
+        Command::Delete { id } => delete(alloc, kit, site, *id),
         Command::SetOption { name, value } => {
             let (name, value) = (name.copy(alloc)?, value.copy(alloc)?);
-            let mut work = Work::booted(alloc, kit, site)?;
-            let id = work.does(kit, Effect::SetOption { name, value })?;
-            Ok((work.site, id))
+            set_option(alloc, kit, site, name, value)
         }
         Command::Activate { plugin } => activate(alloc, kit, site, plugin),
         Command::Deactivate { plugin } => {
             let plugin = plugin.copy(alloc)?;
             alone(site, Effect::Deactivate { plugin })
         }
-        Command::Tick => {
-            let mut work = Work::booted(alloc, kit, site)?;
-            let id = work.tick(alloc, kit)?;
-            Ok((work.site, id))
-        }
+        Command::Tick => tick(alloc, kit, site),
     }
+}
+
+#[tactic(auto, using(crate::proofs::Refusals::boot_refused, crate::proofs::Refusals::work_refused, crate::proofs::Refusals::work_done))]
+fn insert(
+    alloc: Global,
+    kit: &Kit,
+    site: Site,
+    title: &Text,
+    content: &Text,
+    status: Status,
+    date: Moment,
+) -> Result<(Site, u64), ApplyFault>
+    ensures { Works (booted (kit_view kit.now) site (inserts (callbacks_on (kit_view kit.now)) title.now content.now status date)) site result }
+{
+    let mut work = Work::booted(alloc, kit, site)?;
+    let id = work.insert(alloc, kit, title, content, status, date)?;
+    Ok((work.site, id))
+}
+
+#[tactic(auto, using(crate::proofs::Refusals::boot_refused, crate::proofs::Refusals::work_refused, crate::proofs::Refusals::work_done))]
+fn update(
+    alloc: Global,
+    kit: &Kit,
+    site: Site,
+    id: u64,
+    title: &Text,
+    content: &Text,
+    status: Status,
+    date: Moment,
+) -> Result<(Site, u64), ApplyFault>
+    ensures { Works (booted (kit_view kit.now) site (updates (callbacks_on (kit_view kit.now)) id title.now content.now status date)) site result }
+{
+    let mut work = Work::booted(alloc, kit, site)?;
+    let id = work.update(alloc, kit, id, title, content, status, date)?;
+    Ok((work.site, id))
+}
+
+#[tactic(auto, using(crate::proofs::Refusals::boot_refused, crate::proofs::Refusals::work_refused, crate::proofs::Refusals::work_done))]
+fn trash(
+    alloc: Global,
+    kit: &Kit,
+    site: Site,
+    id: u64,
+) -> Result<(Site, u64), ApplyFault>
+    ensures { Works (booted (kit_view kit.now) site (trashes (callbacks_on (kit_view kit.now)) id)) site result }
+{
+    let mut work = Work::booted(alloc, kit, site)?;
+    let id = work.trash(alloc, kit, id)?;
+    Ok((work.site, id))
+}
+
+#[tactic(auto, using(crate::proofs::Refusals::boot_refused, crate::proofs::Refusals::work_refused, crate::proofs::Refusals::work_done))]
+fn untrash(
+    alloc: Global,
+    kit: &Kit,
+    site: Site,
+    id: u64,
+) -> Result<(Site, u64), ApplyFault>
+    ensures { Works (booted (kit_view kit.now) site (untrashes (callbacks_on (kit_view kit.now)) id)) site result }
+{
+    let mut work = Work::booted(alloc, kit, site)?;
+    let id = work.untrash(alloc, kit, id)?;
+    Ok((work.site, id))
+}
+
+#[tactic(auto, using(crate::proofs::Refusals::boot_refused, crate::proofs::Refusals::work_refused, crate::proofs::Refusals::work_done))]
+fn delete(
+    alloc: Global,
+    kit: &Kit,
+    site: Site,
+    id: u64,
+) -> Result<(Site, u64), ApplyFault>
+    ensures { Works (booted (kit_view kit.now) site (deletes (callbacks_on (kit_view kit.now)) id)) site result }
+{
+    let mut work = Work::booted(alloc, kit, site)?;
+    let id = work.delete(alloc, kit, id)?;
+    Ok((work.site, id))
+}
+
+#[tactic(auto, using(crate::proofs::Refusals::boot_refused, crate::proofs::Refusals::work_refused, crate::proofs::Refusals::work_done))]
+fn set_option(
+    alloc: Global,
+    kit: &Kit,
+    site: Site,
+    name: OptName,
+    value: Text,
+) -> Result<(Site, u64), ApplyFault>
+    ensures { Works (booted (kit_view kit.now) site (does (callbacks_on (kit_view kit.now)) (Effect.SetOption name value))) site result }
+{
+    let mut work = Work::booted(alloc, kit, site)?;
+    let id = work.does(kit, Effect::SetOption { name, value })?;
+    Ok((work.site, id))
+}
+
+#[tactic(auto, using(crate::proofs::Refusals::boot_refused, crate::proofs::Refusals::work_refused, crate::proofs::Refusals::work_done))]
+fn tick(
+    alloc: Global,
+    kit: &Kit,
+    site: Site,
+) -> Result<(Site, u64), ApplyFault>
+    ensures { Works (booted (kit_view kit.now) site (ticks (callbacks_on (kit_view kit.now)))) site result }
+{
+    let mut work = Work::booted(alloc, kit, site)?;
+    let id = work.tick(alloc, kit)?;
+    Ok((work.site, id))
 }
 
 fn activate(
@@ -165,11 +244,17 @@ fn activate(
 ) -> Result<(Site, u64), ApplyFault>
     ensures { Works (work_of (kit_view kit.now) site (Command.Activate plugin.now)) site result }
 {
-    if kit.plugin(plugin).is_none() {
+    if !has_plugin(kit, plugin) {
         return Err(ApplyFault::NoSuchPlugin);
     }
     let plugin = plugin.copy(alloc)?;
     alone(site, Effect::Activate { plugin })
+}
+
+fn has_plugin(kit: &Kit, plugin: &Name) -> bool
+    ensures { result ≡ is_some (plugin_of plugin.now (plugins_in kit.now)) }
+{
+    kit.plugin(plugin).is_some()
 }
 
 // A change that boots nothing and runs no hook.

@@ -1,12 +1,15 @@
--- A step that stops stops what follows it; and one article at a time.
-use Rattle.std.proofs.Common.{◌≡◌, ◌∙◌, refl, sym, ap, subst, ℕ, ◌+◌, ◌<◌, ◌≤◌, List, ◌∷◌, drop, get_or, length, Option, Some, Result, add-one, drop-cons}
+-- A step that stops stops what follows it; one article at a time; and a title before a content.
+use Rattle.std.proofs.Common.{◌≡◌, ◌∙◌, refl, sym, ap, subst, ℕ, ◌+◌, ◌<◌, ◌≤◌, List, [], ◌∷◌, codes, decimal, drop, get_or, length, Option, Some, Result, add-one, drop-cons}
 use Rattle.std.proofs.Math.ListN.{drop_of_length-le}
 use Rattle.press_posts.specs.declared.post.Post.{Post}
 use Rattle.press_posts.specs.PostChange.{post_at}
 use Rattle.press_run.specs.declared.run_fault.RunFault.{RunFault}
 use Rattle.press_run.specs.declared.run_fault.RunFault.TheVariants.{Limit, NoMemory}
-use Rattle.press_run.specs.Run.{◌>>=◌, State, Meaning}
-use Rattle.press_page.specs.Page.{Stops, Steps, article, articles}
+use Rattle.press_run.specs.Run.{◌>>=◌, Answer, answer, State, Meaning, apply_hook}
+use Rattle.press_page.specs.declared.filtered.Filtered.{Filtered}
+use Rattle.press_page.specs.Json.{texts_of}
+use Rattle.press_page.specs.Page.{article, articles}
+use Rattle.press_page.specs.Steps.{Stops, Steps}
 
 pub stops_after : {A B : Type 0} (f : RunFault) (o : Option A) (rest : A → Option B) → Stops f o → Stops f (o >>= rest)
 stops_after Limit o rest e = ap (λ x. x >>= rest) e
@@ -34,3 +37,21 @@ articles_stop NoMemory m posts ids i d post s whole lt found same e = tt
 pub articles_end : (m : Meaning) (posts : List (Option Post)) (ids : List ℕ) (i : ℕ) (s : State) → length ids ≤ i → articles m posts (drop i ids) s ≡ Some s
 unfolding articles
 articles_end m posts ids i s le = rw (drop_of_length-le ids le) refl
+
+-- ---- a title, then a content
+
+abbrev the_texts : List ℕ → List ℕ → Option Filtered
+the_texts title content = Some (record { title = title; content = content })
+
+pub texts_found : (m : Meaning) (post : Post) (s s' s'' : State) (title content : List ℕ) → apply_hook m (codes "the_title") (post.title ∷ decimal post.id ∷ []) s ≡ answer title s' → apply_hook m (codes "the_content") (post.content ∷ []) s' ≡ answer content s'' → texts_of m post s ≡ Some (record { title = title; content = content })
+unfolding texts_of
+texts_found m post s s' s'' title content t c =
+    ap (λ (o : Option Answer). o >>= λ a. apply_hook m (codes "the_content") (post.content ∷ []) a.state >>= λ b. the_texts a.text b.text) t
+    ∙ ap (λ (o : Option Answer). o >>= λ b. the_texts title b.text) c
+
+pub texts_stop : (f : RunFault) (m : Meaning) (post : Post) (s s' : State) (title : List ℕ) → apply_hook m (codes "the_title") (post.title ∷ decimal post.id ∷ []) s ≡ answer title s' → Stops f (apply_hook m (codes "the_content") (post.content ∷ []) s') → Stops f (texts_of m post s)
+unfolding texts_of
+texts_stop Limit m post s s' title t c =
+    ap (λ (o : Option Answer). o >>= λ a. apply_hook m (codes "the_content") (post.content ∷ []) a.state >>= λ b. the_texts a.text b.text) t
+    ∙ ap (λ (o : Option Answer). o >>= λ b. the_texts title b.text) c
+texts_stop NoMemory m post s s' title t c = tt

@@ -1,3 +1,5 @@
+pub mod Json
 pub mod Page
 pub mod Rendering
+pub mod Steps
 pub mod Template

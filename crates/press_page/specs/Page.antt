@@ -1,50 +1,24 @@
 -- A page of a site: a fresh boot with its three actions, the template, and the filters of each post's title and content, over a site that is only read
--- (Plugin Handbook, Hooks: `plugins_loaded`, `init`, `wp_loaded`, `wp_head`, `the_title`, `the_content`, `wp_footer`; Options API, `blogname`; the template is own).
-use Rattle.std.specs.Prelude.{◌≡◌, ℕ, List, [], ◌∷◌, ◌++◌, Bool, false, take, Option, Some, None, unwrap_or, Result, Ok, Err, codes, decimal, if◌then◌else◌}
+-- (Plugin Handbook, Hooks: `wp_head`, `the_title`, `the_content`, `wp_footer`; Options API, `blogname`; the template is own).
+use Rattle.std.specs.Prelude.{◌≡◌, ℕ, List, [], ◌∷◌, take, Option, Some, None, is_some, unwrap_or, Result, Ok, Err, codes, decimal, if◌then◌else◌}
 use Rattle.press_text.specs.Escapes.{escaped}
-use Rattle.press_posts.specs.declared.fire.Fire.{Fire}
 use Rattle.press_posts.specs.declared.post.Post.{Post}
 use Rattle.press_posts.specs.PostChange.{post_at, is_publish}
 use Rattle.press_posts.specs.Published.{published}
 use Rattle.press_site.specs.Options.{option_of}
+use Rattle.press_site.specs.Outcomes.{outcome_of}
 use Rattle.press_site.specs.SiteView.{SiteView}
 use Rattle.press_callbacks.specs.Kits.{KitView}
 use Rattle.press_run.specs.declared.run_fault.RunFault.{RunFault}
-use Rattle.press_run.specs.declared.run_fault.RunFault.TheVariants.{Limit, NoMemory}
-use Rattle.press_run.specs.Run.{◌>>=◌, State, Meaning, within, do_fires, apply_hook, callbacks_of}
-use Rattle.press_run.specs.Boot.{booted_with}
+use Rattle.press_run.specs.Run.{◌>>=◌, State, Meaning, apply_hook, callbacks_of}
 use Rattle.press_run.specs.Links.{read_only}
-use Rattle.press_run.specs.Outcome.{started}
 use Rattle.press_page.specs.declared.reply.Target.{Target}
 use Rattle.press_page.specs.declared.reply.Target.TheVariants as target
 use Rattle.press_page.specs.declared.reply.Reply.{Reply}
 use Rattle.press_page.specs.declared.reply.ContentKind.TheVariants.{Html}
+use Rattle.press_page.specs.Json.{post_reply, result_reply}
+use Rattle.press_page.specs.Steps.{Stops, bare, boot_actions, booted, fires, puts}
 use Rattle.press_page.specs.Template.{title_part, heading_part, article_part, after_title, after_content, end_part, fixed_body}
-
--- ---- the steps of a page
-
--- a text goes to the output, where that stays within the bytes
-abbrev pub puts : List ℕ → State → Option State
-puts text s = do
-  output ← within (s.output ++ text)
-  Some (record s { output = output })
-
--- actions, one after the other
-abbrev pub fires : Meaning → List Fire → State → Option State
-fires callback fs s = do
-  a ← do_fires callback fs s
-  Some a.state
-
--- an action without arguments
-abbrev pub bare : List ℕ → Fire
-bare hook = record { hook = hook; args = [] }
-
--- the state after a fresh boot
-abbrev pub booted : KitView → SiteView → State
-booted kit site = started (booted_with kit.plugins site.active) site
-
-abbrev pub boot_actions : List Fire
-boot_actions = bare (codes "plugins_loaded") ∷ bare (codes "init") ∷ bare (codes "wp_loaded") ∷ []
 
 -- up to the articles
 unfoldable pub opening : Meaning → List ℕ → State → Option State
@@ -115,25 +89,21 @@ page_or_limit (Some s) = record { status = 200; kind = Html; body = s.output }
 abbrev pub page_with : KitView → SiteView → List ℕ → Reply
 page_with kit site ids = page_or_limit (whole_page (callbacks_of read_only kit.scripts) (site_name site) site.posts ids (booted kit site))
 
--- whether a post is there and published
-abbrev pub is_public : Option Post → Bool
-is_public None = false
-is_public (Some post) = is_publish post.status
+-- ---- what is asked
 
--- the front page lists at most ten posts; a post that isn't there or isn't published has no boot
+-- a post that is there and published
+abbrev pub public_post : Option Post → Option Post
+public_post None = None
+public_post (Some post) = if is_publish post.status then Some post else None
+
+-- the front page lists at most ten posts; nothing boots for a post that isn't there or isn't published, nor for an outcome
 abbrev pub page_of : KitView → SiteView → Target → Reply
 page_of kit site target.Front = page_with kit site (take 10 (published site.posts))
-page_of kit site (target.Post id) = if is_public (post_at site.posts id) then page_with kit site (id ∷ []) else not_found
+page_of kit site (target.Post id) = if is_some (public_post (post_at site.posts id)) then page_with kit site (id ∷ []) else not_found
+page_of kit site (target.Json id) = post_reply kit site (public_post (post_at site.posts id))
+page_of kit site (target.Result token) = result_reply (outcome_of token site.outcomes)
 
--- ---- what a step answers: the state after it, Limit exactly where there is none, or want of memory
-
-abbrev pub Stops : {A : Type 0} → RunFault → Option A → Type 0
-Stops Limit found = found ≡ None
-Stops NoMemory found = Unit {0}
-
-abbrev pub Steps : Option State → State → Result Unit RunFault → Type 0
-Steps found after (Ok u) = found ≡ Some after
-Steps found after (Err f) = Stops f found
+-- ---- what building a page shows: its output, Limit exactly where there is none, or want of memory
 
 abbrev pub Shows : Option State → Result (List ℕ) RunFault → Type 0
 Shows found (Ok body) = (s : State) × (found ≡ Some s) × (s.output ≡ body)

@@ -2,7 +2,7 @@
 
 ghost use Rattle.std.specs.Prelude.{◌≡◌, ◌∷◌, [], IfOk, None, decimal};
 ghost use Rattle.press_text.specs.Names.{name_fault};
-ghost use Rattle.press_page.specs.Page.{bare, boot_actions};
+ghost use Rattle.press_page.specs.Steps.{bare, boot_actions};
 
 use press_posts::{Fire, Post};
 use press_text::{HookName, Items, NameFault, Text, Texts};

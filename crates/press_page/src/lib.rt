@@ -3,7 +3,9 @@
 //! A page comes from a fresh boot of its own and only reads the site.
 #![tactic(auto)]
 
+mod filtered;
 mod hooks;
+mod json;
 mod pages;
 mod rendering;
 mod reply;

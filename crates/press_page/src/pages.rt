@@ -5,12 +5,13 @@ ghost use Rattle.press_callbacks.specs.Kits.{kit_view, scripts_in};
 ghost use Rattle.press_posts.specs.Published.{published};
 ghost use Rattle.press_run.specs.Links.{read_only};
 ghost use Rattle.press_run.specs.Run.{callbacks_of};
-ghost use Rattle.press_page.specs.Page.{Shows, booted, is_public, page_of, page_with, site_name, whole_page};
+ghost use Rattle.press_page.specs.Page.{Shows, page_of, page_with, public_post, site_name, whole_page};
+ghost use Rattle.press_page.specs.Steps.{booted};
 ghost use Rattle.press_page.specs.Template.{fixed_body};
 
 use crate::rendering::Rendering;
 use crate::reply::{ContentKind, Reply, Target};
-use crate::template;
+use crate::{json, template};
 use press_callbacks::Kit;
 use press_posts::Post;
 use press_run::RunFault;
@@ -21,14 +22,16 @@ use std::alloc::{AllocError, Global};
 /// How many posts a front page lists.
 const MOST_LISTED: usize = 10;
 
-/// The reply to a request: the page of the posts asked for, from a fresh boot, or 404 for a post that isn't there or isn't published.
-/// A limit gives 500. The site is only read.
+/// The reply to a request. Pages and posts in JSON come from a fresh boot each, and the site is only read.
+/// 404 stands for a post that isn't there or isn't published, and for a token without an outcome; a limit gives 500.
 pub fn page(alloc: Global, site: &Site, kit: &Kit, target: &Target) -> Result<Reply, AllocError>
     ensures { IfOk result (λ r. r ≡ page_of (kit_view kit.now) site.now target.now) }
 {
     match target {
         Target::Front => front(alloc, site, kit),
         Target::Post(id) => post(alloc, site, kit, *id),
+        Target::Json(id) => json::post_reply(alloc, site, kit, public_post(site.post(*id))),
+        Target::Result(token) => json::result_reply(alloc, site.result_of(token)),
     }
 }
 
@@ -43,19 +46,19 @@ fn front(alloc: Global, site: &Site, kit: &Kit) -> Result<Reply, AllocError>
 fn post(alloc: Global, site: &Site, kit: &Kit, id: u64) -> Result<Reply, AllocError>
     ensures { IfOk result (λ r. r ≡ page_of (kit_view kit.now) site.now (Target.Post id)) }
 {
-    if !is_public(site.post(id)) {
+    if public_post(site.post(id)).is_none() {
         return fixed(alloc, 404, "404 Not Found");
     }
     page_with(alloc, site, kit, &[id])
 }
 
-// Whether a post is there and published.
-fn is_public(post: Option<&Post>) -> bool
-    ensures { result ≡ is_public (option_map (λ p. p.now) post.entry) }
+// A post that is there and published.
+fn public_post<'a>(post: Option<&'a Post>) -> Option<&'a Post>
+    ensures { option_map (λ p. p.now) result ≡ public_post (option_map (λ p. p.now) post.entry) }
 {
     match post {
-        Some(post) => post.status.is_publish(),
-        None => false,
+        Some(post) if post.status.is_publish() => Some(post),
+        _ => None,
     }
 }
 

@@ -1,19 +1,22 @@
 //! A page that is being built.
 
-ghost use Rattle.std.specs.Prelude.{◌≡◌, IfOk, option_map};
+ghost use Rattle.std.specs.Prelude.{◌≡◌, ◌∷◌, [], IfOk, codes, decimal, option_map};
 ghost use Rattle.press_callbacks.specs.Kits.{kit_view, scripts_in};
 ghost use Rattle.press_run.specs.Links.{read_only};
 ghost use Rattle.press_run.specs.Outcome.{GivesJob, around, job_meaning, state_of};
-ghost use Rattle.press_run.specs.Run.{callbacks_of};
-ghost use Rattle.press_page.specs.Page.{Steps, article, article_body, article_head, articles, booted, closing, fires, opening, puts, puts_filtered, whole_page};
+ghost use Rattle.press_run.specs.Run.{apply_hook, callbacks_of};
+ghost use Rattle.press_page.specs.Json.{filtered, texts_of};
+ghost use Rattle.press_page.specs.Page.{article, article_body, article_head, articles, closing, opening, puts_filtered, whole_page};
 ghost use Rattle.press_page.specs.Rendering.{stage_in, state_in};
+ghost use Rattle.press_page.specs.Steps.{Answers, Finds, Steps, booted, fires, puts};
 
+use crate::filtered::Filtered;
 use crate::{hooks, template};
 use press_callbacks::{Kit, Tables};
 use press_posts::{Fire, Post};
 use press_run::{Job, Machine, Out, Read, RunFault, boot};
 use press_site::Site;
-use press_text::{HookName, Items, Texts};
+use press_text::{HookName, Items, Text, Texts};
 use std::alloc::{AllocError, Global};
 
 /// A page that is being built, from one boot.
@@ -51,6 +54,64 @@ impl Rendering {
         self.opening(alloc, site, kit, name)?;
         self.articles(alloc, site, kit, ids)?;
         self.closing(alloc, site, kit)
+    }
+
+    /// The boot's actions, then the title and the content of a post, each by its filter.
+    #[tactic(auto, unfolding(crate::specs::Json::filtered))]
+    pub fn filtered(
+        &mut self,
+        alloc: Global,
+        site: &Site,
+        kit: &Kit,
+        post: &Post,
+    ) -> Result<Filtered, RunFault>
+        ensures { Finds (filtered (callbacks_of read_only (scripts_in kit.now)) post.now (state_in site.now self.old)) result }
+    {
+        self.fires(site, kit, hooks::boot_actions(alloc)?)?;
+        self.texts(alloc, site, kit, post)
+    }
+
+    #[tactic(auto, unfolding(crate::specs::Json::texts_of))]
+    fn texts(
+        &mut self,
+        alloc: Global,
+        site: &Site,
+        kit: &Kit,
+        post: &Post,
+    ) -> Result<Filtered, RunFault>
+        ensures { Finds (texts_of (callbacks_of read_only (scripts_in kit.now)) post.now (state_in site.now self.old)) result }
+    {
+        let title = self.title_of(alloc, site, kit, post)?;
+        let content = self.content_of(alloc, site, kit, post)?;
+        Ok(Filtered { title, content })
+    }
+
+    fn title_of(
+        &mut self,
+        alloc: Global,
+        site: &Site,
+        kit: &Kit,
+        post: &Post,
+    ) -> Result<Text, RunFault>
+        ensures { Answers (apply_hook (callbacks_of read_only (scripts_in kit.now)) (codes "the_title") (post.now.title ∷ decimal post.now.id ∷ []) (state_in site.now self.old)) (state_in site.now self.new) result }
+    {
+        let hook = hooks::hook_named(alloc, "the_title")?;
+        let args = hooks::title_args(alloc, post)?;
+        self.applied(site, kit, hook, args)
+    }
+
+    fn content_of(
+        &mut self,
+        alloc: Global,
+        site: &Site,
+        kit: &Kit,
+        post: &Post,
+    ) -> Result<Text, RunFault>
+        ensures { Answers (apply_hook (callbacks_of read_only (scripts_in kit.now)) (codes "the_content") (post.now.content ∷ []) (state_in site.now self.old)) (state_in site.now self.new) result }
+    {
+        let hook = hooks::hook_named(alloc, "the_content")?;
+        let args = hooks::content_args(alloc, post)?;
+        self.applied(site, kit, hook, args)
     }
 
     #[tactic(auto, unfolding(crate::specs::Page::opening))]
@@ -165,6 +226,20 @@ impl Rendering {
     {
         let text = self.run(site, kit, Job::Apply { hook, args })?;
         self.puts(site, text.as_str())
+    }
+
+    // A filter over its first argument.
+    fn applied(
+        &mut self,
+        site: &Site,
+        kit: &Kit,
+        hook: HookName,
+        args: Texts,
+    ) -> Result<Text, RunFault>
+        ensures { Answers (apply_hook (callbacks_of read_only (scripts_in kit.now)) hook args (state_in site.now self.old)) (state_in site.now self.new) result }
+    {
+        let text = self.run(site, kit, Job::Apply { hook, args })?;
+        Ok(Text::from_string(text)?)
     }
 
     // A job over the site, which is only read.

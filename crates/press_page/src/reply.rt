@@ -1,3 +1,4 @@
+use press_site::Token;
 use press_text::Text;
 
 /// What is asked of a site.
@@ -7,6 +8,10 @@ pub enum Target {
     Front,
     /// The published post with that id.
     Post(u64),
+    /// That post in JSON.
+    Json(u64),
+    /// What became of the command with that token, in JSON.
+    Result(Token),
 }
 
 /// What a reply's body is.

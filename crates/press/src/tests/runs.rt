@@ -2,6 +2,7 @@ use crate::decode::LIMIT;
 use crate::run::run;
 use crate::tests::fakes::{Endless, Failing, Narrow};
 use crate::tests::fixtures::ran;
+use std::alloc::Global;
 use std::test::Fail;
 
 // The file that stands beside the program as its input.
@@ -22,6 +23,34 @@ fn runs_end(rt: HostRuntime) {
     assert!(rt; ran(&rt, LETTERS).left(0, LETTERS_PAGE, ""));
     assert!(rt; ran(&rt, b"{\"commands\":[]}").left(1, NOT_FOUND, ""));
     assert!(rt; ran(&rt, b"{}").left(2, "", "press: fault 72\n"));
+}
+
+// The file without its activation, with `grow` in its place, and a content of nested tags.
+#[test]
+fn other_plugins_make_other_pages(rt: HostRuntime) -> Result<(), Fail> {
+    for (plugin, title, content, shown) in [
+        ("none", "x", "Hello", "Hello"),
+        ("grow", "xae", "Hello", "Hello"),
+        ("tags", "x", "[box]a [greet name=Bo] b[/box]", "<div>a Hello Bo b</div>"),
+    ] {
+        let file = file_of(rt.alloc(), plugin, content)?;
+        let page = page_of(rt.alloc(), title, shown)?;
+        assert!(rt; ran(&rt, file.as_bytes()).left(0, page.as_str(), ""), "at {plugin}");
+    }
+    Ok(())
+}
+
+// A plugin that the kit lacks is refused, as if the command weren't there.
+fn file_of(alloc: Global, plugin: &str, content: &str) -> Result<String, Fail> {
+    Ok(format!(in alloc;
+        "{{\"commands\":[{{\"editor\":\"ann\",\"seq\":1,\"at\":10,\"kind\":\"activate\",\"plugin\":\"{plugin}\"}},{{\"editor\":\"ann\",\"seq\":2,\"at\":10,\"kind\":\"insert\",\"title\":\"x\",\"content\":\"{content}\",\"status\":\"publish\",\"date\":10}}]}}"
+    )?)
+}
+
+fn page_of(alloc: Global, title: &str, content: &str) -> Result<String, Fail> {
+    Ok(format!(in alloc;
+        "<!DOCTYPE html>\n<html>\n<head>\n<title>Press</title>\n</head>\n<body>\n<h1>Press</h1>\n<article id=\"post-1\">\n<h2><a href=\"/?p=1\">{title}</a></h2>\n{content}\n</article>\n</body>\n</html>\n"
+    )?)
 }
 
 // 5,000 boxes play 10,000 turns, beside the one of `do_shortcode`.

@@ -1,8 +1,8 @@
 use press_callbacks::Kit;
 use press_page::{Reply, Target, page};
 use press_posts::Status;
-use press_site::{Effect, Site};
-use press_text::{Moment, OptName, Text};
+use press_site::{Effect, Outcome, Site, Token};
+use press_text::{Moment, Name, OptName, Text};
 use std::alloc::Global;
 use std::test::Fail;
 
@@ -25,6 +25,8 @@ y
 </html>
 ";
 
+const POST_IN_JSON: &str = "{\"content\":{\"rendered\":\"y\"},\"date\":0,\"id\":1,\"status\":\"publish\",\"title\":{\"rendered\":\"x\"}}";
+
 fn moment(seconds: u64) -> Moment {
     match Moment::new(seconds) {
         Some(moment) => moment,
@@ -41,6 +43,13 @@ fn insert(alloc: Global, site: &mut Site, date: u64) -> Result<(), Fail> {
         date: moment(date),
     })?;
     Ok(())
+}
+
+fn token(alloc: Global, seq: u64) -> Result<Token, Fail> {
+    Ok(Token {
+        editor: Name::new(alloc, "ann")?,
+        seq,
+    })
 }
 
 // The reply over a kit without callbacks.
@@ -82,5 +91,28 @@ fn only_a_published_post_is_shown(rt: HostRuntime) -> Result<(), Fail> {
     assert_eq!(rt; shown(alloc, &site, &Target::Post(1))?.status, 200);
     assert_eq!(rt; shown(alloc, &site, &Target::Post(2))?.status, 404);
     assert_eq!(rt; shown(alloc, &site, &Target::Post(3))?.status, 404);
+    Ok(())
+}
+
+#[test]
+fn a_post_is_shown_in_json(rt: HostRuntime) -> Result<(), Fail> {
+    let alloc = rt.alloc();
+    let mut site = Site::new(alloc);
+    insert(alloc, &mut site, 0)?;
+    let reply = shown(alloc, &site, &Target::Json(1))?;
+    assert_eq!(rt; reply.body.as_str(), POST_IN_JSON);
+    let reply = shown(alloc, &site, &Target::Json(2))?;
+    assert_eq!(rt; reply.body.as_str(), "{\"code\":404}");
+    Ok(())
+}
+
+#[test]
+fn an_outcome_is_shown(rt: HostRuntime) -> Result<(), Fail> {
+    let alloc = rt.alloc();
+    let mut site = Site::new(alloc);
+    site.keep(token(alloc, 2)?, Outcome::Done(1))?;
+    let reply = shown(alloc, &site, &Target::Result(token(alloc, 2)?))?;
+    assert_eq!(rt; reply.body.as_str(), "{\"done\":1}");
+    assert_eq!(rt; shown(alloc, &site, &Target::Result(token(alloc, 1)?))?.status, 404);
     Ok(())
 }

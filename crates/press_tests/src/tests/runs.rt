@@ -1,6 +1,7 @@
 use super::scripts::{appending, fails_once, plugin};
 use press_callbacks::{BoxedTurns, CallIn, Kit, Stored, script_turn};
 use press_run::{Job, Machine, Out, RunFault, boot};
+use press_site::{Effect, Site};
 use press_text::{CallbackId, HookName, Name, Text, Texts};
 use std::alloc::Global;
 use std::cell::Cell;
@@ -13,8 +14,12 @@ fn kit_of(alloc: Global, stored: Stored) -> Result<Kit, Fail> {
     Ok(Kit::build(alloc, callbacks, plugins)?)
 }
 
-fn active(alloc: Global) -> Result<Vec<Name>, Fail> {
-    Ok(vec![in alloc; Name::new(alloc, "one")?]?)
+// A site whose one active plugin is `one`.
+fn site_of(alloc: Global) -> Result<Site, Fail> {
+    let mut site = Site::new(alloc);
+    let plugin = Name::new(alloc, "one")?;
+    site.effect(Effect::Activate { plugin })?;
+    Ok(site)
 }
 
 fn filter_of(alloc: Global, text: &str) -> Result<Job, Fail> {
@@ -26,10 +31,10 @@ fn filter_of(alloc: Global, text: &str) -> Result<Job, Fail> {
 }
 
 // What the filter gives from a fresh boot.
-fn filtered(alloc: Global, kit: &Kit, active: &[Name], job: Job) -> Result<String, RunFault> {
-    let mut tables = boot(alloc, kit, active)?;
+fn filtered(alloc: Global, kit: &Kit, site: &mut Site, job: Job) -> Result<String, RunFault> {
+    let mut tables = boot(alloc, kit, site)?;
     let mut machine = Machine::new(alloc);
-    machine.run(kit, &mut tables, job, &mut Out::new(alloc))
+    machine.run(kit, &mut tables, site, job, &mut Out::new(alloc))
 }
 
 #[test]
@@ -39,8 +44,8 @@ fn a_filter_runs(rt: HostRuntime) -> Result<(), Fail> {
     let own = appending(alloc, "q")?;
     let call: BoxedTurns = Box::new(alloc, move |i: &CallIn| script_turn(alloc, &own, i))?;
     let kit = kit_of(alloc, Stored::new(CallbackId::new("add_q")?, script, call))?;
-    let active = active(alloc)?;
-    let text = filtered(alloc, &kit, active.as_slice(), filter_of(alloc, "x")?)?;
+    let mut site = site_of(alloc)?;
+    let text = filtered(alloc, &kit, &mut site, filter_of(alloc, "x")?)?;
     assert_eq!(rt; text.as_str(), "xq");
     Ok(())
 }
@@ -54,8 +59,8 @@ fn a_closure_wants_memory(rt: HostRuntime) -> Result<(), Fail> {
     let calls = Cell::new(0u32);
     let call: BoxedTurns = Box::new(alloc, move |i: &CallIn| fails_once(alloc, &calls, &own, i))?;
     let kit = kit_of(alloc, Stored::new(CallbackId::new("add_q")?, script, call))?;
-    let active = active(alloc)?;
-    let text = filtered(alloc, &kit, active.as_slice(), filter_of(alloc, "x")?);
+    let mut site = site_of(alloc)?;
+    let text = filtered(alloc, &kit, &mut site, filter_of(alloc, "x")?);
     assert_eq!(rt; text.err(), Some(RunFault::NoMemory));
     Ok(())
 }

@@ -1,0 +1,26 @@
+//! The commands of a file, applied to a site.
+
+ghost use Rattle.std.specs.Prelude.{◌≡◌, map, IfOk};
+ghost use Rattle.press_callbacks.specs.Kits.{kit_view};
+ghost use Rattle.press_apply.specs.Apply.{folded};
+ghost use Rattle.press_apply.specs.declared.value.Value.TheVariants.{Cmd};
+
+use press_apply::{Stamped, Value, apply};
+use press_callbacks::Kit;
+use press_site::Site;
+use std::alloc::{AllocError, Global};
+
+/// Applies the commands in their order.
+pub fn apply_all(
+    alloc: Global,
+    site: &mut Site,
+    kit: &Kit,
+    commands: Vec<Stamped>,
+) -> Result<(), AllocError>
+    ensures { IfOk result (λ _. site.new ≡ folded (kit_view kit.now) site.old (map (λ c. Cmd c) commands.items)) }
+{
+    for stamped in commands {
+        apply(alloc, site, kit, &Value::Cmd(stamped))?;
+    }
+    Ok(())
+}

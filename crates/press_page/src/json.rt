@@ -1,0 +1,146 @@
+//! Replies in JSON.
+
+ghost use Rattle.std.specs.Prelude.{◌≡◌, IfOk, false, option_map, Some};
+ghost use Rattle.serde_json.specs.View.{view};
+ghost use Rattle.serde_json.specs.Written.{compact_text, has_float};
+ghost use Rattle.press_callbacks.specs.Kits.{kit_view, scripts_in};
+ghost use Rattle.press_run.specs.Links.{read_only};
+ghost use Rattle.press_run.specs.Run.{callbacks_of, within};
+ghost use Rattle.press_page.specs.Json.{json_reply, outcome_data, post_body, post_data, post_reply, result_reply, status_data, status_reply};
+ghost use Rattle.press_page.specs.Steps.{Finds, booted};
+
+use crate::filtered::Filtered;
+use crate::rendering::Rendering;
+use crate::reply::{ContentKind, Reply};
+use press_callbacks::Kit;
+use press_posts::Post;
+use press_run::RunFault;
+use press_site::{Outcome, Site};
+use press_text::Text;
+use serde_json::{Value, json};
+use std::alloc::{AllocError, Global};
+
+/// How many bytes a body may have.
+const MOST_BYTES: usize = 1_048_576;
+
+/// A post with its title and content by their filters, from a fresh boot; 404 where there is none, and 500 at a limit.
+pub fn post_reply(
+    alloc: Global,
+    site: &Site,
+    kit: &Kit,
+    post: Option<&Post>,
+) -> Result<Reply, AllocError>
+    ensures { IfOk result (λ r. r ≡ post_reply (kit_view kit.now) site.now (option_map (λ p. p.now) post.entry)) }
+{
+    match post {
+        Some(post) => shown(alloc, site, kit, post),
+        None => status_reply(alloc, 404),
+    }
+}
+
+fn shown(alloc: Global, site: &Site, kit: &Kit, post: &Post) -> Result<Reply, AllocError>
+    ensures { IfOk result (λ r. r ≡ post_reply (kit_view kit.now) site.now (Some post.now)) }
+{
+    match post_body(alloc, site, kit, post) {
+        Ok(body) => Ok(Reply {
+            status: 200,
+            kind: ContentKind::Json,
+            body,
+        }),
+        Err(RunFault::Limit) => status_reply(alloc, 500),
+        Err(RunFault::NoMemory) => Err(AllocError),
+    }
+}
+
+#[tactic(auto, unfolding(crate::specs::Json::post_body))]
+fn post_body(alloc: Global, site: &Site, kit: &Kit, post: &Post) -> Result<Text, RunFault>
+    ensures { Finds (post_body (callbacks_of read_only (scripts_in kit.now)) post.now (booted (kit_view kit.now) site.now)) result }
+{
+    let mut rendering = Rendering::new(alloc, site, kit)?;
+    let texts = rendering.filtered(alloc, site, kit, post)?;
+    let value = post_value(alloc, post, &texts)?;
+    let body = text_of(alloc, &value)?;
+    within(body)
+}
+
+fn post_value(alloc: Global, post: &Post, texts: &Filtered) -> Result<Value, AllocError>
+    ensures { IfOk result (λ v. view v ≡ post_data post.now texts.now) }
+{
+    let (content, title) = (texts.content.as_str(), texts.title.as_str());
+    let (date, id, status) = (post.date.seconds(), post.id, post.status.word());
+    json!(in alloc; {
+        "content": {"rendered": content},
+        "date": date,
+        "id": id,
+        "status": status,
+        "title": {"rendered": title}
+    })
+}
+
+/// What became of a command; 404 where there is no such command.
+pub fn result_reply(alloc: Global, outcome: Option<Outcome>) -> Result<Reply, AllocError>
+    ensures { IfOk result (λ r. r ≡ result_reply outcome) }
+{
+    let Some(outcome) = outcome else {
+        return status_reply(alloc, 404);
+    };
+    let value = outcome_value(alloc, outcome)?;
+    json_reply(alloc, 200, &value)
+}
+
+fn outcome_value(alloc: Global, outcome: Outcome) -> Result<Value, AllocError>
+    ensures { IfOk result (λ v. view v ≡ outcome_data outcome) }
+{
+    match outcome {
+        Outcome::Done(id) => json!(in alloc; {"done": id}),
+        Outcome::Refused(fault) => {
+            let fault = u64::from(fault);
+            json!(in alloc; {"refused": fault})
+        }
+    }
+}
+
+// A status alone.
+fn status_reply(alloc: Global, status: u16) -> Result<Reply, AllocError>
+    ensures { IfOk result (λ r. r ≡ status_reply status) }
+{
+    let value = status_value(alloc, status)?;
+    json_reply(alloc, status, &value)
+}
+
+fn status_value(alloc: Global, status: u16) -> Result<Value, AllocError>
+    ensures { IfOk result (λ v. view v ≡ status_data status) }
+{
+    let status = u64::from(status);
+    json!(in alloc; {"code": status})
+}
+
+fn json_reply(alloc: Global, status: u16, value: &Value) -> Result<Reply, AllocError>
+    requires { has_float (view value.now) ≡ false }
+    ensures { IfOk result (λ r. r ≡ json_reply status (view value.now)) }
+{
+    Ok(Reply {
+        status,
+        kind: ContentKind::Json,
+        body: text_of(alloc, value)?,
+    })
+}
+
+// The value's text: compact, with sorted keys.
+fn text_of(alloc: Global, value: &Value) -> Result<Text, AllocError>
+    requires { has_float (view value.now) ≡ false }
+    ensures { IfOk result (λ t. t ≡ compact_text (view value.now)) }
+{
+    let text = value.to_string(alloc)?;
+    Text::from_string(text)
+}
+
+// A body within the bytes.
+fn within(body: Text) -> Result<Text, RunFault>
+    ensures { Finds (within body) result }
+{
+    if body.len() > MOST_BYTES {
+        return Err(RunFault::Limit);
+    }
+    Ok(body)
+}

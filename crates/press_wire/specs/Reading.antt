@@ -1,0 +1,165 @@
+-- What bytes are read as: a value or a message, with no byte left; else the fault of the first field that fails (own).
+use Rattle.std.specs.Prelude.{ℕ, List, [], ◌∷◌, ◌==◌, length, nat_lt, Bool, true, false, Option, Some, None, Result, Ok, Err, if◌then◌else◌}
+use Rattle.press_apply.specs.declared.command.Command.{Command}
+use Rattle.press_apply.specs.declared.command.Command.TheVariants.{Insert, Update, Trash, Untrash, Delete, SetOption, Activate, Deactivate, Tick}
+use Rattle.press_apply.specs.declared.command.Stamped.{Stamped}
+use Rattle.press_apply.specs.declared.value.Value.{Value}
+use Rattle.press_apply.specs.declared.value.Value.TheVariants.{Noop, Cmd}
+use Rattle.press_wire.specs.declared.fault.WireFault.{WireFault}
+use Rattle.press_wire.specs.declared.fault.WireFault.TheVariants.{TooLong, BadKind, BadField, Extra}
+use Rattle.press_wire.specs.declared.kind.CommandKind.{CommandKind}
+use Rattle.press_wire.specs.declared.kind.CommandKind.TheVariants as kind
+use Rattle.press_wire.specs.declared.kind.ValueKind.{ValueKind}
+use Rattle.press_wire.specs.declared.kind.ValueKind.TheVariants as value
+use Rattle.press_wire.specs.declared.kind.MessageKind.{MessageKind}
+use Rattle.press_wire.specs.declared.kind.MessageKind.TheVariants as about
+use Rattle.press_wire.specs.declared.message.Body.{Body}
+use Rattle.press_wire.specs.declared.message.Body.TheVariants.{Prepare, Promise, Nack, Accept, Accepted, Query}
+use Rattle.press_wire.specs.declared.message.Message.{Message}
+use Rattle.press_wire.specs.declared.post.PostFields.{PostFields}
+use Rattle.press_wire.specs.declared.vote.Vote.{Vote}
+use Rattle.press_wire.specs.Fields.{Reading, ◌>>=◌, byte_at, number4_at, checked, counted, name_at, text_at, number8_at, moment_at, status_at, node_at, slot_at, round_at, ballot_at}
+use Rattle.press_wire.specs.Kinds.{value_kind_of, message_kind_of}
+use Rattle.press_wire.specs.Ranges.{only, is_at_most}
+use Rattle.press_wire.specs.Spelling.{longest}
+
+-- nothing is left
+abbrev pub ended : {A : Type 0} → A × List ℕ → Result A WireFault
+ended x = if length x.1 == 0 then Ok x.0 else Err Extra
+
+-- ---- commands
+
+unfoldable pub post_at : Reading PostFields
+post_at bytes = do
+  title ← text_at bytes
+  content ← text_at title.1
+  status ← status_at content.1
+  date ← moment_at status.1
+  Ok (record { title = title.0; content = content.0; status = status.0; date = date.0 }, date.1)
+
+unfoldable pub insert_at : Reading Command
+insert_at bytes = do
+  post ← post_at bytes
+  Ok (Insert post.0.title post.0.content post.0.status post.0.date, post.1)
+
+unfoldable pub update_at : Reading Command
+update_at bytes = do
+  id ← number8_at bytes
+  post ← post_at id.1
+  Ok (Update id.0 post.0.title post.0.content post.0.status post.0.date, post.1)
+
+unfoldable pub option_at : Reading Command
+option_at bytes = do
+  name ← name_at bytes
+  text ← text_at name.1
+  Ok (SetOption name.0 text.0, text.1)
+
+abbrev pub about_post_at : (ℕ → Command) → Reading Command
+about_post_at command bytes = number8_at bytes >>= λ id. Ok (command id.0, id.1)
+
+abbrev pub about_plugin_at : (List ℕ → Command) → Reading Command
+about_plugin_at command bytes = name_at bytes >>= λ plugin. Ok (command plugin.0, plugin.1)
+
+unfoldable pub fields_at : CommandKind → Reading Command
+fields_at kind.Insert bytes = insert_at bytes
+fields_at kind.Update bytes = update_at bytes
+fields_at kind.Trash bytes = about_post_at Trash bytes
+fields_at kind.Untrash bytes = about_post_at Untrash bytes
+fields_at kind.Delete bytes = about_post_at Delete bytes
+fields_at kind.SetOption bytes = option_at bytes
+fields_at kind.Activate bytes = about_plugin_at Activate bytes
+fields_at kind.Deactivate bytes = about_plugin_at Deactivate bytes
+fields_at kind.Tick bytes = Ok (Tick, bytes)
+
+unfoldable pub stamped_at : CommandKind → Reading Stamped
+stamped_at kind bytes = do
+  editor ← name_at bytes
+  seq ← number8_at editor.1
+  at ← moment_at seq.1
+  command ← fields_at kind at.1
+  Ok (record { token = record { editor = editor.0; seq = seq.0 }; at = at.0; command = command.0 }, command.1)
+
+unfoldable pub behind_kind : ValueKind → Reading Value
+behind_kind value.Noop bytes = moment_at bytes >>= λ at. Ok (Noop at.0, at.1)
+behind_kind (value.Cmd kind) bytes = stamped_at kind bytes >>= λ s. Ok (Cmd s.0, s.1)
+
+unfoldable pub command_at : Reading Value
+command_at bytes = do
+  kind ← checked BadKind value_kind_of byte_at bytes
+  behind_kind kind.0 kind.1
+
+-- all of the bytes as one value
+unfoldable pub read_value : List ℕ → Result Value WireFault
+read_value bytes = command_at bytes >>= ended
+
+unfoldable pub read_command : List ℕ → Result Value WireFault
+read_command bytes = if nat_lt longest (length bytes) then Err TooLong else read_value bytes
+
+-- ---- messages
+
+-- a fault inside a value is one of the field
+abbrev pub inside : {A : Type 0} → Result A WireFault → List ℕ → Result (A × List ℕ) WireFault
+inside (Ok x) rest = Ok (x, rest)
+inside (Err fault) rest = Err BadField
+
+unfoldable pub value_at : Reading Value
+value_at bytes = do
+  spelled ← counted (checked BadField (only (is_at_most longest)) number4_at) bytes
+  inside (read_value spelled.0) spelled.1
+
+unfoldable pub vote_at : Reading Vote
+vote_at bytes = do
+  ballot ← ballot_at bytes
+  value ← value_at ballot.1
+  Ok (record { ballot = ballot.0; value = value.0 }, value.1)
+
+abbrev pub flag_of : ℕ → Option Bool
+flag_of n = if n == 0 then Some false else (if n == 1 then Some true else None)
+
+unfoldable pub if_flagged : Bool → Reading (Option Vote)
+if_flagged false bytes = Ok (None, bytes)
+if_flagged true bytes = vote_at bytes >>= λ vote. Ok (Some vote.0, vote.1)
+
+unfoldable pub perhaps_vote_at : Reading (Option Vote)
+perhaps_vote_at bytes = do
+  flag ← checked BadField flag_of byte_at bytes
+  if_flagged flag.0 flag.1
+
+unfoldable pub promise_at : Reading Body
+promise_at bytes = do
+  ballot ← ballot_at bytes
+  vote ← perhaps_vote_at ballot.1
+  Ok (Promise ballot.0 vote.0, vote.1)
+
+unfoldable pub nack_at : Reading Body
+nack_at bytes = do
+  refused ← ballot_at bytes
+  promised ← ballot_at refused.1
+  Ok (Nack refused.0 promised.0, promised.1)
+
+unfoldable pub accept_at : Reading Body
+accept_at bytes = do
+  round ← round_at bytes
+  value ← value_at round.1
+  Ok (Accept round.0 value.0, value.1)
+
+unfoldable pub body_at : MessageKind → Reading Body
+body_at about.Prepare bytes = round_at bytes >>= λ round. Ok (Prepare round.0, round.1)
+body_at about.Promise bytes = promise_at bytes
+body_at about.Nack bytes = nack_at bytes
+body_at about.Accept bytes = accept_at bytes
+body_at about.Accepted bytes = vote_at bytes >>= λ vote. Ok (Accepted vote.0, vote.1)
+body_at about.Query bytes = Ok (Query, bytes)
+
+unfoldable pub message_at : Reading Message
+message_at bytes = do
+  kind ← checked BadKind message_kind_of byte_at bytes
+  from ← node_at kind.1
+  to ← node_at from.1
+  slot ← slot_at to.1
+  body ← body_at kind.0 slot.1
+  Ok (record { from = from.0; to = to.0; slot = slot.0; body = body.0 }, body.1)
+
+-- all of the bytes as one message
+unfoldable pub read_message : List ℕ → Result Message WireFault
+read_message bytes = message_at bytes >>= ended

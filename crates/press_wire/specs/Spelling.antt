@@ -1,0 +1,109 @@
+-- The one spelling of each value and message: its kind and its fields from left to right, numbers big-endian (own).
+use Rattle.std.specs.Prelude.{ℕ, List, [], ◌∷◌, ◌++◌, length, nat_lt, Bool, false, Option, Some, None}
+use Rattle.std.specs.Int.{w32, w64, to_be_bytes}
+use Rattle.press_apply.specs.declared.command.Command.{Command}
+use Rattle.press_apply.specs.declared.command.Command.TheVariants.{Insert, Update, Trash, Untrash, Delete, SetOption, Activate, Deactivate, Tick}
+use Rattle.press_apply.specs.declared.command.Stamped.{Stamped}
+use Rattle.press_apply.specs.declared.value.Value.{Value}
+use Rattle.press_apply.specs.declared.value.Value.TheVariants.{Noop, Cmd}
+use Rattle.press_posts.specs.declared.status.Status.{Status}
+use Rattle.press_wire.specs.declared.ballot.Ballot.{Ballot}
+use Rattle.press_wire.specs.declared.message.Body.{Body}
+use Rattle.press_wire.specs.declared.message.Body.TheVariants.{Prepare, Promise, Nack, Accept, Accepted, Query}
+use Rattle.press_wire.specs.declared.message.Message.{Message}
+use Rattle.press_wire.specs.declared.vote.Vote.{Vote}
+use Rattle.press_wire.specs.Kinds.{command_number, kind_of_command, message_number, kind_of_body, status_number}
+
+-- ---- fields
+
+-- a number of four bytes
+unfoldable pub number4 : ℕ → List ℕ
+number4 n = to_be_bytes w32 n
+
+-- a number of eight bytes
+unfoldable pub number8 : ℕ → List ℕ
+number8 n = to_be_bytes w64 n
+
+-- a name: its length in one byte, and its bytes
+unfoldable pub name : List ℕ → List ℕ
+name bytes = length bytes ∷ bytes
+
+-- a text, or a value inside a message: its length in four bytes, and its bytes
+unfoldable pub text : List ℕ → List ℕ
+text bytes = number4 (length bytes) ++ bytes
+
+-- ---- values
+
+unfoldable pub post : List ℕ → List ℕ → Status → ℕ → List ℕ
+post title content status date = text title ++ (text content ++ (status_number status ∷ number8 date))
+
+unfoldable pub fields : Command → List ℕ
+fields (Insert title content status date) = post title content status date
+fields (Update id title content status date) = number8 id ++ post title content status date
+fields (Trash id) = number8 id
+fields (Untrash id) = number8 id
+fields (Delete id) = number8 id
+fields (SetOption option value) = name option ++ text value
+fields (Activate plugin) = name plugin
+fields (Deactivate plugin) = name plugin
+fields Tick = []
+
+unfoldable pub stamped : Stamped → List ℕ
+stamped s = name s.token.editor ++ (number8 s.token.seq ++ (number8 s.at ++ fields s.command))
+
+unfoldable pub spelled_command : Value → List ℕ
+spelled_command (Noop at) = 0 ∷ number8 at
+spelled_command (Cmd s) = command_number (kind_of_command s.command) ∷ stamped s
+
+-- the most bytes of a value
+abbrev pub longest : ℕ
+longest = 16384
+
+abbrev pub is_too_long : Value → Bool
+is_too_long v = nat_lt longest (length (spelled_command v))
+
+-- ---- messages
+
+unfoldable pub ballot : Ballot → List ℕ
+ballot b = number8 b.round ++ b.node ∷ []
+
+unfoldable pub value : Value → List ℕ
+value v = text (spelled_command v)
+
+unfoldable pub vote : Vote → List ℕ
+vote v = ballot v.ballot ++ value v.value
+
+unfoldable pub perhaps_vote : Option Vote → List ℕ
+perhaps_vote None = 0 ∷ []
+perhaps_vote (Some v) = 1 ∷ vote v
+
+unfoldable pub body : Body → List ℕ
+body (Prepare round) = number8 round
+body (Promise b v) = ballot b ++ perhaps_vote v
+body (Nack refused promised) = ballot refused ++ ballot promised
+body (Accept round v) = number8 round ++ value v
+body (Accepted v) = vote v
+body Query = []
+
+unfoldable pub spelled_message : Message → List ℕ
+spelled_message m = message_number (kind_of_body m.body) ∷ m.from ∷ m.to ∷ (number4 m.slot ++ body m.body)
+
+-- the value inside a message
+abbrev pub perhaps_value_of : Option Vote → Option Value
+perhaps_value_of None = None
+perhaps_value_of (Some v) = Some v.value
+
+abbrev pub value_of : Body → Option Value
+value_of (Prepare round) = None
+value_of (Promise b v) = perhaps_value_of v
+value_of (Nack refused promised) = None
+value_of (Accept round v) = Some v
+value_of (Accepted v) = Some v.value
+value_of Query = None
+
+abbrev pub is_too_long_inside : Option Value → Bool
+is_too_long_inside None = false
+is_too_long_inside (Some v) = is_too_long v
+
+abbrev pub is_too_long_message : Message → Bool
+is_too_long_message m = is_too_long_inside (value_of m.body)

@@ -1,0 +1,36 @@
+//! Commands and messages as bytes, and the types of messages: nodes, slots, ballots, votes.
+//!
+//! Each value and each message has one spelling, and no other bytes are read.
+#![tactic(auto)]
+
+mod ballot;
+mod decode;
+mod encode;
+mod fault;
+mod held;
+mod kind;
+mod laws;
+mod message;
+mod node;
+mod post;
+mod read_message;
+mod read_value;
+mod reader;
+mod round;
+mod slot;
+mod status;
+mod vote;
+mod write_message;
+mod write_value;
+mod writer;
+
+pub use ballot::Ballot;
+pub use decode::{decode_cmd, decode_msg};
+pub use encode::{encode_cmd, encode_msg};
+pub use fault::WireFault;
+pub use laws::{messages_have_one_spelling, messages_read_back, values_have_one_spelling, values_read_back};
+pub use message::{Body, Message};
+pub use node::Node;
+pub use round::Round;
+pub use slot::Slot;
+pub use vote::Vote;

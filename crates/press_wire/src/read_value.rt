@@ -1,0 +1,157 @@
+//! Commands, read off the front of bytes.
+
+ghost use Rattle.std.specs.Prelude.{◌≡◌, ◌<◌, length, IsErrOf};
+ghost use Rattle.press_wire.specs.Gives.{Gives, GivesFront};
+ghost use Rattle.press_wire.specs.Spelling.{longest};
+ghost use Rattle.press_wire.specs.Reading.{post_at, insert_at, update_at, option_at, fields_at, stamped_at, behind_kind, command_at, read_value, read_command};
+
+use crate::fault::WireFault;
+use crate::kind::{CommandKind, ValueKind};
+use crate::post::PostFields;
+use crate::reader::Reader;
+use crate::write_value::LONGEST;
+use press_apply::{Command, Stamped, Value};
+use press_site::Token;
+use std::alloc::Global;
+
+impl<'a> Reader<'a> {
+    #[tactic(auto, unfolding(crate::specs::Reading::post_at))]
+    fn post(&mut self, alloc: Global) -> Result<PostFields, WireFault>
+        ensures { GivesFront result self.new (post_at self.old) }
+    {
+        let title = self.text(alloc)?;
+        let content = self.text(alloc)?;
+        let status = self.status()?;
+        let date = self.moment()?;
+        Ok(PostFields {
+            title,
+            content,
+            status,
+            date,
+        })
+    }
+
+    #[tactic(auto, unfolding(crate::specs::Reading::insert_at))]
+    fn insert(&mut self, alloc: Global) -> Result<Command, WireFault>
+        ensures { GivesFront result self.new (insert_at self.old) }
+    {
+        let post = self.post(alloc)?;
+        Ok(Command::Insert {
+            title: post.title,
+            content: post.content,
+            status: post.status,
+            date: post.date,
+        })
+    }
+
+    #[tactic(auto, unfolding(crate::specs::Reading::update_at))]
+    fn update(&mut self, alloc: Global) -> Result<Command, WireFault>
+        ensures { GivesFront result self.new (update_at self.old) }
+    {
+        let id = self.number8()?;
+        let post = self.post(alloc)?;
+        Ok(Command::Update {
+            id,
+            title: post.title,
+            content: post.content,
+            status: post.status,
+            date: post.date,
+        })
+    }
+
+    #[tactic(auto, unfolding(crate::specs::Reading::option_at))]
+    fn option(&mut self, alloc: Global) -> Result<Command, WireFault>
+        ensures { GivesFront result self.new (option_at self.old) }
+    {
+        let name = self.option_name(alloc)?;
+        let value = self.text(alloc)?;
+        Ok(Command::SetOption { name, value })
+    }
+
+    #[tactic(auto, unfolding(crate::specs::Reading::fields_at))]
+    fn fields(&mut self, alloc: Global, kind: CommandKind) -> Result<Command, WireFault>
+        ensures { GivesFront result self.new (fields_at kind self.old) }
+    {
+        match kind {
+            CommandKind::Insert => self.insert(alloc),
+            CommandKind::Update => self.update(alloc),
+            CommandKind::Trash => Ok(Command::Trash {
+                id: self.number8()?,
+            }),
+            CommandKind::Untrash => Ok(Command::Untrash {
+                id: self.number8()?,
+            }),
+            CommandKind::Delete => Ok(Command::Delete {
+                id: self.number8()?,
+            }),
+            CommandKind::SetOption => self.option(alloc),
+            CommandKind::Activate => Ok(Command::Activate {
+                plugin: self.name(alloc)?,
+            }),
+            CommandKind::Deactivate => Ok(Command::Deactivate {
+                plugin: self.name(alloc)?,
+            }),
+            CommandKind::Tick => Ok(Command::Tick),
+        }
+    }
+
+    #[tactic(auto, unfolding(crate::specs::Reading::stamped_at))]
+    fn stamped(&mut self, alloc: Global, kind: CommandKind) -> Result<Stamped, WireFault>
+        ensures { GivesFront result self.new (stamped_at kind self.old) }
+    {
+        let editor = self.name(alloc)?;
+        let seq = self.number8()?;
+        let at = self.moment()?;
+        let command = self.fields(alloc, kind)?;
+        Ok(Stamped {
+            token: Token { editor, seq },
+            at,
+            command,
+        })
+    }
+
+    #[tactic(auto, unfolding(crate::specs::Reading::behind_kind))]
+    fn behind_kind(&mut self, alloc: Global, kind: ValueKind) -> Result<Value, WireFault>
+        ensures { GivesFront result self.new (behind_kind kind self.old) }
+    {
+        match kind {
+            ValueKind::Noop => Ok(Value::Noop { at: self.moment()? }),
+            ValueKind::Cmd(kind) => Ok(Value::Cmd(self.stamped(alloc, kind)?)),
+        }
+    }
+
+    #[tactic(auto, unfolding(crate::specs::Reading::command_at))]
+    fn command(&mut self, alloc: Global) -> Result<Value, WireFault>
+        ensures { GivesFront result self.new (command_at self.old) }
+    {
+        match ValueKind::from_number(self.byte()?) {
+            Some(kind) => self.behind_kind(alloc, kind),
+            None => Err(WireFault::BadKind),
+        }
+    }
+}
+
+/// The value that all of the bytes are.
+#[tactic(auto, unfolding(crate::specs::Reading::read_value))]
+pub fn whole_value(alloc: Global, bytes: &[u8]) -> Result<Value, WireFault>
+    ensures { Gives result (read_value bytes.now) }
+{
+    let mut reader = Reader::new(bytes);
+    let value = reader.command(alloc)?;
+    if !reader.is_at_end() {
+        return Err(WireFault::Extra);
+    }
+    Ok(value)
+}
+
+/// The same, of at most 16,384 bytes.
+#[tactic(auto, unfolding(crate::specs::Reading::read_command))]
+pub fn short_value(alloc: Global, bytes: &[u8]) -> Result<Value, WireFault>
+    ensures read { Gives result (read_command bytes.now) }
+    ensures long { longest < length bytes.now → IsErrOf result WireFault.TooLong }
+{
+    if bytes.len() > LONGEST {
+        return Err(WireFault::TooLong);
+    }
+    whole_value(alloc, bytes)
+}

@@ -1,0 +1,44 @@
+ghost use Rattle.std.specs.Prelude.{◌≡◌, ◌≤◌};
+ghost use Rattle.press_wire.specs.Ranges.{slot_of};
+
+use std::marker::Model;
+
+const MOST: u32 = 1_000_000;
+
+/// The place of a value among those chosen: 1 to 1,000,000.
+#[derive(Clone, Copy, Debug, PartialEq, Eq, PartialOrd, Ord)]
+pub struct Slot {
+    number: u32,
+}
+
+impl Model for Slot {
+    ghost use Rattle.std.specs.Prelude.{ℕ, ◌≤◌};
+
+    ghost Value = { ℕ };
+
+    ghost view = { λ x. x.number };
+
+    ghost invariant = { λ x. (1 ≤ x.number) × (x.number ≤ 1000000) };
+
+    ghost inverse = { λ n. record { number = n } };
+}
+
+impl Slot {
+    /// None outside 1 to 1,000,000.
+    pub fn new(number: u32) -> Option<Slot>
+        ensures { result ≡ slot_of number }
+    {
+        if 1 <= number && number <= MOST {
+            Some(Slot { number })
+        } else {
+            None
+        }
+    }
+
+    pub fn number(self) -> u32
+        ensures value { result ≡ self }
+        ensures range { (1 ≤ result) × (result ≤ 1000000) }
+    {
+        self.number
+    }
+}

@@ -1,0 +1,149 @@
+//! Values, put behind bytes, and how long they are.
+#![tactic(auto, using(crate::proofs::Lengths::regroup))]
+
+ghost use Rattle.std.specs.Prelude.{◌≡◌, ◌≤◌, ◌+◌, ◌++◌, length, OnOk};
+ghost use Rattle.press_wire.specs.Held.{HasShortTexts, IsShort};
+ghost use Rattle.press_wire.specs.Spelling as spell;
+ghost use Rattle.press_wire.specs.Spelling.{longest};
+ghost use Rattle.press_wire.specs.Measures.{Measures, MeasuresWell};
+
+use crate::kind::CommandKind;
+use crate::status::status_number;
+use crate::writer::Writer;
+use press_apply::{Command, Stamped, Value};
+use press_posts::Status;
+use press_text::{Moment, Text};
+use std::alloc::AllocError;
+
+/// The most bytes of a value.
+pub const LONGEST: usize = 16_384;
+
+impl Writer {
+    #[tactic(auto, using(crate::proofs::Lengths::regroup), unfolding(crate::specs::Spelling::post))]
+    fn post(&mut self, title: &Text, content: &Text, status: Status, date: Moment) -> Result<(), AllocError>
+        requires { (length title.now ≤ longest) × (length content.now ≤ longest) }
+        ensures { OnOk result (self.new ≡ self.old ++ spell.post title.now content.now status date) }
+    {
+        self.text(title)?;
+        self.text(content)?;
+        self.byte(status_number(status))?;
+        self.moment(date)
+    }
+
+    #[tactic(auto, using(crate::proofs::Lengths::regroup), unfolding(crate::specs::Spelling::fields))]
+    fn fields(&mut self, command: &Command) -> Result<(), AllocError>
+        requires { HasShortTexts command.now }
+        ensures { OnOk result (self.new ≡ self.old ++ spell.fields command.now) }
+    {
+        match command {
+            Command::Insert {
+                title,
+                content,
+                status,
+                date,
+            } => self.post(title, content, *status, *date),
+            Command::Update {
+                id,
+                title,
+                content,
+                status,
+                date,
+            } => {
+                self.number8(*id)?;
+                self.post(title, content, *status, *date)
+            }
+            Command::Trash { id } => self.number8(*id),
+            Command::Untrash { id } => self.number8(*id),
+            Command::Delete { id } => self.number8(*id),
+            Command::SetOption { name, value } => {
+                self.option_name(name)?;
+                self.text(value)
+            }
+            Command::Activate { plugin } => self.name(plugin),
+            Command::Deactivate { plugin } => self.name(plugin),
+            Command::Tick => Ok(()),
+        }
+    }
+
+    #[tactic(auto, using(crate::proofs::Lengths::regroup), unfolding(crate::specs::Spelling::stamped))]
+    fn stamped(&mut self, stamped: &Stamped) -> Result<(), AllocError>
+        requires { HasShortTexts stamped.now.command }
+        ensures { OnOk result (self.new ≡ self.old ++ spell.stamped stamped.now) }
+    {
+        self.name(&stamped.token.editor)?;
+        self.number8(stamped.token.seq)?;
+        self.moment(stamped.at)?;
+        self.fields(&stamped.command)
+    }
+
+    #[tactic(auto, using(crate::proofs::Lengths::regroup), unfolding(crate::specs::Spelling::spelled_command))]
+    pub fn value(&mut self, value: &Value) -> Result<(), AllocError>
+        requires { IsShort value.now }
+        ensures { OnOk result (self.new ≡ self.old ++ spell.spelled_command value.now) }
+    {
+        match value {
+            Value::Noop { at } => {
+                self.byte(0)?;
+                self.moment(*at)
+            }
+            Value::Cmd(stamped) => {
+                self.byte(CommandKind::of(&stamped.command).number())?;
+                self.stamped(stamped)
+            }
+        }
+    }
+}
+
+fn post_len(title: &Text, content: &Text) -> Option<usize>
+    ensures { MeasuresWell 40000 result (17 + length title.now + length content.now) }
+{
+    if title.len() > LONGEST || content.len() > LONGEST {
+        return None;
+    }
+    Some(17 + title.len() + content.len())
+}
+
+#[tactic(auto, using(crate::proofs::Lengths::length_fields))]
+fn fields_len(command: &Command) -> Option<usize>
+    ensures { MeasuresWell 50000 result (length (spell.fields command.now)) }
+{
+    match command {
+        Command::Insert { title, content, .. } => post_len(title, content),
+        Command::Update { title, content, .. } => match post_len(title, content) {
+            Some(len) => Some(8 + len),
+            None => None,
+        },
+        Command::Trash { .. } => Some(8),
+        Command::Untrash { .. } => Some(8),
+        Command::Delete { .. } => Some(8),
+        Command::SetOption { name, value } => {
+            if value.len() > LONGEST {
+                return None;
+            }
+            Some(5 + name.as_str().len() + value.len())
+        }
+        Command::Activate { plugin } => Some(1 + plugin.as_str().len()),
+        Command::Deactivate { plugin } => Some(1 + plugin.as_str().len()),
+        Command::Tick => Some(0),
+    }
+}
+
+/// How many bytes spell the value; None where they are too many.
+#[tactic(auto, using(crate::proofs::Lengths::length_spelled))]
+pub fn spelled_len(value: &Value) -> Option<usize>
+    ensures { Measures result (length (spell.spelled_command value.now)) }
+{
+    let len = match value {
+        Value::Noop { .. } => 9,
+        Value::Cmd(stamped) => {
+            let Some(len) = fields_len(&stamped.command) else {
+                return None;
+            };
+            18 + stamped.token.editor.as_str().len() + len
+        }
+    };
+    if len > LONGEST {
+        return None;
+    }
+    Some(len)
+}
