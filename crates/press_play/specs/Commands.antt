@@ -15,11 +15,11 @@ outcome_data (Done id) = object (member (codes "done") (number (unsigned id)) no
 outcome_data (Refused fault) = object (member (codes "refused") (number (unsigned fault)) no_members)
 
 -- the lines of the outcomes, in turn
-unfoldable pub outcome_lines : KitView → List Stamped → SiteView → List ℕ
+abbrev pub outcome_lines : KitView → List Stamped → SiteView → List ℕ
 outcome_lines kit [] site = []
 outcome_lines kit (c ∷ cs) site = line (outcome_data (applied kit site (Cmd c)).1) ++ outcome_lines kit cs (applied kit site (Cmd c)).0
 
 -- the site after the commands
-unfoldable pub site_after : KitView → List Stamped → SiteView → SiteView
+abbrev pub site_after : KitView → List Stamped → SiteView → SiteView
 site_after kit [] site = site
 site_after kit (c ∷ cs) site = site_after kit cs (applied kit site (Cmd c)).0
