@@ -1,4 +1,5 @@
 pub mod Answers
+pub mod Commands
 pub mod Faults
 pub mod Lines
 pub mod Played

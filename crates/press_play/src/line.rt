@@ -4,11 +4,13 @@ ghost use Rattle.std.specs.Prelude.{◌≡◌, ◌++◌, ◌≢◌, [], IfOk, On
 ghost use Rattle.serde_json.specs.View.{view};
 ghost use Rattle.serde_json.specs.Written.{compact_text, has_float};
 ghost use Rattle.press_kit.specs.Places.{place_text};
+ghost use Rattle.press_play.specs.Commands.{outcome_data};
 ghost use Rattle.press_play.specs.Lines.{answer_data, limit_data, line};
 ghost use Rattle.press_play.specs.Answers.{fault_data, fault_data_at};
 
 use crate::fault::PlayFault;
 use press_kit::Place;
+use press_site::Outcome;
 use serde_json::{Value, json};
 use std::alloc::{AllocError, Global};
 
@@ -42,6 +44,18 @@ fn fault_at(alloc: Global, number: u8, place: Option<Place>) -> Result<Value, Al
     }
 }
 
+fn outcome(alloc: Global, outcome: Outcome) -> Result<Value, AllocError>
+    ensures { IfOk result (λ v. view v ≡ outcome_data outcome) }
+{
+    match outcome {
+        Outcome::Done(id) => json!(in alloc; {"done": id}),
+        Outcome::Refused(fault) => {
+            let fault = u64::from(fault);
+            json!(in alloc; {"refused": fault})
+        }
+    }
+}
+
 // The value's text on a line of its own.
 fn line(alloc: Global, value: &Value) -> Result<String, AllocError>
     requires { has_float (view value.now) ≡ false }
@@ -65,6 +79,14 @@ pub fn limit_line(alloc: Global) -> Result<String, AllocError>
     ensures { IfOk result (λ t. string_bytes t ≡ line limit_data) }
 {
     let value = limit(alloc)?;
+    line(alloc, &value)
+}
+
+/// The line of what became of a command.
+pub fn outcome_line(alloc: Global, told: Outcome) -> Result<String, AllocError>
+    ensures { IfOk result (λ t. string_bytes t ≡ line (outcome_data told)) }
+{
+    let value = outcome(alloc, told)?;
     line(alloc, &value)
 }
 

@@ -1,9 +1,10 @@
-//! Plays kit files: `press_play [FILE ..]` plays the files in turn, or standard input, and prints a line of JSON for each play.
+//! Plays kit files: `press_play [FILE ..]` plays the files in turn, or standard input, and prints a line of JSON for each command and each play.
 //!
 //! A file with a fault gets a line that tells it, on the errors as well, and the program then ends with status 2.
 #![tactic(auto)]
 
 mod answered;
+mod commands;
 mod fault;
 mod line;
 mod played;

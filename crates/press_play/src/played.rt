@@ -1,18 +1,22 @@
 //! A play file, from its bytes to its lines.
 
-ghost use Rattle.std.specs.Prelude.{◌≡◌, ◌+◌, IfSome, string_bytes};
+ghost use Rattle.std.specs.Prelude.{◌≡◌, ◌+◌, IfOk, IfSome, string_bytes};
+ghost use Rattle.press_callbacks.specs.Kits.{kit_view};
 ghost use Rattle.press_text.specs.Streams.{TakesAtMost};
 ghost use Rattle.press_kit.specs.KitFile.{file_limit};
 ghost use Rattle.press_kit.specs.PlayFile.{play_file_in};
-ghost use Rattle.press_play.specs.Played.{Gives, file_where, played, played_in};
+ghost use Rattle.press_play.specs.Played.{Gives, all_lines, file_where, played, played_in};
 
+use crate::commands::commands_on;
 use crate::fault::PlayFault;
 use crate::sites::site_with;
 use crate::stage::lines_of;
+use press_apply::Stamped;
 use press_callbacks::{BoxedTurns, CallIn, Kit, Stored, script_turn};
-use press_kit::{FILE_LIMIT, KitFileFault, KitParts, Place, PlayFile, read_play_file};
-use press_text::{Copied, ReadLimitedFault, read_limited};
-use std::alloc::Global;
+use press_kit::{FILE_LIMIT, KitFileFault, KitParts, Place, Play, PlayFile, read_play_file};
+use press_site::Site;
+use press_text::{Copied, Items, ReadLimitedFault, read_limited};
+use std::alloc::{AllocError, Global};
 use std::io::Read;
 
 #[tactic(auto, unfolding(press_kit::specs::PlayFile::play_file_in, press_kit::specs::KitFile::file_in))]
@@ -33,6 +37,22 @@ fn file<R: Read>(alloc: Global, reader: &mut R) -> Result<PlayFile, PlayFault>
     }
 }
 
+// The lines of the commands, and those of the plays on the site after them.
+fn all_lines(
+    alloc: Global,
+    kit: &Kit,
+    mut site: Site,
+    commands: Items<Stamped>,
+    plays: &[Play],
+) -> Result<String, AllocError>
+    ensures { IfOk result (λ t. string_bytes t ≡ all_lines (kit_view kit.now) site commands plays.now) }
+{
+    let mut lines = commands_on(alloc, kit, &mut site, commands)?;
+    let played = lines_of(alloc, kit, site, plays)?;
+    lines.push_str(played.as_str())?;
+    Ok(lines)
+}
+
 // The lines of a play file. The kit's closures are boxed here: a box may not be handed out.
 fn lines(alloc: Global, file: PlayFile) -> Result<String, PlayFault>
     ensures { Gives (λ t. string_bytes t) result (played file) }
@@ -40,7 +60,7 @@ fn lines(alloc: Global, file: PlayFile) -> Result<String, PlayFault>
     let PlayFile {
         kit,
         active,
-        commands: _,
+        commands,
         plays,
     } = file;
     let KitParts {
@@ -58,7 +78,7 @@ fn lines(alloc: Global, file: PlayFile) -> Result<String, PlayFault>
     }
     let kit = Kit::build(alloc, callbacks, plugins.into_vec())?;
     let site = site_with(alloc, active)?;
-    Ok(lines_of(alloc, &kit, site, plays.as_slice())?)
+    Ok(all_lines(alloc, &kit, site, commands, plays.as_slice())?)
 }
 
 /// The lines of the play file that a reader has left.
