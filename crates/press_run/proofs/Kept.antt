@@ -1,5 +1,5 @@
 -- No change of a site touches its moment or its outcomes.
-use Rattle.std.proofs.Common.{◌≡◌, refl, sym, ap, ◌∙◌, List, ℕ, Option, Some, None, Result, Ok, Err}
+use Rattle.std.proofs.Common.{◌≡◌, refl, sym, ap, ◌∙◌, List, ℕ, Option, Some, Result, Ok, Err}
 use Rattle.press_posts.specs.declared.fire.Fire.{Fire}
 use Rattle.press_site.specs.declared.changed.Changed.{Changed}
 use Rattle.press_site.specs.declared.effect.Effect.{Effect}

@@ -1,5 +1,5 @@
 -- What a change of the site comes to, as a run sees it: a site's own change, or none where the site is only read (own).
-use Rattle.std.specs.Prelude.{ℕ, ◌+◌, List, false, Option, Some, None, option_map, Result, Ok, Err}
+use Rattle.std.specs.Prelude.{ℕ, ◌+◌, List, false, Option, option_map, Result, Ok, Err}
 use Rattle.press_text.specs.Decimals.{decimal_in}
 use Rattle.press_text.specs.Moments.{moment_of}
 use Rattle.press_text.specs.declared.every.Every.{Every}

@@ -1,5 +1,5 @@
 -- What the machine's calls say of the meaning: an Ok is its answer, Limit stands exactly where there is none, and want of memory may come at any time.
-use Rattle.std.specs.Prelude.{◌≡◌, ℕ, ◌+◌, ◌≤◌, List, [], ◌∷◌, ◌++◌, Option, Some, None, IsSome, Result, Ok, Err, Bool, true, false, ltb}
+use Rattle.std.specs.Prelude.{◌≡◌, ℕ, ◌+◌, List, [], ◌∷◌, ◌++◌, Option, Some, None, IsSome, Result, Ok, Err, Bool, true, false, ltb}
 use Rattle.press_hooks.specs.declared.open_run.OpenRun.{OpenRun}
 use Rattle.press_hooks.specs.NextEntry.{Table, begun, without_innermost}
 use Rattle.press_scan.specs.declared.tag_row.TagRow.{TagRow}
