@@ -1,11 +1,10 @@
 -- Work whose check is passed.
-use Rattle.std.proofs.Common.{◌≡◌, ap, ℕ, List, Option, Result, Ok}
+use Rattle.std.proofs.Common.{◌≡◌, ap, ℕ, Ok}
 use Rattle.std.specs.Prelude.{codes}
 use Rattle.press_posts.specs.declared.post.Move.TheVariants as move
 use Rattle.press_posts.specs.PostChange.{post_at}
 use Rattle.press_site.specs.declared.effect.Effect.TheVariants as effect
 use Rattle.press_run.specs.Run.{Meaning, State}
-use Rattle.press_apply.specs.declared.fault.ApplyFault.{ApplyFault}
 use Rattle.press_apply.specs.Apply.{◌>>=◌, between, delete_fault, deletes, move_fault, passes, trashes, untrashes}
 
 pub trash_is : (callback : Meaning) (id : ℕ) (s : State) (u : Unit {0}) → passes (move_fault move.Trash (post_at s.site.posts id)) ≡ Ok u → trashes callback id s ≡ between callback (codes "wp_trash_post") (effect.Move id move.Trash) (codes "trashed_post") id s

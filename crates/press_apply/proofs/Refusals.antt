@@ -1,5 +1,5 @@
 -- A step's refusal is that of all the work.
-use Rattle.std.proofs.Common.{◌≡◌, refl, sym, ap, ◌∙◌, ℕ, Option, Some, None, Result, Ok, Err}
+use Rattle.std.proofs.Common.{◌≡◌, refl, ap, ◌∙◌, ℕ, Option, Some, None, Result, Ok, Err}
 use Rattle.press_run.specs.Links.{kept}
 use Rattle.press_run.specs.Run.{State}
 use Rattle.press_run.proofs.Kept.{becomes_kept}

@@ -1,5 +1,5 @@
 -- Events that are taken one after the other.
-use Rattle.std.proofs.Common.{◌≡◌, refl, sym, ap, ◌∙◌, ℕ, ◌+◌, ◌<◌, ◌≤◌, length, List, [], ◌∷◌, drop, get_or, add-one, drop-cons, Option, Result, Ok, Err}
+use Rattle.std.proofs.Common.{◌≡◌, refl, ap, ◌∙◌, ℕ, ◌+◌, ◌<◌, ◌≤◌, length, List, [], ◌∷◌, drop, get_or, add-one, drop-cons, Ok}
 use Rattle.std.proofs.Math.ListN.{drop_of_length-le}
 use Rattle.press_events.specs.declared.event.Event.{Event}
 use Rattle.press_run.specs.Run.{Meaning, State}

@@ -2,7 +2,6 @@
 -- outcome is the one that was kept. Another command does its work; refused, it leaves the site as it was; its outcome is kept under its token for good
 -- (own; what the work of each command runs and fires: Plugin Handbook, Hooks and Cron; hook reference).
 use Rattle.std.specs.Prelude.{ℕ, max, List, [], ◌∷◌, if◌then◌else◌, Bool, true, false, ◌||◌, Option, Some, None, Result, Ok, Err, is_some, codes, decimal}
-use Rattle.press_callbacks.specs.declared.plugin.Plugin.{Plugin}
 use Rattle.press_callbacks.specs.Kits.{KitView, plugin_of}
 use Rattle.press_posts.specs.declared.fault.PostFault.{PostFault}
 use Rattle.press_posts.specs.declared.fire.Fire.{Fire}

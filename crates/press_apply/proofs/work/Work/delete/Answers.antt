@@ -1,6 +1,5 @@
-use Rattle.std.proofs.Common.{◌≡◌, ◌∙◌, sym, ap}
+use Rattle.std.proofs.Common.{◌∙◌, sym, ap}
 use Rattle.std.proofs.lemmas.Result.{err_from_is_err_and}
-use Rattle.press_posts.specs.declared.post.Move.TheVariants as move
 use Rattle.press_apply.specs.Apply.{delete_fault, callbacks_on, passes}
 use Rattle.press_callbacks.specs.Kits.{kit_view}
 use Rattle.press_apply.specs.Works.{state_in}

@@ -1,8 +1,5 @@
-use Rattle.std.proofs.Common.{◌≡◌, ◌∙◌, sym, ap, ◌≤◌, length, arith}
+use Rattle.std.proofs.Common.{◌∙◌, sym, ◌≤◌, length, arith}
 use Rattle.std.proofs.lemmas.Result.{err_from_is_err_and}
-use Rattle.press_callbacks.specs.Kits.{kit_view}
-use Rattle.press_apply.specs.Apply.{callbacks_on, takes_all}
-use Rattle.press_apply.specs.Works.{Refuses, state_in}
 use Rattle.press_apply.proofs.Ticks.{takes_more, takes_refused, takes_end}
 use Rattle.press_apply.proofs.work.Work.take_all.Goals as goal
 

@@ -1,4 +1,4 @@
-use Rattle.std.proofs.Common.{◌≡◌, ◌∙◌, sym, ap}
+use Rattle.std.proofs.Common.{◌∙◌, sym, ap}
 use Rattle.std.proofs.lemmas.Result.{err_from_is_err_and}
 use Rattle.press_posts.specs.declared.post.Move.TheVariants as move
 use Rattle.press_apply.specs.Apply.{move_fault, callbacks_on, passes}
