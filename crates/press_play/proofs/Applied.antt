@@ -1,5 +1,5 @@
 -- Commands one after the other, as a loop does.
-use Rattle.std.proofs.Common.{◌≡◌, ℕ, List, [], ◌∷◌, ◌++◌, sym, ◌∙◌, append_assoc, append-nil}
+use Rattle.std.proofs.Common.{◌≡◌, ℕ, List, ◌∷◌, ◌++◌, ◌∙◌, append_assoc}
 use Rattle.press_site.specs.SiteView.{SiteView}
 use Rattle.press_callbacks.specs.Kits.{KitView}
 use Rattle.press_apply.specs.Apply.{applied}
@@ -19,5 +19,5 @@ module _ (kit : KitView) where
   told_one old new c left cs s s' total cut here written so_far =
       let one : old ++ outcome_lines kit (c ∷ cs) s ≡ total = rw cut at so_far in
       let two : (old ++ line (outcome_data (applied kit s (Cmd c)).1)) ++ outcome_lines kit cs (applied kit s (Cmd c)).0 ≡ total =
-          append_assoc old (line (outcome_data (applied kit s (Cmd c)).1)) (outcome_lines kit cs (applied kit s (Cmd c)).0) ∙ one in
+      append_assoc old (line (outcome_data (applied kit s (Cmd c)).1)) (outcome_lines kit cs (applied kit s (Cmd c)).0) ∙ one in
       rw (written, here) two
