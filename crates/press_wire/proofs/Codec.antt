@@ -1,9 +1,9 @@
 -- A reader and a speller that undo each other, and how such pairs are put together.
-use Rattle.std.proofs.Common.{◌≡◌, ℕ, suc, ◌+◌, ◌<◌, ◌≤◌, Bool, true, false, cond, List, [], ◌∷◌, ◌++◌, length, get_or, take, drop, Option, Some, None, Result, Ok, Err, refl, sym, ap, subst, ◌∙◌, append_assoc, arith, inl, inr, eqb}
+use Rattle.std.proofs.Common.{◌≡◌, ℕ, suc, ◌+◌, Bool, true, false, cond, List, [], ◌∷◌, ◌++◌, length, take, drop, Option, Some, None, Result, Ok, Err, refl, sym, ap, subst, ◌∙◌, append_assoc, arith, inl, inr, eqb}
 use Rattle.std.proofs.lemmas.Bool.{cases_lt, eqb-true}
 use Rattle.std.proofs.lemmas.List.{get_or-drop, get_or-take, get_or_past, length-take, take_at}
 use Rattle.press_wire.specs.declared.fault.WireFault.{WireFault}
-use Rattle.press_wire.specs.Fields.{Reading, ◌>>=◌, or_fault, checked}
+use Rattle.press_wire.specs.Fields.{◌>>=◌, or_fault, checked}
 use Rattle.press_wire.specs.Held.{IsBytes}
 use Rattle.press_wire.specs.Ranges.{only}
 

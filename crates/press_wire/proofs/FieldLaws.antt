@@ -1,5 +1,5 @@
 -- The fields: what is read is spelled so, and what is spelled so is read.
-use Rattle.std.proofs.Common.{◌≡◌, ℕ, suc, ◌+◌, ◌^◌, ◌<◌, ◌≤◌, Bool, true, false, cond, eqb, ltb, List, [], ◌∷◌, ◌++◌, length, take, drop, Option, Some, None, Result, Ok, Err, refl, sym, ap, subst, ◌∙◌, append_assoc, arith}
+use Rattle.std.proofs.Common.{◌≡◌, ℕ, ◌^◌, ◌<◌, ◌≤◌, Bool, true, false, cond, ltb, List, [], ◌∷◌, ◌++◌, length, take, drop, Some, Result, Ok, Err, refl, sym, ap, subst, ◌∙◌, append_assoc, arith}
 use Rattle.std.specs.Str.{is_utf8}
 use Rattle.std.specs.Int.{Width, w32, w64, byte_len, from_be_bytes, to_be_bytes}
 use Rattle.std.proofs.lemmas.Bool.{ltb-false, le-ltb}
@@ -13,7 +13,7 @@ use Rattle.press_posts.specs.declared.status.Status.TheVariants as status
 use Rattle.press_wire.specs.declared.ballot.Ballot.{Ballot}
 use Rattle.press_wire.specs.declared.fault.WireFault.{WireFault}
 use Rattle.press_wire.specs.declared.fault.WireFault.TheVariants.{Short, BadField}
-use Rattle.press_wire.specs.Fields.{◌>>=◌, or_fault, checked, counted, byte_at, bytes_at, number_at, number4_at, number8_at, short_at, name_at, text_at, moment_at, status_at, node_at, slot_at, round_at, ballot_at}
+use Rattle.press_wire.specs.Fields.{checked, counted, byte_at, bytes_at, number_at, number4_at, number8_at, short_at, name_at, text_at, moment_at, status_at, node_at, slot_at, round_at, ballot_at}
 use Rattle.press_wire.specs.Held.{IsBytes, IsText, IsMoment, IsRound, IsNode, IsSlot, IsBallot}
 use Rattle.press_wire.specs.Kinds.{status_of, status_number}
 use Rattle.press_wire.specs.Ranges.{only, is_at_most, is_within, node_of, slot_of, round_of}

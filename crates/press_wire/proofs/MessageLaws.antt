@@ -1,5 +1,5 @@
 -- Messages: what is read is spelled so, and what is spelled so is read.
-use Rattle.std.proofs.Common.{◌≡◌, ℕ, ◌^◌, ◌<◌, ◌≤◌, Bool, true, false, cond, eqb, ltb, List, [], ◌∷◌, ◌++◌, length, Option, Some, None, Result, Ok, Err, refl, sym, ap, subst, ◌∙◌, append_assoc, arith}
+use Rattle.std.proofs.Common.{◌≡◌, ℕ, ◌<◌, ◌≤◌, Bool, true, false, eqb, List, [], ◌∷◌, ◌++◌, length, Option, Some, None, Result, Ok, Err, refl, sym, ap, subst, ◌∙◌, append_assoc, arith}
 use Rattle.std.proofs.lemmas.List.{append-nil, nil_from_length}
 use Rattle.std.proofs.lemmas.Bool.{eqb-true, ltb-false}
 use Rattle.press_apply.specs.declared.value.Value.{Value}
@@ -15,11 +15,11 @@ use Rattle.press_wire.specs.declared.vote.Vote.{Vote}
 use Rattle.press_wire.specs.Fields.{◌>>=◌, byte_at, checked}
 use Rattle.std.specs.Prelude.{IfOk}
 use Rattle.press_wire.specs.Gives.{Gives}
-use Rattle.press_wire.specs.Held.{IsBytes, IsRound, IsNode, IsSlot, IsBallot, IsValue, IsVote, IsPerhapsVote, IsBody, IsMessage}
+use Rattle.press_wire.specs.Held.{IsBytes, IsRound, IsNode, IsSlot, IsBallot, IsValue, IsPerhapsVote, IsBody, IsMessage}
 use Rattle.press_wire.specs.Kinds.{message_number, message_kind_of, kind_of_body}
 use Rattle.press_wire.specs.Reading.{ended, inside, read_value, value_at, vote_at, flag_of, if_flagged, perhaps_vote_at, promise_at, nack_at, accept_at, body_at, message_at, read_message}
-use Rattle.press_wire.specs.Spelling.{number4, number8, text, ballot, value, vote, perhaps_vote, body, spelled_command, spelled_message, longest, is_too_long, is_too_long_inside, perhaps_value_of, value_of, is_too_long_message}
-use Rattle.press_wire.proofs.Codec.{IsBytes-front, IsBytes-back, Takes, Codec, step, step_again, join, bind_ok, ok_is, checked_codec, or_next, or_none, recast, mapped_codec, paired_codec}
+use Rattle.press_wire.specs.Spelling.{number4, text, value, vote, perhaps_vote, body, spelled_command, spelled_message, longest, is_too_long, is_too_long_inside, perhaps_value_of, value_of, is_too_long_message}
+use Rattle.press_wire.proofs.Codec.{IsBytes-front, IsBytes-back, Takes, Codec, step, step_again, join, ok_is, checked_codec, or_next, or_none, recast, mapped_codec, paired_codec}
 use Rattle.press_wire.proofs.FieldLaws.{one, byte_codec, round_codec, node_codec, slot_codec, ballot_codec, sized_codec}
 use Rattle.press_wire.proofs.ValueLaws.{FitsValue, ended_ok, whole_takes, whole_again, is_value, fits_value}
 

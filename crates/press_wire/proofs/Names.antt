@@ -1,5 +1,5 @@
 -- A name is ASCII, so its bytes are a text.
-use Rattle.std.proofs.Common.{◌≡◌, ℕ, zero, suc, ◌<◌, Bool, true, false, cond, eqb, ltb, length, List, [], ◌∷◌, Option, Some, None, Result, Ok, Err, arith, refl, ◌&&◌}
+use Rattle.std.proofs.Common.{◌≡◌, ℕ, zero, suc, ◌<◌, Bool, true, false, cond, eqb, ltb, length, List, [], ◌∷◌, Some, None, Ok, Err, arith, refl}
 use Rattle.std.specs.List.{list_all}
 use Rattle.std.specs.Str.{IsUtf8, IsAscii, is_utf8}
 use Rattle.std.proofs.lemmas.Str.{IsUtf8-from_ascii, IsUtf8-from_is_utf8, is_utf8-from_IsUtf8}
@@ -8,7 +8,6 @@ use Rattle.std.proofs.lemmas.Bool.{and_parts}
 use Rattle.press_text.specs.Names.{is_name_byte, is_name, name_fault}
 use Rattle.press_text.specs.declared.name_fault.NameFault.{NameFault}
 use Rattle.press_text.specs.declared.name_fault.NameFault.TheVariants.{BadName, TooLong}
-use Rattle.press_wire.specs.declared.fault.WireFault.{WireFault}
 use Rattle.press_wire.specs.declared.fault.WireFault.TheVariants.{BadField}
 use Rattle.press_wire.specs.Fields.{name_at, short_at}
 use Rattle.press_wire.specs.Ranges.{only}

@@ -20,7 +20,7 @@ use Rattle.press_wire.specs.Fields.{◌>>=◌, byte_at, checked}
 use Rattle.std.specs.Prelude.{IfOk}
 use Rattle.press_wire.specs.Gives.{Gives}
 use Rattle.press_wire.specs.Measures.{Measures}
-use Rattle.press_wire.specs.Held.{IsBytes, IsMoment, IsText, IsCommand, IsStamped, IsValue, HasShortTexts, IsShort}
+use Rattle.press_wire.specs.Held.{IsBytes, IsMoment, IsCommand, IsValue, HasShortTexts, IsShort}
 use Rattle.press_wire.specs.Kinds.{command_number, command_kind_of, kind_of_command, value_kind_of}
 use Rattle.press_wire.specs.Reading.{ended, post_at, insert_at, update_at, option_at, fields_at, stamped_at, behind_kind, command_at, read_value, read_command}
 use Rattle.press_wire.specs.Spelling.{number8, name, text, post, fields, stamped, spelled_command, longest, is_too_long}

@@ -1,9 +1,8 @@
 -- Worked rows, computed by the definitions.
-use Rattle.std.specs.Prelude.{◌≡◌, refl, ℕ, List, [], ◌∷◌, ◌++◌, take, Result, Ok, Err, codes}
+use Rattle.std.specs.Prelude.{◌≡◌, refl, ℕ, List, [], ◌∷◌, ◌++◌, take, Ok, Err, codes}
 use Rattle.press_apply.specs.declared.command.Command.TheVariants.{Tick}
 use Rattle.press_apply.specs.declared.value.Value.{Value}
 use Rattle.press_apply.specs.declared.value.Value.TheVariants.{Cmd}
-use Rattle.press_wire.specs.declared.fault.WireFault.{WireFault}
 use Rattle.press_wire.specs.declared.fault.WireFault.TheVariants.{Short, BadKind, BadField, Extra}
 use Rattle.press_wire.specs.declared.message.Body.TheVariants.{Prepare}
 use Rattle.press_wire.specs.declared.message.Message.{Message}

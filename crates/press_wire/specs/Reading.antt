@@ -1,5 +1,5 @@
 -- What bytes are read as: a value or a message, with no byte left; else the fault of the first field that fails (own).
-use Rattle.std.specs.Prelude.{ℕ, List, [], ◌∷◌, ◌==◌, length, nat_lt, Bool, true, false, Option, Some, None, Result, Ok, Err, if◌then◌else◌}
+use Rattle.std.specs.Prelude.{ℕ, List, ◌==◌, length, nat_lt, Bool, true, false, Option, Some, None, Result, Ok, Err, if◌then◌else◌}
 use Rattle.press_apply.specs.declared.command.Command.{Command}
 use Rattle.press_apply.specs.declared.command.Command.TheVariants.{Insert, Update, Trash, Untrash, Delete, SetOption, Activate, Deactivate, Tick}
 use Rattle.press_apply.specs.declared.command.Stamped.{Stamped}

@@ -1,4 +1,4 @@
-use Rattle.std.proofs.Common.{◌≡◌, Option, None, sym}
+use Rattle.std.proofs.Common.{sym}
 use Rattle.press_wire.proofs.Names.{no_name}
 use Rattle.press_wire.proofs.reader.Reader.option_name.Goals as goal
 
