@@ -1,4 +1,3 @@
-mod bad_files;
 mod fakes;
 mod fixtures;
 mod kits;

@@ -1,3 +1,4 @@
+use std::rt::Files;
 use crate::run::run;
 
 /// What a run without words left: its status, what it printed, and what it told of a fault.
@@ -8,7 +9,7 @@ pub struct EndedRun {
     pub told: Vec<u8>,
 }
 
-pub fn ran(rt: &impl AllocGlobal, file: &[u8]) -> EndedRun {
+pub fn ran(rt: &(impl AllocGlobal + Files), file: &[u8]) -> EndedRun {
     let mut input = file;
     let mut out: Vec<u8> = Vec::new(rt.alloc());
     let mut told: Vec<u8> = Vec::new(rt.alloc());

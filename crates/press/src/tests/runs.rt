@@ -1,7 +1,7 @@
-use crate::decode::LIMIT;
 use crate::run::run;
 use crate::tests::fakes::{Endless, Failing, Narrow};
 use crate::tests::fixtures::ran;
+use press_kit::FILE_LIMIT;
 use std::alloc::Global;
 use std::test::Fail;
 
@@ -97,7 +97,7 @@ fn reads_one_byte_past_the_limit(rt: HostRuntime) {
     let mut told: Vec<u8> = Vec::new(rt.alloc());
     assert_eq!(rt; run(&rt, &[], &mut input, &mut out, &mut told), 2);
     assert_eq!(rt; told.as_slice(), b"press: fault 72\n".as_slice());
-    assert_eq!(rt; input.given, LIMIT + 1);
+    assert_eq!(rt; input.given, FILE_LIMIT + 1);
 }
 
 // 28 reads give the 192 bytes, and the next tells the end. None is tried again.
