@@ -10,7 +10,6 @@ ghost use Rattle.press_site.specs.Contents.{Gives, beside_move, events_of, event
 
 use crate::changed::Changed;
 use crate::fault::SiteFault;
-use crate::hook::hook_named;
 use itoa::Buffer;
 use press_events::{Event, Events};
 use press_posts::{Move, Post, Posts, Status};
@@ -257,7 +256,7 @@ fn publish_event(alloc: Global, id: u64, date: Moment) -> Result<Event, AllocErr
 fn publish_hook(alloc: Global) -> Result<HookName, AllocError>
     ensures { IfOk result (λ h. h ≡ codes "publish_future_post") }
 {
-    hook_named(alloc, PUBLISH_HOOK)
+    HookName::from_valid(alloc, PUBLISH_HOOK)
 }
 
 fn decimal(alloc: Global, n: u64) -> Result<Text, AllocError>

@@ -1,3 +1,4 @@
+mod applies;
 mod callbacks;
 mod events;
 mod hooks;
