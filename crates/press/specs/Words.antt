@@ -1,5 +1,5 @@
 -- What the words after the program's name ask for: `page FILE TARGET`, as `clap` reads words; without any, post 1 of the standard input (own).
-use Rattle.std.specs.Prelude.{ℕ, List, [], ◌∷◌, ◌×◌, Bool, true, bytes_eq, Option, Some, None, option_and_then, codes}
+use Rattle.std.specs.Prelude.{ℕ, List, [], ◌∷◌, Bool, true, bytes_eq, Option, Some, None, option_and_then, codes}
 use Rattle.clap.specs.Kinds.{Kinds}
 use Rattle.clap.specs.Words.{App, Row, Rule, Text, fault_of, first_of, new_app, new_rule, subcommand_of, with_rule, with_subcommand}
 use Rattle.press_page.specs.declared.reply.Target.{Target}

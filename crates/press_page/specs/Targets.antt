@@ -1,5 +1,5 @@
 -- What a text asks of a site: `front`, `post:ID`, `json:ID` or `result:EDITOR/SEQ`, with numbers in decimal (own).
-use Rattle.std.specs.Prelude.{ℕ, ◌×◌, List, length, ◌==◌, nat_lt, if◌then◌else◌, Option, Some, None, option_map, option_and_then, bytes_eq, codes}
+use Rattle.std.specs.Prelude.{ℕ, List, length, ◌==◌, nat_lt, if◌then◌else◌, Option, Some, None, option_map, option_and_then, bytes_eq, codes}
 use Rattle.std.specs.List.{position_or_len, before_first, after_first}
 use Rattle.press_text.specs.Decimals.{decimal_in}
 use Rattle.press_text.specs.Names.{is_name}
