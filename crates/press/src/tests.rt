@@ -2,3 +2,4 @@ mod fakes;
 mod fixtures;
 mod kits;
 mod runs;
+mod words;

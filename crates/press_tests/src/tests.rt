@@ -10,3 +10,4 @@ mod scripts;
 mod site;
 mod texts;
 mod twin;
+mod wire;
