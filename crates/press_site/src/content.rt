@@ -1,6 +1,6 @@
 //! Posts and events as one: each change of a post takes its event of `publish_future_post` along.
 
-ghost use Rattle.std.specs.Prelude.{◌≡◌, ℕ, [], IfOk, None, Some, Ok, false, length, nat_le, codes, decimal, option_map};
+ghost use Rattle.std.specs.Prelude.{◌≡◌, ℕ, [], IfOk, None, Some, Ok, false, length, nat_le, codes, decimal, option_map, take};
 ghost use Rattle.press_events.specs.DueEvents.{due};
 ghost use Rattle.press_posts.specs.PostChange.{comes, post_at};
 ghost use Rattle.press_posts.specs.PostChange.Change.{Insert, Edit, Moves, Delete};
@@ -59,6 +59,13 @@ impl Content {
         ensures { IfOk result (λ ids. ids ≡ published self.now.posts) }
     {
         self.posts.published()
+    }
+
+    /// The first so many of them.
+    pub fn newest(&self, most: usize) -> Result<Items<u64>, AllocError>
+        ensures { IfOk result (λ ids. ids ≡ take most (published self.now.posts)) }
+    {
+        self.posts.newest(most)
     }
 
     /// The events whose time has come.
