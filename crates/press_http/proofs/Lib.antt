@@ -1,0 +1,6 @@
+pub mod Fronts
+pub mod HeadReads
+pub mod LineEnds
+pub mod Phrases
+pub mod Tables
+pub mod Tokens
