@@ -54,6 +54,7 @@ fn after_slash(text: &str) -> &str
 }
 
 // What stands behind the first so many slashes.
+#[tactic(auto, using(crate::proofs::Slashes::one_more, crate::proofs::Slashes::none_left))]
 fn behind(path: &str, slashes: usize) -> &str
     ensures { result.now ≡ spec.behind slashes path.now }
 {

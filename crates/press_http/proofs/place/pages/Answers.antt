@@ -6,4 +6,4 @@ unfolding pages
 returns-clause-ok c =
     let first = c.in_ok-add.ensures.ok in
     let second = c.in_ok-add-2.ensures.ok in
-    rw (second, first, c.new-router.ensures) at c.add-3.ensures.ok
+    rw (second, first, c.new-router.ensures) at c.in_ok-add-3.ensures.ok
