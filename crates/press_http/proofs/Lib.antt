@@ -1,7 +1,11 @@
+pub mod Digits
 pub mod Fronts
 pub mod HeadReads
 pub mod LineEnds
 pub mod Phrases
 pub mod Slashes
+pub mod Starts
 pub mod Tables
 pub mod Tokens
+pub mod Values
+pub mod Whole

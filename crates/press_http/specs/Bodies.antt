@@ -2,8 +2,8 @@
 -- a target of another form than a path (RFC 9112, 3.2), a transfer coding, and for POST alone the length. The most bytes are own.
 use Rattle.std.specs.Prelude.{◌≡◌, ℕ, ◌+◌, ◌<◌, ◌==◌, ◌&&◌, Bool, true, false, List, [], ◌∷◌, ◌++◌, length, map, nat_lt, nat_le, bytes_eq, Option, Some, None, Result, Ok, Err, codes, if◌then◌else◌}
 use Rattle.std.specs.Io.KnownBytes.{IsAtEnd}
-use Rattle.std.specs.Char.{to_ascii_lowercase}
-use Rattle.std.specs.Str.{all_ascii_digits}
+use Rattle.std.specs.List.{list_all}
+use Rattle.std.specs.Char.{is_ascii_digit, to_ascii_lowercase}
 use Rattle.std.specs.Str.Parse.{digits_value}
 use Rattle.httparse.specs.Grammar.{RequestHead}
 use Rattle.httparse.specs.Spans.{name_and_value}
@@ -27,7 +27,7 @@ values_of name (field ∷ fields) = if is_named name field.0 then field.1 ∷ va
 
 -- one digit or more, and nothing else
 abbrev pub are_digits : List ℕ → Bool
-are_digits value = nat_lt 0 (length value) && all_ascii_digits value
+are_digits value = nat_lt 0 (length value) && list_all is_ascii_digit value
 
 abbrev pub length_in : List ℕ → Result ℕ HttpFault
 length_in value =

@@ -18,7 +18,7 @@ longest_request = longest_head + longest_body
 abbrev pub IsRequest : List ℕ → Request → Type 0
 IsRequest seen r =
     (h : RequestHead) × (rest : List ℕ) × (n : ℕ) × ReadsHead seen h rest × (length_of h ≡ Ok n) × (n ≤ length rest)
-    × (r ≡ record { method = h.method; target = h.target; body = take n rest })
+    × (r.method ≡ h.method) × (r.target ≡ h.target) × (r.body ≡ take n rest)
 
 -- a head that tells the length of its body, and what stands behind it
 abbrev pub IsStart : List ℕ → Start → Type 0

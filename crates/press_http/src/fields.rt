@@ -1,11 +1,15 @@
 //! The fields of a head, and what they say of the body.
 
-ghost use Rattle.std.specs.Prelude.{◌≡◌, ◌<◌, List, ℕ, All, Bool, not, length, map, codes};
+ghost use Rattle.std.specs.Prelude.{◌≡◌, ◌≤◌, ◌^◌, List, ℕ, All, true, not, length, map, codes, MatchOption};
+ghost use Rattle.std.specs.List.{list_all};
+ghost use Rattle.std.specs.Char.{is_ascii_digit};
+ghost use Rattle.std.specs.Str.Parse.{digits_value};
 ghost use Rattle.httparse.specs.Spans.{IsHeaderWithin, header_bytes};
 ghost use Rattle.press_http.specs.Bodies.{AreValues, are_digits, body_length, is_empty, is_named, length_by, length_in, starts_with_slash, values_of};
 
 use crate::fault::HttpFault;
 use httparse::spans::HeaderSpan;
+use std::str::from_utf8;
 
 /// How long a body may be.
 const LONGEST_BODY: u64 = 65_536;
@@ -41,10 +45,35 @@ fn values_of<'b>(buf: &'b [u8], fields: &[HeaderSpan], name: &str) -> Values<'b>
     found
 }
 
+fn all_digits(value: &[u8]) -> bool
+    ensures { result ≡ list_all is_ascii_digit value.now }
+{
+    value.iter().all(|b| b.is_ascii_digit())
+}
+
 fn are_digits(value: &[u8]) -> bool
     ensures { result ≡ are_digits value.now }
 {
-    !value.is_empty() && value.iter().all(|b| b.is_ascii_digit())
+    !value.is_empty() && all_digits(value)
+}
+
+// The text that digits are.
+fn text_of(digits: &[u8]) -> &str
+    requires { are_digits digits.now ≡ true }
+    ensures { result.now ≡ digits.now }
+{
+    let Ok(text) = from_utf8(digits) else {
+        unreachable!()
+    };
+    text
+}
+
+// The number that digits write, where it is below 2^64.
+fn number_of(digits: &str) -> Option<u64>
+    requires { are_digits digits.now ≡ true }
+    ensures { MatchOption result (2 ^ 64 ≤ digits_value 10 digits.now) (λ n. n ≡ digits_value 10 digits.now) }
+{
+    digits.parse::<u64>().ok()
 }
 
 // The length that a field tells: digits alone, however many.
@@ -54,11 +83,8 @@ fn length_in(value: &[u8]) -> Result<usize, HttpFault>
     if !are_digits(value) {
         return Err(HttpFault::BadHead);
     }
-    let Ok(digits) = std::str::from_utf8(value) else {
-        unreachable!()
-    };
-    match digits.parse::<u64>() {
-        Ok(n) if n <= LONGEST_BODY => Ok(n as usize),
+    match number_of(text_of(value)) {
+        Some(n) if n <= LONGEST_BODY => Ok(n as usize),
         _ => Err(HttpFault::TooBig),
     }
 }

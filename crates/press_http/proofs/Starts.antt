@@ -1,0 +1,129 @@
+-- What a head says, by its spans, and what its fields tell.
+use Rattle.std.proofs.Common.{◌≡◌, ℕ, ◌<◌, ◌≤◌, Bool, true, false, cond, List, [], ◌∷◌, ◌++◌, length, take, drop, map, Ok, Err, refl, sym, ap, ◌∙◌, arith, length-append, length-take, inl, inr}
+use Rattle.std.specs.Prelude.{Option, Result, IsUtf8}
+use Rattle.std.proofs.lemmas.List.{length-map}
+use Rattle.httparse.specs.declared.spans.HeaderSpan.{HeaderSpan}
+use Rattle.httparse.specs.declared.spans.RequestSpans.{RequestSpans}
+use Rattle.httparse.specs.Grammar.{RequestHead, print_request, print_blank, IsToken}
+use Rattle.httparse.specs.Spans.{IsRequestAt, IsRequestWithin, header_bytes, span_bytes, name_and_value}
+use Rattle.press_http.specs.declared.fault.HttpFault.{HttpFault}
+use Rattle.press_http.specs.declared.fault.HttpFault.TheVariants as fault
+use Rattle.press_http.specs.declared.start.Start.{Start}
+use Rattle.press_http.specs.Heads.{IsHead, ReadsHead, RefusesHead, longest_head, most_fields}
+use Rattle.press_http.specs.Bodies.{body_length, length_by, length_for, length_in, length_of}
+use Rattle.press_http.specs.Requests.{IsJudged, IsStart, Refuses}
+
+-- ---- which faults a length has
+
+may_tell : HttpFault → Bool
+may_tell fault.NoMemory = false
+may_tell fault.ReadFault = false
+may_tell fault.Ended = false
+may_tell fault.WriteFault = false
+may_tell fault.BadHead = true
+may_tell fault.BadForm = false
+may_tell fault.BadPeer = false
+may_tell fault.NotFound = false
+may_tell fault.NotAllowed = false
+may_tell fault.NoLength = true
+may_tell fault.TooBig = true
+may_tell fault.FieldsTooLarge = false
+may_tell fault.NotDone = true
+
+is_fine : Result ℕ HttpFault → Bool
+is_fine (Ok n) = true
+is_fine (Err e) = may_tell e
+
+of_if : (b : Bool) (x y : Result ℕ HttpFault) → is_fine x ≡ true → is_fine y ≡ true → is_fine (cond b x y) ≡ true
+of_if true x y p q = p
+of_if false x y p q = q
+
+in_fine : (value : List ℕ) → is_fine (length_in value) ≡ true
+in_fine value = of_if _ _ _ (of_if _ _ _ refl refl) refl
+
+by_fine : (values : List (List ℕ)) → is_fine (length_by values) ≡ true
+by_fine [] = refl
+by_fine (value ∷ []) = in_fine value
+by_fine (value ∷ other ∷ more) = refl
+
+fine : (method target : List ℕ) (fields : List (List ℕ × List ℕ)) → is_fine (body_length method target fields) ≡ true
+unfolding body_length
+fine method target fields = of_if _ _ _ (of_if _ _ _ (of_if _ _ _ (by_fine _) refl) refl) refl
+
+tells : (h : RequestHead) (e : HttpFault) → length_of h ≡ Err e → may_tell e ≡ true
+tells h e p = sym (ap is_fine p) ∙ fine h.method h.target (map name_and_value h.fields)
+
+pub judged : (e : HttpFault) (seen : List ℕ) (left : Option (List ℕ)) → IsJudged e seen → Refuses e seen left
+judged fault.NoMemory seen left j = let q : false ≡ true = tells j.0 fault.NoMemory j.3 in cc
+judged fault.ReadFault seen left j = let q : false ≡ true = tells j.0 fault.ReadFault j.3 in cc
+judged fault.Ended seen left j = let q : false ≡ true = tells j.0 fault.Ended j.3 in cc
+judged fault.WriteFault seen left j = let q : false ≡ true = tells j.0 fault.WriteFault j.3 in cc
+judged fault.BadHead seen left j = inr j
+judged fault.BadForm seen left j = let q : false ≡ true = tells j.0 fault.BadForm j.3 in cc
+judged fault.BadPeer seen left j = let q : false ≡ true = tells j.0 fault.BadPeer j.3 in cc
+judged fault.NotFound seen left j = let q : false ≡ true = tells j.0 fault.NotFound j.3 in cc
+judged fault.NotAllowed seen left j = let q : false ≡ true = tells j.0 fault.NotAllowed j.3 in cc
+judged fault.NoLength seen left j = j
+judged fault.TooBig seen left j = j
+judged fault.FieldsTooLarge seen left j = let q : false ≡ true = tells j.0 fault.FieldsTooLarge j.3 in cc
+judged fault.NotDone seen left j = j
+
+pub head_refused : (e : HttpFault) (seen : List ℕ) (left : Option (List ℕ)) → RefusesHead e seen left → Refuses e seen left
+head_refused fault.NoMemory seen left r = r
+head_refused fault.ReadFault seen left r = inl r
+head_refused fault.Ended seen left r = inl r
+head_refused fault.WriteFault seen left r = absurd r
+head_refused fault.BadHead seen left r = inl r
+head_refused fault.BadForm seen left r = absurd r
+head_refused fault.BadPeer seen left r = absurd r
+head_refused fault.NotFound seen left r = absurd r
+head_refused fault.NotAllowed seen left r = absurd r
+head_refused fault.NoLength seen left r = absurd r
+head_refused fault.TooBig seen left r = absurd r
+head_refused fault.FieldsTooLarge seen left r = r
+head_refused fault.NotDone seen left r = absurd r
+
+-- ---- a head by its spans
+
+behind_some : (xs ys : List ℕ) → 0 < length ys → 0 < length (xs ++ ys)
+behind_some xs ys h = omega (arith, h, length-append xs ys)
+
+pub some_print : (h : RequestHead) → 0 < length (print_request h)
+unfolding print_request
+some_print h = behind_some (print_blank h.blank) _ (behind_some h.method _ (omega arith))
+
+module _ (seen : List ℕ) (headers : List HeaderSpan) (spans : RequestSpans) where
+  pub reads_head : (head : IsHead seen headers spans) → length headers ≡ most_fields → length seen ≤ longest_head → ReadsHead seen head.0 (drop spans.len seen)
+  reads_head head room short =
+      let h = head.0 in
+      let told = head.1 in
+      let few : length h.fields ≤ most_fields =
+          omega (arith, room, ap length told.fields, length-map (take spans.headers headers) (header_bytes seen), length-map h.fields name_and_value, length-take spans.headers headers)
+      in
+      let fits : length (print_request h) ≤ longest_head = omega (arith, told.len, head.2.section.len_fits, short) in
+      (told.reads, few, fits)
+
+  pub same_length : (head : IsHead seen headers spans)
+      → body_length (span_bytes seen spans.method) (span_bytes seen spans.path) (map (header_bytes seen) (take spans.headers headers)) ≡ length_of head.0
+  same_length head = rw (head.1.method, head.1.path, head.1.fields) refl
+
+  pub some_seen : IsHead seen headers spans → 0 < length seen
+  some_seen head = omega (arith, some_print head.0, head.1.len, head.2.section.len_fits)
+
+  pub token_there : IsHead seen headers spans → IsToken (span_bytes seen spans.method)
+  token_there head = rw head.1.method head.1.reads.0.method
+
+  pub text_there : IsHead seen headers spans → IsUtf8 (span_bytes seen spans.path)
+  text_there head = rw head.1.path head.1.reads.0.target_text
+
+  pub begins_bad : IsHead seen headers spans → length headers ≡ most_fields → length seen ≤ longest_head → (e : HttpFault)
+      → body_length (span_bytes seen spans.method) (span_bytes seen spans.path) (map (header_bytes seen) (take spans.headers headers)) ≡ Err e
+      → (left : Option (List ℕ)) → Refuses e seen left
+  begins_bad head room short e p left =
+      judged e seen left (head.0, drop spans.len seen, reads_head head room short, sym (same_length head) ∙ p, short)
+
+  pub begins : IsHead seen headers spans → length headers ≡ most_fields → length seen ≤ longest_head → (s : Start)
+      → body_length (span_bytes seen spans.method) (span_bytes seen spans.path) (map (header_bytes seen) (take spans.headers headers)) ≡ Ok s.count
+      → (s.method ≡ span_bytes seen spans.method) → (s.target ≡ span_bytes seen spans.path) → (s.rest ≡ drop spans.len seen) → IsStart seen s
+  begins head room short s p method target rest =
+      (head.0, rw rest (reads_head head room short), sym (same_length head) ∙ p, method ∙ head.1.method, target ∙ head.1.path)
