@@ -1,7 +1,9 @@
 -- What a head says, by its spans, and what its fields tell.
-use Rattle.std.proofs.Common.{◌≡◌, ℕ, ◌<◌, ◌≤◌, Bool, true, false, cond, List, [], ◌∷◌, ◌++◌, length, take, drop, map, Ok, Err, refl, sym, ap, ◌∙◌, arith, length-append, length-take, inl, inr}
+use Rattle.std.proofs.Common.{◌≡◌, ℕ, ◌<◌, ◌≤◌, Bool, true, false, cond, nat_le, List, [], ◌∷◌, ◌++◌, length, take, drop, map, Ok, Err, refl, sym, ap, ◌∙◌, arith, length-append, length-take, inl, inr}
 use Rattle.std.specs.Prelude.{Option, Result, IsUtf8}
+use Rattle.std.specs.Str.Parse.{digits_value}
 use Rattle.std.proofs.lemmas.List.{length-map}
+use borrow.Author.Tests.{leb-true}
 use Rattle.httparse.specs.declared.spans.HeaderSpan.{HeaderSpan}
 use Rattle.httparse.specs.declared.spans.RequestSpans.{RequestSpans}
 use Rattle.httparse.specs.Grammar.{RequestHead, print_request, print_blank, IsToken}
@@ -10,7 +12,7 @@ use Rattle.press_http.specs.declared.fault.HttpFault.{HttpFault}
 use Rattle.press_http.specs.declared.fault.HttpFault.TheVariants as fault
 use Rattle.press_http.specs.declared.start.Start.{Start}
 use Rattle.press_http.specs.Heads.{IsHead, ReadsHead, RefusesHead, longest_head, most_fields}
-use Rattle.press_http.specs.Bodies.{body_length, length_by, length_for, length_in, length_of}
+use Rattle.press_http.specs.Bodies.{body_length, length_by, length_in, length_of, longest_body}
 use Rattle.press_http.specs.Requests.{IsJudged, IsStart, Refuses}
 
 -- ---- which faults a length has
@@ -82,6 +84,32 @@ head_refused fault.NoLength seen left r = absurd r
 head_refused fault.TooBig seen left r = absurd r
 head_refused fault.FieldsTooLarge seen left r = r
 head_refused fault.NotDone seen left r = absurd r
+
+-- ---- how long a body may be
+
+is_small : Result ℕ HttpFault → Bool
+is_small (Ok n) = nat_le n longest_body
+is_small (Err e) = true
+
+small_if : (b : Bool) (x y : Result ℕ HttpFault) → is_small x ≡ true → is_small y ≡ true → is_small (cond b x y) ≡ true
+small_if true x y p q = p
+small_if false x y p q = q
+
+small_where : (b : Bool) (n : ℕ) → b ≡ nat_le n longest_body → is_small (cond b (Ok n) (Err fault.TooBig)) ≡ true
+small_where true n e = sym e
+small_where false n e = refl
+
+by_small : (values : List (List ℕ)) → is_small (length_by values) ≡ true
+by_small [] = refl
+by_small (value ∷ []) = small_if _ _ _ (small_where _ (digits_value 10 value) refl) refl
+by_small (value ∷ other ∷ more) = refl
+
+small : (method target : List ℕ) (fields : List (List ℕ × List ℕ)) → is_small (body_length method target fields) ≡ true
+unfolding body_length
+small method target fields = small_if _ _ _ (small_if _ _ _ (small_if _ _ _ (by_small _) refl) refl) refl
+
+pub few_bytes : (h : RequestHead) (n : ℕ) → length_of h ≡ Ok n → n ≤ longest_body
+few_bytes h n p = leb-true _ _ (sym (ap is_small p) ∙ small h.method h.target (map name_and_value h.fields))
 
 -- ---- a head by its spans
 

@@ -1,15 +1,15 @@
 -- A request with its body, or one that is cut.
-use Rattle.std.proofs.Common.{◌≡◌, ℕ, ◌+◌, ◌<◌, ◌≤◌, List, ◌++◌, length, take, refl, sym, ap, ◌∙◌, arith, append_assoc, length-append, inl, inr}
+use Rattle.std.proofs.Common.{◌≡◌, ℕ, ◌+◌, ◌<◌, ◌≤◌, List, ◌++◌, length, take, ap, subst, ◌∙◌, arith, append_assoc, length-append, inl, inr}
 use Rattle.std.specs.Prelude.{Option}
 use Rattle.httparse.specs.Grammar.{RequestHead, print_request}
 use Rattle.press_http.specs.declared.fault.HttpFault.{HttpFault}
 use Rattle.press_http.specs.declared.fault.HttpFault.TheVariants as fault
 use Rattle.press_http.specs.declared.request.Request.{Request}
 use Rattle.press_http.specs.declared.start.Start.{Start}
-use Rattle.press_http.specs.Heads.{ReadsHead}
+use Rattle.press_http.specs.Heads.{ReadsHead, longest_head}
 use Rattle.press_http.specs.Bodies.{RefusesBody}
-use Rattle.press_http.specs.Requests.{IsCut, IsRequest, IsStart, Refuses}
-use Rattle.press_http.proofs.Starts.{some_print}
+use Rattle.press_http.specs.Requests.{IsCut, IsRequest, IsStart, Refuses, longest_request}
+use Rattle.press_http.proofs.Starts.{few_bytes, some_print}
 
 longer : (seen more rest : List ℕ) (h : RequestHead) → ReadsHead seen h rest → ReadsHead (seen ++ more) h (rest ++ more)
 longer seen more rest h r =
@@ -43,3 +43,14 @@ refused fault.NoLength seen more s left start r = absurd r
 refused fault.TooBig seen more s left start r = absurd r
 refused fault.FieldsTooLarge seen more s left start r = absurd r
 refused fault.NotDone seen more s left start r = absurd r
+
+-- the same of a count and of bytes that are those of the start
+pub refused_as : (e : HttpFault) (seen more : List ℕ) (s : Start) (n : ℕ) (rest : List ℕ) (left : Option (List ℕ)) → n ≡ s.count → rest ≡ s.rest
+    → IsStart seen s → RefusesBody e n rest more left → Refuses e (seen ++ more) left
+refused_as e seen more s n rest left p q start r =
+    refused e seen more s left start (subst (λ (k : ℕ). RefusesBody e k s.rest more left) p (subst (λ (l : List ℕ). RefusesBody e n l more left) q r))
+
+pub fits : (seen more : List ℕ) (s : Start) → IsStart seen s → length seen ≤ longest_head → length more ≤ s.count → length (seen ++ more) ≤ longest_request
+fits seen more s start short few =
+    let small = few_bytes start.0 s.count start.2 in
+    omega (arith, small, short, few, length-append seen more)

@@ -90,7 +90,7 @@ fn length_in(value: &[u8]) -> Result<usize, HttpFault>
 }
 
 fn length_by(values: Values<'_>) -> Result<usize, HttpFault>
-    ensures { (vs : List (List ℕ)) → AreValues values vs → result ≡ length_by vs }
+    ensures { (vs : List (List ℕ)) → AreValues values.entry vs → result ≡ length_by vs }
 {
     match values {
         Values::Nothing => Err(HttpFault::NoLength),
