@@ -29,8 +29,8 @@ not_below a b h = let over : b < suc a = lt_of_not-le h in omega (arith, over)
 
 pub number_read : {E : Type 0} (bs : List ℕ) (r : Result ℕ E) → are_digits bs ≡ true → ParsesUnsigned 64 10 bs r
     → MatchOption (result_ok r) (2 ^ 64 ≤ digits_value 10 bs) (λ n. n ≡ digits_value 10 bs)
-number_read bs (Ok n) e p = (parse_digits own {E = E} 64 bs (Ok n) p (and_parts _ _ e).1).1
-number_read bs (Err f) e p =
+number_read {E = E} bs (Ok n) e p = (parse_digits own {E = E} 64 bs (Ok n) p (and_parts _ _ e).1).1
+number_read {E = E} bs (Err f) e p =
     let some : 0 < length bs = ltb-true _ _ (and_parts _ _ e).0 in
     let no = parse_digits own {E = E} 64 bs (Err f) p (and_parts _ _ e).1 in
     not_below (digits_value 10 bs) (2 ^ 64) (λ h. no (some, h))

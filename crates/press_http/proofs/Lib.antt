@@ -1,3 +1,4 @@
+pub mod BodyReads
 pub mod Digits
 pub mod Fronts
 pub mod HeadReads

@@ -24,7 +24,7 @@ fields_have : (fs : List Field) → length fs ≤ line_ends (flat_map print_fiel
 fields_have [] = omega arith
 fields_have (f ∷ fs) = omega (arith, ap line_ends (flat_map-cons print_field f fs), ends-append (print_field f) (flat_map print_field fs), field_has_one f, fields_have fs)
 
-head_has : (h : RequestHead) → length h.fields < line_ends (print_request h)
+pub head_has : (h : RequestHead) → length h.fields < line_ends (print_request h)
 unfolding print_request
 head_has h =
     let section : line_ends (print_section h.fields h.last) ≤ line_ends (print_request h) = last_part _ (print_section h.fields h.last) in

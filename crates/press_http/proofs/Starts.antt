@@ -1,23 +1,24 @@
 -- What a head says, by its spans, and what its fields tell.
-use Rattle.std.proofs.Common.{◌≡◌, ℕ, ◌<◌, ◌≤◌, Bool, true, false, cond, nat_le, List, [], ◌∷◌, ◌++◌, length, take, drop, map, Ok, Err, refl, sym, ap, ◌∙◌, arith, length-append, length-take, inl, inr}
+use Rattle.std.proofs.Common.{◌≡◌, ℕ, ◌<◌, ◌≤◌, Bool, true, false, cond, nat_le, ◌==◌, List, [], ◌∷◌, ◌++◌, length, take, drop, map, Ok, Err, refl, sym, ap, ◌∙◌, arith, length-append, length-take, inl, inr}
 use Rattle.std.specs.Prelude.{Option, Result, IsUtf8}
 use Rattle.std.specs.Str.Parse.{digits_value}
 use Rattle.std.proofs.lemmas.List.{length-map}
 use borrow.Author.Tests.{leb-true}
 use Rattle.httparse.specs.declared.spans.HeaderSpan.{HeaderSpan}
 use Rattle.httparse.specs.declared.spans.RequestSpans.{RequestSpans}
-use Rattle.httparse.specs.Grammar.{RequestHead, print_request, print_blank, IsToken}
+use Rattle.httparse.specs.Grammar.{RequestHead, print_request, IsToken}
 use Rattle.httparse.specs.Spans.{IsRequestAt, IsRequestWithin, header_bytes, span_bytes, name_and_value}
 use Rattle.press_http.specs.declared.fault.HttpFault.{HttpFault}
 use Rattle.press_http.specs.declared.fault.HttpFault.TheVariants as fault
 use Rattle.press_http.specs.declared.start.Start.{Start}
-use Rattle.press_http.specs.Heads.{IsHead, ReadsHead, RefusesHead, longest_head, most_fields}
+use Rattle.press_http.specs.Heads.{IsHead, ReadsHead, RefusesHead, line_ends, longest_head, most_fields}
+use Rattle.press_http.proofs.LineEnds.{head_has}
 use Rattle.press_http.specs.Bodies.{body_length, length_by, length_in, length_of, longest_body}
 use Rattle.press_http.specs.Requests.{IsJudged, IsStart, Refuses}
 
 -- ---- which faults a length has
 
-may_tell : HttpFault → Bool
+abbrev may_tell : HttpFault → Bool
 may_tell fault.NoMemory = false
 may_tell fault.ReadFault = false
 may_tell fault.Ended = false
@@ -32,7 +33,7 @@ may_tell fault.TooBig = true
 may_tell fault.FieldsTooLarge = false
 may_tell fault.NotDone = true
 
-is_fine : Result ℕ HttpFault → Bool
+abbrev is_fine : Result ℕ HttpFault → Bool
 is_fine (Ok n) = true
 is_fine (Err e) = may_tell e
 
@@ -87,7 +88,7 @@ head_refused fault.NotDone seen left r = absurd r
 
 -- ---- how long a body may be
 
-is_small : Result ℕ HttpFault → Bool
+abbrev is_small : Result ℕ HttpFault → Bool
 is_small (Ok n) = nat_le n longest_body
 is_small (Err e) = true
 
@@ -113,12 +114,16 @@ few_bytes h n p = leb-true _ _ (sym (ap is_small p) ∙ small h.method h.target 
 
 -- ---- a head by its spans
 
-behind_some : (xs ys : List ℕ) → 0 < length ys → 0 < length (xs ++ ys)
-behind_some xs ys h = omega (arith, h, length-append xs ys)
+one_at_most : (t : Bool) → cond t 1 0 ≤ 1
+one_at_most true = omega arith
+one_at_most false = omega arith
+
+ends_within : (bytes : List ℕ) → line_ends bytes ≤ length bytes
+ends_within [] = omega arith
+ends_within (b ∷ bytes) = let below = one_at_most (b == 10) in omega (arith, ends_within bytes, below)
 
 pub some_print : (h : RequestHead) → 0 < length (print_request h)
-unfolding print_request
-some_print h = behind_some (print_blank h.blank) _ (behind_some h.method _ (omega arith))
+some_print h = omega (arith, head_has h, ends_within (print_request h))
 
 module _ (seen : List ℕ) (headers : List HeaderSpan) (spans : RequestSpans) where
   pub reads_head : (head : IsHead seen headers spans) → length headers ≡ most_fields → length seen ≤ longest_head → ReadsHead seen head.0 (drop spans.len seen)
