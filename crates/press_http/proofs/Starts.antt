@@ -1,6 +1,6 @@
 -- What a head says, by its spans, and what its fields tell.
 use Rattle.std.proofs.Common.{◌≡◌, ℕ, ◌<◌, ◌≤◌, Bool, true, false, cond, nat_le, ◌==◌, List, [], ◌∷◌, ◌++◌, length, take, drop, map, Ok, Err, refl, sym, ap, ◌∙◌, arith, length-append, length-take, inl, inr}
-use Rattle.std.specs.Prelude.{Option, Result, IsUtf8}
+use Rattle.std.specs.Prelude.{Option, Result, IsUtf8, bytes_eq, codes}
 use Rattle.std.specs.Str.Parse.{digits_value}
 use Rattle.std.proofs.lemmas.List.{length-map}
 use borrow.Author.Tests.{leb-true}
@@ -13,7 +13,7 @@ use Rattle.press_http.specs.declared.fault.HttpFault.TheVariants as fault
 use Rattle.press_http.specs.declared.start.Start.{Start}
 use Rattle.press_http.specs.Heads.{IsHead, ReadsHead, RefusesHead, line_ends, longest_head, most_fields}
 use Rattle.press_http.proofs.LineEnds.{head_has}
-use Rattle.press_http.specs.Bodies.{body_length, length_by, length_in, length_of, longest_body}
+use Rattle.press_http.specs.Bodies.{are_digits, body_length, is_empty, length_by, length_for, length_in, length_of, longest_body, starts_with_slash, values_of}
 use Rattle.press_http.specs.Requests.{IsJudged, IsStart, Refuses}
 
 -- ---- which faults a length has
@@ -42,7 +42,9 @@ of_if true x y p q = p
 of_if false x y p q = q
 
 in_fine : (value : List ℕ) → is_fine (length_in value) ≡ true
-in_fine value = of_if _ _ _ (of_if _ _ _ refl refl) refl
+in_fine value =
+    of_if (are_digits value) (cond (nat_le (digits_value 10 value) longest_body) (Ok (digits_value 10 value)) (Err fault.TooBig)) (Err fault.BadHead)
+    (of_if (nat_le (digits_value 10 value) longest_body) (Ok (digits_value 10 value)) (Err fault.TooBig) refl refl) refl
 
 by_fine : (values : List (List ℕ)) → is_fine (length_by values) ≡ true
 by_fine [] = refl
@@ -51,7 +53,10 @@ by_fine (value ∷ other ∷ more) = refl
 
 fine : (method target : List ℕ) (fields : List (List ℕ × List ℕ)) → is_fine (body_length method target fields) ≡ true
 unfolding body_length
-fine method target fields = of_if _ _ _ (of_if _ _ _ (of_if _ _ _ (by_fine _) refl) refl) refl
+fine method target fields =
+    of_if (starts_with_slash target) (cond (is_empty (values_of (codes "Transfer-Encoding") fields)) (length_for method fields) (Err fault.NotDone)) (Err fault.BadHead)
+    (of_if (is_empty (values_of (codes "Transfer-Encoding") fields)) (length_for method fields) (Err fault.NotDone)
+    (of_if (bytes_eq method (codes "POST")) (length_by (values_of (codes "Content-Length") fields)) (Ok 0) (by_fine (values_of (codes "Content-Length") fields)) refl) refl) refl
 
 tells : (h : RequestHead) (e : HttpFault) → length_of h ≡ Err e → may_tell e ≡ true
 tells h e p = sym (ap is_fine p) ∙ fine h.method h.target (map name_and_value h.fields)
@@ -102,12 +107,17 @@ small_where false n e = refl
 
 by_small : (values : List (List ℕ)) → is_small (length_by values) ≡ true
 by_small [] = refl
-by_small (value ∷ []) = small_if _ _ _ (small_where _ (digits_value 10 value) refl) refl
+by_small (value ∷ []) =
+    small_if (are_digits value) (cond (nat_le (digits_value 10 value) longest_body) (Ok (digits_value 10 value)) (Err fault.TooBig)) (Err fault.BadHead)
+    (small_where (nat_le (digits_value 10 value) longest_body) (digits_value 10 value) refl) refl
 by_small (value ∷ other ∷ more) = refl
 
 small : (method target : List ℕ) (fields : List (List ℕ × List ℕ)) → is_small (body_length method target fields) ≡ true
 unfolding body_length
-small method target fields = small_if _ _ _ (small_if _ _ _ (small_if _ _ _ (by_small _) refl) refl) refl
+small method target fields =
+    small_if (starts_with_slash target) (cond (is_empty (values_of (codes "Transfer-Encoding") fields)) (length_for method fields) (Err fault.NotDone)) (Err fault.BadHead)
+    (small_if (is_empty (values_of (codes "Transfer-Encoding") fields)) (length_for method fields) (Err fault.NotDone)
+    (small_if (bytes_eq method (codes "POST")) (length_by (values_of (codes "Content-Length") fields)) (Ok 0) (by_small (values_of (codes "Content-Length") fields)) refl) refl) refl
 
 pub few_bytes : (h : RequestHead) (n : ℕ) → length_of h ≡ Ok n → n ≤ longest_body
 few_bytes h n p = leb-true _ _ (sym (ap is_small p) ∙ small h.method h.target (map name_and_value h.fields))

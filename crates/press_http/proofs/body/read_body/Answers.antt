@@ -25,6 +25,5 @@ returns-then-branch-eq0 g c =
       i.0 ++ t.0,
       Consumes-trans _ _ _ i.0 t.0 i.1 t.1,
       omega (arith, none, short, length-append i.0 t.0),
-      omega (arith, none, short, length-append i.0 t.0),
-      t.3.2 c.if-branch-eq0.true,
+      (omega (arith, none, short, length-append i.0 t.0), t.3.2 c.if-branch-eq0.true),
     )
