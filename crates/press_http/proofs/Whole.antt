@@ -44,12 +44,6 @@ refused fault.TooBig seen more s left start r = absurd r
 refused fault.FieldsTooLarge seen more s left start r = absurd r
 refused fault.NotDone seen more s left start r = absurd r
 
--- the same of a count and of bytes that are those of the start
-pub refused_as : (e : HttpFault) (seen more : List ℕ) (s : Start) (n : ℕ) (rest : List ℕ) (left : Option (List ℕ)) → n ≡ s.count → rest ≡ s.rest
-    → IsStart seen s → RefusesBody e n rest more left → Refuses e (seen ++ more) left
-refused_as e seen more s n rest left p q start r =
-    refused e seen more s left start (subst (λ (k : ℕ). RefusesBody e k s.rest more left) p (subst (λ (l : List ℕ). RefusesBody e n l more left) q r))
-
 pub fits : (seen more : List ℕ) (s : Start) → IsStart seen s → length seen ≤ longest_head → length more ≤ s.count → length (seen ++ more) ≤ longest_request
 fits seen more s start short few =
     let small = few_bytes start.0 s.count start.2 in
