@@ -1,5 +1,5 @@
 -- The phrase of a code, and none of what is no code.
-use Rattle.std.proofs.Common.{◌≡◌, ℕ, Bor, Bool, true, false, List, [], Some, None, refl, sym, ap, ◌∙◌, arith}
+use Rattle.std.proofs.Common.{◌≡◌, ℕ, Bor, Bool, true, List, [], Some, None, sym, ap, ◌∙◌, arith}
 use Rattle.std.specs.Prelude.{Option, option_map, unwrap_or}
 use Rattle.std.proofs.lemmas.Bool.Decides.{nat_tests}
 use Rattle.http.specs.StatusCode.{IsStatusCode, reason_phrase}

@@ -1,5 +1,5 @@
 -- What a head says, by its spans, and what its fields tell.
-use Rattle.std.proofs.Common.{◌≡◌, ℕ, ◌<◌, ◌≤◌, Bool, true, false, cond, nat_le, ◌==◌, List, [], ◌∷◌, ◌++◌, length, take, drop, map, Ok, Err, refl, sym, ap, ◌∙◌, arith, length-append, length-take, inl, inr}
+use Rattle.std.proofs.Common.{◌≡◌, ℕ, ◌<◌, ◌≤◌, Bool, true, false, cond, nat_le, ◌==◌, List, [], ◌∷◌, length, take, drop, map, Ok, Err, refl, sym, ap, ◌∙◌, arith, length-take, inl, inr}
 use Rattle.std.specs.Prelude.{Option, Result, IsUtf8, bytes_eq, codes}
 use Rattle.std.specs.Str.Parse.{digits_value}
 use Rattle.std.proofs.lemmas.List.{length-map}
@@ -7,7 +7,7 @@ use borrow.Author.Tests.{leb-true}
 use Rattle.httparse.specs.declared.spans.HeaderSpan.{HeaderSpan}
 use Rattle.httparse.specs.declared.spans.RequestSpans.{RequestSpans}
 use Rattle.httparse.specs.Grammar.{RequestHead, print_request, IsToken}
-use Rattle.httparse.specs.Spans.{IsRequestAt, IsRequestWithin, header_bytes, span_bytes, name_and_value}
+use Rattle.httparse.specs.Spans.{header_bytes, span_bytes, name_and_value}
 use Rattle.press_http.specs.declared.fault.HttpFault.{HttpFault}
 use Rattle.press_http.specs.declared.fault.HttpFault.TheVariants as fault
 use Rattle.press_http.specs.declared.start.Start.{Start}
@@ -141,7 +141,7 @@ module _ (seen : List ℕ) (headers : List HeaderSpan) (spans : RequestSpans) wh
       let h = head.0 in
       let told = head.1 in
       let few : length h.fields ≤ most_fields =
-          omega (arith, room, ap length told.fields, length-map (take spans.headers headers) (header_bytes seen), length-map h.fields name_and_value, length-take spans.headers headers)
+      omega (arith, room, ap length told.fields, length-map (take spans.headers headers) (header_bytes seen), length-map h.fields name_and_value, length-take spans.headers headers)
       in
       let fits : length (print_request h) ≤ longest_head = omega (arith, told.len, head.2.section.len_fits, short) in
       (told.reads, few, fits)

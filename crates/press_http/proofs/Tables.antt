@@ -1,8 +1,8 @@
 -- What a router holds after it took a route.
-use Rattle.std.proofs.Common.{◌≡◌, List, Ok, Err}
+use Rattle.std.proofs.Common.{◌≡◌, Ok, Err}
 use Rattle.std.specs.Prelude.{Result}
 use Rattle.matchit.specs.Rows.{RowsOf}
-use Rattle.matchit.specs.Route.{Scan, parse_route}
+use Rattle.matchit.specs.Route.{Scan}
 use Rattle.matchit.specs.Router.{RouteOf, InsertsRead}
 use Rattle.matchit.specs.declared.error.InsertError.{InsertError}
 use Rattle.press_http.specs.declared.place.Place.{Place}

@@ -1,5 +1,5 @@
 -- A request with its body, or one that is cut.
-use Rattle.std.proofs.Common.{◌≡◌, ℕ, ◌+◌, ◌<◌, ◌≤◌, List, ◌++◌, length, take, ap, subst, ◌∙◌, arith, append_assoc, length-append, inl, inr}
+use Rattle.std.proofs.Common.{◌≡◌, ℕ, ◌+◌, ◌<◌, ◌≤◌, List, ◌++◌, length, take, ap, ◌∙◌, arith, append_assoc, length-append, inr}
 use Rattle.std.specs.Prelude.{Option}
 use Rattle.httparse.specs.Grammar.{RequestHead, print_request}
 use Rattle.press_http.specs.declared.fault.HttpFault.{HttpFault}

@@ -1,6 +1,6 @@
 -- Body: how many bytes of body a request has, by its target, its method and its fields (RFC 9112, 6; RFC 9110, 5.1 and 8.6), in this order:
 -- a target of another form than a path (RFC 9112, 3.2), a transfer coding, and for POST alone the length. The most bytes are own.
-use Rattle.std.specs.Prelude.{◌≡◌, ℕ, ◌+◌, ◌<◌, ◌==◌, ◌&&◌, Bool, true, false, List, [], ◌∷◌, ◌++◌, length, map, nat_lt, nat_le, bytes_eq, Option, Some, None, Result, Ok, Err, codes, if◌then◌else◌}
+use Rattle.std.specs.Prelude.{◌≡◌, ℕ, ◌+◌, ◌<◌, ◌==◌, ◌&&◌, Bool, true, false, List, [], ◌∷◌, length, map, nat_lt, nat_le, bytes_eq, Option, Result, Ok, Err, codes, if◌then◌else◌}
 use Rattle.std.specs.Io.KnownBytes.{IsAtEnd}
 use Rattle.std.specs.List.{list_all}
 use Rattle.std.specs.Char.{is_ascii_digit, to_ascii_lowercase}

@@ -1,6 +1,6 @@
 -- Form: what the fields of a web form give as a command (URL Standard, 5, `application/x-www-form-urlencoded`; the fields and their names are own).
 -- Of a repeated field the first counts, and fields that nobody names are passed over.
-use Rattle.std.specs.Prelude.{ℕ, List, [], ◌∷◌, bytes_eq, option_and_then, Option, Some, None, Result, Ok, Err, codes, if◌then◌else◌}
+use Rattle.std.specs.Prelude.{ℕ, List, [], ◌∷◌, bytes_eq, option_and_then, Option, Some, None, Result, Ok, codes, if◌then◌else◌}
 use Rattle.std.specs.Str.Lossy.{utf8_lossy}
 use Rattle.form_urlencoded.specs.Form.{decode, raw_pairs}
 use Rattle.press_text.specs.Decimals.{decimal_in}

@@ -1,10 +1,8 @@
 -- Reply bytes: a status line, three fields and a body, each line with CR LF (RFC 9112, 2.1, 4 and 9.6; phrases: RFC 9110, 15, as the kit's `http` has them).
 -- A code without a phrase has an empty one.
-use Rattle.std.specs.Prelude.{◌≡◌, ◌≤◌, ◌<◌, ℕ, ◌&&◌, ◌==◌, Bool, true, false, List, [], ◌∷◌, ◌++◌, length, codes, decimal, nat_le, unwrap_or, if◌then◌else◌, Result, Ok, Err, OnOk, OnErr}
+use Rattle.std.specs.Prelude.{◌≡◌, ℕ, ◌&&◌, ◌==◌, Bool, true, false, List, [], ◌∷◌, ◌++◌, length, codes, decimal, nat_le, unwrap_or}
 use Rattle.std.specs.List.{list_any}
-use Rattle.std.specs.Io.KnownBytes.{Keeps}
 use Rattle.http.specs.StatusCode.{reason_phrase}
-use Rattle.press_text.specs.Streams.{AppendsFront}
 use Rattle.press_page.specs.declared.reply.Reply.{Reply}
 use Rattle.press_page.specs.declared.reply.ContentKind.{ContentKind}
 use Rattle.press_page.specs.declared.reply.ContentKind.TheVariants.{Html, Json, Text}

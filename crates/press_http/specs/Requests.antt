@@ -1,6 +1,6 @@
 -- HTTP: what bytes are as a request, or which fault they have (RFC 9112). The rules stand in this order: the head; the target, a transfer coding and the
 -- length of the body; the body. One request stands on a connection, and what is behind it is passed over.
-use Rattle.std.specs.Prelude.{◌≡◌, ◌⊎◌, ℕ, ◌+◌, ◌<◌, ◌≤◌, List, ◌++◌, length, take, Option, Result, Ok, Err}
+use Rattle.std.specs.Prelude.{◌≡◌, ◌⊎◌, ℕ, ◌+◌, ◌<◌, ◌≤◌, List, length, take, Option, Ok, Err}
 use Rattle.std.specs.Io.KnownBytes.{IsAtEnd}
 use Rattle.httparse.specs.Grammar.{RequestHead}
 use Rattle.press_http.specs.declared.fault.HttpFault.{HttpFault}

@@ -1,6 +1,6 @@
 -- Route: what a request asks for, by its path, then its method, then what it carries (paths and their parameters: the kit's `matchit`;
 -- path and query: RFC 3986, 3.3 and 3.4; methods: RFC 9110, 9; `GET /wp-json/wp/v2/posts/{id}`: REST API Handbook, Posts; the other paths are own).
-use Rattle.std.specs.Prelude.{ℕ, zero, suc, List, [], ◌∷◌, ◌==◌, bytes_eq, Option, Some, None, Result, Ok, Err, codes, if◌then◌else◌}
+use Rattle.std.specs.Prelude.{ℕ, zero, suc, List, [], ◌==◌, bytes_eq, Option, Some, None, Result, Ok, Err, codes, if◌then◌else◌}
 use Rattle.std.specs.List.{before_first, after_first}
 use Rattle.matchit.specs.Rows.{RowsOf}
 use Rattle.matchit.specs.Seek.{first}

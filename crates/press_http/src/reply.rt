@@ -42,7 +42,9 @@ fn head(
 ) -> Result<String, AllocError>
     ensures { IfOk result (λ t. string_bytes t ≡ head_bytes status phrase.now kind.now count) }
 {
-    format!(in alloc; "HTTP/1.1 {status} {phrase}\r\nContent-Type: {kind}\r\nContent-Length: {count}\r\nConnection: close\r\n\r\n")
+    format!(in alloc;
+        "HTTP/1.1 {status} {phrase}\r\nContent-Type: {kind}\r\nContent-Length: {count}\r\nConnection: close\r\n\r\n"
+    )
 }
 
 fn head_of(alloc: Global, reply: &Reply) -> Result<String, AllocError>
@@ -80,11 +82,7 @@ fn write_both<W: Write>(writer: &mut W, first: &[u8], second: &[u8]) -> Result<(
 }
 
 /// Writes a reply, each byte once. Want of memory is told before anything is written; a write that failed, or took nothing, is not tried again.
-pub fn write_reply<W: Write>(
-    alloc: Global,
-    writer: &mut W,
-    reply: &Reply,
-) -> Result<(), HttpFault>
+pub fn write_reply<W: Write>(alloc: Global, writer: &mut W, reply: &Reply) -> Result<(), HttpFault>
     ensures ok { OnOk result (Appends (W.contents writer.old) (W.contents writer.new) (reply_bytes reply.now)) }
     ensures err { IfErr result (λ e. (e ≡ HttpFault.WriteFault) ⊎ (e ≡ HttpFault.NoMemory)) }
     ensures part { IsErrOf result HttpFault.WriteFault → AppendsFront (W.contents writer.old) (W.contents writer.new) (reply_bytes reply.now) }

@@ -129,12 +129,7 @@ fn message(alloc: Global, body: &[u8]) -> Result<Message, HttpFault>
 }
 
 #[tactic(auto, unfolding(crate::specs::Routes::asked_at))]
-fn asked_at(
-    alloc: Global,
-    place: Place,
-    target: &str,
-    body: &[u8],
-) -> Result<Asked, HttpFault>
+fn asked_at(alloc: Global, place: Place, target: &str, body: &[u8]) -> Result<Asked, HttpFault>
     ensures { Gives result (spec.asked_at place target.now body.now) }
 {
     match place {

@@ -1,4 +1,4 @@
-use Rattle.std.proofs.Common.{◌≡◌, ◌⊎◌, ◌+◌, ◌-◌, ◌≤◌, ◌++◌, [], List, ℕ, length}
+use Rattle.std.proofs.Common.{◌≡◌, ◌⊎◌, ◌-◌, ◌≤◌, ◌++◌, [], List, ℕ, length}
 use Rattle.std.specs.Io.KnownBytes.{Consumes}
 use Rattle.press_http.proofs.body.read_body.Given as goal
 

@@ -1,4 +1,4 @@
-use Rattle.std.proofs.Common.{ℕ, List, arith, ◌++◌, length, length-append, subst}
+use Rattle.std.proofs.Common.{ℕ, List, arith, ◌++◌, length-append, subst}
 use Rattle.httparse.specs.Grammar.{HasNoRequest}
 use Rattle.std.proofs.lemmas.Result.{err_from_is_err_and}
 use Rattle.press_text.proofs.Taken.{Consumes-trans}
