@@ -9,4 +9,5 @@ pub mod Starts
 pub mod Tables
 pub mod Tokens
 pub mod Values
+mod Vectors
 pub mod Whole
