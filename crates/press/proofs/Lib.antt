@@ -1,2 +1,3 @@
 pub mod FirstValue
+pub mod Pushes
 pub mod Told

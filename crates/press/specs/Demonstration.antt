@@ -1,6 +1,6 @@
 -- The demonstration kit: filters that append a letter, one that grows its own hook while it runs, two that run their own hook again, an action that
 -- sets an option, and two shortcodes (own).
-use Rattle.std.specs.Prelude.{ℕ, pos, List, [], ◌∷◌, codes}
+use Rattle.std.specs.Prelude.{ℕ, pos, List, [], ◌∷◌, ◌++◌, map, codes}
 use Rattle.press_scan.specs.declared.att_key.AttKey.TheVariants.{Name}
 use Rattle.press_callbacks.specs.declared.script.Part.TheVariants.{Arg, Lit, Att, Content, Value, Last}
 use Rattle.press_callbacks.specs.declared.script.Op.{Op}
@@ -8,6 +8,7 @@ use Rattle.press_callbacks.specs.declared.script.Op.TheVariants.{Set, AddHook, A
 use Rattle.press_callbacks.specs.declared.plugin.Plugin.{Plugin}
 use Rattle.press_callbacks.specs.declared.plugin.Load.{Load}
 use Rattle.press_callbacks.specs.declared.plugin.Load.TheVariants.{Hook, Tag}
+use Rattle.press.specs.declared.scripted.Scripted.{Scripted}
 use Rattle.press_callbacks.specs.Kits.{Scripts, KitView, view_of}
 
 -- the step that appends a text to the value, and the script of that step alone
@@ -43,12 +44,27 @@ abbrev pub noting : List Op
 noting = SetOption (codes "last_saved") (Arg 0 ∷ []) ∷ []
 
 -- the callbacks whose closures play their scripts
-abbrev pub played : Scripts
-played =
+abbrev pub letters : Scripts
+letters =
     (codes "add_a", appending (codes "a"))
-    ∷ ((codes "add_b", appending (codes "b"))
-    ∷ ((codes "add_c", appending (codes "c"))
-    ∷ ((codes "add_d", appending (codes "d")) ∷ ((codes "add_e", appending (codes "e")) ∷ ((codes "add_f", appending (codes "f")) ∷ ((codes "greet", greeting) ∷ ((codes "box", boxing) ∷ ((codes "again", running the_title) ∷ ((codes "again_save", running (codes "title_save_pre")) ∷ ((codes "note", noting) ∷ []))))))))))
+    ∷ (codes "add_b", appending (codes "b"))
+    ∷ (codes "add_c", appending (codes "c"))
+    ∷ (codes "add_d", appending (codes "d"))
+    ∷ (codes "add_e", appending (codes "e"))
+    ∷ (codes "add_f", appending (codes "f"))
+    ∷ []
+
+abbrev pub others : Scripts
+others =
+    (codes "greet", greeting)
+    ∷ (codes "box", boxing)
+    ∷ (codes "again", running the_title)
+    ∷ (codes "again_save", running (codes "title_save_pre"))
+    ∷ (codes "note", noting)
+    ∷ []
+
+abbrev pub played : Scripts
+played = letters ++ others
 
 abbrev pub scripts : Scripts
 scripts = (codes "grow", growing) ∷ played
@@ -59,13 +75,30 @@ on_hook hook priority callback = Hook hook (pos priority) callback 1
 abbrev pub on_title : ℕ → List ℕ → Load
 on_title = on_hook the_title
 
+abbrev pub grow_plugin : Plugin
+grow_plugin = record { name = codes "grow"; load = on_title 10 (codes "grow") ∷ [] }
+
+abbrev pub letters_load : List Load
+letters_load = on_title 10 (codes "add_a") ∷ on_title 10 (codes "add_b") ∷ on_title 5 (codes "add_c") ∷ []
+
+abbrev pub letters_plugin : Plugin
+letters_plugin = record { name = codes "letters"; load = letters_load }
+
+abbrev pub loop_plugin : Plugin
+loop_plugin = record { name = codes "loop"; load = on_title 10 (codes "again") ∷ on_hook (codes "title_save_pre") 10 (codes "again_save") ∷ [] }
+
+abbrev pub notes_plugin : Plugin
+notes_plugin = record { name = codes "notes"; load = on_hook (codes "save_post") 10 (codes "note") ∷ [] }
+
+abbrev pub tags_plugin : Plugin
+tags_plugin = record { name = codes "tags"; load = Tag (codes "greet") (codes "greet") ∷ Tag (codes "box") (codes "box") ∷ [] }
+
 abbrev pub plugins : List Plugin
-plugins =
-    record { name = codes "grow"; load = on_title 10 (codes "grow") ∷ [] }
-    ∷ (record { name = codes "letters"; load = on_title 10 (codes "add_a") ∷ (on_title 10 (codes "add_b") ∷ (on_title 5 (codes "add_c") ∷ [])) }
-    ∷ (record { name = codes "loop"; load = on_title 10 (codes "again") ∷ (on_hook (codes "title_save_pre") 10 (codes "again_save") ∷ []) }
-    ∷ (record { name = codes "notes"; load = on_hook (codes "save_post") 10 (codes "note") ∷ [] }
-    ∷ (record { name = codes "tags"; load = Tag (codes "greet") (codes "greet") ∷ (Tag (codes "box") (codes "box") ∷ []) } ∷ []))))
+plugins = grow_plugin ∷ letters_plugin ∷ loop_plugin ∷ notes_plugin ∷ tags_plugin ∷ []
+
+-- names and scripts
+abbrev pub told : List Scripted → Scripts
+told scripted = map (λ (s : Scripted). (s.id, s.script)) scripted
 
 abbrev pub demonstration : KitView
 demonstration = view_of scripts plugins

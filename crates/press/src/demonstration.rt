@@ -1,23 +1,15 @@
 //! The scripts and plugins of the demonstration kit. Their closures stand in boxes, which `run` makes.
 
-ghost use Rattle.std.specs.Prelude.{◌≡◌, ◌∷◌, ◌++◌, [], IfOk, OnOk, None, pos, map, codes};
+ghost use Rattle.std.specs.Prelude.{◌≡◌, ◌∷◌, ◌++◌, [], IfOk, OnOk, None, pos, codes};
 ghost use Rattle.press_text.specs.Names.{name_fault};
 ghost use Rattle.press_callbacks.specs.Turns.{turn_of};
 ghost use Rattle.press.specs.Demonstration as spec;
 
+use crate::scripted::Scripted;
 use press_callbacks::{CallIn, Load, Op, Part, Plugin, Script, Turn};
 use press_scan::AttKey;
 use press_text::{CallbackId, HookName, Items, Name, NameFault, OptName, Tag, Text};
 use std::alloc::{AllocError, Global};
-
-/// A callback whose closure plays its script: its name, the script, and the same script once more for the closure.
-#[derive(Drop)]
-pub struct Scripted {
-    pub id: CallbackId,
-    pub script: Script,
-    pub own: Script,
-    ghost same: { own ≡ script },
-}
 
 /// What the demonstration kit is made of.
 #[derive(Drop)]
@@ -29,7 +21,7 @@ pub struct DemonstrationParts {
 
 pub fn parts(alloc: Global) -> Result<DemonstrationParts, AllocError>
     ensures growing { IfOk result (λ p. p.growing ≡ spec.growing) }
-    ensures played { IfOk result (λ p. map (λ s. (s.id, s.script)) p.played.items ≡ spec.played) }
+    ensures played { IfOk result (λ p. spec.told p.played.items ≡ spec.played) }
     ensures plugins { IfOk result (λ p. p.plugins.items ≡ spec.plugins) }
 {
     Ok(DemonstrationParts {
@@ -41,21 +33,77 @@ pub fn parts(alloc: Global) -> Result<DemonstrationParts, AllocError>
 
 // The callbacks whose closures play their scripts.
 fn played(alloc: Global) -> Result<Vec<Scripted>, AllocError>
-    ensures { IfOk result (λ v. map (λ s. (s.id, s.script)) v.items ≡ spec.played) }
+    ensures { IfOk result (λ v. spec.told v.items ≡ spec.played) }
 {
-    Ok(vec![in alloc;
-        letter(alloc, "add_a", "a")?,
-        letter(alloc, "add_b", "b")?,
-        letter(alloc, "add_c", "c")?,
-        letter(alloc, "add_d", "d")?,
-        letter(alloc, "add_e", "e")?,
-        letter(alloc, "add_f", "f")?,
-        greet(alloc)?,
-        box_of_content(alloc)?,
-        again(alloc, "again", "the_title")?,
-        again(alloc, "again_save", "title_save_pre")?,
-        note(alloc)?,
-    ]?)
+    let mut scripts = Vec::new(alloc);
+    push_letter(alloc, &mut scripts, "add_a", "a")?;
+    push_letter(alloc, &mut scripts, "add_b", "b")?;
+    push_letter(alloc, &mut scripts, "add_c", "c")?;
+    push_letter(alloc, &mut scripts, "add_d", "d")?;
+    push_letter(alloc, &mut scripts, "add_e", "e")?;
+    push_letter(alloc, &mut scripts, "add_f", "f")?;
+    push_greet(alloc, &mut scripts)?;
+    push_box(alloc, &mut scripts)?;
+    push_again(alloc, &mut scripts, "again", "the_title")?;
+    push_again(alloc, &mut scripts, "again_save", "title_save_pre")?;
+    push_note(alloc, &mut scripts)?;
+    Ok(scripts)
+}
+
+fn push_greet(alloc: Global, scripts: &mut Vec<Scripted>) -> Result<(), AllocError>
+    ensures { OnOk result (spec.told scripts.new.items ≡ spec.told scripts.old.items ++ (codes "greet", spec.greeting) ∷ []) }
+{
+    let greet = greet(alloc)?;
+    push_scripted(scripts, greet)
+}
+
+fn push_box(alloc: Global, scripts: &mut Vec<Scripted>) -> Result<(), AllocError>
+    ensures { OnOk result (spec.told scripts.new.items ≡ spec.told scripts.old.items ++ (codes "box", spec.boxing) ∷ []) }
+{
+    let of_content = box_of_content(alloc)?;
+    push_scripted(scripts, of_content)
+}
+
+fn push_again(
+    alloc: Global,
+    scripts: &mut Vec<Scripted>,
+    name: &str,
+    hook: &str,
+) -> Result<(), AllocError>
+    requires name { name_fault 32 name.now ≡ None }
+    requires hook { name_fault 64 hook.now ≡ None }
+    ensures { OnOk result (spec.told scripts.new.items ≡ spec.told scripts.old.items ++ (name.now, spec.running hook.now) ∷ []) }
+{
+    let again = again(alloc, name, hook)?;
+    push_scripted(scripts, again)
+}
+
+fn push_note(alloc: Global, scripts: &mut Vec<Scripted>) -> Result<(), AllocError>
+    ensures { OnOk result (spec.told scripts.new.items ≡ spec.told scripts.old.items ++ (codes "note", spec.noting) ∷ []) }
+{
+    let note = note(alloc)?;
+    push_scripted(scripts, note)
+}
+
+fn push_letter(
+    alloc: Global,
+    scripts: &mut Vec<Scripted>,
+    name: &str,
+    text: &str,
+) -> Result<(), AllocError>
+    requires { name_fault 32 name.now ≡ None }
+    ensures { OnOk result (spec.told scripts.new.items ≡ spec.told scripts.old.items ++ (name.now, spec.appending text.now) ∷ []) }
+{
+    let letter = letter(alloc, name, text)?;
+    push_scripted(scripts, letter)
+}
+
+#[tactic(auto, using(crate::proofs::Pushes::one_more))]
+fn push_scripted(scripts: &mut Vec<Scripted>, scripted: Scripted) -> Result<(), AllocError>
+    ensures { OnOk result (spec.told scripts.new.items ≡ spec.told scripts.old.items ++ (scripted.id, scripted.script) ∷ []) }
+{
+    scripts.push(scripted)?;
+    Ok(())
 }
 
 fn again(alloc: Global, name: &str, hook: &str) -> Result<Scripted, AllocError>
@@ -277,20 +325,79 @@ pub fn grow_turn(alloc: Global, input: &CallIn) -> Result<Turn, AllocError>
 fn plugins(alloc: Global) -> Result<Vec<Plugin>, AllocError>
     ensures { IfOk result (λ v. v.items ≡ spec.plugins) }
 {
-    let grow = vec![in alloc; on_title(alloc, 10, "grow")?]?;
-    let letters = vec![in alloc;
-        on_title(alloc, 10, "add_a")?,
-        on_title(alloc, 10, "add_b")?,
-        on_title(alloc, 5, "add_c")?,
+    let mut plugins = Vec::new(alloc);
+    push_grow(alloc, &mut plugins)?;
+    push_letters(alloc, &mut plugins)?;
+    push_loop(alloc, &mut plugins)?;
+    push_notes(alloc, &mut plugins)?;
+    push_tags(alloc, &mut plugins)?;
+    Ok(plugins)
+}
+
+fn push_grow(alloc: Global, plugins: &mut Vec<Plugin>) -> Result<(), AllocError>
+    ensures { OnOk result (plugins.new.items ≡ plugins.old.items ++ spec.grow_plugin ∷ []) }
+{
+    let load = vec![in alloc; on_title(alloc, 10, "grow")?]?;
+    plugins.push(plugin(alloc, "grow", load)?)?;
+    Ok(())
+}
+
+fn push_letters(alloc: Global, plugins: &mut Vec<Plugin>) -> Result<(), AllocError>
+    ensures { OnOk result (plugins.new.items ≡ plugins.old.items ++ spec.letters_plugin ∷ []) }
+{
+    let load = letters_load(alloc)?;
+    plugins.push(plugin(alloc, "letters", load)?)?;
+    Ok(())
+}
+
+fn letters_load(alloc: Global) -> Result<Vec<Load>, AllocError>
+    ensures { IfOk result (λ v. v.items ≡ spec.letters_load) }
+{
+    let mut load = Vec::new(alloc);
+    push_on_title(alloc, &mut load, 10, "add_a")?;
+    push_on_title(alloc, &mut load, 10, "add_b")?;
+    push_on_title(alloc, &mut load, 5, "add_c")?;
+    Ok(load)
+}
+
+fn push_on_title(
+    alloc: Global,
+    load: &mut Vec<Load>,
+    priority: i64,
+    callback: &str,
+) -> Result<(), AllocError>
+    requires { name_fault 32 callback.now ≡ None }
+    ensures { OnOk result (load.new.items ≡ load.old.items ++ Load.Hook spec.the_title priority callback.now 1 ∷ []) }
+{
+    load.push(on_title(alloc, priority, callback)?)?;
+    Ok(())
+}
+
+fn push_loop(alloc: Global, plugins: &mut Vec<Plugin>) -> Result<(), AllocError>
+    ensures { OnOk result (plugins.new.items ≡ plugins.old.items ++ spec.loop_plugin ∷ []) }
+{
+    let load = vec![in alloc;
+        on_title(alloc, 10, "again")?,
+        on_hook(alloc, "title_save_pre", 10, "again_save")?,
     ]?;
-    let tags = vec![in alloc; tag_of(alloc, "greet")?, tag_of(alloc, "box")?]?;
-    Ok(vec![in alloc;
-        plugin(alloc, "grow", grow)?,
-        plugin(alloc, "letters", letters)?,
-        plugin(alloc, "loop", loops(alloc)?)?,
-        plugin(alloc, "notes", notes(alloc)?)?,
-        plugin(alloc, "tags", tags)?,
-    ]?)
+    plugins.push(plugin(alloc, "loop", load)?)?;
+    Ok(())
+}
+
+fn push_notes(alloc: Global, plugins: &mut Vec<Plugin>) -> Result<(), AllocError>
+    ensures { OnOk result (plugins.new.items ≡ plugins.old.items ++ spec.notes_plugin ∷ []) }
+{
+    let load = vec![in alloc; on_hook(alloc, "save_post", 10, "note")?]?;
+    plugins.push(plugin(alloc, "notes", load)?)?;
+    Ok(())
+}
+
+fn push_tags(alloc: Global, plugins: &mut Vec<Plugin>) -> Result<(), AllocError>
+    ensures { OnOk result (plugins.new.items ≡ plugins.old.items ++ spec.tags_plugin ∷ []) }
+{
+    let load = vec![in alloc; tag_of(alloc, "greet")?, tag_of(alloc, "box")?]?;
+    plugins.push(plugin(alloc, "tags", load)?)?;
+    Ok(())
 }
 
 fn plugin(alloc: Global, name: &str, load: Vec<Load>) -> Result<Plugin, AllocError>
@@ -301,21 +408,6 @@ fn plugin(alloc: Global, name: &str, load: Vec<Load>) -> Result<Plugin, AllocErr
         name: plugin_named(alloc, name)?,
         load: Items::from_vec(load),
     })
-}
-
-fn loops(alloc: Global) -> Result<Vec<Load>, AllocError>
-    ensures { IfOk result (λ v. v.items ≡ spec.on_title 10 (codes "again") ∷ spec.on_hook (codes "title_save_pre") 10 (codes "again_save") ∷ []) }
-{
-    Ok(vec![in alloc;
-        on_title(alloc, 10, "again")?,
-        on_hook(alloc, "title_save_pre", 10, "again_save")?,
-    ]?)
-}
-
-fn notes(alloc: Global) -> Result<Vec<Load>, AllocError>
-    ensures { IfOk result (λ v. v.items ≡ spec.on_hook (codes "save_post") 10 (codes "note") ∷ []) }
-{
-    Ok(vec![in alloc; on_hook(alloc, "save_post", 10, "note")?]?)
 }
 
 fn on_title(alloc: Global, priority: i64, callback: &str) -> Result<Load, AllocError>

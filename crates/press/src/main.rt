@@ -7,6 +7,7 @@ mod ending;
 mod fault;
 mod input;
 mod run;
+mod scripted;
 mod words;
 #[cfg(test)]
 mod tests;

@@ -1,0 +1,13 @@
+ghost use Rattle.std.specs.Prelude.{◌≡◌};
+
+use press_callbacks::Script;
+use press_text::CallbackId;
+
+/// A callback whose closure plays its script: its name, the script, and the same script once more for the closure.
+#[derive(Drop)]
+pub struct Scripted {
+    pub id: CallbackId,
+    pub script: Script,
+    pub own: Script,
+    ghost same: { own ≡ script },
+}
