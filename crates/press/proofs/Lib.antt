@@ -1,3 +1,2 @@
-pub mod Loop
-pub mod Json
+pub mod FirstValue
 pub mod Told

@@ -1,9 +1,10 @@
--- The demonstration kit: filters that append a letter, one that grows its own hook while it runs, and two shortcodes (own).
+-- The demonstration kit: filters that append a letter, one that grows its own hook while it runs, two that run their own hook again, an action that
+-- sets an option, and two shortcodes (own).
 use Rattle.std.specs.Prelude.{ℕ, pos, List, [], ◌∷◌, codes}
 use Rattle.press_scan.specs.declared.att_key.AttKey.TheVariants.{Name}
-use Rattle.press_callbacks.specs.declared.script.Part.TheVariants.{Lit, Att, Content, Value, Last}
+use Rattle.press_callbacks.specs.declared.script.Part.TheVariants.{Arg, Lit, Att, Content, Value, Last}
 use Rattle.press_callbacks.specs.declared.script.Op.{Op}
-use Rattle.press_callbacks.specs.declared.script.Op.TheVariants.{Set, AddHook, Shortcodes, Return}
+use Rattle.press_callbacks.specs.declared.script.Op.TheVariants.{Set, AddHook, Apply, SetOption, Shortcodes, Return}
 use Rattle.press_callbacks.specs.declared.plugin.Plugin.{Plugin}
 use Rattle.press_callbacks.specs.declared.plugin.Load.{Load}
 use Rattle.press_callbacks.specs.declared.plugin.Load.TheVariants.{Hook, Tag}
@@ -33,25 +34,38 @@ greeting = Return (Lit (codes "Hello ") ∷ (Att (Name (codes "name")) ∷ [])) 
 abbrev pub boxing : List Op
 boxing = Shortcodes (Content ∷ []) ∷ (Return (Lit (codes "<div>") ∷ (Last ∷ (Lit (codes "</div>") ∷ []))) ∷ [])
 
+-- runs a filter on its value, and answers what that gave
+abbrev pub running : List ℕ → List Op
+running hook = Apply hook (Value ∷ []) [] ∷ (Return (Last ∷ []) ∷ [])
+
+-- keeps its first argument as an option
+abbrev pub noting : List Op
+noting = SetOption (codes "last_saved") (Arg 0 ∷ []) ∷ []
+
 -- the callbacks whose closures play their scripts
 abbrev pub played : Scripts
 played =
     (codes "add_a", appending (codes "a"))
     ∷ ((codes "add_b", appending (codes "b"))
     ∷ ((codes "add_c", appending (codes "c"))
-    ∷ ((codes "add_d", appending (codes "d")) ∷ ((codes "add_e", appending (codes "e")) ∷ ((codes "add_f", appending (codes "f")) ∷ ((codes "greet", greeting) ∷ ((codes "box", boxing) ∷ [])))))))
+    ∷ ((codes "add_d", appending (codes "d")) ∷ ((codes "add_e", appending (codes "e")) ∷ ((codes "add_f", appending (codes "f")) ∷ ((codes "greet", greeting) ∷ ((codes "box", boxing) ∷ ((codes "again", running the_title) ∷ ((codes "again_save", running (codes "title_save_pre")) ∷ ((codes "note", noting) ∷ []))))))))))
 
 abbrev pub scripts : Scripts
 scripts = (codes "grow", growing) ∷ played
 
+abbrev pub on_hook : List ℕ → ℕ → List ℕ → Load
+on_hook hook priority callback = Hook hook (pos priority) callback 1
+
 abbrev pub on_title : ℕ → List ℕ → Load
-on_title priority callback = Hook the_title (pos priority) callback 1
+on_title = on_hook the_title
 
 abbrev pub plugins : List Plugin
 plugins =
     record { name = codes "grow"; load = on_title 10 (codes "grow") ∷ [] }
     ∷ (record { name = codes "letters"; load = on_title 10 (codes "add_a") ∷ (on_title 10 (codes "add_b") ∷ (on_title 5 (codes "add_c") ∷ [])) }
-    ∷ (record { name = codes "tags"; load = Tag (codes "greet") (codes "greet") ∷ (Tag (codes "box") (codes "box") ∷ []) } ∷ []))
+    ∷ (record { name = codes "loop"; load = on_title 10 (codes "again") ∷ (on_hook (codes "title_save_pre") 10 (codes "again_save") ∷ []) }
+    ∷ (record { name = codes "notes"; load = on_hook (codes "save_post") 10 (codes "note") ∷ [] }
+    ∷ (record { name = codes "tags"; load = Tag (codes "greet") (codes "greet") ∷ (Tag (codes "box") (codes "box") ∷ []) } ∷ []))))
 
 abbrev pub demonstration : KitView
 demonstration = view_of scripts plugins

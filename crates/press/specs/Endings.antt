@@ -1,5 +1,5 @@
 -- What the program does for its words and its input (own).
-use Rattle.std.specs.Prelude.{◌≡◌, ◌⊎◌, ℕ, List, [], ◌∷◌, map, nat_eq, if◌then◌else◌, Option, Some, None, Result, Ok, Err, codes}
+use Rattle.std.specs.Prelude.{◌≡◌, ◌⊎◌, ℕ, List, map, nat_eq, if◌then◌else◌, true, false, Option, Some, None, Result, Ok, Err, codes}
 use Rattle.std.specs.Io.KnownBytes.{Appends, Keeps}
 use Rattle.press_callbacks.specs.Kits.{KitView}
 use Rattle.press_apply.specs.declared.command.Stamped.{Stamped}
@@ -8,11 +8,13 @@ use Rattle.press_apply.specs.Apply.{site_after}
 use Rattle.press.specs.declared.fault.ReplayFault.{ReplayFault}
 use Rattle.press.specs.declared.fault.ReplayFault.TheVariants.{NoMemory, ReadFault, WriteFault, BadSchedule}
 use Rattle.press_page.specs.declared.reply.Reply.{Reply}
-use Rattle.press_page.specs.declared.reply.Target.TheVariants.{Post}
+use Rattle.press_page.specs.declared.reply.Target.{Target}
 use Rattle.press_page.specs.Page.{page_of}
 use Rattle.press.specs.declared.ending.Ending.{Ending}
 use Rattle.press.specs.declared.ending.Ending.TheVariants.{Printed, Fault}
-use Rattle.press.specs.SiteFile.{site_in}
+use Rattle.press_kit.specs.declared.place.Place.{Place}
+use Rattle.press_kit.specs.SiteFile.{site_in}
+use Rattle.press.specs.Words.{Asked, is_input}
 use Rattle.press_text.specs.Streams.{AppendsFront}
 
 -- 0 for a page, 1 for any other reply
@@ -22,10 +24,10 @@ exit_status status = if nat_eq status 200 then 0 else 1
 abbrev pub printed : Reply → Ending
 printed reply = Printed (exit_status reply.status) reply.body
 
--- the end of a run on a file, where nothing outside fails: the page of post 1 after its commands
-abbrev pub page_ending : KitView → Option (List Stamped) → Ending
-page_ending kit None = Fault BadSchedule
-page_ending kit (Some commands) = printed (page_of kit (site_after kit (map (λ c. Cmd c) commands)) (Post 1))
+-- the end of a run on a file, where nothing outside fails: the reply to what is asked, after its commands
+abbrev pub page_ending : KitView → Target → Result (List Stamped) Place → Ending
+page_ending kit target (Err place) = Fault BadSchedule
+page_ending kit target (Ok commands) = printed (page_of kit (site_after kit (map (λ c. Cmd c) commands)) target)
 
 -- a fault ends a run as well
 abbrev pub ending_of : Result Ending ReplayFault → Ending
@@ -40,8 +42,12 @@ IsOutside (Fault ReadFault) = Unit {0}
 IsOutside (Fault WriteFault) = ⊥
 IsOutside (Fault BadSchedule) = ⊥
 
-abbrev pub EndsPage : KitView → Ending → List ℕ → Type 0
-EndsPage kit end input = (end ≡ page_ending kit (site_in input)) ⊎ IsOutside end
+abbrev pub EndsPage : KitView → Target → Ending → List ℕ → Type 0
+EndsPage kit target end input = (end ≡ page_ending kit target (site_in input)) ⊎ IsOutside end
+
+-- What is known of an ending: on the standard input, what its bytes give. What a file holds that is opened by its name isn't known.
+abbrev pub EndsOn : KitView → Asked → Ending → List ℕ → Type 0
+EndsOn kit asked end input = is_input asked.0 ≡ true → EndsPage kit asked.1 end input
 
 abbrev pub fault_line : ReplayFault → List ℕ
 fault_line NoMemory = codes "press: fault 0\n"
@@ -60,12 +66,21 @@ Finishes (Printed status body) result out out' err err' =
     ⊎ ((result ≡ 2) × AppendsFront out out' body × AppendsFront err err' (fault_line WriteFault))
 Finishes (Fault fault) result out out' err err' = (result ≡ 2) × Keeps out out' × AppendsFront err err' (fault_line fault)
 
--- What any words come to, whatever there is to read: they are refused, and nothing is read.
-abbrev pub RefusesWords : List (List ℕ) → ℕ → Option (List ℕ) → Option (List ℕ) → Option (List ℕ) → Option (List ℕ) → Option (List ℕ) → Option (List ℕ) → Type 0
-RefusesWords [] result input input' out out' err err' = Unit {0}
-RefusesWords (w ∷ ws) result input input' out out' err err' = (result ≡ 2) × Keeps input input' × Keeps out out' × AppendsFront err err' usage_line
+-- Refused words: the usage, or want of memory to read them.
+abbrev pub Refuses : ℕ → Option (List ℕ) → Option (List ℕ) → Option (List ℕ) → Option (List ℕ) → Type 0
+Refuses result out out' err err' = (result ≡ 2) × Keeps out out' × (AppendsFront err err' usage_line ⊎ AppendsFront err err' (fault_line NoMemory))
 
--- A run for these words on this input: any words are refused.
-abbrev pub Runs : KitView → List (List ℕ) → List ℕ → ℕ → Option (List ℕ) → Option (List ℕ) → Option (List ℕ) → Option (List ℕ) → Type 0
-Runs kit [] input result out out' err err' = (end : Ending) × EndsPage kit end input × Finishes end result out out' err err'
-Runs kit (w ∷ ws) input result out out' err err' = (result ≡ 2) × Keeps out out' × AppendsFront err err' usage_line
+-- What refused words come to, whatever there is to read: nothing is read.
+abbrev pub RefusesWords : Option Asked → ℕ → Option (List ℕ) → Option (List ℕ) → Option (List ℕ) → Option (List ℕ) → Option (List ℕ) → Option (List ℕ) → Type 0
+RefusesWords (Some asked) result input input' out out' err err' = Unit {0}
+RefusesWords None result input input' out out' err err' = Keeps input input' × Refuses result out out' err err'
+
+-- The standard input is read only where it is asked for.
+abbrev pub ReadsAsked : Option Asked → Option (List ℕ) → Option (List ℕ) → Type 0
+ReadsAsked None input input' = Keeps input input'
+ReadsAsked (Some asked) input input' = is_input asked.0 ≡ false → Keeps input input'
+
+-- A run for what is asked, on this input.
+abbrev pub Runs : KitView → Option Asked → List ℕ → ℕ → Option (List ℕ) → Option (List ℕ) → Option (List ℕ) → Option (List ℕ) → Type 0
+Runs kit None input result out out' err err' = Refuses result out out' err err'
+Runs kit (Some asked) input result out out' err err' = (end : Ending) × EndsOn kit asked end input × Finishes end result out out' err err'

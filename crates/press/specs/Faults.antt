@@ -1,7 +1,9 @@
--- The number that tells each fault of a run, and the faults that stand for those of streams (own).
+-- The number that tells each fault of a run, and the faults that stand for those of streams and of site files (own).
 use Rattle.std.specs.Prelude.{ℕ}
 use Rattle.press_text.specs.declared.streams.ReadLimitedFault.{ReadLimitedFault}
 use Rattle.press_text.specs.declared.streams.ReadLimitedFault.TheVariants as reading
+use Rattle.press_kit.specs.declared.fault.KitFileFault.{KitFileFault}
+use Rattle.press_kit.specs.declared.fault.KitFileFault.TheVariants as file
 use Rattle.press.specs.declared.fault.ReplayFault.{ReplayFault}
 use Rattle.press.specs.declared.fault.ReplayFault.TheVariants.{NoMemory, ReadFault, WriteFault, BadSchedule}
 
@@ -16,3 +18,8 @@ abbrev pub fault_of_reading : ReadLimitedFault → ReplayFault
 fault_of_reading reading.NoMemory = NoMemory
 fault_of_reading reading.ReadFault = ReadFault
 fault_of_reading reading.TooLong = BadSchedule
+
+-- wherever a file is bad
+abbrev pub fault_of_file : KitFileFault → ReplayFault
+fault_of_file file.NoMemory = NoMemory
+fault_of_file (file.BadKitFile place) = BadSchedule

@@ -1,6 +1,5 @@
 pub mod Demonstration
 pub mod Endings
 pub mod Faults
-pub mod Gives
-pub mod SiteFile
 pub mod Streams
+pub mod Words

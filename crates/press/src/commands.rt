@@ -8,6 +8,7 @@ ghost use Rattle.press_apply.specs.declared.value.Value.TheVariants.{Cmd};
 use press_apply::{Stamped, Value, apply};
 use press_callbacks::Kit;
 use press_site::Site;
+use press_text::Items;
 use std::alloc::{AllocError, Global};
 
 /// Applies the commands in their order.
@@ -15,11 +16,11 @@ pub fn apply_all(
     alloc: Global,
     site: &mut Site,
     kit: &Kit,
-    commands: Vec<Stamped>,
+    commands: Items<Stamped>,
 ) -> Result<(), AllocError>
-    ensures { IfOk result (λ _. site.new ≡ folded (kit_view kit.now) site.old (map (λ c. Cmd c) commands.items)) }
+    ensures { IfOk result (λ _. site.new ≡ folded (kit_view kit.now) site.old (map (λ c. Cmd c) commands)) }
 {
-    for stamped in commands {
+    for stamped in commands.into_vec() {
         apply(alloc, site, kit, &Value::Cmd(stamped))?;
     }
     Ok(())

@@ -7,7 +7,7 @@ ghost use Rattle.press.specs.Demonstration as spec;
 
 use press_callbacks::{CallIn, Load, Op, Part, Plugin, Script, Turn};
 use press_scan::AttKey;
-use press_text::{CallbackId, HookName, Items, Name, NameFault, Tag, Text};
+use press_text::{CallbackId, HookName, Items, Name, NameFault, OptName, Tag, Text};
 use std::alloc::{AllocError, Global};
 
 /// A callback whose closure plays its script: its name, the script, and the same script once more for the closure.
@@ -52,7 +52,63 @@ fn played(alloc: Global) -> Result<Vec<Scripted>, AllocError>
         letter(alloc, "add_f", "f")?,
         greet(alloc)?,
         box_of_content(alloc)?,
+        again(alloc, "again", "the_title")?,
+        again(alloc, "again_save", "title_save_pre")?,
+        note(alloc)?,
     ]?)
+}
+
+fn again(alloc: Global, name: &str, hook: &str) -> Result<Scripted, AllocError>
+    requires name { name_fault 32 name.now ≡ None }
+    requires hook { name_fault 64 hook.now ≡ None }
+    ensures id { IfOk result (λ s. s.id ≡ name.now) }
+    ensures script { IfOk result (λ s. s.script ≡ spec.running hook.now) }
+{
+    let script = running(alloc, hook)?;
+    let own = running(alloc, hook)?;
+    Ok(Scripted {
+        id: callback_named(name),
+        script,
+        own,
+    })
+}
+
+// Runs a filter on its value, and answers what that gave.
+fn running(alloc: Global, hook: &str) -> Result<Script, AllocError>
+    requires { name_fault 64 hook.now ≡ None }
+    ensures { IfOk result (λ s. s ≡ spec.running hook.now) }
+{
+    let apply = Op::Apply {
+        hook: hook_named(alloc, hook)?,
+        value: Items::from_vec(vec![in alloc; Part::Value]?),
+        more: Items::new(alloc),
+    };
+    let answer = Op::Return(Items::from_vec(vec![in alloc; Part::Last]?));
+    Ok(Items::from_vec(vec![in alloc; apply, answer]?))
+}
+
+fn note(alloc: Global) -> Result<Scripted, AllocError>
+    ensures id { IfOk result (λ s. s.id ≡ codes "note") }
+    ensures script { IfOk result (λ s. s.script ≡ spec.noting) }
+{
+    let script = noting(alloc)?;
+    let own = noting(alloc)?;
+    Ok(Scripted {
+        id: callback_named("note"),
+        script,
+        own,
+    })
+}
+
+// Keeps its first argument as an option.
+fn noting(alloc: Global) -> Result<Script, AllocError>
+    ensures { IfOk result (λ s. s ≡ spec.noting) }
+{
+    let set = Op::SetOption {
+        name: last_saved(alloc)?,
+        value: Items::from_vec(vec![in alloc; Part::Arg(0)]?),
+    };
+    Ok(Items::from_vec(vec![in alloc; set]?))
 }
 
 fn greet(alloc: Global) -> Result<Scripted, AllocError>
@@ -217,7 +273,7 @@ pub fn grow_turn(alloc: Global, input: &CallIn) -> Result<Turn, AllocError>
     Ok(Turn::Return(text))
 }
 
-// The plugins `grow`, `letters` and `tags`.
+// The plugins `grow`, `letters`, `loop`, `notes` and `tags`.
 fn plugins(alloc: Global) -> Result<Vec<Plugin>, AllocError>
     ensures { IfOk result (λ v. v.items ≡ spec.plugins) }
 {
@@ -231,6 +287,8 @@ fn plugins(alloc: Global) -> Result<Vec<Plugin>, AllocError>
     Ok(vec![in alloc;
         plugin(alloc, "grow", grow)?,
         plugin(alloc, "letters", letters)?,
+        plugin(alloc, "loop", loops(alloc)?)?,
+        plugin(alloc, "notes", notes(alloc)?)?,
         plugin(alloc, "tags", tags)?,
     ]?)
 }
@@ -245,12 +303,40 @@ fn plugin(alloc: Global, name: &str, load: Vec<Load>) -> Result<Plugin, AllocErr
     })
 }
 
+fn loops(alloc: Global) -> Result<Vec<Load>, AllocError>
+    ensures { IfOk result (λ v. v.items ≡ spec.on_title 10 (codes "again") ∷ spec.on_hook (codes "title_save_pre") 10 (codes "again_save") ∷ []) }
+{
+    Ok(vec![in alloc;
+        on_title(alloc, 10, "again")?,
+        on_hook(alloc, "title_save_pre", 10, "again_save")?,
+    ]?)
+}
+
+fn notes(alloc: Global) -> Result<Vec<Load>, AllocError>
+    ensures { IfOk result (λ v. v.items ≡ spec.on_hook (codes "save_post") 10 (codes "note") ∷ []) }
+{
+    Ok(vec![in alloc; on_hook(alloc, "save_post", 10, "note")?]?)
+}
+
 fn on_title(alloc: Global, priority: i64, callback: &str) -> Result<Load, AllocError>
     requires { name_fault 32 callback.now ≡ None }
     ensures { IfOk result (λ l. l ≡ Load.Hook spec.the_title priority callback.now 1) }
 {
+    on_hook(alloc, "the_title", priority, callback)
+}
+
+fn on_hook(
+    alloc: Global,
+    hook: &str,
+    priority: i64,
+    callback: &str,
+) -> Result<Load, AllocError>
+    requires hook { name_fault 64 hook.now ≡ None }
+    requires callback { name_fault 32 callback.now ≡ None }
+    ensures { IfOk result (λ l. l ≡ Load.Hook hook.now priority callback.now 1) }
+{
     Ok(Load::Hook {
-        hook: the_title(alloc)?,
+        hook: hook_named(alloc, hook)?,
         priority,
         callback: callback_named(callback),
         accepted: 1,
@@ -282,7 +368,24 @@ fn tag_named(alloc: Global, name: &str) -> Result<Tag, AllocError>
 fn the_title(alloc: Global) -> Result<HookName, AllocError>
     ensures { IfOk result (λ h. h ≡ spec.the_title) }
 {
-    match HookName::new(alloc, "the_title") {
+    hook_named(alloc, "the_title")
+}
+
+fn last_saved(alloc: Global) -> Result<OptName, AllocError>
+    ensures { IfOk result (λ n. n ≡ codes "last_saved") }
+{
+    match OptName::new(alloc, "last_saved") {
+        Ok(name) => Ok(name),
+        Err(NameFault::NoMemory) => Err(AllocError),
+        Err(NameFault::BadName) | Err(NameFault::TooLong) => unreachable!(),
+    }
+}
+
+fn hook_named(alloc: Global, name: &str) -> Result<HookName, AllocError>
+    requires { name_fault 64 name.now ≡ None }
+    ensures { IfOk result (λ h. h ≡ name.now) }
+{
+    match HookName::new(alloc, name) {
         Ok(hook) => Ok(hook),
         Err(NameFault::NoMemory) => Err(AllocError),
         Err(NameFault::BadName) | Err(NameFault::TooLong) => unreachable!(),

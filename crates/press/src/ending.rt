@@ -1,8 +1,9 @@
 //! How a run of the program ends.
 
-ghost use Rattle.std.specs.Prelude.{◌≡◌, ◌+◌, IfOk, IfErr, IfSome, Some};
+ghost use Rattle.std.specs.Prelude.{◌≡◌, ◌+◌, IfOk, IfErr, IfSome, Ok};
 ghost use Rattle.press_callbacks.specs.Kits.{kit_view};
-ghost use Rattle.press.specs.SiteFile.{site_in, file_limit};
+ghost use Rattle.press_kit.specs.KitFile.{file_limit};
+ghost use Rattle.press_kit.specs.SiteFile.{site_in};
 ghost use Rattle.press_text.specs.Streams.{TakesAtMost};
 ghost use Rattle.press.specs.Endings.{page_ending, printed, EndsPage};
 
@@ -13,7 +14,7 @@ use press_apply::Stamped;
 use press_callbacks::Kit;
 use press_page::{Reply, Target, page};
 use press_site::Site;
-use press_text::Text;
+use press_text::{Items, Text};
 use std::alloc::{AllocError, Global};
 use std::io::Read;
 
@@ -33,31 +34,41 @@ fn printed(reply: Reply) -> Ending
     }
 }
 
-// The page of post 1 after the commands.
-fn page_after(alloc: Global, kit: &Kit, commands: Vec<Stamped>) -> Result<Ending, AllocError>
-    ensures { IfOk result (λ end. end ≡ page_ending (kit_view kit.now) (Some commands.items)) }
+// The reply to what is asked, after the commands.
+fn page_after(
+    alloc: Global,
+    kit: &Kit,
+    target: &Target,
+    commands: Items<Stamped>,
+) -> Result<Ending, AllocError>
+    ensures { IfOk result (λ end. end ≡ page_ending (kit_view kit.now) target.now (Ok commands)) }
 {
     let mut site = Site::new(alloc);
     apply_all(alloc, &mut site, kit, commands)?;
-    let reply = page(alloc, &site, kit, &Target::Post(1))?;
+    let reply = page(alloc, &site, kit, target)?;
     Ok(printed(reply))
 }
 
-fn try_page<R: Read>(alloc: Global, kit: &Kit, reader: &mut R) -> Result<Ending, ReplayFault>
+fn try_page<R: Read>(
+    alloc: Global,
+    kit: &Kit,
+    target: &Target,
+    reader: &mut R,
+) -> Result<Ending, ReplayFault>
     ensures took { TakesAtMost (R.remaining reader.old) (R.remaining reader.new) (file_limit + 1) }
-    ensures ok { IfOk result (λ end. IfSome (R.remaining reader.old) (λ input. end ≡ page_ending (kit_view kit.now) (site_in input))) }
-    ensures err { IfErr result (λ e. IfSome (R.remaining reader.old) (λ input. EndsPage (kit_view kit.now) (Ending.Fault e) input)) }
+    ensures ok { IfOk result (λ end. IfSome (R.remaining reader.old) (λ input. end ≡ page_ending (kit_view kit.now) target.now (site_in input))) }
+    ensures err { IfErr result (λ e. IfSome (R.remaining reader.old) (λ input. EndsPage (kit_view kit.now) target.now (Ending.Fault e) input)) }
 {
     let commands = read_site(alloc, reader)?;
-    Ok(page_after(alloc, kit, commands)?)
+    Ok(page_after(alloc, kit, target, commands)?)
 }
 
-/// The end of a run on the file that a reader has left.
-pub fn page_end<R: Read>(alloc: Global, kit: &Kit, reader: &mut R) -> Ending
+/// The end of a run on the file that a reader has left, for what is asked of its site.
+pub fn page_end<R: Read>(alloc: Global, kit: &Kit, target: &Target, reader: &mut R) -> Ending
     ensures took { TakesAtMost (R.remaining reader.old) (R.remaining reader.new) (file_limit + 1) }
-    ensures ends { IfSome (R.remaining reader.old) (λ input. EndsPage (kit_view kit.now) result input) }
+    ensures ends { IfSome (R.remaining reader.old) (λ input. EndsPage (kit_view kit.now) target.now result input) }
 {
-    match try_page(alloc, kit, reader) {
+    match try_page(alloc, kit, target, reader) {
         Ok(end) => end,
         Err(fault) => Ending::Fault(fault),
     }

@@ -1,9 +1,10 @@
 //! Why a run ends without an answer.
 
 ghost use Rattle.std.specs.Prelude.{◌≡◌};
-ghost use Rattle.press.specs.Faults.{fault_number, fault_of_reading};
+ghost use Rattle.press.specs.Faults.{fault_number, fault_of_file, fault_of_reading};
 ghost use Rattle.press.specs.declared.fault.ReplayFault.TheVariants as fault;
 
+use press_kit::KitFileFault;
 use press_text::{ReadLimitedFault, WriteFault};
 use std::alloc::{AllocError, AllocFailed};
 use thiserror::Error;
@@ -59,6 +60,17 @@ impl From<ReadLimitedFault> for ReplayFault {
             ReadLimitedFault::NoMemory => ReplayFault::NoMemory,
             ReadLimitedFault::ReadFault => ReplayFault::ReadFault,
             ReadLimitedFault::TooLong => ReplayFault::BadSchedule,
+        }
+    }
+}
+
+impl From<KitFileFault> for ReplayFault {
+    ghost from_gives = { λ f e. e ≡ fault_of_file f };
+
+    fn from(f: KitFileFault) -> ReplayFault {
+        match f {
+            KitFileFault::NoMemory => ReplayFault::NoMemory,
+            KitFileFault::BadKitFile(_) => ReplayFault::BadSchedule,
         }
     }
 }

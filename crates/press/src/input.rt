@@ -3,21 +3,22 @@
 ghost use Rattle.std.specs.Prelude.{◌+◌, IfSome};
 ghost use Rattle.press_text.specs.Streams.{TakesAtMost};
 ghost use Rattle.press.specs.Streams.{ReadGives};
-ghost use Rattle.press.specs.SiteFile.{site_in, file_limit};
+ghost use Rattle.press_kit.specs.KitFile.{file_limit};
+ghost use Rattle.press_kit.specs.SiteFile.{site_in};
 
-use crate::decode::{LIMIT, decode_site};
 use crate::fault::ReplayFault;
 use press_apply::Stamped;
-use press_text::read_limited;
+use press_kit::{FILE_LIMIT, read_site_file};
+use press_text::{Items, read_limited};
 use std::alloc::Global;
 use std::io::Read;
 
-/// The commands of the site file that a reader has left, as `decode_site` finds them.
-#[tactic(auto, unfolding(crate::specs::SiteFile::site_in))]
-pub fn read_site<R: Read>(alloc: Global, reader: &mut R) -> Result<Vec<Stamped>, ReplayFault>
+/// The commands of the site file that a reader has left.
+#[tactic(auto, unfolding(press_kit::specs::SiteFile::site_in, press_kit::specs::KitFile::file_in))]
+pub fn read_site<R: Read>(alloc: Global, reader: &mut R) -> Result<Items<Stamped>, ReplayFault>
     ensures took { TakesAtMost (R.remaining reader.old) (R.remaining reader.new) (file_limit + 1) }
-    ensures gives { IfSome (R.remaining reader.old) (λ input. ReadGives (λ v. v.items) result (site_in input)) }
+    ensures gives { IfSome (R.remaining reader.old) (λ input. ReadGives result (site_in input)) }
 {
-    let bytes = read_limited(alloc, reader, LIMIT)?;
-    decode_site(alloc, &bytes)
+    let bytes = read_limited(alloc, reader, FILE_LIMIT)?;
+    Ok(read_site_file(alloc, &bytes)?)
 }

@@ -1,13 +1,13 @@
-//! The program: it reads a site file from standard input and prints the page of its first post.
+//! The program: `press page FILE TARGET` prints a page of the site that the commands of a file make.
 #![tactic(auto)]
 
 mod commands;
-mod decode;
 mod demonstration;
 mod ending;
 mod fault;
 mod input;
 mod run;
+mod words;
 #[cfg(test)]
 mod tests;
 

@@ -1,19 +1,25 @@
 //! One run of the program over any reader and writers.
 
-ghost use Rattle.std.specs.Prelude.{◌≡◌, ◌+◌, map, string_bytes, IfSome};
-ghost use Rattle.std.specs.Io.KnownBytes.{Appends};
-ghost use Rattle.press.specs.SiteFile.{file_limit};
+ghost use Rattle.std.specs.Prelude.{◌≡◌, ◌+◌, true, false, map, string_bytes, IfSome};
+ghost use Rattle.std.specs.Io.KnownBytes.{Appends, Keeps};
+ghost use Rattle.press_kit.specs.KitFile.{file_limit};
 ghost use Rattle.press_text.specs.Streams.{AppendsFront, TakesAtMost};
-ghost use Rattle.press.specs.Endings.{fault_line, usage_line, ending_of, EndsPage, Finishes, RefusesWords, Runs};
+ghost use Rattle.press.specs.Endings.{fault_line, usage_line, ending_of, EndsOn, EndsPage, Finishes, ReadsAsked, RefusesWords, Runs};
+ghost use Rattle.press.specs.Words.{asked_by, is_input};
 ghost use Rattle.press.specs.Demonstration.{demonstration};
 
 use crate::demonstration::{grow, grow_turn, parts};
 use crate::ending::{Ending, page_end};
 use crate::fault::ReplayFault;
+use crate::words::{Wanted, read_words};
 use press_callbacks::{BoxedTurns, CallIn, Kit, Stored, script_turn};
+use press_page::Target;
 use press_text::write_once;
 use std::alloc::Global;
+use std::fs;
+use std::io;
 use std::io::{Read, Write};
+use std::rt::Files;
 
 fn line_of(fault: ReplayFault) -> &'static [u8]
     ensures { result.now ≡ fault_line fault }
@@ -64,10 +70,14 @@ fn finish<W: Write, E: Write>(end: Ending, writer: &mut W, error: &mut E) -> u8
     }
 }
 
-// The page of the input's commands on the demonstration kit, whose closures are boxed here: a box may not be handed out.
-fn demonstrated<R: Read>(alloc: Global, reader: &mut R) -> Result<Ending, ReplayFault>
+// The reply after a file's commands on the demonstration kit, whose closures are boxed here: a box may not be handed out.
+fn demonstrated<R: Read>(
+    alloc: Global,
+    target: &Target,
+    reader: &mut R,
+) -> Result<Ending, ReplayFault>
     ensures took { TakesAtMost (R.remaining reader.old) (R.remaining reader.new) (file_limit + 1) }
-    ensures ends { IfSome (R.remaining reader.old) (λ input. EndsPage demonstration (ending_of result) input) }
+    ensures ends { IfSome (R.remaining reader.old) (λ input. EndsPage demonstration target.now (ending_of result) input) }
 {
     let parts = parts(alloc)?;
     let mut callbacks: Vec<Stored> = Vec::new(alloc);
@@ -82,15 +92,47 @@ fn demonstrated<R: Read>(alloc: Global, reader: &mut R) -> Result<Ending, Replay
         callbacks.push(Stored::new(scripted.id, scripted.script, call))?;
     }
     match Kit::build(alloc, callbacks, parts.plugins) {
-        Ok(kit) => Ok(page_end(alloc, &kit, reader)),
+        Ok(kit) => Ok(page_end(alloc, &kit, target, reader)),
         Err(_) => Err(ReplayFault::NoMemory),
     }
 }
 
-/// One run over an input and two outputs. Without words: the page of post 1 of the site file on the input, with status 0, or the fixed
-/// body of another reply, with status 1. A fault is a line `press: fault N` on the errors, and status 2; so is `press: usage` for any words,
-/// and then nothing is read.
-pub fn run<Rt: AllocGlobal, R: Read, W: Write, E: Write>(
+// The end of a run on the file that a reader has left.
+fn shown<R: Read>(alloc: Global, target: &Target, reader: &mut R) -> Ending
+    ensures took { TakesAtMost (R.remaining reader.old) (R.remaining reader.new) (file_limit + 1) }
+    ensures ends { IfSome (R.remaining reader.old) (λ input. EndsPage demonstration target.now result input) }
+{
+    match demonstrated(alloc, target, reader) {
+        Ok(end) => end,
+        Err(fault) => Ending::Fault(fault),
+    }
+}
+
+// The end of a run on a file by its name. One that can't be opened can't be read.
+fn shown_of<Rt: AllocGlobal + Files>(rt: &Rt, wanted: &Wanted<'_>) -> Ending {
+    match fs::open(rt, wanted.file) {
+        Ok(mut file) => shown(rt.alloc(), &wanted.target, &mut file),
+        Err(e) if e.kind() == io::ErrorKind::OutOfMemory => Ending::Fault(ReplayFault::NoMemory),
+        Err(_) => Ending::Fault(ReplayFault::ReadFault),
+    }
+}
+
+fn ended<Rt: AllocGlobal + Files, R: Read>(rt: &Rt, wanted: &Wanted<'_>, reader: &mut R) -> Ending
+    ensures took { TakesAtMost (R.remaining reader.old) (R.remaining reader.new) (file_limit + 1) }
+    ensures stays { is_input wanted.now.file.now ≡ false → Keeps (R.remaining reader.old) (R.remaining reader.new) }
+    ensures ends { IfSome (R.remaining reader.old) (λ input. EndsOn demonstration (wanted.now.file.now, wanted.now.target) result input) }
+{
+    if wanted.file == "-" {
+        shown(rt.alloc(), &wanted.target, reader)
+    } else {
+        shown_of(rt, wanted)
+    }
+}
+
+/// One run over an input and two outputs: `page FILE TARGET` prints the reply to what is asked after the commands of a site file, which is
+/// the standard input for `-`; without words that is `page - post:1`. The status is 0 for a reply of status 200, and 1 for another. A fault is
+/// a line `press: fault N` on the errors, and status 2; so is `press: usage` for any other words, and then nothing is read.
+pub fn run<Rt: AllocGlobal + Files, R: Read, W: Write, E: Write>(
     rt: &Rt,
     words: &[String],
     reader: &mut R,
@@ -98,17 +140,15 @@ pub fn run<Rt: AllocGlobal, R: Read, W: Write, E: Write>(
     error: &mut E,
 ) -> u8
     ensures read { TakesAtMost (R.remaining reader.old) (R.remaining reader.new) (file_limit + 1) }
-    ensures runs { IfSome (R.remaining reader.old) (λ input. Runs demonstration (map string_bytes words.now) input result
+    ensures asked { ReadsAsked (asked_by (map string_bytes words.now)) (R.remaining reader.old) (R.remaining reader.new) }
+    ensures runs { IfSome (R.remaining reader.old) (λ input. Runs demonstration (asked_by (map string_bytes words.now)) input result
         (W.contents writer.old) (W.contents writer.new) (E.contents error.old) (E.contents error.new)) }
-    ensures refused { RefusesWords (map string_bytes words.now) result (R.remaining reader.old) (R.remaining reader.new)
+    ensures refused { RefusesWords (asked_by (map string_bytes words.now)) result (R.remaining reader.old) (R.remaining reader.new)
         (W.contents writer.old) (W.contents writer.new) (E.contents error.old) (E.contents error.new) }
 {
-    if !words.is_empty() {
-        return refuse(error);
+    match read_words(rt.alloc(), words) {
+        Ok(Some(wanted)) => finish(ended(rt, &wanted, reader), writer, error),
+        Ok(None) => refuse(error),
+        Err(_) => fail(ReplayFault::NoMemory, error),
     }
-    let end = match demonstrated(rt.alloc(), reader) {
-        Ok(end) => end,
-        Err(fault) => Ending::Fault(fault),
-    };
-    finish(end, writer, error)
 }

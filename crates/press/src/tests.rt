@@ -1,5 +1,5 @@
-mod bad_files;
 mod fakes;
 mod fixtures;
 mod kits;
 mod runs;
+mod words;

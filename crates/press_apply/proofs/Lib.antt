@@ -1,3 +1,5 @@
 pub mod Checked
+pub mod Lookups
 pub mod Refusals
 pub mod Ticks
+pub mod Tokens

@@ -24,7 +24,7 @@ use Rattle.press_site.specs.Effects.{effect_on, no_site}
 use Rattle.press_site.specs.Faults.{of_posts}
 use Rattle.press_site.specs.Outcomes.{outcome_of, with_outcome}
 use Rattle.press_site.specs.SiteView.{SiteView}
-use Rattle.press_run.specs.Boot.{booted_with}
+use Rattle.press_run.specs.Boot.{boot_actions, booted_with}
 use Rattle.press_run.specs.Outcome.{started}
 use Rattle.press_run.specs.Run.{Answer, Meaning, State, apply_hook, callbacks_of, do_fires}
 use Rattle.press_apply.specs.declared.command.Command.{Command}
@@ -167,12 +167,6 @@ unfoldable pub ticks : Meaning → State → Result (State × ℕ) ApplyFault
 ticks callback s = no_id (takes_all callback (due s.site.moment s.site.events) s)
 
 -- ---- the work with and without a boot
-
-abbrev pub bare : List ℕ → Fire
-bare hook = record { hook = hook; args = [] }
-
-abbrev pub boot_actions : List Fire
-boot_actions = bare (codes "plugins_loaded") ∷ bare (codes "init") ∷ bare (codes "wp_loaded") ∷ []
 
 -- after a boot and its three actions
 abbrev pub boots : Meaning → KitView → SiteView → Result State ApplyFault

@@ -1,3 +1,4 @@
 pub mod Apply
 pub mod Faults
+pub mod Tokens
 pub mod Works

@@ -2,44 +2,12 @@
 
 ghost use Rattle.std.specs.Prelude.{◌≡◌, ◌∷◌, [], None, IfOk, decimal};
 ghost use Rattle.press_text.specs.Names.{name_fault};
-ghost use Rattle.press_apply.specs.Apply.{about, bare, boot_actions, event_fires};
+ghost use Rattle.press_apply.specs.Apply.{about, event_fires};
 
 use press_events::Event;
 use press_posts::Fire;
-use press_text::{HookName, Items, NameFault, Text, Texts};
+use press_text::{HookName, Items, Text, Texts};
 use std::alloc::{AllocError, Global};
-
-// A hook whose name stands in the program.
-pub fn hook_named(alloc: Global, name: &str) -> Result<HookName, AllocError>
-    requires { name_fault 64 name.now ≡ None }
-    ensures { IfOk result (λ h. h ≡ name.now) }
-{
-    match HookName::new(alloc, name) {
-        Ok(hook) => Ok(hook),
-        Err(NameFault::NoMemory) => Err(AllocError),
-        Err(NameFault::BadName) | Err(NameFault::TooLong) => unreachable!(),
-    }
-}
-
-fn bare(alloc: Global, hook: &str) -> Result<Fire, AllocError>
-    requires { name_fault 64 hook.now ≡ None }
-    ensures { IfOk result (λ f. f ≡ bare hook.now) }
-{
-    Ok(Fire {
-        hook: hook_named(alloc, hook)?,
-        args: Texts::new(alloc),
-    })
-}
-
-// The actions of a boot.
-pub fn boot_actions(alloc: Global) -> Result<Items<Fire>, AllocError>
-    ensures { IfOk result (λ fs. fs ≡ boot_actions) }
-{
-    let loaded = bare(alloc, "plugins_loaded")?;
-    let init = bare(alloc, "init")?;
-    let ready = bare(alloc, "wp_loaded")?;
-    Ok(Items::from_vec(vec![in alloc; loaded, init, ready]?))
-}
 
 // An action with a post's id.
 pub fn about(alloc: Global, hook: &str, id: u64) -> Result<Items<Fire>, AllocError>
@@ -48,7 +16,7 @@ pub fn about(alloc: Global, hook: &str, id: u64) -> Result<Items<Fire>, AllocErr
 {
     let id = decimal(alloc, id)?;
     let fire = Fire {
-        hook: hook_named(alloc, hook)?,
+        hook: HookName::from_valid(alloc, hook)?,
         args: Texts::from_vec(vec![in alloc; id]?)?,
     };
     Ok(Items::from_vec(vec![in alloc; fire]?))

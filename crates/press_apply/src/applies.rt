@@ -5,6 +5,7 @@ ghost use Rattle.press_callbacks.specs.Kits.{kit_view, plugin_of, plugins_in};
 ghost use Rattle.press_site.specs.Effects.{effect_on};
 ghost use Rattle.press_site.specs.Outcomes.{outcome_of, with_outcome};
 ghost use Rattle.press_apply.specs.Apply.{alone, applied, applied_where, at_moment, booted, callbacks_on, deletes, does, inserts, ticks, trashes, untrashes, updates, work_of};
+ghost use Rattle.press_apply.specs.Faults.{apply_fault_number};
 ghost use Rattle.press_apply.specs.Works.{TakesNone, Works};
 
 use crate::command::{Command, Stamped};
@@ -55,22 +56,33 @@ fn apply_command(
     ensures known { IfSome (outcome_of stamped.now.token site.old.outcomes) (λ outcome. result ≡ Ok outcome) }
     ensures err { OnErr result (site.new ≡ site.old) }
 {
-    let now = later(site.now(), stamped.at);
-    if let Some(outcome) = site.result_of(&stamped.token) {
-        site.set_now(now);
-        return Ok(outcome);
+    match site.result_of(&stamped.token) {
+        Some(outcome) => {
+            site.set_now(later(site.now(), stamped.at));
+            Ok(outcome)
+        }
+        None => apply_new(alloc, site, kit, stamped),
     }
+}
+
+// A command whose token isn't known.
+fn apply_new(
+    alloc: Global,
+    site: &mut Site,
+    kit: &Kit,
+    stamped: &Stamped,
+) -> Result<Outcome, AllocError>
+    requires { outcome_of stamped.now.token site.old.outcomes ≡ None }
+    ensures applied { IfOk result (λ outcome. (site.new, outcome) ≡ applied_where (kit_view kit.now) (at_moment stamped.now.at site.old) stamped.now None) }
+    ensures err { OnErr result (site.new ≡ site.old) }
+{
+    let now = later(site.now(), stamped.at);
     let mut before = site.copy()?;
     before.set_now(now);
     match work(alloc, kit, before, &stamped.command) {
         Ok((after, id)) => done(alloc, site, after, &stamped.token, id),
         Err(ApplyFault::NoMemory) => Err(AllocError),
-        Err(fault) => {
-            let outcome = Outcome::Refused(fault.number());
-            site.keep(stamped.token.copied(alloc)?, outcome)?;
-            site.set_now(now);
-            Ok(outcome)
-        }
+        Err(fault) => refused(alloc, site, now, stamped, fault),
     }
 }
 
@@ -89,6 +101,24 @@ fn done(
     let outcome = Outcome::Done(id);
     after.keep(token.copied(alloc)?, outcome)?;
     *site = after;
+    Ok(outcome)
+}
+
+// A refused command leaves the site as it was before its work, but for the moment and the outcome under its token.
+fn refused(
+    alloc: Global,
+    site: &mut Site,
+    now: Moment,
+    stamped: &Stamped,
+    fault: ApplyFault,
+) -> Result<Outcome, AllocError>
+    requires { outcome_of stamped.now.token site.old.outcomes ≡ None }
+    ensures ok { IfOk result (λ outcome. (outcome ≡ Outcome.Refused (apply_fault_number fault)) × (site.new ≡ record site.old { moment = now; outcomes = with_outcome stamped.now.token (Outcome.Refused (apply_fault_number fault)) site.old.outcomes })) }
+    ensures err { OnErr result (site.new ≡ site.old) }
+{
+    let outcome = Outcome::Refused(fault.number());
+    site.keep(stamped.token.copied(alloc)?, outcome)?;
+    site.set_now(now);
     Ok(outcome)
 }
 
@@ -207,9 +237,9 @@ fn set_option(
 fn tick(alloc: Global, kit: &Kit, site: Site) -> Result<(Site, u64), ApplyFault>
     ensures { Works (booted (kit_view kit.now) site (ticks (callbacks_on (kit_view kit.now)))) site result }
 {
-    let mut work = Work::booted(alloc, kit, site)?;
-    let id = work.tick(alloc, kit)?;
-    Ok((work.site, id))
+    let mut loaded = Work::booted(alloc, kit, site)?;
+    let id = loaded.tick(alloc, kit)?;
+    Ok((loaded.site, id))
 }
 
 fn activate(alloc: Global, kit: &Kit, site: Site, plugin: &Name) -> Result<(Site, u64), ApplyFault>

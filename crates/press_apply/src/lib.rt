@@ -6,10 +6,12 @@ mod applies;
 mod checks;
 mod command;
 mod fault;
+mod laws;
 mod value;
 mod work;
 
 pub use applies::apply;
 pub use command::{Command, Stamped};
 pub use fault::ApplyFault;
+pub use laws::token_answers_once;
 pub use value::Value;

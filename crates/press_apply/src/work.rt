@@ -7,18 +7,18 @@ ghost use Rattle.press_site.specs.Effects.{effect_on};
 ghost use Rattle.press_run.specs.Boot.{booted_with};
 ghost use Rattle.press_run.specs.Links.{kept};
 ghost use Rattle.press_run.specs.Outcome.{GivesJob, around, job_meaning, stage, started};
-ghost use Rattle.press_apply.specs.Apply.{boots, callbacks_on, changes, does, fires, filtered, inserts, updates, between, trashes, untrashes, deletes, takes, takes_all, ticks, passes};
+ghost use Rattle.press_apply.specs.Apply.{boots, callbacks_on, changes, does, fires, filtered, inserts, saves, updates, between, trashes, untrashes, deletes, takes, takes_all, ticks, passes};
 ghost use Rattle.press_apply.specs.Works.{Boots, Checks, Does, Filters, Makes, Steps, state_in};
 
-use crate::actions::{about, boot_actions, event_fires, hook_named};
+use crate::actions::{about, event_fires};
 use crate::checks::{delete_fault, move_fault, update_fault, wanted_fault};
 use crate::fault::ApplyFault;
 use press_callbacks::{Kit, Tables};
 use press_events::Event;
 use press_posts::{Fire, Move, Status};
-use press_run::{Job, Machine, Out, RunFault, boot};
+use press_run::{Job, Machine, Out, RunFault, boot, boot_actions};
 use press_site::{Changed, Effect, Site, SiteFault};
-use press_text::{Copied, Items, Moment, Text, Texts};
+use press_text::{Copied, HookName, Items, Moment, Text, Texts};
 use std::alloc::{AllocError, Global};
 
 /// A command at work on a site of its own.
@@ -92,7 +92,7 @@ impl Work {
         requires { name_fault 64 hook.now ≡ None }
         ensures { Filters (filtered (callbacks_on (kit_view kit.now)) hook.now text.now (state_in self.old)) self.old self.new result }
     {
-        let hook = hook_named(alloc, hook)?;
+        let hook = HookName::from_valid(alloc, hook)?;
         let text = text.copy(alloc)?;
         let args = Texts::from_vec(vec![in alloc; text]?)?;
         match self.run(kit, Job::Apply { hook, args }) {
@@ -120,7 +120,7 @@ impl Work {
     }
 
     /// A new post, whose title is filtered before its content.
-    #[tactic(auto, unfolding(crate::specs::Apply::inserts, crate::specs::Apply::saves), using(crate::proofs::Refusals::handed_on))]
+    #[tactic(auto, unfolding(crate::specs::Apply::inserts), using(crate::proofs::Refusals::handed_on))]
     pub fn insert(
         &mut self,
         alloc: Global,
@@ -133,6 +133,21 @@ impl Work {
         ensures { Does (inserts (callbacks_on (kit_view kit.now)) title.now content.now status date (state_in self.old)) self.old self.new result }
     {
         passes(wanted_fault(status))?;
+        self.insert_filtered(alloc, kit, title, content, status, date)
+    }
+
+    #[tactic(auto, unfolding(crate::specs::Apply::saves), using(crate::proofs::Refusals::handed_on))]
+    fn insert_filtered(
+        &mut self,
+        alloc: Global,
+        kit: &Kit,
+        title: &Text,
+        content: &Text,
+        status: Status,
+        date: Moment,
+    ) -> Result<u64, ApplyFault>
+        ensures { Does (saves (callbacks_on (kit_view kit.now)) (λ t c. Effect.Insert t c status date) title.now content.now (state_in self.old)) self.old self.new result }
+    {
         let title = self.filtered(alloc, kit, "title_save_pre", title)?;
         let content = self.filtered(alloc, kit, "content_save_pre", content)?;
         let effect = Effect::Insert {

@@ -1,7 +1,7 @@
 -- Places in a file, as they are told to its author: keys and numbers of lists, counted from 0 (own).
 use Rattle.std.specs.Prelude.{ℕ, List, [], ◌++◌, codes, decimal}
 use Rattle.press_kit.specs.declared.place.Place.{Place}
-use Rattle.press_kit.specs.declared.place.Place.TheVariants.{File, Callbacks, Callback, Op, Plugins, Plugin, Load, Active, ActiveName, Commands, Command, Plays, Play}
+use Rattle.press_kit.specs.declared.place.Place.TheVariants.{File, Callbacks, Callback, Op, Plugins, Plugin, Load, Active, ActiveName, Commands, Command, Pages, Page, Plays, Play}
 
 -- the place of an item of the list at a place; an op or a load is told as a whole
 abbrev pub item_of : Place → ℕ → Place
@@ -16,6 +16,8 @@ item_of Active n = ActiveName n
 item_of (ActiveName a) n = ActiveName a
 item_of Commands n = Command n
 item_of (Command c) n = Command c
+item_of Pages n = Page n
+item_of (Page p) n = Page p
 item_of Plays n = Play n
 item_of (Play p) n = Play p
 
@@ -35,5 +37,7 @@ place_text Active = codes "active"
 place_text (ActiveName n) = numbered (codes "active") n []
 place_text Commands = codes "commands"
 place_text (Command n) = numbered (codes "commands") n []
+place_text Pages = codes "pages"
+place_text (Page n) = numbered (codes "pages") n []
 place_text Plays = codes "plays"
 place_text (Play n) = numbered (codes "plays") n []

@@ -1,9 +1,12 @@
--- Play file: a kit, the plugins that are active or the commands that make the site, and what is to be played on it in turn, as a JSON document gives it (own).
+-- Play file: a kit, the plugins that are active or the commands that make the site, the pages that are shown of it, and what is to be played on it in
+-- turn, as a JSON document gives it (own).
 -- The key `shows` is for whoever reads the file.
 use Rattle.std.specs.Prelude.{ℕ, ◌^◌, List, [], ◌∷◌, Bool, true, false, nat_lt, ◌&&◌, if◌then◌else◌, Option, Some, None, is_some, option_and_then, Result, Ok, codes}
 use Rattle.serde_json.specs.Data.{Data}
 use Rattle.serde_json.specs.Find.{get, as_str}
 use Rattle.press_apply.specs.declared.command.Stamped.{Stamped}
+use Rattle.press_page.specs.declared.reply.Target.{Target}
+use Rattle.press_page.specs.Targets.{target_in}
 use Rattle.press_kit.specs.declared.place.Place.{Place}
 use Rattle.press_kit.specs.declared.place.Place.TheVariants as place
 use Rattle.press_kit.specs.declared.play_file.PlayKind.{PlayKind}
@@ -71,8 +74,8 @@ abbrev pub has_commands : Data → Bool
 has_commands d = is_some (get (codes "commands") d)
 
 abbrev pub file_keys : Bool → List (List ℕ)
-file_keys true = codes "kit" ∷ codes "commands" ∷ codes "plays" ∷ codes "shows" ∷ []
-file_keys false = codes "kit" ∷ codes "active" ∷ codes "plays" ∷ codes "shows" ∷ []
+file_keys true = codes "kit" ∷ codes "commands" ∷ codes "pages" ∷ codes "plays" ∷ codes "shows" ∷ []
+file_keys false = codes "kit" ∷ codes "active" ∷ codes "pages" ∷ codes "plays" ∷ codes "shows" ∷ []
 
 unfoldable pub active_where : Bool → Data → Result (List (List ℕ)) Place
 active_where true d = Ok []
@@ -83,6 +86,19 @@ active_where false d = do
 abbrev pub commands_where : Bool → Data → Result (List Stamped) Place
 commands_where true d = commands_of d
 commands_where false d = Ok []
+
+abbrev pub target_of : Place → Data → Result Target Place
+target_of at d = or_bad at (option_and_then target_in (as_str d))
+
+abbrev pub targets_where : Option Data → Result (List Target) Place
+targets_where None = Ok []
+targets_where (Some d) = do
+  ds ← or_bad place.Pages (list_in d)
+  each target_of place.Pages 0 ds
+
+-- none where none are told
+abbrev pub pages_of : Data → Result (List Target) Place
+pages_of d = targets_where (get (codes "pages") d)
 
 unfoldable pub plays_of : Data → Result (List Play) Place
 plays_of d = do
@@ -96,8 +112,9 @@ play_file_of d = do
   kit ← kit_of it
   active ← active_where (has_commands d) whole
   commands ← commands_where (has_commands d) whole
+  pages ← pages_of whole
   plays ← plays_of whole
-  Ok (record { kit = kit; active = active; commands = commands; plays = plays })
+  Ok (record { kit = kit; active = active; commands = commands; pages = pages; plays = plays })
 
 unfoldable pub play_file_in : List ℕ → Result PlayFile Place
 play_file_in bytes = do

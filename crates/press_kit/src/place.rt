@@ -19,6 +19,8 @@ pub enum Place {
     ActiveName(usize),
     Commands,
     Command(usize),
+    Pages,
+    Page(usize),
     Plays,
     Play(usize),
 }
@@ -40,6 +42,8 @@ impl Place {
             Place::ActiveName(name) => Place::ActiveName(name),
             Place::Commands => Place::Command(n),
             Place::Command(command) => Place::Command(command),
+            Place::Pages => Place::Page(n),
+            Place::Page(page) => Place::Page(page),
             Place::Plays => Place::Play(n),
             Place::Play(play) => Place::Play(play),
         }
@@ -61,6 +65,8 @@ impl Place {
             Place::ActiveName(n) => format!(in alloc; "active[{n}]"),
             Place::Commands => String::from_str(alloc, "commands"),
             Place::Command(n) => format!(in alloc; "commands[{n}]"),
+            Place::Pages => String::from_str(alloc, "pages"),
+            Place::Page(n) => format!(in alloc; "pages[{n}]"),
             Place::Plays => String::from_str(alloc, "plays"),
             Place::Play(n) => format!(in alloc; "plays[{n}]"),
         }

@@ -14,6 +14,7 @@ use crate::listed::{Listed, each};
 use crate::place::Place;
 use crate::site_file::commands;
 use press_apply::Stamped;
+use press_page::Target;
 use press_text::{HookName, Items, Name, NameFault, Text, Texts};
 use serde_json::Value;
 use std::alloc::Global;
@@ -37,12 +38,13 @@ pub struct Play {
     pub times: u32,
 }
 
-/// A kit, the plugins that are active or the commands that make the site, and what is to be played on it in turn.
+/// A kit, the plugins that are active or the commands that make the site, the pages that are shown of it, and what is to be played on it in turn.
 #[derive(Debug, Drop)]
 pub struct PlayFile {
     pub kit: KitParts,
     pub active: Items<Name>,
     pub commands: Items<Stamped>,
+    pub pages: Items<Target>,
     pub plays: Items<Play>,
 }
 
@@ -65,6 +67,16 @@ impl Listed for Name {
             Err(NameFault::NoMemory) => Err(KitFileFault::NoMemory),
             Err(NameFault::BadName | NameFault::TooLong) => Err(KitFileFault::BadKitFile(at)),
         }
+    }
+}
+
+impl Listed for Target {
+    ghost read = { spec.target_of };
+
+    fn read(alloc: Global, at: Place, value: &Value) -> Result<Target, KitFileFault> {
+        let text = value.as_str().ok_or(at)?;
+        let target = Target::from_text(alloc, text)?;
+        Ok(target.ok_or(at)?)
     }
 }
 
@@ -159,9 +171,9 @@ fn has_file_keys(fields: &Fields<'_>, commanded: bool) -> Result<(), KitFileFaul
     ensures { Gives (λ u. view fields.now.value.now) result (only fields.now.at (spec.file_keys commanded) (view fields.now.value.now)) }
 {
     if commanded {
-        fields.has_only(&["kit", "commands", "plays", "shows"])
+        fields.has_only(&["kit", "commands", "pages", "plays", "shows"])
     } else {
-        fields.has_only(&["kit", "active", "plays", "shows"])
+        fields.has_only(&["kit", "active", "pages", "plays", "shows"])
     }
 }
 
@@ -190,6 +202,18 @@ fn commands_if(
     }
 }
 
+fn pages(alloc: Global, value: &Value) -> Result<Items<Target>, KitFileFault>
+    ensures { Gives (λ ts. ts) result (spec.pages_of (view value.now)) }
+{
+    match value.get("pages") {
+        None => Ok(Items::new(alloc)),
+        Some(told) => {
+            let values = list(told).ok_or(Place::Pages)?;
+            each(alloc, Place::Pages, values)
+        }
+    }
+}
+
 #[tactic(auto, unfolding(crate::specs::PlayFile::plays_of))]
 fn plays(alloc: Global, value: &Value) -> Result<Items<Play>, KitFileFault>
     ensures { Gives (λ ps. ps) result (spec.plays_of (view value.now)) }
@@ -212,11 +236,12 @@ fn play_file(alloc: Global, value: &Value) -> Result<PlayFile, KitFileFault>
         kit,
         active,
         commands,
+        pages: pages(alloc, value)?,
         plays: plays(alloc, value)?,
     })
 }
 
-/// The kit, the active plugins or the commands, and the plays that the bytes of a play file give.
+/// The kit, the active plugins or the commands, the pages and the plays that the bytes of a play file give.
 ///
 /// The key `shows` is for whoever reads the file. A file has at most 4,194,304 bytes.
 #[tactic(auto, unfolding(crate::specs::PlayFile::play_file_in))]

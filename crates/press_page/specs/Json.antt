@@ -9,12 +9,13 @@ use Rattle.press_site.specs.declared.token.Outcome.{Outcome}
 use Rattle.press_site.specs.declared.token.Outcome.TheVariants.{Done, Refused}
 use Rattle.press_site.specs.SiteView.{SiteView}
 use Rattle.press_callbacks.specs.Kits.{KitView}
+use Rattle.press_run.specs.Boot.{boot_actions}
 use Rattle.press_run.specs.Links.{read_only}
 use Rattle.press_run.specs.Run.{◌>>=◌, State, Meaning, apply_hook, callbacks_of, within}
 use Rattle.press_page.specs.declared.filtered.Filtered.{Filtered}
 use Rattle.press_page.specs.declared.reply.Reply.{Reply}
 use Rattle.press_page.specs.declared.reply.ContentKind.TheVariants.{Json}
-use Rattle.press_page.specs.Steps.{boot_actions, booted, fires}
+use Rattle.press_page.specs.Steps.{booted, fires}
 
 -- ---- a post
 

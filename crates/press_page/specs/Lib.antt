@@ -2,4 +2,5 @@ pub mod Json
 pub mod Page
 pub mod Rendering
 pub mod Steps
+pub mod Targets
 pub mod Template

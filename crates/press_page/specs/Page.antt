@@ -11,13 +11,14 @@ use Rattle.press_site.specs.SiteView.{SiteView}
 use Rattle.press_callbacks.specs.Kits.{KitView}
 use Rattle.press_run.specs.declared.run_fault.RunFault.{RunFault}
 use Rattle.press_run.specs.Run.{◌>>=◌, State, Meaning, apply_hook, callbacks_of}
+use Rattle.press_run.specs.Boot.{bare, boot_actions}
 use Rattle.press_run.specs.Links.{read_only}
 use Rattle.press_page.specs.declared.reply.Target.{Target}
 use Rattle.press_page.specs.declared.reply.Target.TheVariants as target
 use Rattle.press_page.specs.declared.reply.Reply.{Reply}
 use Rattle.press_page.specs.declared.reply.ContentKind.TheVariants.{Html}
 use Rattle.press_page.specs.Json.{post_reply, result_reply}
-use Rattle.press_page.specs.Steps.{Stops, bare, boot_actions, booted, fires, puts}
+use Rattle.press_page.specs.Steps.{Stops, booted, fires, puts}
 use Rattle.press_page.specs.Template.{title_part, heading_part, article_part, after_title, after_content, end_part, fixed_body}
 
 -- up to the articles

@@ -21,16 +21,9 @@ fires callback fs s = do
   a ← do_fires callback fs s
   Some a.state
 
--- an action without arguments
-abbrev pub bare : List ℕ → Fire
-bare hook = record { hook = hook; args = [] }
-
 -- the state after a fresh boot
 abbrev pub booted : KitView → SiteView → State
 booted kit site = started (booted_with kit.plugins site.active) site
-
-abbrev pub boot_actions : List Fire
-boot_actions = bare (codes "plugins_loaded") ∷ bare (codes "init") ∷ bare (codes "wp_loaded") ∷ []
 
 -- ---- what a step answers: the state after it, Limit exactly where there is none, or want of memory
 

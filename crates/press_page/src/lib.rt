@@ -9,6 +9,7 @@ mod json;
 mod pages;
 mod rendering;
 mod reply;
+mod targets;
 mod template;
 
 pub use pages::page;

@@ -38,8 +38,7 @@ pub fn page(alloc: Global, site: &Site, kit: &Kit, target: &Target) -> Result<Re
 fn front(alloc: Global, site: &Site, kit: &Kit) -> Result<Reply, AllocError>
     ensures { IfOk result (λ r. r ≡ page_with (kit_view kit.now) site.now (take 10 (published site.now.posts))) }
 {
-    let mut ids = site.published()?.into_vec();
-    ids.truncate(MOST_LISTED);
+    let ids = site.newest(MOST_LISTED)?;
     page_with(alloc, site, kit, ids.as_slice())
 }
 

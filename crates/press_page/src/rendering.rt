@@ -14,7 +14,7 @@ use crate::filtered::Filtered;
 use crate::{hooks, template};
 use press_callbacks::{Kit, Tables};
 use press_posts::{Fire, Post};
-use press_run::{Job, Machine, Out, Read, RunFault, boot};
+use press_run::{Job, Machine, Out, Read, RunFault, boot, boot_actions};
 use press_site::Site;
 use press_text::{HookName, Items, Text, Texts};
 use std::alloc::{AllocError, Global};
@@ -67,7 +67,7 @@ impl Rendering {
     ) -> Result<Filtered, RunFault>
         ensures { Finds (filtered (callbacks_of read_only (scripts_in kit.now)) post.now (state_in site.now self.old)) result }
     {
-        self.fires(site, kit, hooks::boot_actions(alloc)?)?;
+        self.fires(site, kit, boot_actions(alloc)?)?;
         self.texts(alloc, site, kit, post)
     }
 
@@ -95,7 +95,7 @@ impl Rendering {
     ) -> Result<Text, RunFault>
         ensures { Answers (apply_hook (callbacks_of read_only (scripts_in kit.now)) (codes "the_title") (post.now.title ∷ decimal post.now.id ∷ []) (state_in site.now self.old)) (state_in site.now self.new) result }
     {
-        let hook = hooks::hook_named(alloc, "the_title")?;
+        let hook = HookName::from_valid(alloc, "the_title")?;
         let args = hooks::title_args(alloc, post)?;
         self.applied(site, kit, hook, args)
     }
@@ -109,7 +109,7 @@ impl Rendering {
     ) -> Result<Text, RunFault>
         ensures { Answers (apply_hook (callbacks_of read_only (scripts_in kit.now)) (codes "the_content") (post.now.content ∷ []) (state_in site.now self.old)) (state_in site.now self.new) result }
     {
-        let hook = hooks::hook_named(alloc, "the_content")?;
+        let hook = HookName::from_valid(alloc, "the_content")?;
         let args = hooks::content_args(alloc, post)?;
         self.applied(site, kit, hook, args)
     }
@@ -118,7 +118,7 @@ impl Rendering {
     fn opening(&mut self, alloc: Global, site: &Site, kit: &Kit, name: &str) -> Result<(), RunFault>
         ensures { Steps (opening (callbacks_of read_only (scripts_in kit.now)) name.now (state_in site.now self.old)) (state_in site.now self.new) result }
     {
-        self.fires(site, kit, hooks::boot_actions(alloc)?)?;
+        self.fires(site, kit, boot_actions(alloc)?)?;
         let title = template::title_part(alloc, name)?;
         self.puts(site, title.as_str())?;
         self.fires(site, kit, hooks::one(alloc, "wp_head")?)?;
@@ -173,7 +173,7 @@ impl Rendering {
         self.puts_filtered(
             site,
             kit,
-            hooks::hook_named(alloc, "the_title")?,
+            HookName::from_valid(alloc, "the_title")?,
             hooks::title_args(alloc, post)?,
         )?;
         self.puts(site, "</a></h2>\n")
@@ -192,7 +192,7 @@ impl Rendering {
         self.puts_filtered(
             site,
             kit,
-            hooks::hook_named(alloc, "the_content")?,
+            HookName::from_valid(alloc, "the_content")?,
             hooks::content_args(alloc, post)?,
         )?;
         self.puts(site, "\n</article>\n")

@@ -1,3 +1,4 @@
 pub mod Applied
 pub mod Onward
+pub mod Shown
 pub mod Telling

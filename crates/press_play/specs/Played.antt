@@ -1,5 +1,5 @@
--- What a play file comes to: the lines of its commands, applied in turn to the site with its active plugins, then those of its plays on a fresh boot of the
--- site after them; or its fault (own).
+-- What a play file comes to: the lines of its commands, applied in turn to the site with its active plugins, then those of its pages of the site after
+-- them, then those of its plays on a fresh boot of that site; or its fault (own).
 use Rattle.std.specs.Prelude.{◌≡◌, ℕ, List, ◌++◌, map, Option, Some, None, Result, Ok, Err}
 use Rattle.press_callbacks.specs.declared.kit_fault.KitFault.{KitFault}
 use Rattle.press_callbacks.specs.Kits.{Scripts, KitView, view_of, kit_fault}
@@ -16,7 +16,9 @@ use Rattle.press_play.specs.declared.fault.PlayFault.TheVariants.{NoMemory, Read
 use Rattle.press_play.specs.Faults.{of_kit}
 use Rattle.press_apply.specs.declared.command.Stamped.{Stamped}
 use Rattle.press_play.specs.Commands.{outcome_lines, site_after}
+use Rattle.press_page.specs.declared.reply.Target.{Target}
 use Rattle.press_play.specs.Lines.{lines}
+use Rattle.press_play.specs.Pages.{page_lines}
 use Rattle.press_play.specs.Sites.{site_with}
 
 abbrev pub scripts_of : List Scripted → Scripts
@@ -26,15 +28,19 @@ scripts_of callbacks = map (λ c. (c.id, c.script)) callbacks
 abbrev pub lines_on : KitView → SiteView → List Play → List ℕ
 lines_on kit site plays = lines kit.scripts plays (started (booted_with kit.plugins site.active) site)
 
-abbrev pub all_lines : KitView → SiteView → List Stamped → List Play → List ℕ
-all_lines kit site commands plays = outcome_lines kit commands site ++ lines_on kit (site_after kit commands site) plays
+-- what is shown of a site: its pages, and plays
+abbrev pub shown_lines : KitView → SiteView → List Target → List Play → List ℕ
+shown_lines kit site pages plays = page_lines kit site pages ++ lines_on kit site plays
+
+abbrev pub all_lines : KitView → SiteView → List Stamped → List Target → List Play → List ℕ
+all_lines kit site commands pages plays = outcome_lines kit commands site ++ shown_lines kit (site_after kit commands site) pages plays
 
 abbrev pub unless : Option KitFault → List ℕ → Result (List ℕ) PlayFault
 unless None lines = Ok lines
 unless (Some fault) lines = Err (of_kit fault)
 
 abbrev pub played : PlayFile → Result (List ℕ) PlayFault
-played f = unless (kit_fault (scripts_of f.kit.callbacks) f.kit.plugins) (all_lines (view_of (scripts_of f.kit.callbacks) f.kit.plugins) (site_with f.active) f.commands f.plays)
+played f = unless (kit_fault (scripts_of f.kit.callbacks) f.kit.plugins) (all_lines (view_of (scripts_of f.kit.callbacks) f.kit.plugins) (site_with f.active) f.commands f.pages f.plays)
 
 abbrev pub played_where : Result PlayFile Place → Result (List ℕ) PlayFault
 played_where (Err place) = Err (BadKitFile place)

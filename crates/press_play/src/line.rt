@@ -6,10 +6,12 @@ ghost use Rattle.serde_json.specs.Written.{compact_text, has_float};
 ghost use Rattle.press_kit.specs.Places.{place_text};
 ghost use Rattle.press_play.specs.Commands.{outcome_data};
 ghost use Rattle.press_play.specs.Lines.{answer_data, limit_data, line};
+ghost use Rattle.press_play.specs.Pages.{reply_data};
 ghost use Rattle.press_play.specs.Answers.{fault_data, fault_data_at};
 
 use crate::fault::PlayFault;
 use press_kit::Place;
+use press_page::Reply;
 use press_site::Outcome;
 use serde_json::{Value, json};
 use std::alloc::{AllocError, Global};
@@ -56,6 +58,13 @@ fn outcome(alloc: Global, outcome: Outcome) -> Result<Value, AllocError>
     }
 }
 
+fn reply(alloc: Global, reply: &Reply) -> Result<Value, AllocError>
+    ensures { IfOk result (λ v. view v ≡ reply_data reply.now) }
+{
+    let status = u64::from(reply.status);
+    json!(in alloc; {"body": reply.body.as_str(), "status": status})
+}
+
 // The value's text on a line of its own.
 fn line(alloc: Global, value: &Value) -> Result<String, AllocError>
     requires { has_float (view value.now) ≡ false }
@@ -87,6 +96,14 @@ pub fn outcome_line(alloc: Global, told: Outcome) -> Result<String, AllocError>
     ensures { IfOk result (λ t. string_bytes t ≡ line (outcome_data told)) }
 {
     let value = outcome(alloc, told)?;
+    line(alloc, &value)
+}
+
+/// The line of a page.
+pub fn reply_line(alloc: Global, shown: &Reply) -> Result<String, AllocError>
+    ensures { IfOk result (λ t. string_bytes t ≡ line (reply_data shown.now)) }
+{
+    let value = reply(alloc, shown)?;
     line(alloc, &value)
 }
 

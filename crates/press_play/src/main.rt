@@ -1,4 +1,4 @@
-//! Plays kit files: `press_play [FILE ..]` plays the files in turn, or standard input, and prints a line of JSON for each command and each play.
+//! Plays kit files: `press_play [FILE ..]` plays the files in turn, or standard input, and prints a line of JSON for each command, page and play.
 //!
 //! A file with a fault gets a line that tells it, on the errors as well, and the program then ends with status 2.
 #![tactic(auto)]
@@ -7,6 +7,7 @@ mod answered;
 mod commands;
 mod fault;
 mod line;
+mod pages;
 mod played;
 mod sites;
 mod stage;

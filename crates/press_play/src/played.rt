@@ -5,15 +5,17 @@ ghost use Rattle.press_callbacks.specs.Kits.{kit_view};
 ghost use Rattle.press_text.specs.Streams.{TakesAtMost};
 ghost use Rattle.press_kit.specs.KitFile.{file_limit};
 ghost use Rattle.press_kit.specs.PlayFile.{play_file_in};
-ghost use Rattle.press_play.specs.Played.{Gives, all_lines, file_where, played, played_in};
+ghost use Rattle.press_play.specs.Played.{Gives, all_lines, file_where, played, played_in, shown_lines};
 
 use crate::commands::commands_on;
 use crate::fault::PlayFault;
+use crate::pages::pages_on;
 use crate::sites::site_with;
 use crate::stage::lines_of;
 use press_apply::Stamped;
 use press_callbacks::{BoxedTurns, CallIn, Kit, Stored, script_turn};
 use press_kit::{FILE_LIMIT, KitFileFault, KitParts, Place, Play, PlayFile, read_play_file};
+use press_page::Target;
 use press_site::Site;
 use press_text::{Copied, Items, ReadLimitedFault, read_limited};
 use std::alloc::{AllocError, Global};
@@ -37,19 +39,36 @@ fn file<R: Read>(alloc: Global, reader: &mut R) -> Result<PlayFile, PlayFault>
     }
 }
 
-// The lines of the commands, and those of the plays on the site after them.
+// The lines of the pages of a site, and those of the plays on it.
+fn shown_lines(
+    alloc: Global,
+    kit: &Kit,
+    site: Site,
+    pages: Items<Target>,
+    plays: &[Play],
+) -> Result<String, AllocError>
+    ensures { IfOk result (λ t. string_bytes t ≡ shown_lines (kit_view kit.now) site pages plays.now) }
+{
+    let mut lines = pages_on(alloc, kit, &site, pages)?;
+    let played = lines_of(alloc, kit, site, plays)?;
+    lines.push_str(played.as_str())?;
+    Ok(lines)
+}
+
+// The lines of the commands, and what is shown of the site after them.
 fn all_lines(
     alloc: Global,
     kit: &Kit,
     mut site: Site,
     commands: Items<Stamped>,
+    pages: Items<Target>,
     plays: &[Play],
 ) -> Result<String, AllocError>
-    ensures { IfOk result (λ t. string_bytes t ≡ all_lines (kit_view kit.now) site commands plays.now) }
+    ensures { IfOk result (λ t. string_bytes t ≡ all_lines (kit_view kit.now) site commands pages plays.now) }
 {
     let mut lines = commands_on(alloc, kit, &mut site, commands)?;
-    let played = lines_of(alloc, kit, site, plays)?;
-    lines.push_str(played.as_str())?;
+    let shown = shown_lines(alloc, kit, site, pages, plays)?;
+    lines.push_str(shown.as_str())?;
     Ok(lines)
 }
 
@@ -61,6 +80,7 @@ fn lines(alloc: Global, file: PlayFile) -> Result<String, PlayFault>
         kit,
         active,
         commands,
+        pages,
         plays,
     } = file;
     let KitParts {
@@ -78,7 +98,8 @@ fn lines(alloc: Global, file: PlayFile) -> Result<String, PlayFault>
     }
     let kit = Kit::build(alloc, callbacks, plugins.into_vec())?;
     let site = site_with(alloc, active)?;
-    Ok(all_lines(alloc, &kit, site, commands, plays.as_slice())?)
+    let lines = all_lines(alloc, &kit, site, commands, pages, plays.as_slice())?;
+    Ok(lines)
 }
 
 /// The lines of the play file that a reader has left.

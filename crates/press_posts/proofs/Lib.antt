@@ -1,2 +1,3 @@
+pub mod Newest
 pub mod Order
 pub mod Vectors

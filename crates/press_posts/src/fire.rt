@@ -5,7 +5,7 @@ ghost use Rattle.press_text.specs.Names.{name_fault};
 ghost use Rattle.press_posts.specs.Transitions.{old_word, transition, general, turned_name, turned, reached_name, reached, saved, inserts, updates};
 
 use crate::status::Status;
-use press_text::{HookName, Items, NameFault, Text, Texts};
+use press_text::{HookName, Items, Text, Texts};
 use std::alloc::{AllocError, Global};
 
 /// An action, and the arguments that its callbacks get.
@@ -13,6 +13,19 @@ use std::alloc::{AllocError, Global};
 pub struct Fire {
     pub hook: HookName,
     pub args: Texts,
+}
+
+impl Fire {
+    /// An action without arguments.
+    pub fn bare(alloc: Global, hook: &str) -> Result<Fire, AllocError>
+        requires { name_fault 64 hook.now ≡ None }
+        ensures { IfOk result (λ f. f ≡ record { hook = hook.now; args = [] }) }
+    {
+        Ok(Fire {
+            hook: HookName::from_valid(alloc, hook)?,
+            args: Texts::new(alloc),
+        })
+    }
 }
 
 // What a transition of a post fires; None for the status before the post was.
@@ -56,7 +69,7 @@ fn general(alloc: Global, old: Option<Status>, new: Status, id: u64) -> Result<F
     let id = decimal(alloc, id)?;
     let args = Texts::from_vec(vec![in alloc; new, old, id]?)?;
     Ok(Fire {
-        hook: hook_named(alloc, "transition_post_status")?,
+        hook: HookName::from_valid(alloc, "transition_post_status")?,
         args,
     })
 }
@@ -94,7 +107,7 @@ fn saved(alloc: Global, id: u64, update: &str) -> Result<Fire, AllocError>
     let id = decimal(alloc, id)?;
     let args = Texts::from_vec(vec![in alloc; id, update]?)?;
     Ok(Fire {
-        hook: hook_named(alloc, "save_post")?,
+        hook: HookName::from_valid(alloc, "save_post")?,
         args,
     })
 }
@@ -107,20 +120,9 @@ fn of_id(alloc: Global, name: &str, id: u64) -> Result<Fire, AllocError>
     let id = decimal(alloc, id)?;
     let args = Texts::from_vec(vec![in alloc; id]?)?;
     Ok(Fire {
-        hook: hook_named(alloc, name)?,
+        hook: HookName::from_valid(alloc, name)?,
         args,
     })
-}
-
-fn hook_named(alloc: Global, name: &str) -> Result<HookName, AllocError>
-    requires { name_fault 64 name.now ≡ None }
-    ensures { IfOk result (λ h. h ≡ name.now) }
-{
-    match HookName::new(alloc, name) {
-        Ok(hook) => Ok(hook),
-        Err(NameFault::NoMemory) => Err(AllocError),
-        Err(NameFault::BadName) | Err(NameFault::TooLong) => unreachable!(),
-    }
 }
 
 fn old_word(old: Option<Status>) -> &'static str

@@ -1,6 +1,6 @@
 //! The posts of a site, each at the place of its id.
 
-ghost use Rattle.std.specs.Prelude.{◌≡◌, ℕ, ◌+◌, [], ◌<◌, ◌≤◌, length, map, option_map, IfOk, IfSome, OnOk, OnErr, is_some, true, false, Some};
+ghost use Rattle.std.specs.Prelude.{◌≡◌, ℕ, ◌+◌, [], ◌<◌, ◌≤◌, length, map, option_map, IfOk, IfSome, OnOk, OnErr, is_some, take, true, false, Some};
 ghost use Rattle.press_posts.specs.PostChange.{Changes, post_change, post_at, put_at, with_status, standing, is_full, insert_fault};
 ghost use Rattle.press_posts.specs.Transitions.{transition};
 ghost use Rattle.press_posts.specs.PostChange.Change.{Insert, Edit, Moves, Delete};
@@ -154,7 +154,14 @@ impl Posts {
     pub fn published(&self) -> Result<Items<u64>, AllocError>
         ensures { IfOk result (λ ids. ids ≡ published self.now) }
     {
-        let found = newest_first(self.alloc, self.places.as_slice())?;
+        self.newest(self.places.len())
+    }
+
+    /// The first so many of the published posts. It looks at each post once, and keeps no more than it gives.
+    pub fn newest(&self, most: usize) -> Result<Items<u64>, AllocError>
+        ensures { IfOk result (λ ids. ids ≡ take most (published self.now)) }
+    {
+        let found = newest_first(self.alloc, self.places.as_slice(), most)?;
         let ids = found.iter().map(|d| d.id).collect(self.alloc)?;
         Ok(Items::from_vec(ids))
     }
@@ -235,14 +242,20 @@ fn set_status(places: &mut [Option<Post>], id: u64, status: Status)
     }
 }
 
-fn newest_first(alloc: Global, places: &[Option<Post>]) -> Result<Vec<Dated>, AllocError>
-    ensures { IfOk result (λ ds. ds.items ≡ newest_first places.now) }
+// The first so many of the published posts, put in from the last id to the first.
+fn newest_first(
+    alloc: Global,
+    places: &[Option<Post>],
+    most: usize,
+) -> Result<Vec<Dated>, AllocError>
+    ensures { IfOk result (λ ds. ds.items ≡ take most (newest_first places.now)) }
 {
     let mut found = Vec::new(alloc);
     let mut left = places.len();
     while left > 0 {
         left -= 1;
         put_dated(&mut found, dated_of(&places[left]))?;
+        found.truncate(most);
     }
     Ok(found)
 }

@@ -2,6 +2,7 @@
 -- the loads of the active plugins, in the order in which these stand; a plugin that the kit lacks loads nothing (Plugin Handbook, Plugin Basics;
 -- Shortcode API, `do_shortcode`; WP-Cron, `check_and_publish_future_post`; the order is own).
 use Rattle.std.specs.Prelude.{ℕ, pos, List, [], ◌∷◌, Option, Some, None, codes}
+use Rattle.press_posts.specs.declared.fire.Fire.{Fire}
 use Rattle.press_hooks.specs.declared.row.Row.{Row}
 use Rattle.press_hooks.specs.HookRows.{add_row}
 use Rattle.press_scan.specs.declared.tag_row.TagRow.{TagRow}
@@ -45,3 +46,11 @@ fresh = record { rows = add_row publish_future_post check_and_publish_future_pos
 
 abbrev pub booted_with : List Plugin → List (List ℕ) → Loaded
 booted_with plugins active = plugins_loaded plugins active fresh
+
+-- an action without arguments
+abbrev pub bare : List ℕ → Fire
+bare hook = record { hook = hook; args = [] }
+
+-- what a boot is followed by (Plugin Handbook, Hooks; hook reference; that it is these three is own)
+abbrev pub boot_actions : List Fire
+boot_actions = bare (codes "plugins_loaded") ∷ bare (codes "init") ∷ bare (codes "wp_loaded") ∷ []

@@ -1,15 +1,15 @@
-ghost use Rattle.std.specs.Prelude.{◌≡◌, None, IfOk, OnOk, IfSome, option_map};
-ghost use Rattle.press_text.specs.Names.{name_fault};
+ghost use Rattle.std.specs.Prelude.{◌≡◌, IfOk, OnOk, IfSome, option_map};
 ghost use Rattle.press_hooks.specs.NextEntry.{with_rows};
 ghost use Rattle.press_callbacks.specs.Kits.{plugins_in};
-ghost use Rattle.press_run.specs.Boot.{booted_with, fresh, all_loaded, one_loaded, loads_of, the_content, publish_future_post};
+ghost use Rattle.press_run.specs.Boot.{boot_actions, booted_with, fresh, all_loaded, one_loaded, loads_of, the_content, publish_future_post};
 ghost use Rattle.press_run.specs.Outcome.{loaded_in, BootsWith};
 
 use press_callbacks::{Kit, Load, Plugin, Tables, check_and_publish_future_post, do_shortcode};
 use press_hooks::HookTable;
+use press_posts::Fire;
 use press_scan::TagTable;
 use press_site::Site;
-use press_text::{HookName, Name, NameFault};
+use press_text::{HookName, Items, Name};
 use std::alloc::{AllocError, Global};
 
 /// Fresh tables with the built-in callbacks on `the_content` and `publish_future_post` and the loads of the site's active plugins, in
@@ -18,6 +18,16 @@ pub fn boot(alloc: Global, kit: &Kit, site: &Site) -> Result<Tables, AllocError>
     ensures { IfOk result (λ t. BootsWith (booted_with (plugins_in kit.now) site.now.active) t) }
 {
     boot_with(alloc, kit, site.active())
+}
+
+/// The actions that follow a boot, before anything else is run.
+pub fn boot_actions(alloc: Global) -> Result<Items<Fire>, AllocError>
+    ensures { IfOk result (λ fs. fs ≡ boot_actions) }
+{
+    let loaded = Fire::bare(alloc, "plugins_loaded")?;
+    let init = Fire::bare(alloc, "init")?;
+    let ready = Fire::bare(alloc, "wp_loaded")?;
+    Ok(Items::from_vec(vec![in alloc; loaded, init, ready]?))
 }
 
 // Fresh tables with the loads of these plugins.
@@ -50,25 +60,13 @@ fn fresh(alloc: Global) -> Result<Tables, AllocError>
 fn the_content(alloc: Global) -> Result<HookName, AllocError>
     ensures { IfOk result (λ h. h ≡ the_content) }
 {
-    hook_named(alloc, "the_content")
+    HookName::from_valid(alloc, "the_content")
 }
 
 fn publish_future_post(alloc: Global) -> Result<HookName, AllocError>
     ensures { IfOk result (λ h. h ≡ publish_future_post) }
 {
-    hook_named(alloc, "publish_future_post")
-}
-
-// A hook of a name that is in its class.
-fn hook_named(alloc: Global, name: &str) -> Result<HookName, AllocError>
-    requires { name_fault 64 name.now ≡ None }
-    ensures { IfOk result (λ h. h ≡ name.now) }
-{
-    match HookName::new(alloc, name) {
-        Ok(hook) => Ok(hook),
-        Err(NameFault::NoMemory) => Err(AllocError),
-        Err(NameFault::BadName) | Err(NameFault::TooLong) => unreachable!(),
-    }
+    HookName::from_valid(alloc, "publish_future_post")
 }
 
 fn load_plugin(tables: &mut Tables, plugin: Option<&Plugin>) -> Result<(), AllocError>

@@ -18,7 +18,7 @@ mod shortcodes;
 mod step;
 mod texts;
 
-pub use boots::boot;
+pub use boots::{boot, boot_actions};
 pub use callbacks::Callbacks;
 pub use job::Job;
 pub use link::{Read, SiteLink};

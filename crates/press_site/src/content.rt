@@ -1,6 +1,6 @@
 //! Posts and events as one: each change of a post takes its event of `publish_future_post` along.
 
-ghost use Rattle.std.specs.Prelude.{◌≡◌, ℕ, [], IfOk, None, Some, Ok, false, length, nat_le, codes, decimal, option_map};
+ghost use Rattle.std.specs.Prelude.{◌≡◌, ℕ, [], IfOk, None, Some, Ok, false, length, nat_le, codes, decimal, option_map, take};
 ghost use Rattle.press_events.specs.DueEvents.{due};
 ghost use Rattle.press_posts.specs.PostChange.{comes, post_at};
 ghost use Rattle.press_posts.specs.PostChange.Change.{Insert, Edit, Moves, Delete};
@@ -10,7 +10,6 @@ ghost use Rattle.press_site.specs.Contents.{Gives, beside_move, events_of, event
 
 use crate::changed::Changed;
 use crate::fault::SiteFault;
-use crate::hook::hook_named;
 use itoa::Buffer;
 use press_events::{Event, Events};
 use press_posts::{Move, Post, Posts, Status};
@@ -60,6 +59,13 @@ impl Content {
         ensures { IfOk result (λ ids. ids ≡ published self.now.posts) }
     {
         self.posts.published()
+    }
+
+    /// The first so many of them.
+    pub fn newest(&self, most: usize) -> Result<Items<u64>, AllocError>
+        ensures { IfOk result (λ ids. ids ≡ take most (published self.now.posts)) }
+    {
+        self.posts.newest(most)
     }
 
     /// The events whose time has come.
@@ -257,7 +263,7 @@ fn publish_event(alloc: Global, id: u64, date: Moment) -> Result<Event, AllocErr
 fn publish_hook(alloc: Global) -> Result<HookName, AllocError>
     ensures { IfOk result (λ h. h ≡ codes "publish_future_post") }
 {
-    hook_named(alloc, PUBLISH_HOOK)
+    HookName::from_valid(alloc, PUBLISH_HOOK)
 }
 
 fn decimal(alloc: Global, n: u64) -> Result<Text, AllocError>

@@ -7,7 +7,6 @@ mod changed;
 mod content;
 mod effect;
 mod fault;
-mod hook;
 mod options;
 mod outcomes;
 mod plugins;

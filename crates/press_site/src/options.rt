@@ -3,7 +3,6 @@ ghost use Rattle.press_site.specs.Becomes.{Becomes};
 ghost use Rattle.press_site.specs.Options.{option_of, put_option, set_option, set_over, added_fire, updated_fire, added_name, updated_name};
 
 use crate::fault::SiteFault;
-use crate::hook::hook_named;
 use press_posts::Fire;
 use press_text::{HookName, Items, OptName, Text, Texts};
 use std::alloc::{AllocError, Global};
@@ -139,7 +138,7 @@ fn updated_hook(alloc: Global, name: &OptName) -> Result<HookName, AllocError>
     ensures { IfOk result (λ h. h ≡ updated_name name.now) }
 {
     let hook = updated_name(alloc, name.as_str())?;
-    hook_named(alloc, hook.as_str())
+    HookName::from_valid(alloc, hook.as_str())
 }
 
 fn updated_name(alloc: Global, name: &str) -> Result<String, AllocError>
@@ -153,7 +152,7 @@ fn added_hook(alloc: Global, name: &OptName) -> Result<HookName, AllocError>
     ensures { IfOk result (λ h. h ≡ added_name name.now) }
 {
     let hook = added_name(alloc, name.as_str())?;
-    hook_named(alloc, hook.as_str())
+    HookName::from_valid(alloc, hook.as_str())
 }
 
 fn added_name(alloc: Global, name: &str) -> Result<String, AllocError>

@@ -1,6 +1,6 @@
 //! The whole site as one value.
 
-ghost use Rattle.std.specs.Prelude.{◌≡◌, None, Ok, true, IfOk, OnOk, OnErr, option_map};
+ghost use Rattle.std.specs.Prelude.{◌≡◌, None, Ok, true, IfOk, OnOk, OnErr, option_map, take};
 ghost use Rattle.press_posts.specs.PostChange.{post_at};
 ghost use Rattle.press_posts.specs.Published.{published};
 ghost use Rattle.press_events.specs.DueEvents.{due};
@@ -112,6 +112,13 @@ impl Site {
         ensures { IfOk result (λ ids. ids ≡ published self.now.posts) }
     {
         self.content.published()
+    }
+
+    /// The first so many of the published posts. It looks at each post once, and keeps no more than it gives.
+    pub fn newest(&self, most: usize) -> Result<Items<u64>, AllocError>
+        ensures { IfOk result (λ ids. ids ≡ take most (published self.now.posts)) }
+    {
+        self.content.newest(most)
     }
 
     /// The events whose time has come, by time, then in the order in which they were scheduled.

@@ -1,3 +1,4 @@
+mod applies;
 mod callbacks;
 mod events;
 mod hooks;
@@ -9,3 +10,4 @@ mod scripts;
 mod site;
 mod texts;
 mod twin;
+mod wire;

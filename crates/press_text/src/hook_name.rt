@@ -1,5 +1,5 @@
-ghost use Rattle.std.specs.Prelude.{◌≡◌, IfOk, bytes_eq};
-ghost use Rattle.press_text.specs.Names.{NameGives, IsName};
+ghost use Rattle.std.specs.Prelude.{◌≡◌, None, IfOk, bytes_eq};
+ghost use Rattle.press_text.specs.Names.{NameGives, IsName, name_fault};
 
 use crate::class::fault_of;
 use crate::name_fault::NameFault;
@@ -32,6 +32,15 @@ impl HookName {
         if let Some(fault) = fault_of(64, text.as_bytes()) {
             return Err(fault);
         }
+        let inside = Text::from_str(alloc, text)?;
+        Ok(HookName { inside })
+    }
+
+    /// A name that is known to be in its class, as one that stands in the program.
+    pub fn from_valid(alloc: Global, text: &str) -> Result<HookName, AllocError>
+        requires { name_fault 64 text.now ≡ None }
+        ensures { IfOk result (λ n. n ≡ text.now) }
+    {
         let inside = Text::from_str(alloc, text)?;
         Ok(HookName { inside })
     }

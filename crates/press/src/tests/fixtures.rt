@@ -1,19 +1,45 @@
 use crate::run::run;
+use std::rt::Files;
+use std::test::Fail;
 
-/// What a run without words left: its status, what it printed, and what it told of a fault.
+/// The file that stands beside the program as its input.
+pub const LETTERS: &[u8] =
+    b"{\"commands\":[{\"editor\":\"ann\",\"seq\":1,\"at\":10,\"kind\":\"activate\",\"plugin\":\"letters\"},{\"editor\":\"ann\",\"seq\":2,\"at\":10,\"kind\":\"insert\",\"title\":\"x\",\"content\":\"Hello\",\"status\":\"publish\",\"date\":10}]}";
+
+/// What a run left: its status, what it printed, what it told of a fault, and how many bytes of its input.
 #[derive(Drop)]
 pub struct EndedRun {
     pub status: u8,
     pub out: Vec<u8>,
     pub told: Vec<u8>,
+    pub rest: usize,
 }
 
-pub fn ran(rt: &impl AllocGlobal, file: &[u8]) -> EndedRun {
+fn ended(rt: &(impl AllocGlobal + Files), words: &[String], file: &[u8]) -> EndedRun {
     let mut input = file;
     let mut out: Vec<u8> = Vec::new(rt.alloc());
     let mut told: Vec<u8> = Vec::new(rt.alloc());
-    let status = run(rt, &[], &mut input, &mut out, &mut told);
-    EndedRun { status, out, told }
+    let status = run(rt, words, &mut input, &mut out, &mut told);
+    EndedRun {
+        status,
+        out,
+        told,
+        rest: input.len(),
+    }
+}
+
+/// A run without words.
+pub fn ran(rt: &(impl AllocGlobal + Files), file: &[u8]) -> EndedRun {
+    ended(rt, &[], file)
+}
+
+/// A run for these words on the letters.
+pub fn asked(rt: &(impl AllocGlobal + Files), words: &[&str]) -> Result<EndedRun, Fail> {
+    let mut given: Vec<String> = Vec::new(rt.alloc());
+    for word in words {
+        given.push(String::from_str(rt.alloc(), word)?)?;
+    }
+    Ok(ended(rt, &given, LETTERS))
 }
 
 impl EndedRun {
@@ -22,5 +48,10 @@ impl EndedRun {
         self.status == status
             && self.out.as_slice() == out.as_bytes()
             && self.told.as_slice() == told.as_bytes()
+    }
+
+    /// Whether the usage was told, and nothing read.
+    pub fn is_refused(&self) -> bool {
+        self.left(2, "", "press: usage\n") && self.rest == LETTERS.len()
     }
 }

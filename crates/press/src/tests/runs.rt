@@ -1,13 +1,9 @@
-use crate::decode::LIMIT;
 use crate::run::run;
 use crate::tests::fakes::{Endless, Failing, Narrow};
-use crate::tests::fixtures::ran;
+use crate::tests::fixtures::{LETTERS, ran};
+use press_kit::FILE_LIMIT;
 use std::alloc::Global;
 use std::test::Fail;
-
-// The file that stands beside the program as its input.
-const LETTERS: &[u8] =
-    b"{\"commands\":[{\"editor\":\"ann\",\"seq\":1,\"at\":10,\"kind\":\"activate\",\"plugin\":\"letters\"},{\"editor\":\"ann\",\"seq\":2,\"at\":10,\"kind\":\"insert\",\"title\":\"x\",\"content\":\"Hello\",\"status\":\"publish\",\"date\":10}]}";
 
 const LETTERS_PAGE: &str =
     "<!DOCTYPE html>\n<html>\n<head>\n<title>Press</title>\n</head>\n<body>\n<h1>Press</h1>\n<article id=\"post-1\">\n<h2><a href=\"/?p=1\">xcab</a></h2>\nHello\n</article>\n</body>\n</html>\n";
@@ -76,19 +72,6 @@ fn too_many_turns_fail(rt: HostRuntime) -> Result<(), Fail> {
     Ok(())
 }
 
-#[test]
-fn refuses_words(rt: HostRuntime) -> Result<(), Fail> {
-    let words = vec![in rt.alloc(); String::from_str(rt.alloc(), "--help")?]?;
-    let mut input = LETTERS;
-    let mut out: Vec<u8> = Vec::new(rt.alloc());
-    let mut told: Vec<u8> = Vec::new(rt.alloc());
-    assert_eq!(rt; run(&rt, &words, &mut input, &mut out, &mut told), 2);
-    assert_eq!(rt; out.len(), 0);
-    assert_eq!(rt; told.as_slice(), b"press: usage\n".as_slice());
-    assert_eq!(rt; input.len(), LETTERS.len());
-    Ok(())
-}
-
 // A reader without end is read one byte past the limit.
 #[test]
 fn reads_one_byte_past_the_limit(rt: HostRuntime) {
@@ -97,7 +80,7 @@ fn reads_one_byte_past_the_limit(rt: HostRuntime) {
     let mut told: Vec<u8> = Vec::new(rt.alloc());
     assert_eq!(rt; run(&rt, &[], &mut input, &mut out, &mut told), 2);
     assert_eq!(rt; told.as_slice(), b"press: fault 72\n".as_slice());
-    assert_eq!(rt; input.given, LIMIT + 1);
+    assert_eq!(rt; input.given, FILE_LIMIT + 1);
 }
 
 // 28 reads give the 192 bytes, and the next tells the end. None is tried again.

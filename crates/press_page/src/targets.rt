@@ -1,0 +1,80 @@
+//! What a text asks of a site.
+
+ghost use Rattle.std.specs.Prelude.{◌≡◌, ◌<◌, None, Ok, IfOk, option_map};
+ghost use Rattle.press_page.specs.Targets as spec;
+
+use crate::reply::Target;
+use press_site::Token;
+use press_text::{Name, NameFault, dec_u64};
+use std::alloc::{AllocError, Global};
+
+// What stands before and after the first such byte.
+fn parted(text: &str, at: char) -> Option<(&str, &str)>
+    requires { at < 128 }
+    ensures { option_map (λ p. (p.0.now, p.1.now)) result ≡ spec.parted at text.now }
+{
+    text.split_once(at)
+}
+
+fn token_by(alloc: Global, editor: &str, seq: u64) -> Result<Option<Token>, AllocError>
+    ensures gives { IfOk result (λ t. t ≡ spec.token_by editor.now seq) }
+    ensures none { spec.token_by editor.now seq ≡ None → result ≡ Ok None }
+{
+    match Name::new(alloc, editor) {
+        Ok(editor) => Ok(Some(Token { editor, seq })),
+        Err(NameFault::NoMemory) => Err(AllocError),
+        Err(NameFault::BadName | NameFault::TooLong) => Ok(None),
+    }
+}
+
+fn token(alloc: Global, text: &str) -> Result<Option<Token>, AllocError>
+    ensures gives { IfOk result (λ t. t ≡ spec.token_in text.now) }
+    ensures none { spec.token_in text.now ≡ None → result ≡ Ok None }
+{
+    let Some((editor, seq)) = parted(text, '/') else {
+        return Ok(None);
+    };
+    match dec_u64(seq) {
+        Some(seq) => token_by(alloc, editor, seq),
+        None => Ok(None),
+    }
+}
+
+fn result(alloc: Global, text: &str) -> Result<Option<Target>, AllocError>
+    ensures gives { IfOk result (λ t. t ≡ option_map Target.Result (spec.token_in text.now)) }
+    ensures none { spec.token_in text.now ≡ None → result ≡ Ok None }
+{
+    Ok(token(alloc, text)?.map(Target::Result))
+}
+
+fn target_by(alloc: Global, kind: &str, rest: &str) -> Result<Option<Target>, AllocError>
+    ensures gives { IfOk result (λ t. t ≡ spec.target_by kind.now rest.now) }
+    ensures none { spec.target_by kind.now rest.now ≡ None → result ≡ Ok None }
+{
+    if kind == "post" {
+        Ok(dec_u64(rest).map(Target::Post))
+    } else if kind == "json" {
+        Ok(dec_u64(rest).map(Target::Json))
+    } else if kind == "result" {
+        result(alloc, rest)
+    } else {
+        Ok(None)
+    }
+}
+
+impl Target {
+    /// What a text asks: `front`, `post:ID`, `json:ID` or `result:EDITOR/SEQ`, with 1 to 20 decimal digits for a number. None for any other
+    /// text, and then without memory.
+    pub fn from_text(alloc: Global, text: &str) -> Result<Option<Target>, AllocError>
+        ensures gives { IfOk result (λ t. t ≡ spec.target_in text.now) }
+        ensures none { spec.target_in text.now ≡ None → result ≡ Ok None }
+    {
+        if text == "front" {
+            return Ok(Some(Target::Front));
+        }
+        match parted(text, ':') {
+            Some((kind, rest)) => target_by(alloc, kind, rest),
+            None => Ok(None),
+        }
+    }
+}
