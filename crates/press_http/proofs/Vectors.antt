@@ -85,10 +85,6 @@ is_nothing : place_at (codes "/none") ≡ Err NotFound
 unfolding place_at table pages with_route matchit_on_literals
 is_nothing = refl
 
-has_no_id : place_at (codes "/wp-json/wp/v2/posts/") ≡ Err NotFound
-unfolding place_at table pages with_route matchit_on_literals
-has_no_id = refl
-
 has_one_part_more : place_at (codes "/result/ann/1/2") ≡ Err NotFound
 unfolding place_at table pages with_route matchit_on_literals
 has_one_part_more = refl

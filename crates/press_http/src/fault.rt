@@ -1,5 +1,6 @@
-ghost use Rattle.std.specs.Prelude.{◌≡◌};
+ghost use Rattle.std.specs.Prelude.{◌≡◌, IfSome};
 ghost use Rattle.press_http.specs.Faults.{http_fault_number, status_of};
+ghost use Rattle.press_http.specs.Replies.{IsTold};
 ghost use Rattle.press_http.specs.declared.fault.HttpFault.TheVariants.{NoMemory};
 
 use std::alloc::{AllocError, AllocFailed};
@@ -41,7 +42,9 @@ pub enum HttpFault {
 impl HttpFault {
     /// The status of the reply that tells the fault; none where the connection is closed without a reply.
     pub fn status(self) -> Option<u16>
-        ensures { result ≡ status_of self }
+        ensures value { result ≡ status_of self }
+        // It has a fixed reply.
+        ensures told { IfSome result IsTold }
     {
         match self {
             HttpFault::ReadFault | HttpFault::Ended | HttpFault::WriteFault => None,
