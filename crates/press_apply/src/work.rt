@@ -3,12 +3,11 @@
 ghost use Rattle.std.specs.Prelude.{◌≡◌, None, Some, IfOk, codes};
 ghost use Rattle.press_text.specs.Names.{name_fault};
 ghost use Rattle.press_callbacks.specs.Kits.{kit_view, scripts_in, plugins_in};
-ghost use Rattle.press_events.specs.DueEvents.{due};
 ghost use Rattle.press_site.specs.Effects.{effect_on};
 ghost use Rattle.press_run.specs.Boot.{booted_with};
 ghost use Rattle.press_run.specs.Links.{kept};
 ghost use Rattle.press_run.specs.Outcome.{GivesJob, around, job_meaning, stage, started};
-ghost use Rattle.press_apply.specs.Apply.{boots, callbacks_on, changes, does, fires, filtered, inserts, updates, wanted_fault, between, trashes, untrashes, deletes, takes, takes_all, ticks, passes};
+ghost use Rattle.press_apply.specs.Apply.{boots, callbacks_on, changes, does, fires, filtered, inserts, saves, updates, between, trashes, untrashes, deletes, takes, takes_all, ticks, passes};
 ghost use Rattle.press_apply.specs.Works.{Boots, Checks, Does, Filters, Makes, Steps, state_in};
 
 use crate::actions::{about, event_fires};
@@ -121,7 +120,7 @@ impl Work {
     }
 
     /// A new post, whose title is filtered before its content.
-    #[tactic(auto, unfolding(crate::specs::Apply::inserts))]
+    #[tactic(auto, unfolding(crate::specs::Apply::inserts), using(crate::proofs::Refusals::handed_on))]
     pub fn insert(
         &mut self,
         alloc: Global,
@@ -133,13 +132,11 @@ impl Work {
     ) -> Result<u64, ApplyFault>
         ensures { Does (inserts (callbacks_on (kit_view kit.now)) title.now content.now status date (state_in self.old)) self.old self.new result }
     {
-        match wanted_fault(status) {
-            Some(fault) => Err(ApplyFault::Site(fault)),
-            None => self.insert_filtered(alloc, kit, title, content, status, date),
-        }
+        passes(wanted_fault(status))?;
+        self.insert_filtered(alloc, kit, title, content, status, date)
     }
 
-    #[tactic(auto, unfolding(crate::specs::Apply::inserts, crate::specs::Apply::saves), using(crate::proofs::Refusals::handed_on))]
+    #[tactic(auto, unfolding(crate::specs::Apply::saves), using(crate::proofs::Refusals::handed_on))]
     fn insert_filtered(
         &mut self,
         alloc: Global,
@@ -149,8 +146,7 @@ impl Work {
         status: Status,
         date: Moment,
     ) -> Result<u64, ApplyFault>
-        requires { wanted_fault status ≡ None }
-        ensures { Does (inserts (callbacks_on (kit_view kit.now)) title.now content.now status date (state_in self.old)) self.old self.new result }
+        ensures { Does (saves (callbacks_on (kit_view kit.now)) (λ t c. Effect.Insert t c status date) title.now content.now (state_in self.old)) self.old self.new result }
     {
         let title = self.filtered(alloc, kit, "title_save_pre", title)?;
         let content = self.filtered(alloc, kit, "content_save_pre", content)?;
@@ -271,13 +267,13 @@ impl Work {
         Ok(())
     }
 
-    /// Does what is due, which is listed once, before any of it is done.
+    /// What is due, as it stands when the work begins.
     #[tactic(auto, unfolding(crate::specs::Apply::ticks), using(crate::proofs::Refusals::no_id_refused))]
-    pub fn tick(&mut self, alloc: Global, kit: &Kit, events: &[Event]) -> Result<u64, ApplyFault>
-        requires { events.now ≡ due self.old.site.moment self.old.site.events }
+    pub fn tick(&mut self, alloc: Global, kit: &Kit) -> Result<u64, ApplyFault>
         ensures { Does (ticks (callbacks_on (kit_view kit.now)) (state_in self.old)) self.old self.new result }
     {
-        self.take_all(alloc, kit, events)?;
+        let due = self.site.due()?;
+        self.take_all(alloc, kit, due.as_slice())?;
         Ok(0)
     }
 }
