@@ -417,12 +417,7 @@ fn on_title(alloc: Global, priority: i64, callback: &str) -> Result<Load, AllocE
     on_hook(alloc, "the_title", priority, callback)
 }
 
-fn on_hook(
-    alloc: Global,
-    hook: &str,
-    priority: i64,
-    callback: &str,
-) -> Result<Load, AllocError>
+fn on_hook(alloc: Global, hook: &str, priority: i64, callback: &str) -> Result<Load, AllocError>
     requires hook { name_fault 64 hook.now ≡ None }
     requires callback { name_fault 32 callback.now ≡ None }
     ensures { IfOk result (λ l. l ≡ Load.Hook hook.now priority callback.now 1) }

@@ -8,9 +8,9 @@ mod fault;
 mod input;
 mod run;
 mod scripted;
-mod words;
 #[cfg(test)]
 mod tests;
+mod words;
 
 use crate::fault::ReplayFault;
 use std::process::ExitCode;

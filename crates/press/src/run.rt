@@ -16,10 +16,9 @@ use press_callbacks::{BoxedTurns, CallIn, Kit, Stored, script_turn};
 use press_page::Target;
 use press_text::write_once;
 use std::alloc::Global;
-use std::fs;
-use std::io;
 use std::io::{Read, Write};
 use std::rt::Files;
+use std::{fs, io};
 
 fn line_of(fault: ReplayFault) -> &'static [u8]
     ensures { result.now ≡ fault_line fault }

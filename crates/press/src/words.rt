@@ -38,10 +38,7 @@ fn parsed<'a>(alloc: Global, words: &'a [String]) -> Result<ArgMatches<'a>, Erro
 }
 
 #[tactic(auto, using(crate::proofs::FirstValue::first_is))]
-fn wanted_in<'a>(
-    alloc: Global,
-    inside: &ArgMatches<'a>,
-) -> Result<Option<Wanted<'a>>, AllocError>
+fn wanted_in<'a>(alloc: Global, inside: &ArgMatches<'a>) -> Result<Option<Wanted<'a>>, AllocError>
     ensures { IfOk result (λ w. option_map (λ w. (w.file.now, w.target)) w ≡ spec.asked_in (rows_of (found_of inside.now))) }
 {
     let (Some(file), Some(text)) = (inside.get_str("FILE"), inside.get_str("TARGET")) else {
@@ -52,10 +49,7 @@ fn wanted_in<'a>(
 }
 
 /// What the words after the program's name ask for, or nothing where they are refused.
-pub fn read_words<'a>(
-    alloc: Global,
-    words: &'a [String],
-) -> Result<Option<Wanted<'a>>, AllocError>
+pub fn read_words<'a>(alloc: Global, words: &'a [String]) -> Result<Option<Wanted<'a>>, AllocError>
     ensures { IfOk result (λ w. option_map (λ w. (w.file.now, w.target)) w ≡ spec.asked_by (map string_bytes words.entry.now)) }
 {
     if words.is_empty() {

@@ -26,11 +26,12 @@ token_of : (t u : Token) → (t.editor ≡ u.editor) × (t.seq ≡ u.seq) → t 
 token_of t u p = λ i. record { editor = p.0 i; seq = p.1 i }
 
 pub is_same-Decides : (t u : Token) → Decides (is_same t u) (t ≡ u)
-is_same-Decides t u =
-    (λ e.
-        let p = and_parts (bytes_eq t.editor u.editor) (t.seq == u.seq) e in
-        token_of t u ((bytes_eq-Decides t.editor u.editor).0 p.0, (unsigned_Decides t.seq u.seq).0 p.1),
-     λ e. and_from (bytes_eq t.editor u.editor) (t.seq == u.seq) ((bytes_eq-Decides t.editor u.editor).1 (ap (λ x. x.editor) e)) ((unsigned_Decides t.seq u.seq).1 (ap (λ x. x.seq) e)))
+is_same-Decides t u = (
+  λ e.
+      let p = and_parts (bytes_eq t.editor u.editor) (t.seq == u.seq) e in
+      token_of t u ((bytes_eq-Decides t.editor u.editor).0 p.0, (unsigned_Decides t.seq u.seq).0 p.1),
+  λ e. and_from (bytes_eq t.editor u.editor) (t.seq == u.seq) ((bytes_eq-Decides t.editor u.editor).1 (ap (λ x. x.editor) e)) ((unsigned_Decides t.seq u.seq).1 (ap (λ x. x.seq) e)),
+)
 
 itself : (t : Token) → is_eq (token_cmp t t) ≡ true
 itself t = alike t t ∙ (is_same-Decides t t).1 refl

@@ -1,4 +1,4 @@
-use Rattle.std.proofs.Common.{rules, ◌∙◌, ap, take, List, ℕ}
+use Rattle.std.proofs.Common.{rules, ◌∙◌, ap, take, ℕ}
 use Rattle.std.proofs.lemmas.Result.{IfOk-weaker}
 use Rattle.press_posts.specs.Published.{published}
 use Rattle.press_posts.proofs.Newest.{all_published}
