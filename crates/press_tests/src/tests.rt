@@ -1,4 +1,3 @@
-mod applies;
 mod callbacks;
 mod events;
 mod hooks;
@@ -10,4 +9,3 @@ mod scripts;
 mod site;
 mod texts;
 mod twin;
-mod wire;
