@@ -5,7 +5,8 @@ use Rattle.press_callbacks.specs.Kits.{KitView}
 use Rattle.press_apply.specs.Apply.{applied}
 use Rattle.press_apply.specs.declared.command.Stamped.{Stamped}
 use Rattle.press_apply.specs.declared.value.Value.TheVariants.{Cmd}
-use Rattle.press_play.specs.Commands.{outcome_data, outcome_lines, site_after}
+use Rattle.press_page.specs.Json.{outcome_data}
+use Rattle.press_play.specs.Commands.{outcome_lines, site_after}
 use Rattle.press_play.specs.Lines.{line}
 
 module _ (kit : KitView) where

@@ -4,7 +4,8 @@ ghost use Rattle.std.specs.Prelude.{◌≡◌, ◌++◌, IfOk, OnOk, string_byte
 ghost use Rattle.press_callbacks.specs.Kits.{kit_view};
 ghost use Rattle.press_apply.specs.Apply.{applied};
 ghost use Rattle.press_apply.specs.declared.value.Value.TheVariants.{Cmd};
-ghost use Rattle.press_play.specs.Commands.{outcome_data, outcome_lines, site_after};
+ghost use Rattle.press_page.specs.Json.{outcome_data};
+ghost use Rattle.press_play.specs.Commands.{outcome_lines, site_after};
 ghost use Rattle.press_play.specs.Lines.{line};
 
 use crate::line::outcome_line;

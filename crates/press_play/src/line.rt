@@ -4,7 +4,7 @@ ghost use Rattle.std.specs.Prelude.{◌≡◌, ◌++◌, ◌≢◌, [], IfOk, On
 ghost use Rattle.serde_json.specs.View.{view};
 ghost use Rattle.serde_json.specs.Written.{compact_text, has_float};
 ghost use Rattle.press_kit.specs.Places.{place_text};
-ghost use Rattle.press_play.specs.Commands.{outcome_data};
+ghost use Rattle.press_page.specs.Json.{outcome_data};
 ghost use Rattle.press_play.specs.Lines.{answer_data, limit_data, line};
 ghost use Rattle.press_play.specs.Pages.{reply_data};
 ghost use Rattle.press_play.specs.Answers.{fault_data, fault_data_at};
