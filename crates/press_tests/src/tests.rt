@@ -1,7 +1,6 @@
 mod callbacks;
 mod events;
 mod hooks;
-mod pages;
 mod posts;
 mod runs;
 mod scans;

@@ -62,3 +62,20 @@ fn a_deleted_post_keeps_its_id(rt: HostRuntime) -> Result<(), Fail> {
     assert_eq!(rt; id, 2);
     Ok(())
 }
+
+// As many posts as there may be.
+fn filled(alloc: Global) -> Result<Posts, PostFault> {
+    let mut posts = Posts::new(alloc);
+    for _ in 0..10_000 {
+        insert(alloc, &mut posts, 100)?;
+    }
+    Ok(posts)
+}
+
+#[test]
+fn one_post_too_many_is_refused(rt: HostRuntime) -> Result<(), Fail> {
+    let alloc = rt.alloc();
+    let mut posts = filled(alloc)?;
+    assert_eq!(rt; insert(alloc, &mut posts, 100).err(), Some(PostFault::TooManyPosts));
+    Ok(())
+}
