@@ -1,6 +1,6 @@
 //! One value applied to a site.
 
-ghost use Rattle.std.specs.Prelude.{◌≡◌, None, Ok, max, IfOk, IfSome, OnErr, is_some};
+ghost use Rattle.std.specs.Prelude.{◌≡◌, None, Ok, max, IfOk, IfSome, OnErr, OnOk, is_some};
 ghost use Rattle.press_callbacks.specs.Kits.{kit_view, plugin_of, plugins_in};
 ghost use Rattle.press_site.specs.Effects.{effect_on};
 ghost use Rattle.press_site.specs.Outcomes.{outcome_of, with_outcome};
@@ -57,12 +57,18 @@ fn apply_command(
     ensures err { OnErr result (site.new ≡ site.old) }
 {
     match site.result_of(&stamped.token) {
-        Some(outcome) => {
-            site.set_now(later(site.now(), stamped.at));
-            Ok(outcome)
-        }
+        Some(outcome) => Ok(answered_again(site, stamped.at, outcome)),
         None => apply_new(alloc, site, kit, stamped),
     }
+}
+
+// A token that is known keeps its outcome.
+fn answered_again(site: &mut Site, at: Moment, outcome: Outcome) -> Outcome
+    ensures outcome { result ≡ outcome }
+    ensures moment { site.new ≡ at_moment at site.old }
+{
+    site.set_now(later(site.now(), at));
+    outcome
 }
 
 // A command whose token isn't known.
@@ -113,7 +119,8 @@ fn refused(
     fault: ApplyFault,
 ) -> Result<Outcome, AllocError>
     requires { outcome_of stamped.now.token site.old.outcomes ≡ None }
-    ensures ok { IfOk result (λ outcome. (outcome ≡ Outcome.Refused (apply_fault_number fault)) × (site.new ≡ record site.old { moment = now; outcomes = with_outcome stamped.now.token (Outcome.Refused (apply_fault_number fault)) site.old.outcomes })) }
+    ensures outcome { IfOk result (λ outcome. outcome ≡ Outcome.Refused (apply_fault_number fault)) }
+    ensures site { OnOk result (site.new ≡ record site.old { moment = now; outcomes = with_outcome stamped.now.token (Outcome.Refused (apply_fault_number fault)) site.old.outcomes }) }
     ensures err { OnErr result (site.new ≡ site.old) }
 {
     let outcome = Outcome::Refused(fault.number());
@@ -233,12 +240,14 @@ fn set_option(
     Ok((work.site, id))
 }
 
+// What is due is listed after the boot.
 #[tactic(auto, using(crate::proofs::Refusals::boot_refused, crate::proofs::Refusals::work_refused, crate::proofs::Refusals::work_done))]
 fn tick(alloc: Global, kit: &Kit, site: Site) -> Result<(Site, u64), ApplyFault>
     ensures { Works (booted (kit_view kit.now) site (ticks (callbacks_on (kit_view kit.now)))) site result }
 {
     let mut loaded = Work::booted(alloc, kit, site)?;
-    let id = loaded.tick(alloc, kit)?;
+    let due = loaded.site.due()?;
+    let id = loaded.tick(alloc, kit, due.as_slice())?;
     Ok((loaded.site, id))
 }
 

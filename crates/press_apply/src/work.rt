@@ -3,6 +3,7 @@
 ghost use Rattle.std.specs.Prelude.{◌≡◌, None, Some, IfOk, codes};
 ghost use Rattle.press_text.specs.Names.{name_fault};
 ghost use Rattle.press_callbacks.specs.Kits.{kit_view, scripts_in, plugins_in};
+ghost use Rattle.press_events.specs.DueEvents.{due};
 ghost use Rattle.press_site.specs.Effects.{effect_on};
 ghost use Rattle.press_run.specs.Boot.{booted_with};
 ghost use Rattle.press_run.specs.Links.{kept};
@@ -267,13 +268,13 @@ impl Work {
         Ok(())
     }
 
-    /// What is due, as it stands when the work begins.
+    /// Takes what is due.
     #[tactic(auto, unfolding(crate::specs::Apply::ticks), using(crate::proofs::Refusals::no_id_refused))]
-    pub fn tick(&mut self, alloc: Global, kit: &Kit) -> Result<u64, ApplyFault>
+    pub fn tick(&mut self, alloc: Global, kit: &Kit, events: &[Event]) -> Result<u64, ApplyFault>
+        requires { events.now ≡ due self.old.site.moment self.old.site.events }
         ensures { Does (ticks (callbacks_on (kit_view kit.now)) (state_in self.old)) self.old self.new result }
     {
-        let due = self.site.due()?;
-        self.take_all(alloc, kit, due.as_slice())?;
+        self.take_all(alloc, kit, events)?;
         Ok(0)
     }
 }
