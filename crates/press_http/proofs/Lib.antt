@@ -3,6 +3,7 @@ pub mod Digits
 pub mod Fronts
 pub mod HeadReads
 pub mod LineEnds
+pub mod Names
 pub mod Phrases
 pub mod Slashes
 pub mod Starts

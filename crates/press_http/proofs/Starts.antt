@@ -76,20 +76,20 @@ judged fault.TooBig seen left j = j
 judged fault.FieldsTooLarge seen left j = let q : false ≡ true = tells j.0 fault.FieldsTooLarge j.3 in cc
 judged fault.NotDone seen left j = j
 
-pub head_refused : (e : HttpFault) (seen : List ℕ) (left : Option (List ℕ)) → RefusesHead e seen left → Refuses e seen left
-head_refused fault.NoMemory seen left r = r
-head_refused fault.ReadFault seen left r = inl r
-head_refused fault.Ended seen left r = inl r
-head_refused fault.WriteFault seen left r = absurd r
-head_refused fault.BadHead seen left r = inl r
-head_refused fault.BadForm seen left r = absurd r
-head_refused fault.BadPeer seen left r = absurd r
-head_refused fault.NotFound seen left r = absurd r
-head_refused fault.NotAllowed seen left r = absurd r
-head_refused fault.NoLength seen left r = absurd r
-head_refused fault.TooBig seen left r = absurd r
-head_refused fault.FieldsTooLarge seen left r = r
-head_refused fault.NotDone seen left r = absurd r
+pub head_refused : (e : HttpFault) (seen : List ℕ) (left : Option (List ℕ)) → length seen ≤ longest_head → RefusesHead e seen left → Refuses e seen left
+head_refused fault.NoMemory seen left short r = r
+head_refused fault.ReadFault seen left short r = inl (r, short)
+head_refused fault.Ended seen left short r = inl (r, short)
+head_refused fault.WriteFault seen left short r = absurd r
+head_refused fault.BadHead seen left short r = inl (r, short)
+head_refused fault.BadForm seen left short r = absurd r
+head_refused fault.BadPeer seen left short r = absurd r
+head_refused fault.NotFound seen left short r = absurd r
+head_refused fault.NotAllowed seen left short r = absurd r
+head_refused fault.NoLength seen left short r = absurd r
+head_refused fault.TooBig seen left short r = absurd r
+head_refused fault.FieldsTooLarge seen left short r = (r, short)
+head_refused fault.NotDone seen left short r = absurd r
 
 -- ---- how long a body may be
 

@@ -15,11 +15,13 @@ longer : (seen more rest : List ℕ) (h : RequestHead) → ReadsHead seen h rest
 longer seen more rest h r =
     ((r.0.0, ap (λ (l : List ℕ). l ++ more) r.0.1 ∙ append_assoc (print_request h) rest more), r.1, r.2)
 
-pub whole : (seen more : List ℕ) (s : Start) (r : Request) → IsStart seen s → s.count ≤ length s.rest + length more
-    → r.method ≡ s.method → r.target ≡ s.target → r.body ≡ take s.count (s.rest ++ more) → IsRequest (seen ++ more) r
-whole seen more s r start there method target body =
+pub whole : (seen more : List ℕ) (s : Start) (r : Request) → IsStart seen s → length seen ≤ longest_head → length more ≤ s.count
+    → s.count ≤ length s.rest + length more → r.method ≡ s.method → r.target ≡ s.target → r.body ≡ take s.count (s.rest ++ more)
+    → IsRequest (seen ++ more) r
+whole seen more s r start short few there method target body =
     let fits : s.count ≤ length (s.rest ++ more) = omega (arith, there, length-append s.rest more) in
-    (start.0, s.rest ++ more, s.count, longer seen more s.rest start.0 start.1, start.2, fits, method ∙ start.3, target ∙ start.4, body)
+    let read : length (seen ++ more) ≤ longest_head + s.count = omega (arith, short, few, length-append seen more) in
+    (start.0, s.rest ++ more, s.count, longer seen more s.rest start.0 start.1, start.2, fits, method ∙ start.3, target ∙ start.4, body, read)
 
 cut : (seen more : List ℕ) (s : Start) → IsStart seen s → length s.rest + length more < s.count → IsCut (seen ++ more)
 cut seen more s start short =

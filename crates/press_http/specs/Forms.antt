@@ -1,8 +1,8 @@
 -- Form: what the fields of a web form give as a command (URL Standard, 5, `application/x-www-form-urlencoded`; the fields and their names are own).
 -- Of a repeated field the first counts, and fields that nobody names are passed over.
-use Rattle.std.specs.Prelude.{ℕ, List, [], ◌∷◌, bytes_eq, option_and_then, Option, Some, None, Result, Ok, codes, if◌then◌else◌}
+use Rattle.std.specs.Prelude.{◌≡◌, ℕ, List, [], ◌∷◌, All, bytes_eq, option_and_then, Option, Some, None, Result, Ok, codes, if◌then◌else◌}
 use Rattle.std.specs.Str.Lossy.{utf8_lossy}
-use Rattle.form_urlencoded.specs.Form.{decode, raw_pairs}
+use Rattle.form_urlencoded.specs.Form.{decode, raw_pairs, IsPlainText}
 use Rattle.press_text.specs.Decimals.{decimal_in}
 use Rattle.press_text.specs.Moments.{moment_of}
 use Rattle.press_text.specs.Names.{is_name}
@@ -32,6 +32,10 @@ first_in name (pair ∷ pairs) = if bytes_eq (shown pair.0) name then Some (show
 -- the value of the first field of that name
 unfoldable pub first_named : List ℕ → List ℕ → Option (List ℕ)
 first_named name form = first_in name (raw_pairs form)
+
+-- every name is written as it is, without `+` and `%`, and none is the one that is looked for: that is found out without memory
+abbrev pub LacksPlainly : List ℕ → List ℕ → Type 0
+LacksPlainly name form = All (λ pair. IsPlainText pair.0) (raw_pairs form) × (first_named name form ≡ None)
 
 abbrev pub or_bad : {A : Type 0} → Option A → Result A HttpFault
 or_bad found = or_fault BadForm found

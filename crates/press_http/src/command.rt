@@ -1,6 +1,6 @@
 //! The command that a form gives.
 
-ghost use Rattle.std.specs.Prelude.{◌≡◌};
+ghost use Rattle.std.specs.Prelude.{◌≡◌, Err, codes};
 ghost use Rattle.press_http.specs.Forms as spec;
 ghost use Rattle.press_http.specs.Gives.{Gives};
 
@@ -163,7 +163,8 @@ impl<'f> Form<'f> {
 
     #[tactic(auto, unfolding(crate::specs::Forms::token_at))]
     fn token(&self) -> Result<Token, HttpFault>
-        ensures { Gives result (spec.token_at self.now.bytes.now) }
+        ensures value { Gives result (spec.token_at self.now.bytes.now) }
+        ensures memory { spec.LacksPlainly (codes "editor") self.now.bytes.now → result ≡ Err HttpFault.BadForm }
     {
         Ok(Token {
             editor: self.name("editor")?,
@@ -173,10 +174,11 @@ impl<'f> Form<'f> {
 }
 
 /// The command that a form gives, with its token and its moment. BadForm where a field is missing or out of its range;
-/// what a command may not do to a site is no matter of the form.
+/// what a command may not do to a site is no matter of the form. Memory is first wanted for a name with `+` or `%`, or for the editor.
 #[tactic(auto, unfolding(crate::specs::Forms::command_in))]
 pub fn form_command(alloc: Global, form: &[u8]) -> Result<Stamped, HttpFault>
-    ensures { Gives result (spec.command_in form.now) }
+    ensures value { Gives result (spec.command_in form.now) }
+    ensures memory { spec.LacksPlainly (codes "editor") form.now → result ≡ Err HttpFault.BadForm }
 {
     let form = Form { alloc, bytes: form };
     let token = form.token()?;

@@ -1,6 +1,6 @@
 //! The fields of a web form.
 
-ghost use Rattle.std.specs.Prelude.{◌≡◌, IfOk, Ok};
+ghost use Rattle.std.specs.Prelude.{◌≡◌, IfOk, Ok, Err, None};
 ghost use Rattle.press_http.specs.Forms as spec;
 ghost use Rattle.press_http.specs.Gives.{Gives};
 
@@ -11,7 +11,8 @@ use std::alloc::{AllocError, Global};
 /// The value of the first field of that name.
 #[tactic(auto, unfolding(crate::specs::Forms::first_named))]
 pub fn first_value(alloc: Global, form: &[u8], name: &str) -> Result<Option<Text>, AllocError>
-    ensures { IfOk result (λ found. found ≡ spec.first_named name.now form.now) }
+    ensures value { IfOk result (λ found. found ≡ spec.first_named name.now form.now) }
+    ensures memory { spec.LacksPlainly name.now form.now → result ≡ Ok None }
 {
     let mut pairs = form_urlencoded::raw_pairs(form);
     while let Some((key, value)) = pairs.next() {
@@ -44,7 +45,8 @@ pub struct Form<'f> {
 impl<'f> Form<'f> {
     /// The text of a field, where it is there.
     pub fn found(&self, name: &str) -> Result<Option<Text>, HttpFault>
-        ensures { Gives result (Ok (spec.first_named name.now self.now.bytes.now)) }
+        ensures value { Gives result (Ok (spec.first_named name.now self.now.bytes.now)) }
+        ensures memory { spec.LacksPlainly name.now self.now.bytes.now → result ≡ Ok None }
     {
         let found = first_value(self.alloc, self.bytes, name)?;
         Ok(found)
@@ -52,7 +54,8 @@ impl<'f> Form<'f> {
 
     /// A text.
     pub fn text(&self, name: &str) -> Result<Text, HttpFault>
-        ensures { Gives result (spec.text_at name.now self.now.bytes.now) }
+        ensures value { Gives result (spec.text_at name.now self.now.bytes.now) }
+        ensures memory { spec.LacksPlainly name.now self.now.bytes.now → result ≡ Err HttpFault.BadForm }
     {
         match self.found(name)? {
             Some(text) => Ok(text),
@@ -62,7 +65,8 @@ impl<'f> Form<'f> {
 
     /// The name of an editor or a plugin.
     pub fn name(&self, name: &str) -> Result<Name, HttpFault>
-        ensures { Gives result (spec.name_at name.now self.now.bytes.now) }
+        ensures value { Gives result (spec.name_at name.now self.now.bytes.now) }
+        ensures memory { spec.LacksPlainly name.now self.now.bytes.now → result ≡ Err HttpFault.BadForm }
     {
         let text = self.text(name)?;
         match Name::new(self.alloc, text.as_str()) {

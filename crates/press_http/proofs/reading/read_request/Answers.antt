@@ -24,6 +24,6 @@ returns g c =
       t.0 ++ b.0,
       Consumes-trans _ _ _ t.0 b.0 t.1 b.1,
       fits t.0 b.0 s t.3 t.2 b.2,
-      whole t.0 b.0 s (record { method = s.method; target = s.target; body = c.in_ok-body.body }) t.3 b.3.0 refl refl
+      whole t.0 b.0 s (record { method = s.method; target = s.target; body = c.in_ok-body.body }) t.3 t.2 b.2 b.3.0 refl refl
           b.3.1,
     )
