@@ -5,6 +5,7 @@ pub mod HeadReads
 pub mod LineEnds
 pub mod Names
 pub mod Phrases
+pub mod Refusals
 pub mod Slashes
 pub mod Starts
 pub mod Tables
