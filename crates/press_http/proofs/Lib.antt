@@ -5,7 +5,6 @@ pub mod HeadReads
 pub mod LineEnds
 pub mod Names
 pub mod Phrases
-pub mod Refusals
 pub mod Slashes
 pub mod Starts
 pub mod Tables
