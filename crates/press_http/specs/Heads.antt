@@ -1,0 +1,88 @@
+-- Head: the request line and the fields of a request (RFC 9112, 2 to 5), of at most 8,192 bytes and 32 fields (own limits), and what a reading of one says
+-- of the bytes that it saw.
+use Rattle.std.specs.Prelude.{◌≡◌, ◌⊎◌, ℕ, ◌<◌, ◌≤◌, ◌==◌, ◌+◌, List, [], ◌∷◌, length, Option, Some, None, Result, Ok, Err, if◌then◌else◌}
+use Rattle.std.specs.Io.KnownBytes.{IsAtEnd}
+use Rattle.httparse.specs.declared.spans.HeaderSpan.{HeaderSpan}
+use Rattle.httparse.specs.declared.spans.RequestSpans.{RequestSpans}
+use Rattle.httparse.specs.Grammar.{RequestHead, print_request, ReadsRequest, HasNoRequest, NeverHasRequest}
+use Rattle.httparse.specs.Spans.{IsRequestAt, IsRequestWithin}
+use Rattle.press_http.specs.declared.fault.HttpFault.{HttpFault}
+use Rattle.press_http.specs.declared.fault.HttpFault.TheVariants as fault
+
+abbrev pub most_fields : ℕ
+most_fields = 32
+
+abbrev pub longest_head : ℕ
+longest_head = 8192
+
+-- a head stands at the front, and then the rest
+abbrev pub ReadsHead : List ℕ → RequestHead → List ℕ → Type 0
+ReadsHead seen h rest = ReadsRequest seen h rest × (length h.fields ≤ most_fields) × (length (print_request h) ≤ longest_head)
+
+-- no prefix is a head within the limits
+abbrev pub HasNoHead : List ℕ → Type 0
+HasNoHead seen = (h : RequestHead) (rest : List ℕ) → ¬ (ReadsHead seen h rest)
+
+-- how many LF bytes
+abbrev pub line_ends : List ℕ → ℕ
+line_ends [] = 0
+line_ends (b ∷ bytes) = (if b == 10 then 1 else 0) + line_ends bytes
+
+-- Why no head was read, of what was seen and whether that was all. A head with two faults may get either.
+abbrev pub RefusesHead : HttpFault → List ℕ → Option (List ℕ) → Type 0
+RefusesHead fault.NoMemory seen left = 0 < length seen
+RefusesHead fault.ReadFault seen left = HasNoHead seen
+RefusesHead fault.Ended seen left = HasNoRequest seen × IsAtEnd left
+RefusesHead fault.BadHead seen left = NeverHasRequest seen
+RefusesHead fault.FieldsTooLarge seen left = HasNoHead seen × ((longest_head ≤ length seen) ⊎ (most_fields < line_ends seen))
+RefusesHead fault.WriteFault seen left = ⊥
+RefusesHead fault.BadForm seen left = ⊥
+RefusesHead fault.BadPeer seen left = ⊥
+RefusesHead fault.NotFound seen left = ⊥
+RefusesHead fault.NotAllowed seen left = ⊥
+RefusesHead fault.NoLength seen left = ⊥
+RefusesHead fault.TooBig seen left = ⊥
+RefusesHead fault.NotDone seen left = ⊥
+
+-- ---- what the parser says, by its spans
+
+-- the spans are those of a head at the front
+abbrev pub IsHead : List ℕ → List HeaderSpan → RequestSpans → Type 0
+IsHead seen headers spans = (h : RequestHead) × IsRequestAt seen headers spans h × IsRequestWithin seen headers spans
+
+abbrev pub LooksBad : HttpFault → List ℕ → Type 0
+LooksBad fault.BadHead seen = NeverHasRequest seen
+LooksBad fault.FieldsTooLarge seen = HasNoHead seen × (most_fields < line_ends seen)
+LooksBad fault.NoMemory seen = ⊥
+LooksBad fault.ReadFault seen = ⊥
+LooksBad fault.Ended seen = ⊥
+LooksBad fault.WriteFault seen = ⊥
+LooksBad fault.BadForm seen = ⊥
+LooksBad fault.BadPeer seen = ⊥
+LooksBad fault.NotFound seen = ⊥
+LooksBad fault.NotAllowed seen = ⊥
+LooksBad fault.NoLength seen = ⊥
+LooksBad fault.TooBig seen = ⊥
+LooksBad fault.NotDone seen = ⊥
+
+-- one look at what was seen so far
+abbrev pub Looks : List ℕ → List HeaderSpan → Result (Option RequestSpans) HttpFault → Type 0
+Looks seen headers (Ok (Some spans)) = IsHead seen headers spans
+Looks seen headers (Ok None) = HasNoRequest seen
+Looks seen headers (Err e) = LooksBad e seen
+
+-- why one read gave no bytes to keep: there was no memory for those that came, or the read failed and took none
+abbrev pub Misses : HttpFault → List ℕ → Type 0
+Misses fault.NoMemory bytes = 0 < length bytes
+Misses fault.ReadFault bytes = bytes ≡ []
+Misses fault.Ended bytes = ⊥
+Misses fault.WriteFault bytes = ⊥
+Misses fault.BadHead bytes = ⊥
+Misses fault.BadForm bytes = ⊥
+Misses fault.BadPeer bytes = ⊥
+Misses fault.NotFound bytes = ⊥
+Misses fault.NotAllowed bytes = ⊥
+Misses fault.NoLength bytes = ⊥
+Misses fault.TooBig bytes = ⊥
+Misses fault.FieldsTooLarge bytes = ⊥
+Misses fault.NotDone bytes = ⊥

@@ -1,0 +1,54 @@
+-- HTTP: what bytes are as a request, or which fault they have (RFC 9112). The rules stand in this order: the head; the target, a transfer coding and the
+-- length of the body; the body. One request stands on a connection, and what is behind it is passed over.
+use Rattle.std.specs.Prelude.{◌≡◌, ◌⊎◌, ℕ, ◌+◌, ◌<◌, ◌≤◌, List, length, take, Option, Ok, Err}
+use Rattle.std.specs.Io.KnownBytes.{IsAtEnd}
+use Rattle.httparse.specs.Grammar.{RequestHead}
+use Rattle.press_http.specs.declared.fault.HttpFault.{HttpFault}
+use Rattle.press_http.specs.declared.fault.HttpFault.TheVariants as fault
+use Rattle.press_http.specs.declared.request.Request.{Request}
+use Rattle.press_http.specs.declared.start.Start.{Start}
+use Rattle.press_http.specs.Heads.{ReadsHead, RefusesHead, longest_head}
+use Rattle.press_http.specs.Bodies.{length_of, longest_body}
+
+-- the most bytes that are read for a request
+abbrev pub longest_request : ℕ
+longest_request = longest_head + longest_body
+
+-- the head tells a length, and the rest has so many bytes; no more is read than a head may have and the body has
+abbrev pub IsRequest : List ℕ → Request → Type 0
+IsRequest seen r =
+    (h : RequestHead) × (rest : List ℕ) × (n : ℕ) × ReadsHead seen h rest × (length_of h ≡ Ok n) × (n ≤ length rest)
+    × (r.method ≡ h.method) × (r.target ≡ h.target) × (r.body ≡ take n rest) × (length seen ≤ longest_head + n)
+
+-- a head that tells the length of its body, and what stands behind it
+abbrev pub IsStart : List ℕ → Start → Type 0
+IsStart seen s =
+    (h : RequestHead) × ReadsHead seen h s.rest × (length_of h ≡ Ok s.count) × (s.method ≡ h.method) × (s.target ≡ h.target)
+
+-- no more is read than a head may have
+abbrev pub IsWithinHead : List ℕ → Type 0
+IsWithinHead seen = length seen ≤ longest_head
+
+-- a head whose fields tell the fault
+abbrev pub IsJudged : HttpFault → List ℕ → Type 0
+IsJudged e seen = (h : RequestHead) × (rest : List ℕ) × ReadsHead seen h rest × (length_of h ≡ Err e) × IsWithinHead seen
+
+-- the body is longer than what is there
+abbrev pub IsCut : List ℕ → Type 0
+IsCut seen = (h : RequestHead) × (rest : List ℕ) × (n : ℕ) × ReadsHead seen h rest × (length_of h ≡ Ok n) × (length rest < n)
+
+-- Why no request was read, of what was seen and whether that was all.
+abbrev pub Refuses : HttpFault → List ℕ → Option (List ℕ) → Type 0
+Refuses fault.NoMemory seen left = 0 < length seen
+Refuses fault.ReadFault seen left = (RefusesHead fault.ReadFault seen left × IsWithinHead seen) ⊎ IsCut seen
+Refuses fault.Ended seen left = (RefusesHead fault.Ended seen left × IsWithinHead seen) ⊎ (IsCut seen × IsAtEnd left)
+Refuses fault.BadHead seen left = (RefusesHead fault.BadHead seen left × IsWithinHead seen) ⊎ IsJudged fault.BadHead seen
+Refuses fault.FieldsTooLarge seen left = RefusesHead fault.FieldsTooLarge seen left × IsWithinHead seen
+Refuses fault.NoLength seen left = IsJudged fault.NoLength seen
+Refuses fault.TooBig seen left = IsJudged fault.TooBig seen
+Refuses fault.NotDone seen left = IsJudged fault.NotDone seen
+Refuses fault.WriteFault seen left = ⊥
+Refuses fault.BadForm seen left = ⊥
+Refuses fault.BadPeer seen left = ⊥
+Refuses fault.NotFound seen left = ⊥
+Refuses fault.NotAllowed seen left = ⊥

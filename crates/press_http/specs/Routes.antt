@@ -1,0 +1,130 @@
+-- Route: what a request asks for, by its path, then its method, then what it carries (paths and their parameters: the kit's `matchit`;
+-- path and query: RFC 3986, 3.3 and 3.4; methods: RFC 9110, 9; `GET /wp-json/wp/v2/posts/{id}`: REST API Handbook, Posts; the other paths are own).
+use Rattle.std.specs.Prelude.{ℕ, zero, suc, List, [], ◌==◌, bytes_eq, Option, Some, None, Result, Ok, Err, codes, if◌then◌else◌}
+use Rattle.std.specs.List.{before_first, after_first}
+use Rattle.matchit.specs.Rows.{RowsOf}
+use Rattle.matchit.specs.Seek.{first}
+use Rattle.matchit.specs.Route.{Scan, parse_route}
+use Rattle.matchit.specs.Router.{RouteOf, route_from}
+use Rattle.matchit.specs.Order.{placed}
+use Rattle.matchit.specs.declared.error.InsertError.{InsertError}
+use Rattle.press_text.specs.Decimals.{decimal_in}
+use Rattle.press_site.specs.declared.token.Token.{Token}
+use Rattle.press_page.specs.declared.reply.Target.{Target}
+use Rattle.press_page.specs.declared.reply.Target.TheVariants as target
+use Rattle.press_wire.specs.declared.message.Message.{Message}
+use Rattle.press_wire.specs.declared.fault.WireFault.{WireFault}
+use Rattle.press_wire.specs.Reading.{read_message}
+use Rattle.press_http.specs.declared.fault.HttpFault.{HttpFault}
+use Rattle.press_http.specs.declared.fault.HttpFault.TheVariants.{NotFound, NotAllowed, BadPeer}
+use Rattle.press_http.specs.declared.asked.Asked.{Asked}
+use Rattle.press_http.specs.declared.asked.Asked.TheVariants.{Page, Command, Peer}
+use Rattle.press_http.specs.declared.place.Place.{Place}
+use Rattle.press_http.specs.declared.place.Place.TheVariants as place
+use Rattle.press_http.specs.Forms.{first_named, name_in, command_in}
+use Rattle.press_http.specs.Gives.{◌>>=◌, or_fault, made}
+
+-- ---- the target
+
+-- up to the first question mark
+abbrev pub path_of : List ℕ → List ℕ
+path_of t = before_first (λ b. b == 63) t
+
+abbrev pub query_of : List ℕ → List ℕ
+query_of t = after_first (λ b. b == 63) t
+
+-- ---- paths
+
+abbrev pub with_read : Result Scan InsertError → Place → RowsOf (RouteOf Place) → RowsOf (RouteOf Place)
+with_read (Ok s) at routes = placed (s.pattern, route_from s at) routes
+with_read (Err e) at routes = routes
+
+unfoldable pub with_route : List ℕ → Place → RowsOf (RouteOf Place) → RowsOf (RouteOf Place)
+with_route path at routes = with_read (parse_route path) at routes
+
+unfoldable pub pages : RowsOf (RouteOf Place)
+pages =
+    with_route (codes "/result/{editor}/{seq}") place.Outcome
+    (with_route (codes "/wp-json/wp/v2/posts/{id}") place.Post
+    (with_route (codes "/") place.Front []))
+
+unfoldable pub table : RowsOf (RouteOf Place)
+table = with_route (codes "/peer") place.Peers (with_route (codes "/command") place.Commands pages)
+
+abbrev pub or_missing : {A : Type 0} → Option A → Result A HttpFault
+or_missing found = or_fault NotFound found
+
+abbrev pub place_in : Option (RouteOf Place) → Result Place HttpFault
+place_in None = Err NotFound
+place_in (Some route) = Ok route.value
+
+unfoldable pub place_at : List ℕ → Result Place HttpFault
+place_at path = place_in (first table path)
+
+-- ---- methods
+
+abbrev pub method_at : Place → List ℕ
+method_at place.Front = codes "GET"
+method_at place.Post = codes "GET"
+method_at place.Outcome = codes "GET"
+method_at place.Commands = codes "POST"
+method_at place.Peers = codes "POST"
+
+abbrev pub allowed : List ℕ → Place → Result Place HttpFault
+allowed method at = if bytes_eq method (method_at at) then Ok at else Err NotAllowed
+
+-- ---- pages
+
+-- the front page, or the post that `p` names
+abbrev pub front_by : Option (List ℕ) → Result Target HttpFault
+front_by None = Ok target.Front
+front_by (Some id) = made target.Post (or_missing (decimal_in id))
+
+abbrev pub front_of : List ℕ → Result Target HttpFault
+front_of query = front_by (first_named (codes "p") query)
+
+-- what stands behind the first so many slashes
+unfoldable pub behind : ℕ → List ℕ → List ℕ
+behind zero path = path
+behind (suc n) path = behind n (after_first (λ b. b == 47) path)
+
+abbrev pub post_of : List ℕ → Result Target HttpFault
+post_of path = made target.Json (or_missing (decimal_in (behind 5 path)))
+
+abbrev pub editor_in : List ℕ → Result (List ℕ) HttpFault
+editor_in text = or_missing (name_in text)
+
+-- an editor and a number with a slash between them
+unfoldable pub token_in : List ℕ → Result Token HttpFault
+token_in text = do
+  editor ← editor_in (before_first (λ b. b == 47) text)
+  seq ← or_missing (decimal_in (after_first (λ b. b == 47) text))
+  Ok (record { editor = editor; seq = seq })
+
+abbrev pub outcome_of : List ℕ → Result Target HttpFault
+outcome_of path = made target.Result (token_in (behind 2 path))
+
+-- ---- messages
+
+abbrev pub or_bad_peer : Result Message WireFault → Result Message HttpFault
+or_bad_peer (Ok message) = Ok message
+or_bad_peer (Err e) = Err BadPeer
+
+abbrev pub message_in : List ℕ → Result Message HttpFault
+message_in body = or_bad_peer (read_message body)
+
+-- ---- requests
+
+unfoldable pub asked_at : Place → List ℕ → List ℕ → Result Asked HttpFault
+asked_at place.Front t body = made Page (front_of (query_of t))
+asked_at place.Post t body = made Page (post_of (path_of t))
+asked_at place.Outcome t body = made Page (outcome_of (path_of t))
+asked_at place.Commands t body = made Command (command_in body)
+asked_at place.Peers t body = made Peer (message_in body)
+
+-- by method, target and body
+unfoldable pub asked : List ℕ → List ℕ → List ℕ → Result Asked HttpFault
+asked method t body = do
+  found ← place_at (path_of t)
+  served ← allowed method found
+  asked_at served t body

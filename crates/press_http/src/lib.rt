@@ -1,0 +1,28 @@
+//! Requests and replies of HTTP/1.x as bytes, and what a request asks for.
+//!
+//! One request stands on a connection, and one reply ends it.
+#![tactic(auto)]
+
+mod asked;
+mod body;
+mod command;
+mod command_kind;
+mod fault;
+mod fields;
+mod form;
+mod head;
+mod place;
+mod reading;
+mod reply;
+mod request;
+mod routing;
+mod start;
+mod streams;
+
+pub use asked::Asked;
+pub use command::form_command;
+pub use fault::HttpFault;
+pub use reading::read_request;
+pub use reply::{write_fault, write_reply};
+pub use request::Request;
+pub use routing::route;
