@@ -1,61 +1,72 @@
-//! Reads files as requests: `press_bytes FILE ..` prints a line for each, with what it asks or which fault it has. Then it prints replies.
-//!
-//! Each file comes in pieces of 1, 7 and 4,096 bytes, and once more from a reader that fails where the bytes end. What differs from the first
-//! of these gets a line of its own.
+//! Reads files as requests, commands and messages: `press_bytes FILE ..` prints what each asks or spells, or which fault it has. `replies` in place
+//! of a file prints replies, and after a word `times=N` or `heads=N` the files are only read, so many times, for whoever measures it.
 #![tactic(auto)]
 
+mod kind;
 mod pieces;
 mod replies;
+mod requests;
+mod times;
+mod wires;
 
-use crate::pieces::{End, Pieces};
+use crate::kind::Kind;
 use crate::replies::show_replies;
-use press_http::{Asked, HttpFault, form_command, read_request, route};
-use std::alloc::{AllocError, Global};
+use crate::requests::show_request;
+use crate::times::{again, heads};
+use crate::wires::show_spelled;
+use press_apply::Value;
+use press_wire::Message;
 use std::{env, fs};
 
-// What a request asks; a form is read by itself.
-fn asked(alloc: Global, reader: &mut Pieces<'_>) -> Result<Asked, HttpFault> {
-    let request = read_request(alloc, reader)?;
-    match route(alloc, &request)? {
-        Asked::Command(_) => {
-            let command = form_command(alloc, request.body.as_slice())?;
-            Ok(Asked::Command(command))
+/// What is done with the files that are named next.
+#[derive(Clone, Copy)]
+enum Task {
+    Show,
+    Read(u32),
+    ReadHead(u32),
+}
+
+impl Task {
+    // The task that a word sets, if it sets one.
+    fn from_word(word: &str) -> Option<Task> {
+        if let Some(times) = word.strip_prefix("times=") {
+            return times.parse().ok().map(Task::Read);
         }
-        other => Ok(other),
+        if let Some(times) = word.strip_prefix("heads=") {
+            return times.parse().ok().map(Task::ReadHead);
+        }
+        None
     }
 }
 
-// What a reader's bytes ask, or the status of their fault.
-fn line(alloc: Global, mut reader: Pieces<'_>) -> Result<String, AllocError> {
-    match asked(alloc, &mut reader) {
-        Ok(asked) => format!(in alloc; "{asked:?}"),
-        Err(fault) => match fault.status() {
-            Some(status) => format!(in alloc; "{status} {fault}"),
-            None => format!(in alloc; "closed, {fault}"),
-        },
+fn show(rt: &HostRuntime, name: &str, bytes: &[u8]) -> anyhow::Result<()> {
+    match Kind::of(name) {
+        Kind::Command => show_spelled::<Value>(rt, name, bytes),
+        Kind::Message => show_spelled::<Message>(rt, name, bytes),
+        Kind::Request => show_request(rt, name, bytes),
     }
 }
 
-fn show_file(rt: &HostRuntime, name: &str) -> anyhow::Result<()> {
+fn play(rt: &HostRuntime, task: Task, name: &str) -> anyhow::Result<()> {
+    if name == "replies" {
+        return show_replies(rt);
+    }
     let bytes = fs::read(rt, name)?;
-    let first = line(rt.alloc(), Pieces::new(&bytes, 1, End::Told))?;
-    println!(rt; "{name}: {first}")?;
-    for (how, size, end) in [
-        ("in pieces of 7", 7, End::Told),
-        ("in pieces of 4096", 4096, End::Told),
-        ("before a read that fails", 4096, End::Failed),
-    ] {
-        let other = line(rt.alloc(), Pieces::new(&bytes, size, end))?;
-        if other != first {
-            println!(rt; "{name}, {how}: {other}")?;
-        }
+    match task {
+        Task::Show => show(rt, name, &bytes)?,
+        Task::Read(times) => again(rt.alloc(), Kind::of(name), &bytes, times),
+        Task::ReadHead(times) => heads(&bytes, times),
     }
     Ok(())
 }
 
 fn main(rt: HostRuntime) -> anyhow::Result<()> {
-    for name in env::args(&rt)?.skip(1) {
-        show_file(&rt, name.as_str())?;
+    let mut task = Task::Show;
+    for word in env::args(&rt)?.skip(1) {
+        match Task::from_word(word.as_str()) {
+            Some(next) => task = next,
+            None => play(&rt, task, word.as_str())?,
+        }
     }
-    show_replies(&rt)
+    Ok(())
 }
