@@ -1,5 +1,5 @@
 -- Worked rows, computed by the definitions.
-use Rattle.std.specs.Prelude.{◌≡◌, refl, ℕ, List, [], ◌∷◌, Ok, Err, Some, codes}
+use Rattle.std.specs.Prelude.{◌≡◌, refl, ℕ, List, [], ◌∷◌, Ok, Err, codes}
 use Rattle.matchit.proofs.OnLiterals.{matchit_on_literals}
 use Rattle.press_page.specs.declared.reply.Target.TheVariants as target
 use Rattle.press_http.specs.declared.asked.Asked.TheVariants.{Page}

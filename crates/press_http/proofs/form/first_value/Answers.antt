@@ -1,9 +1,7 @@
-use Rattle.std.proofs.Common.{◌≡◌, ℕ, false, List, refl, sym, ◌∙◌, rules, arith, subst}
-use Rattle.std.specs.Prelude.{All, bytes_eq}
-use Rattle.std.proofs.lemmas.Grind.{common_steps}
+use Rattle.std.proofs.Common.{ℕ, List, sym, rules, subst}
+use Rattle.std.specs.Prelude.{All}
 use Rattle.form_urlencoded.specs.Form.{IsPlainText}
-use Rattle.press_http.specs.Forms.{first_in, shown}
-use Rattle.press_http.proofs.Names.{next_named, plain_rest}
+use Rattle.press_http.proofs.Names.{plain_rest}
 use Rattle.press_http.proofs.form.first_value.Goals as goal
 
 pub loop-key-init : goal.loop-key-init
