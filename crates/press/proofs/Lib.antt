@@ -1,3 +1,4 @@
+pub mod Ends
 pub mod FirstValue
 pub mod Pushes
 pub mod Told

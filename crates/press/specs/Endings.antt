@@ -14,6 +14,7 @@ use Rattle.press.specs.declared.ending.Ending.{Ending}
 use Rattle.press.specs.declared.ending.Ending.TheVariants.{Printed, Fault}
 use Rattle.press_kit.specs.declared.place.Place.{Place}
 use Rattle.press_kit.specs.SiteFile.{site_in}
+use Rattle.press.specs.Streams.{Has}
 use Rattle.press.specs.Words.{Asked, is_input}
 use Rattle.press_text.specs.Streams.{AppendsFront}
 
@@ -45,9 +46,13 @@ IsOutside (Fault BadSchedule) = ⊥
 abbrev pub EndsPage : KitView → Target → Ending → List ℕ → Type 0
 EndsPage kit target end input = (end ≡ page_ending kit target (site_in input)) ⊎ IsOutside end
 
--- What is known of an ending: on the standard input, what its bytes give. What a file holds that is opened by its name isn't known.
-abbrev pub EndsOn : KitView → Asked → Ending → List ℕ → Type 0
-EndsOn kit asked end input = is_input asked.0 ≡ true → EndsPage kit asked.1 end input
+-- The end of a run on the bytes that a reader has left.
+unfoldable pub EndsOn : KitView → Target → Option (List ℕ) → Ending → Type 0
+EndsOn kit target remaining end = (input : List ℕ) × Has remaining input × EndsPage kit target end input
+
+-- What is known of a file's bytes: on the standard input, what that tells. A file that is opened by its name has some bytes.
+abbrev pub known_of : List ℕ → Option (List ℕ) → Option (List ℕ)
+known_of file remaining = if is_input file then remaining else None
 
 abbrev pub fault_line : ReplayFault → List ℕ
 fault_line NoMemory = codes "press: fault 0\n"
@@ -80,7 +85,7 @@ abbrev pub ReadsAsked : Option Asked → Option (List ℕ) → Option (List ℕ)
 ReadsAsked None input input' = Keeps input input'
 ReadsAsked (Some asked) input input' = is_input asked.0 ≡ false → Keeps input input'
 
--- A run for what is asked, on this input.
-abbrev pub Runs : KitView → Option Asked → List ℕ → ℕ → Option (List ℕ) → Option (List ℕ) → Option (List ℕ) → Option (List ℕ) → Type 0
-Runs kit None input result out out' err err' = Refuses result out out' err err'
-Runs kit (Some asked) input result out out' err err' = (end : Ending) × EndsOn kit asked end input × Finishes end result out out' err err'
+-- A run for what is asked.
+abbrev pub Runs : KitView → Option Asked → Option (List ℕ) → ℕ → Option (List ℕ) → Option (List ℕ) → Option (List ℕ) → Option (List ℕ) → Type 0
+Runs kit None remaining result out out' err err' = Refuses result out out' err err'
+Runs kit (Some asked) remaining result out out' err err' = (end : Ending) × EndsOn kit asked.1 (known_of asked.0 remaining) end × Finishes end result out out' err err'

@@ -1,5 +1,5 @@
--- What a reading of commands from a reader whose bytes are known answers (own).
-use Rattle.std.specs.Prelude.{◌≡◌, Result, Ok, Err}
+-- What a reading of commands from a reader answers (own).
+use Rattle.std.specs.Prelude.{◌≡◌, ℕ, List, Option, Some, None, Result, Ok, Err}
 use Rattle.press_kit.specs.declared.place.Place.{Place}
 use Rattle.press.specs.declared.fault.ReplayFault.{ReplayFault}
 use Rattle.press.specs.declared.fault.ReplayFault.TheVariants.{NoMemory, ReadFault, WriteFault, BadSchedule}
@@ -11,7 +11,15 @@ ReadMisses ReadFault found = Unit {0}
 ReadMisses BadSchedule found = (place : Place) × (found ≡ Err place)
 ReadMisses WriteFault found = ⊥
 
--- The answer is what is to be found in the reader's bytes.
+-- The answer is what is found in the bytes.
 abbrev pub ReadGives : {Y : Type 0} → Result Y ReplayFault → Result Y Place → Type 0
 ReadGives (Ok x) found = found ≡ Ok x
 ReadGives (Err e) found = ReadMisses e found
+
+-- The bytes that a reader has left: those that it tells, and of one that tells none some bytes.
+abbrev pub Has : Option (List ℕ) → List ℕ → Type 0
+Has None input = Unit {0}
+Has (Some told) input = input ≡ told
+
+unfoldable pub ReadsAs : {Y : Type 0} → (List ℕ → Result Y Place) → Option (List ℕ) → Result Y ReplayFault → Type 0
+ReadsAs meaning remaining result = (input : List ℕ) × Has remaining input × ReadGives result (meaning input)

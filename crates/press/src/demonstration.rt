@@ -127,7 +127,7 @@ fn running(alloc: Global, hook: &str) -> Result<Script, AllocError>
     ensures { IfOk result (λ s. s ≡ spec.running hook.now) }
 {
     let apply = Op::Apply {
-        hook: hook_named(alloc, hook)?,
+        hook: HookName::from_valid(alloc, hook)?,
         value: Items::from_vec(vec![in alloc; Part::Value]?),
         more: Items::new(alloc),
     };
@@ -423,7 +423,7 @@ fn on_hook(alloc: Global, hook: &str, priority: i64, callback: &str) -> Result<L
     ensures { IfOk result (λ l. l ≡ Load.Hook hook.now priority callback.now 1) }
 {
     Ok(Load::Hook {
-        hook: hook_named(alloc, hook)?,
+        hook: HookName::from_valid(alloc, hook)?,
         priority,
         callback: callback_named(callback),
         accepted: 1,
@@ -455,7 +455,7 @@ fn tag_named(alloc: Global, name: &str) -> Result<Tag, AllocError>
 fn the_title(alloc: Global) -> Result<HookName, AllocError>
     ensures { IfOk result (λ h. h ≡ spec.the_title) }
 {
-    hook_named(alloc, "the_title")
+    HookName::from_valid(alloc, "the_title")
 }
 
 fn last_saved(alloc: Global) -> Result<OptName, AllocError>
@@ -463,17 +463,6 @@ fn last_saved(alloc: Global) -> Result<OptName, AllocError>
 {
     match OptName::new(alloc, "last_saved") {
         Ok(name) => Ok(name),
-        Err(NameFault::NoMemory) => Err(AllocError),
-        Err(NameFault::BadName) | Err(NameFault::TooLong) => unreachable!(),
-    }
-}
-
-fn hook_named(alloc: Global, name: &str) -> Result<HookName, AllocError>
-    requires { name_fault 64 name.now ≡ None }
-    ensures { IfOk result (λ h. h ≡ name.now) }
-{
-    match HookName::new(alloc, name) {
-        Ok(hook) => Ok(hook),
         Err(NameFault::NoMemory) => Err(AllocError),
         Err(NameFault::BadName) | Err(NameFault::TooLong) => unreachable!(),
     }

@@ -1,11 +1,10 @@
 //! How a run of the program ends.
 
-ghost use Rattle.std.specs.Prelude.{◌≡◌, ◌+◌, IfOk, IfErr, IfSome, Ok};
+ghost use Rattle.std.specs.Prelude.{◌≡◌, ◌+◌, IfOk, Ok};
 ghost use Rattle.press_callbacks.specs.Kits.{kit_view};
 ghost use Rattle.press_kit.specs.KitFile.{file_limit};
-ghost use Rattle.press_kit.specs.SiteFile.{site_in};
 ghost use Rattle.press_text.specs.Streams.{TakesAtMost};
-ghost use Rattle.press.specs.Endings.{page_ending, printed, EndsPage};
+ghost use Rattle.press.specs.Endings.{ending_of, page_ending, printed, EndsOn};
 
 use crate::commands::apply_all;
 use crate::fault::ReplayFault;
@@ -56,8 +55,7 @@ fn try_page<R: Read>(
     reader: &mut R,
 ) -> Result<Ending, ReplayFault>
     ensures took { TakesAtMost (R.remaining reader.old) (R.remaining reader.new) (file_limit + 1) }
-    ensures ok { IfOk result (λ end. IfSome (R.remaining reader.old) (λ input. end ≡ page_ending (kit_view kit.now) target.now (site_in input))) }
-    ensures err { IfErr result (λ e. IfSome (R.remaining reader.old) (λ input. EndsPage (kit_view kit.now) target.now (Ending.Fault e) input)) }
+    ensures ends { EndsOn (kit_view kit.now) target.now (R.remaining reader.old) (ending_of result) }
 {
     let commands = read_site(alloc, reader)?;
     Ok(page_after(alloc, kit, target, commands)?)
@@ -66,7 +64,7 @@ fn try_page<R: Read>(
 /// The end of a run on the file that a reader has left, for what is asked of its site.
 pub fn page_end<R: Read>(alloc: Global, kit: &Kit, target: &Target, reader: &mut R) -> Ending
     ensures took { TakesAtMost (R.remaining reader.old) (R.remaining reader.new) (file_limit + 1) }
-    ensures ends { IfSome (R.remaining reader.old) (λ input. EndsPage (kit_view kit.now) target.now result input) }
+    ensures ends { EndsOn (kit_view kit.now) target.now (R.remaining reader.old) result }
 {
     match try_page(alloc, kit, target, reader) {
         Ok(end) => end,

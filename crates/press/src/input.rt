@@ -1,8 +1,8 @@
 //! Reading the commands of a site file.
 
-ghost use Rattle.std.specs.Prelude.{◌+◌, IfSome};
+ghost use Rattle.std.specs.Prelude.{◌+◌};
 ghost use Rattle.press_text.specs.Streams.{TakesAtMost};
-ghost use Rattle.press.specs.Streams.{ReadGives};
+ghost use Rattle.press.specs.Streams.{ReadsAs};
 ghost use Rattle.press_kit.specs.KitFile.{file_limit};
 ghost use Rattle.press_kit.specs.SiteFile.{site_in};
 
@@ -14,10 +14,9 @@ use std::alloc::Global;
 use std::io::Read;
 
 /// The commands of the site file that a reader has left.
-#[tactic(auto, unfolding(press_kit::specs::SiteFile::site_in, press_kit::specs::KitFile::file_in))]
 pub fn read_site<R: Read>(alloc: Global, reader: &mut R) -> Result<Items<Stamped>, ReplayFault>
     ensures took { TakesAtMost (R.remaining reader.old) (R.remaining reader.new) (file_limit + 1) }
-    ensures gives { IfSome (R.remaining reader.old) (λ input. ReadGives result (site_in input)) }
+    ensures gives { ReadsAs site_in (R.remaining reader.old) result }
 {
     let bytes = read_limited(alloc, reader, FILE_LIMIT)?;
     Ok(read_site_file(alloc, &bytes)?)

@@ -1,10 +1,10 @@
 //! One run of the program over any reader and writers.
 
-ghost use Rattle.std.specs.Prelude.{◌≡◌, ◌+◌, true, false, map, string_bytes, IfSome};
+ghost use Rattle.std.specs.Prelude.{◌≡◌, ◌+◌, None, false, map, string_bytes, IfOk, IfErr};
 ghost use Rattle.std.specs.Io.KnownBytes.{Appends, Keeps};
 ghost use Rattle.press_kit.specs.KitFile.{file_limit};
 ghost use Rattle.press_text.specs.Streams.{AppendsFront, TakesAtMost};
-ghost use Rattle.press.specs.Endings.{fault_line, usage_line, ending_of, EndsOn, EndsPage, Finishes, ReadsAsked, RefusesWords, Runs};
+ghost use Rattle.press.specs.Endings.{fault_line, usage_line, known_of, EndsOn, Finishes, ReadsAsked, RefusesWords, Runs};
 ghost use Rattle.press.specs.Words.{asked_by, is_input};
 ghost use Rattle.press.specs.Demonstration.{demonstration};
 
@@ -76,7 +76,8 @@ fn demonstrated<R: Read>(
     reader: &mut R,
 ) -> Result<Ending, ReplayFault>
     ensures took { TakesAtMost (R.remaining reader.old) (R.remaining reader.new) (file_limit + 1) }
-    ensures ends { IfSome (R.remaining reader.old) (λ input. EndsPage demonstration target.now (ending_of result) input) }
+    ensures ends { IfOk result (λ end. EndsOn demonstration target.now (R.remaining reader.old) end) }
+    ensures err { IfErr result (λ e. e ≡ ReplayFault.NoMemory) }
 {
     let parts = parts(alloc)?;
     let mut callbacks: Vec<Stored> = Vec::new(alloc);
@@ -97,9 +98,10 @@ fn demonstrated<R: Read>(
 }
 
 // The end of a run on the file that a reader has left.
+#[tactic(auto, using(crate::proofs::Ends::out_of_memory))]
 fn shown<R: Read>(alloc: Global, target: &Target, reader: &mut R) -> Ending
     ensures took { TakesAtMost (R.remaining reader.old) (R.remaining reader.new) (file_limit + 1) }
-    ensures ends { IfSome (R.remaining reader.old) (λ input. EndsPage demonstration target.now result input) }
+    ensures ends { EndsOn demonstration target.now (R.remaining reader.old) result }
 {
     match demonstrated(alloc, target, reader) {
         Ok(end) => end,
@@ -108,7 +110,9 @@ fn shown<R: Read>(alloc: Global, target: &Target, reader: &mut R) -> Ending
 }
 
 // The end of a run on a file by its name. One that can't be opened can't be read.
-fn shown_of<Rt: AllocGlobal + Files>(rt: &Rt, wanted: &Wanted<'_>) -> Ending {
+fn shown_of<Rt: AllocGlobal + Files>(rt: &Rt, wanted: &Wanted<'_>) -> Ending
+    ensures { EndsOn demonstration wanted.now.target None result }
+{
     match fs::open(rt, wanted.file) {
         Ok(mut file) => shown(rt.alloc(), &wanted.target, &mut file),
         Err(e) if e.kind() == io::ErrorKind::OutOfMemory => Ending::Fault(ReplayFault::NoMemory),
@@ -119,7 +123,7 @@ fn shown_of<Rt: AllocGlobal + Files>(rt: &Rt, wanted: &Wanted<'_>) -> Ending {
 fn ended<Rt: AllocGlobal + Files, R: Read>(rt: &Rt, wanted: &Wanted<'_>, reader: &mut R) -> Ending
     ensures took { TakesAtMost (R.remaining reader.old) (R.remaining reader.new) (file_limit + 1) }
     ensures stays { is_input wanted.now.file.now ≡ false → Keeps (R.remaining reader.old) (R.remaining reader.new) }
-    ensures ends { IfSome (R.remaining reader.old) (λ input. EndsOn demonstration (wanted.now.file.now, wanted.now.target) result input) }
+    ensures ends { EndsOn demonstration wanted.now.target (known_of wanted.now.file.now (R.remaining reader.old)) result }
 {
     if wanted.file == "-" {
         shown(rt.alloc(), &wanted.target, reader)
@@ -140,8 +144,8 @@ pub fn run<Rt: AllocGlobal + Files, R: Read, W: Write, E: Write>(
 ) -> u8
     ensures read { TakesAtMost (R.remaining reader.old) (R.remaining reader.new) (file_limit + 1) }
     ensures asked { ReadsAsked (asked_by (map string_bytes words.now)) (R.remaining reader.old) (R.remaining reader.new) }
-    ensures runs { IfSome (R.remaining reader.old) (λ input. Runs demonstration (asked_by (map string_bytes words.now)) input result
-        (W.contents writer.old) (W.contents writer.new) (E.contents error.old) (E.contents error.new)) }
+    ensures runs { Runs demonstration (asked_by (map string_bytes words.now)) (R.remaining reader.old) result
+        (W.contents writer.old) (W.contents writer.new) (E.contents error.old) (E.contents error.new) }
     ensures refused { RefusesWords (asked_by (map string_bytes words.now)) result (R.remaining reader.old) (R.remaining reader.new)
         (W.contents writer.old) (W.contents writer.new) (E.contents error.old) (E.contents error.new) }
 {

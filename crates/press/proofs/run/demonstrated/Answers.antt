@@ -1,9 +1,9 @@
-use Rattle.std.proofs.Common.{ap₂, subst, sym, ◌≡◌, ◌∙◌, [], IfSome}
+use Rattle.std.proofs.Common.{ap₂, subst, sym, ◌≡◌, ◌∙◌, []}
 use Rattle.std.proofs.lemmas.List.{nil_from_length}
 use Rattle.std.specs.Vec.Iter.{into_iter_items}
 use Rattle.press_callbacks.specs.Kits.{KitView, kit_view, scripts_given, view_of}
 use Rattle.press.specs.Demonstration.{demonstration, plugins, scripts}
-use Rattle.press.specs.Endings.{EndsPage}
+use Rattle.press.specs.Endings.{EndsOn}
 use Rattle.press.proofs.Pushes.{is_done}
 use Rattle.press.proofs.run.demonstrated.Goals as goal
 
@@ -15,4 +15,4 @@ returns-in-Ok-clause-ends g c =
     is_done (scripts_given c.loop-scripted.callbacks.items) (into_iter_items c.loop-scripted.scripted-iterator) scripts none c.loop-scripted.invariant in
     let built = rw c.in-Ok.is at c.build.ensures.builds in
     let view_is : kit_view c.in-Ok.kit ≡ demonstration = built.1 ∙ ap₂ view_of scripts_are c.in_ok-parts.ensures.plugins in
-    subst (λ (k : KitView). IfSome (g.R.Read.remaining c.args.reader.now) (λ input. EndsPage k c.args.target.now c.page_end.result input)) view_is c.page_end.ensures.ends
+    subst (λ (k : KitView). EndsOn k c.args.target.now (g.R.Read.remaining c.args.reader.now) c.page_end.result) view_is c.page_end.ensures.ends

@@ -1,0 +1,15 @@
+use Rattle.std.specs.Prelude.{None}
+use Rattle.press.specs.declared.ending.Ending.TheVariants.{Fault}
+use Rattle.press.specs.declared.fault.ReplayFault.TheVariants.{NoMemory, ReadFault}
+use Rattle.press.specs.Demonstration.{demonstration}
+use Rattle.press.proofs.Ends.{outside, untold}
+use Rattle.press.proofs.run.shown_of.Goals as goal
+
+pub returns-in-Ok : goal.returns-in-Ok
+returns-in-Ok g c = untold demonstration c.args.wanted.now.target _ c.shown.result c.shown.ensures.ends
+
+pub returns-in-Err : goal.returns-in-Err
+returns-in-Err g c = outside demonstration c.args.wanted.now.target None (Fault NoMemory) tt
+
+pub returns-in-Err-2 : goal.returns-in-Err-2
+returns-in-Err-2 g c = outside demonstration c.args.wanted.now.target None (Fault ReadFault) tt
