@@ -4,7 +4,8 @@ use Rattle.std.proofs.lemmas.List.FromFn.{map-range_with_len_more}
 use Rattle.press_wire.specs.declared.message.Body.{Body}
 use Rattle.press_acceptor.specs.Messages.{message_to, to_all}
 
-pub to_all_more : (n id slot : ℕ) (copy body : Body) → copy ≡ body → to_all n id slot body ++ message_to id slot copy (n + 1) ∷ [] ≡ to_all (n + 1) id slot body
-to_all_more n id slot copy body e =
-    ap (λ b. to_all n id slot body ++ message_to id slot b (n + 1) ∷ []) e
+pub to_all_more : (n id slot to : ℕ) (copy body : Body) → copy ≡ body → to ≡ n + 1 → to_all n id slot body ++ message_to id slot copy to ∷ [] ≡ to_all (n + 1) id slot body
+to_all_more n id slot to copy body e f =
+    ap (λ b. to_all n id slot body ++ message_to id slot b to ∷ []) e
+    ∙ ap (λ x. to_all n id slot body ++ message_to id slot body x ∷ []) f
     ∙ sym (map-range_with_len_more (message_to id slot body) 1 n (n + 1) (omega arith))

@@ -34,7 +34,7 @@ impl Acceptor {
         ensures fault { IfErr result S.fails_by }
     {
         let row = store.load(slot)?;
-        if let Some(promised) = row.refuses_prepare(ballot) {
+        if let Some(promised) = row.refuses_prepare(&ballot) {
             return Ok(Said::Nack(promised));
         }
         let row = Row {
@@ -61,18 +61,15 @@ impl Acceptor {
         ensures fault { IfErr result (λ f. (f ≡ NoMemory) ⊎ S.fails_by f) }
     {
         let row = store.load(slot)?;
-        let refused = row.refuses_accept(ballot);
-        if let Some(cast) = row.into_vote_in(ballot) {
+        let refused = row.refuses_accept(&ballot);
+        if let Some(cast) = row.into_vote_in(&ballot) {
             return Ok(Said::Accepted(cast));
         }
         if let Some(promised) = refused {
             return Ok(Said::Nack(promised));
         }
         let value = value.copy(alloc)?;
-        let row = Row {
-            promised: Some(ballot),
-            vote: Some(Vote { ballot, value }),
-        };
+        let row = Row::voted(Vote { ballot, value });
         store.save(slot, &row)?;
         Ok(Said::of_vote(row.vote))
     }

@@ -1,8 +1,9 @@
 //! A store in memory.
 
-ghost use Rattle.std.specs.Prelude.{◌≡◌, option_copied};
-ghost use Rattle.std.specs.FinMap.{get};
+ghost use Rattle.std.specs.Prelude.{◌≡◌, IfErr, OnOk, OnErr, option_copied};
+ghost use Rattle.std.specs.FinMap.{from_entries, get, insert};
 ghost use Rattle.press_acceptor.specs.StoreMap.{new_store};
+ghost use Rattle.press_acceptor.specs.declared.fault.StoreFault.TheVariants.{NoMemory};
 
 use crate::fault::StoreFault;
 use crate::row::Row;
@@ -12,10 +13,32 @@ use std::alloc::Global;
 use std::collections::BTreeMap;
 use std::marker::Model;
 
+/// A row in a store.
+#[derive(Debug, Drop)]
+struct Kept {
+    row: Row,
+}
+
+impl Model for Kept {
+    ghost use Rattle.press_acceptor.specs.declared.row.Row.{Row};
+
+    ghost Value = { Row };
+
+    ghost view = { λ k. k.row };
+}
+
+impl Kept {
+    fn as_row(&self) -> &Row
+        ensures { result.now ≡ self.now }
+    {
+        &self.row
+    }
+}
+
 /// A store in memory. Its device never fails; a save is one growth, and nothing is lost but by dropping it.
 #[derive(Debug, Drop)]
 pub struct MemoryStore {
-    rows: BTreeMap<u32, Row>,
+    rows: BTreeMap<u32, Kept>,
     last_round: u64,
     alloc: Global,
 }
@@ -49,7 +72,10 @@ impl MemoryStore {
     pub fn row(&self, slot: Slot) -> Option<&Row>
         ensures { option_copied result ≡ get self.now.rows slot }
     {
-        self.rows.get(&slot.number())
+        match self.rows.get(&slot.number()) {
+            Some(kept) => Some(kept.as_row()),
+            None => None,
+        }
     }
 
     /// The round that was saved last, or 0.
@@ -89,7 +115,7 @@ impl PromiseStore for MemoryStore {
 
     fn save(&mut self, slot: Slot, row: &Row) -> Result<(), StoreFault> {
         let row = row.copy(self.alloc)?;
-        self.rows.insert(slot.number(), row)?;
+        self.rows.insert(slot.number(), Kept { row })?;
         Ok(())
     }
 

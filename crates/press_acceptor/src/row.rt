@@ -1,4 +1,4 @@
-ghost use Rattle.std.specs.Prelude.{◌≡◌, IfOk};
+ghost use Rattle.std.specs.Prelude.{◌≡◌, IfOk, Some};
 ghost use Rattle.press_acceptor.specs.StoreMap.{new_row};
 ghost use Rattle.press_acceptor.specs.Turns.{cast_in, if_less, unless_greater};
 
@@ -24,6 +24,17 @@ impl Row {
         }
     }
 
+    /// The row of a vote, which is a promise too.
+    pub(crate) fn voted(vote: Vote) -> Row
+        ensures { result ≡ record { promised = Some vote.ballot; vote = Some vote } }
+    {
+        let promised = Some(vote.ballot);
+        Row {
+            promised,
+            vote: Some(vote),
+        }
+    }
+
     /// The same row once more.
     pub fn copy(&self, alloc: Global) -> Result<Row, AllocError>
         ensures { IfOk result (λ r. r ≡ self.now) }
@@ -39,44 +50,34 @@ impl Row {
     }
 
     /// The promise, where it refuses a prepare request in the ballot.
-    pub(crate) fn refuses_prepare(&self, ballot: Ballot) -> Option<Ballot>
-        ensures { result ≡ unless_greater self.now.promised ballot }
+    pub(crate) fn refuses_prepare(&self, ballot: &Ballot) -> Option<Ballot>
+        ensures { result ≡ unless_greater self.now.promised ballot.now }
     {
-        match self.promised {
-            Some(promised) => {
-                if promised.is_less(ballot) {
-                    None
-                } else {
-                    Some(promised)
-                }
-            }
-            None => None,
+        let promised = self.promised?;
+        if promised.is_less(*ballot) {
+            return None;
         }
+        self.promised
     }
 
     /// The promise, where it refuses an accept request in the ballot.
-    pub(crate) fn refuses_accept(&self, ballot: Ballot) -> Option<Ballot>
-        ensures { result ≡ if_less self.now.promised ballot }
+    pub(crate) fn refuses_accept(&self, ballot: &Ballot) -> Option<Ballot>
+        ensures { result ≡ if_less self.now.promised ballot.now }
     {
-        match self.promised {
-            Some(promised) => {
-                if ballot.is_less(promised) {
-                    Some(promised)
-                } else {
-                    None
-                }
-            }
-            None => None,
+        let promised = self.promised?;
+        if ballot.is_less(promised) {
+            return self.promised;
         }
+        None
     }
 
     /// The vote, where it was cast in the ballot.
-    pub(crate) fn into_vote_in(self, ballot: Ballot) -> Option<Vote>
-        ensures { result ≡ cast_in self.vote ballot }
+    pub(crate) fn into_vote_in(self, ballot: &Ballot) -> Option<Vote>
+        ensures { result ≡ cast_in self.vote ballot.now }
     {
         match self.vote {
             Some(vote) => {
-                if vote.ballot.is(ballot) {
+                if vote.ballot.is(*ballot) {
                     Some(vote)
                 } else {
                     None

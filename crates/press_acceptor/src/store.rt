@@ -45,7 +45,7 @@ pub trait PromiseStore {
 
     /// Saves the row of a slot, whole or not at all.
     fn save(&mut self, slot: Slot, row: &Row) -> Result<(), StoreFault>
-        ensures saved { is_honest self.new → OnOk result (IsTrue (is_open self.new) × (kept self.new ≡ with_row (kept self.old) slot row.now)) }
+        ensures saved { is_honest self.new → OnOk result (IsTrue (is_open self.old) × IsTrue (is_open self.new) × (kept self.new ≡ with_row (kept self.old) slot row.now)) }
         ensures durable { is_honest self.new → OnOk result (Only (kept self.new) (may_leave self.new)) }
         ensures failed { is_honest self.new → IsTrue (is_open self.new) → OnErr result (IsTrue (is_open self.old) × ((kept self.new ≡ kept self.old) ⊎ (kept self.new ≡ with_row (kept self.old) slot row.now))) }
         ensures crash { is_honest self.new → OldOr (may_leave self.old) (may_leave self.new) (with_row (kept self.old) slot row.now) }
@@ -66,7 +66,7 @@ pub trait PromiseStore {
 
     /// Saves the last round, whole or not at all.
     fn save_round(&mut self, round: Round) -> Result<(), StoreFault>
-        ensures saved { is_honest self.new → OnOk result (IsTrue (is_open self.new) × (kept self.new ≡ with_round (kept self.old) round)) }
+        ensures saved { is_honest self.new → OnOk result (IsTrue (is_open self.old) × IsTrue (is_open self.new) × (kept self.new ≡ with_round (kept self.old) round)) }
         ensures durable { is_honest self.new → OnOk result (Only (kept self.new) (may_leave self.new)) }
         ensures failed { is_honest self.new → IsTrue (is_open self.new) → OnErr result (IsTrue (is_open self.old) × ((kept self.new ≡ kept self.old) ⊎ (kept self.new ≡ with_round (kept self.old) round))) }
         ensures crash { is_honest self.new → OldOr (may_leave self.old) (may_leave self.new) (with_round (kept self.old) round) }
