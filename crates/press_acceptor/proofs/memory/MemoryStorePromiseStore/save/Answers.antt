@@ -21,10 +21,12 @@ returns-clause-saved c = λ _. (
   refl,
   refl,
   saved_row c.self.inside.rows.entries c.insert.new.self.entries c.self.inside.last_round c.number.result c.args.slot c.in_ok-row.row c.args.row.now c.args.self.now
-  (inserted c.self.inside.rows.entries c.insert.new.self.entries c.number.result c.in_ok-row.row c.in_ok-insert.ensures.updates.0) c.number.ensures.value c.in_ok-row.ensures c.self.view_is,
+      (inserted c.self.inside.rows.entries c.insert.new.self.entries c.number.result c.in_ok-row.row c.in_ok-insert.ensures.updates.0) c.number.ensures.value c.in_ok-row.ensures c.self.view_is,
 )
 
 pub returns-clause-crash : goal.returns-clause-crash
-returns-clause-crash c = λ _ left e. inr (e
-∙ saved_row c.self.inside.rows.entries c.insert.new.self.entries c.self.inside.last_round c.number.result c.args.slot c.in_ok-row.row c.args.row.now c.args.self.now
-(inserted c.self.inside.rows.entries c.insert.new.self.entries c.number.result c.in_ok-row.row c.in_ok-insert.ensures.updates.0) c.number.ensures.value c.in_ok-row.ensures c.self.view_is)
+returns-clause-crash c = λ _ left e.
+    let same =
+    saved_row c.self.inside.rows.entries c.insert.new.self.entries c.self.inside.last_round c.number.result c.args.slot c.in_ok-row.row c.args.row.now c.args.self.now
+    (inserted c.self.inside.rows.entries c.insert.new.self.entries c.number.result c.in_ok-row.row c.in_ok-insert.ensures.updates.0) c.number.ensures.value c.in_ok-row.ensures c.self.view_is in
+    inr (e ∙ same)
