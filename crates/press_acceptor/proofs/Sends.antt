@@ -1,5 +1,5 @@
 -- Messages to all members.
-use Rattle.std.proofs.Common.{ℕ, ◌+◌, ◌≡◌, List, [], ◌∷◌, ◌++◌, sym, ap, ◌∙◌, arith}
+use Rattle.std.proofs.Common.{ℕ, ◌+◌, ◌≡◌, [], ◌∷◌, ◌++◌, sym, ap, ◌∙◌, arith}
 use Rattle.std.proofs.lemmas.List.FromFn.{map-range_with_len_more}
 use Rattle.press_wire.specs.declared.message.Body.{Body}
 use Rattle.press_acceptor.specs.Messages.{message_to, to_all}

@@ -1,5 +1,5 @@
 -- Store and trace agree, through facts of others and through each save.
-use Rattle.std.proofs.Common.{ℕ, ◌<◌, ◌≤◌, ◌≡◌, ◌≢◌, ◌⊎◌, inl, inr, true, false, Bool, List, ◌∷◌, Option, None, Some, refl, sym, subst, ap, ◌∙◌, arith}
+use Rattle.std.proofs.Common.{ℕ, ◌≤◌, ◌≡◌, ◌≢◌, ◌⊎◌, inl, inr, true, false, Bool, List, ◌∷◌, Option, None, Some, refl, sym, subst, ap, ◌∙◌}
 use Rattle.std.proofs.lemmas.Bool.{cases_eq}
 use Rattle.std.specs.Prelude.{unwrap_or, if◌then◌else◌}
 use Rattle.press_apply.specs.declared.value.Value.{Value}
@@ -11,7 +11,7 @@ use Rattle.press_acceptor.specs.Agrees.{fact_of, IsAtMost, StoreAgrees}
 use Rattle.press_acceptor.specs.Ballots.{Less, AtMost}
 use Rattle.press_acceptor.specs.Blocks.{block_of}
 use Rattle.press_acceptor.specs.StoreMap.{StoreMap, new_row, row_at, promise_of, vote_of, with_row, saved}
-use Rattle.press_acceptor.specs.StoreMap.Save.{SaveRound, SavePromise, SaveVote}
+use Rattle.press_acceptor.specs.StoreMap.Save.{SavePromise, SaveVote}
 use Rattle.press_acceptor.specs.Trace.{Fact, Has, IsLastVote, Allowed}
 use Rattle.press_acceptor.specs.Trace.Fact.{Prepared, Promised, Proposed, Voted}
 use Rattle.press_acceptor.specs.Turns.{unless_greater, if_less, cast_in}

@@ -1,12 +1,12 @@
 -- What a turn is once the row of its slot was read, and how the steps of a call join.
-use Rattle.std.proofs.Common.{ℕ, ◌≡◌, ◌⊎◌, inl, inr, Option, None, Some, sym, ap, subst, ◌∙◌}
+use Rattle.std.proofs.Common.{ℕ, ◌≡◌, ◌⊎◌, inl, inr, None, Some, sym, ap, ◌∙◌}
 use Rattle.press_wire.specs.declared.ballot.Ballot.{Ballot}
 use Rattle.press_wire.specs.declared.vote.Vote.{Vote}
 use Rattle.press_acceptor.specs.declared.row.Row.{Row}
 use Rattle.press_acceptor.specs.declared.said.Said.TheVariants.{Promise, Nack, Accepted}
 use Rattle.press_acceptor.specs.StoreMap.{StoreMap, row_at, with_row, saved, Only, NoMore}
 use Rattle.press_acceptor.specs.StoreMap.Save.{SavePromise, SaveVote}
-use Rattle.press_acceptor.specs.Turns.{Turn, unless_greater, if_less, cast_in, told, prepare_by, prepare_turn, accept_by, accept_turn, query_turn}
+use Rattle.press_acceptor.specs.Turns.{unless_greater, if_less, cast_in, told, prepare_by, prepare_turn, accept_by, accept_turn, query_turn}
 
 module _ (store : StoreMap) (slot : ℕ) (row : Row) (is : row ≡ row_at store slot) where
   prepare_of_row : (ballot : Ballot) → prepare_turn store slot ballot ≡ prepare_by (unless_greater row.promised ballot) row.vote slot ballot

@@ -1,11 +1,10 @@
 -- The acceptor's part of a node's event: what a message that asks the acceptor has saved, and the messages that go out after the save
 -- (Paxos Made Simple, 2.2 and 2.3; own: a vote is told to all members, and to the asker alone after a query).
-use Rattle.std.specs.Prelude.{ℕ, Option, None, Some, List, []}
+use Rattle.std.specs.Prelude.{ℕ, Option, None, List, []}
 use Rattle.press_wire.specs.declared.ballot.Ballot.{Ballot}
 use Rattle.press_wire.specs.declared.message.Body.{Body}
 use Rattle.press_wire.specs.declared.message.Body.TheVariants.{Prepare, Promise, Nack, Accept, Accepted, Query}
 use Rattle.press_wire.specs.declared.message.Message.{Message}
-use Rattle.press_wire.specs.declared.vote.Vote.{Vote}
 use Rattle.press_acceptor.specs.declared.said.Said.{Said}
 use Rattle.press_acceptor.specs.declared.said.Said.TheVariants as says
 use Rattle.press_acceptor.specs.Messages.{to_one, to_all}
