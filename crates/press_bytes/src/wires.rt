@@ -68,7 +68,10 @@ fn show_fronts<T: Spelled>(rt: &HostRuntime, name: &str, bytes: &[u8]) -> anyhow
     let mut longer = Vec::new(rt.alloc());
     longer.extend_from_slice(bytes)?;
     longer.push(0)?;
-    println!(rt; "{name}, a byte more: {}", number_of::<T>(rt.alloc(), &longer))?;
+    println!(rt;
+        "{name}, a byte more: {}",
+        number_of::<T>(rt.alloc(), &longer)
+    )?;
     Ok(())
 }
 

@@ -76,6 +76,9 @@ fn filled(alloc: Global) -> Result<Posts, PostFault> {
 fn one_post_too_many_is_refused(rt: HostRuntime) -> Result<(), Fail> {
     let alloc = rt.alloc();
     let mut posts = filled(alloc)?;
-    assert_eq!(rt; insert(alloc, &mut posts, 100).err(), Some(PostFault::TooManyPosts));
+    assert_eq!(rt;
+        insert(alloc, &mut posts, 100).err(),
+        Some(PostFault::TooManyPosts)
+    );
     Ok(())
 }

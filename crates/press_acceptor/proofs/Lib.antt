@@ -1,0 +1,9 @@
+pub mod Agreement
+pub mod Ballots
+pub mod Example
+pub mod Legal
+pub mod Majorities
+pub mod Maps
+pub mod Sends
+pub mod Stores
+pub mod Turned

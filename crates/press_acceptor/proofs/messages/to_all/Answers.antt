@@ -1,0 +1,10 @@
+use Rattle.std.proofs.Common.{◌++◌, ◌∷◌, [], ap, ◌∙◌}
+use Rattle.press_acceptor.specs.Messages.{message_to}
+use Rattle.press_acceptor.proofs.Sends.{to_all_more}
+use Rattle.press_acceptor.proofs.messages.to_all.Goals as goal
+
+pub loop-i-preserved : goal.loop-i-preserved
+loop-i-preserved c =
+    c.in_ok-push.ensures.items
+    ∙ ap (λ xs. xs ++ message_to c.args.from c.args.slot c.in_ok-body.body c.member-to.result ∷ []) c.loop-i.invariant
+    ∙ to_all_more c.loop-i.i c.args.from c.args.slot c.member-to.result c.in_ok-body.body c.args.body.now c.in_ok-body.ensures c.member-to.ensures

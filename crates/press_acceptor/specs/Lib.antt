@@ -1,0 +1,10 @@
+pub mod Agrees
+pub mod Answers
+pub mod Ballots
+pub mod Blocks
+pub mod Codes
+pub mod Faults
+pub mod Messages
+pub mod StoreMap
+pub mod Trace
+pub mod Turns

@@ -1,0 +1,22 @@
+//! The acceptor of Paxos Made Simple over a store of promises and votes, and the protocol itself: what happens among the members, as a
+//! trace of facts, and that a legal trace chooses at most one value for each slot.
+#![tactic(auto)]
+
+mod acceptor;
+mod answers;
+mod fault;
+mod laws;
+mod memory;
+mod messages;
+mod row;
+mod said;
+mod store;
+
+pub use acceptor::Acceptor;
+pub use fault::StoreFault;
+pub use laws::{acceptor_saves_legal_facts, at_most_one_value_chosen, some_value_chosen};
+pub use memory::MemoryStore;
+pub use messages::{to_all, to_one};
+pub use row::Row;
+pub use said::Said;
+pub use store::PromiseStore;

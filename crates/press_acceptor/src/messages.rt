@@ -1,0 +1,64 @@
+//! Messages of one node, to one member or to all.
+
+ghost use Rattle.std.specs.Prelude.{◌≡◌, ◌≤◌, IfOk};
+ghost use Rattle.press_acceptor.specs.Messages as model;
+
+use press_wire::{Body, Message, Node, Slot};
+use std::alloc::{AllocError, Global};
+
+/// The member with that number.
+fn member(number: u8) -> Node
+    requires least { 1 ≤ number }
+    requires most { number ≤ 7 }
+    ensures { result ≡ number }
+{
+    let Some(node) = Node::new(number) else {
+        unreachable!()
+    };
+    node
+}
+
+/// One message.
+pub fn to_one(
+    alloc: Global,
+    from: Node,
+    slot: Slot,
+    body: Body,
+    to: Node,
+) -> Result<Vec<Message>, AllocError>
+    ensures { IfOk result (λ out. out.items ≡ model.to_one from slot body to) }
+{
+    let mut out = Vec::new(alloc);
+    out.push(Message {
+        from,
+        to,
+        slot,
+        body,
+    })?;
+    Ok(out)
+}
+
+/// A message to each member, by number, the sender included.
+pub fn to_all(
+    alloc: Global,
+    members: u8,
+    from: Node,
+    slot: Slot,
+    body: &Body,
+) -> Result<Vec<Message>, AllocError>
+    requires { members ≤ 7 }
+    ensures { IfOk result (λ out. out.items ≡ model.to_all members from slot body.now) }
+{
+    let mut out = Vec::new(alloc);
+    for i in 0..members {
+        let to = member(i + 1);
+        let body = body.copy(alloc)?;
+        out.push(Message {
+            from,
+            to,
+            slot,
+            body,
+        })?;
+    }
+    Ok(out)
+}
