@@ -54,6 +54,13 @@ EndsOn kit target remaining end = (input : List ℕ) × Has remaining input × E
 abbrev pub known_of : List ℕ → Option (List ℕ) → Option (List ℕ)
 known_of file remaining = if is_input file then remaining else None
 
+-- What words come to: an end for what is asked, and none where they are refused.
+abbrev pub Answers : KitView → Option Asked → Option (List ℕ) → Option Ending → Type 0
+Answers kit (Some asked) remaining (Some end) = EndsOn kit asked.1 (known_of asked.0 remaining) end
+Answers kit (Some asked) remaining None = ⊥
+Answers kit None remaining (Some end) = ⊥
+Answers kit None remaining None = Unit {0}
+
 abbrev pub fault_line : ReplayFault → List ℕ
 fault_line NoMemory = codes "press: fault 0\n"
 fault_line ReadFault = codes "press: fault 40\n"

@@ -4,7 +4,7 @@ ghost use Rattle.std.specs.Prelude.{◌≡◌, ◌+◌, None, false, map, string
 ghost use Rattle.std.specs.Io.KnownBytes.{Appends, Keeps};
 ghost use Rattle.press_kit.specs.KitFile.{file_limit};
 ghost use Rattle.press_text.specs.Streams.{AppendsFront, TakesAtMost};
-ghost use Rattle.press.specs.Endings.{fault_line, usage_line, known_of, EndsOn, Finishes, ReadsAsked, RefusesWords, Runs};
+ghost use Rattle.press.specs.Endings.{fault_line, usage_line, known_of, Answers, EndsOn, Finishes, ReadsAsked, RefusesWords, Runs};
 ghost use Rattle.press.specs.Words.{asked_by, is_input};
 ghost use Rattle.press.specs.Demonstration.{demonstration};
 
@@ -15,7 +15,7 @@ use crate::words::{Wanted, read_words};
 use press_callbacks::{BoxedTurns, CallIn, Kit, Stored, script_turn};
 use press_page::Target;
 use press_text::write_once;
-use std::alloc::Global;
+use std::alloc::{AllocError, Global};
 use std::io::{Read, Write};
 use std::rt::Files;
 use std::{fs, io};
@@ -132,6 +132,23 @@ fn ended<Rt: AllocGlobal + Files, R: Read>(rt: &Rt, wanted: &Wanted<'_>, reader:
     }
 }
 
+// What words come to. Those that are refused read nothing.
+fn answered<Rt: AllocGlobal + Files, R: Read>(
+    rt: &Rt,
+    words: &[String],
+    reader: &mut R,
+) -> Result<Option<Ending>, AllocError>
+    ensures took { TakesAtMost (R.remaining reader.old) (R.remaining reader.new) (file_limit + 1) }
+    ensures asked { ReadsAsked (asked_by (map string_bytes words.now)) (R.remaining reader.old) (R.remaining reader.new) }
+    ensures unread { IfErr result (λ _. Keeps (R.remaining reader.old) (R.remaining reader.new)) }
+    ensures ends { IfOk result (λ end. Answers demonstration (asked_by (map string_bytes words.now)) (R.remaining reader.old) end) }
+{
+    match read_words(rt.alloc(), words)? {
+        Some(wanted) => Ok(Some(ended(rt, &wanted, reader))),
+        None => Ok(None),
+    }
+}
+
 /// One run over an input and two outputs: `page FILE TARGET` prints the reply to what is asked after the commands of a site file, which is
 /// the standard input for `-`; without words that is `page - post:1`. The status is 0 for a reply of status 200, and 1 for another. A fault is
 /// a line `press: fault N` on the errors, and status 2; so is `press: usage` for any other words, and then nothing is read.
@@ -149,8 +166,8 @@ pub fn run<Rt: AllocGlobal + Files, R: Read, W: Write, E: Write>(
     ensures refused { RefusesWords (asked_by (map string_bytes words.now)) result (R.remaining reader.old) (R.remaining reader.new)
         (W.contents writer.old) (W.contents writer.new) (E.contents error.old) (E.contents error.new) }
 {
-    match read_words(rt.alloc(), words) {
-        Ok(Some(wanted)) => finish(ended(rt, &wanted, reader), writer, error),
+    match answered(rt, words, reader) {
+        Ok(Some(end)) => finish(end, writer, error),
         Ok(None) => refuse(error),
         Err(_) => fail(ReplayFault::NoMemory, error),
     }

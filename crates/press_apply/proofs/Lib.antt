@@ -1,4 +1,5 @@
 pub mod Checked
+pub mod Equal
 pub mod Lookups
 pub mod Refusals
 pub mod Ticks

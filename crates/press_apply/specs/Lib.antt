@@ -1,4 +1,6 @@
 pub mod Apply
 pub mod Faults
+pub mod Kinds
+pub mod Same
 pub mod Tokens
 pub mod Works

@@ -1,12 +1,13 @@
 //! Laws over values that are applied one after another.
 
-ghost use Rattle.std.specs.Prelude.{◌≡◌, List, Some};
+ghost use Rattle.std.specs.Prelude.{◌≡◌, List, Some, true};
 ghost use Rattle.press_callbacks.specs.Kits.{KitView};
 ghost use Rattle.press_site.specs.declared.token.Outcome.{Outcome};
 ghost use Rattle.press_site.specs.declared.token.Token.{Token};
 ghost use Rattle.press_site.specs.Outcomes.{outcome_of};
 ghost use Rattle.press_site.specs.SiteView.{SiteView};
 ghost use Rattle.press_apply.specs.Apply.{applied, at_moment, folded, site_after};
+ghost use Rattle.press_apply.specs.Same.{is_same_value};
 ghost use Rattle.press_apply.specs.Tokens.{each_token_once};
 ghost use Rattle.press_apply.specs.declared.command.Stamped.{Stamped};
 ghost use Rattle.press_apply.specs.declared.value.Value.{Value};
@@ -19,4 +20,10 @@ pub fn token_answers_once()
     ensures stays { (kit : KitView) (site : SiteView) (token : Token) (outcome : Outcome) (later : List Value) → outcome_of token site.outcomes ≡ Some outcome → outcome_of token (folded kit site later).outcomes ≡ Some outcome }
     ensures answers { (kit : KitView) (site : SiteView) (c again : Stamped) (between : List Value) → again.token ≡ c.token → let after = folded kit (applied kit site (Cmd c)).0 between in applied kit after (Cmd again) ≡ (at_moment again.at after, (applied kit site (Cmd c)).1) }
     ensures once { (kit : KitView) (values : List Value) → site_after kit (each_token_once values) ≡ site_after kit values }
+{}
+
+/// Values that count as the same are equal, and each is the same as itself.
+pub fn same_values_are_equal()
+    ensures same { (v w : Value) → is_same_value v w ≡ true → v ≡ w }
+    ensures itself { (v : Value) → is_same_value v v ≡ true }
 {}

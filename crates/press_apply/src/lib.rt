@@ -6,12 +6,15 @@ mod applies;
 mod checks;
 mod command;
 mod fault;
+mod kind;
 mod laws;
+mod same;
 mod value;
 mod work;
 
 pub use applies::apply;
 pub use command::{Command, Stamped};
 pub use fault::ApplyFault;
-pub use laws::token_answers_once;
+pub use kind::CommandKind;
+pub use laws::{same_values_are_equal, token_answers_once};
 pub use value::Value;

@@ -1,7 +1,8 @@
 //! Reads files as requests, commands and messages: `press_bytes FILE ..` prints what each asks or spells, or which fault it has. `replies` in place
-//! of a file prints replies, and after a word `times=N` or `heads=N` the files are only read, so many times, for whoever measures it.
+//! of a file prints replies, `writes` replies whose writes fail; after a word `fails` it is shown what comes of requests whose reads fail, and after a word `times=N` or `heads=N` the files are only read, so many times, for whoever measures it.
 #![tactic(auto)]
 
+mod failing;
 mod kind;
 mod pieces;
 mod replies;
@@ -9,6 +10,7 @@ mod requests;
 mod times;
 mod wires;
 
+use crate::failing::{show_failing_reads, show_failing_writes};
 use crate::kind::Kind;
 use crate::replies::show_replies;
 use crate::requests::show_request;
@@ -22,6 +24,7 @@ use std::{env, fs};
 #[derive(Clone, Copy)]
 enum Task {
     Show,
+    Fail,
     Read(u32),
     ReadHead(u32),
 }
@@ -29,6 +32,9 @@ enum Task {
 impl Task {
     // The task that a word sets, if it sets one.
     fn from_word(word: &str) -> Option<Task> {
+        if word == "fails" {
+            return Some(Task::Fail);
+        }
         if let Some(times) = word.strip_prefix("times=") {
             return times.parse().ok().map(Task::Read);
         }
@@ -51,9 +57,13 @@ fn play(rt: &HostRuntime, task: Task, name: &str) -> anyhow::Result<()> {
     if name == "replies" {
         return show_replies(rt);
     }
+    if name == "writes" {
+        return show_failing_writes(rt);
+    }
     let bytes = fs::read(rt, name)?;
     match task {
         Task::Show => show(rt, name, &bytes)?,
+        Task::Fail => show_failing_reads(rt, name, &bytes)?,
         Task::Read(times) => again(rt.alloc(), Kind::of(name), &bytes, times),
         Task::ReadHead(times) => heads(&bytes, times),
     }

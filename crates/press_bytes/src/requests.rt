@@ -1,4 +1,4 @@
-use crate::pieces::{End, Pieces};
+use crate::pieces::{Failure, Pieces};
 use press_http::{Asked, HttpFault, form_command, read_request, route};
 use std::alloc::{AllocError, Global};
 
@@ -14,8 +14,8 @@ pub fn asked(alloc: Global, reader: &mut Pieces<'_>) -> Result<Asked, HttpFault>
     }
 }
 
-// What a reader's bytes ask, or the status of their fault.
-fn line(alloc: Global, mut reader: Pieces<'_>) -> Result<String, AllocError> {
+/// What a reader's bytes ask, or the status of their fault.
+pub fn line(alloc: Global, mut reader: Pieces<'_>) -> Result<String, AllocError> {
     match asked(alloc, &mut reader) {
         Ok(asked) => format!(in alloc; "{asked:?}"),
         Err(fault) => match fault.status() {
@@ -28,14 +28,14 @@ fn line(alloc: Global, mut reader: Pieces<'_>) -> Result<String, AllocError> {
 /// What the request in the bytes asks, in pieces of 1, 7 and 4,096 bytes, and once more before a read that fails where the bytes end. What differs from
 /// the first of these gets a line of its own.
 pub fn show_request(rt: &HostRuntime, name: &str, bytes: &[u8]) -> anyhow::Result<()> {
-    let first = line(rt.alloc(), Pieces::new(bytes, 1, End::Told))?;
+    let first = line(rt.alloc(), Pieces::new(bytes, 1, Failure::Never))?;
     println!(rt; "{name}: {first}")?;
-    for (how, size, end) in [
-        ("in pieces of 7", 7, End::Told),
-        ("in pieces of 4096", 4096, End::Told),
-        ("before a read that fails", 4096, End::Failed),
+    for (how, size, failure) in [
+        ("in pieces of 7", 7, Failure::Never),
+        ("in pieces of 4096", 4096, Failure::Never),
+        ("before a read that fails", 4096, Failure::AtEnd),
     ] {
-        let other = line(rt.alloc(), Pieces::new(bytes, size, end))?;
+        let other = line(rt.alloc(), Pieces::new(bytes, size, failure))?;
         if other != first {
             println!(rt; "{name}, {how}: {other}")?;
         }

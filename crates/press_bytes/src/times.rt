@@ -1,5 +1,5 @@
 use crate::kind::Kind;
-use crate::pieces::{End, Pieces};
+use crate::pieces::{Failure, Pieces};
 use crate::requests::asked;
 use crate::wires::Spelled;
 use httparse::spans::{EMPTY_HEADER_SPAN, parse_request};
@@ -19,7 +19,7 @@ fn once(alloc: Global, kind: Kind, bytes: &[u8]) {
         Kind::Command => spelled::<Value>(alloc, bytes),
         Kind::Message => spelled::<Message>(alloc, bytes),
         Kind::Request => {
-            let _ = asked(alloc, &mut Pieces::new(bytes, 4096, End::Told));
+            let _ = asked(alloc, &mut Pieces::new(bytes, 4096, Failure::Never));
         }
     }
 }

@@ -7,15 +7,17 @@ use Rattle.press_text.specs.Decimals.{decimal_in}
 use Rattle.press_text.specs.Moments.{moment_of}
 use Rattle.press_text.specs.Names.{is_name}
 use Rattle.press_posts.specs.declared.status.Status.{Status}
-use Rattle.press_posts.specs.declared.status.Status.TheVariants.{Publish, Future, Draft, Pending, Private, Trash}
+use Rattle.press_posts.specs.declared.status.Status.TheVariants.{Draft}
+use Rattle.press_posts.specs.Transitions.{status_named}
 use Rattle.press_site.specs.declared.token.Token.{Token}
 use Rattle.press_apply.specs.declared.command.Command.{Command}
 use Rattle.press_apply.specs.declared.command.Command.TheVariants as command
 use Rattle.press_apply.specs.declared.command.Stamped.{Stamped}
+use Rattle.press_apply.specs.declared.kind.CommandKind.{CommandKind}
+use Rattle.press_apply.specs.declared.kind.CommandKind.TheVariants as kind
+use Rattle.press_apply.specs.Kinds.{kind_named}
 use Rattle.press_http.specs.declared.fault.HttpFault.{HttpFault}
 use Rattle.press_http.specs.declared.fault.HttpFault.TheVariants.{BadForm}
-use Rattle.press_http.specs.declared.command_kind.CommandKind.{CommandKind}
-use Rattle.press_http.specs.declared.command_kind.CommandKind.TheVariants as kind
 use Rattle.press_http.specs.declared.command.Written.{Written}
 use Rattle.press_http.specs.Gives.{◌>>=◌, or_fault, made}
 
@@ -64,15 +66,6 @@ abbrev pub default : {A : Type 0} → A → (List ℕ → Option A) → Option (
 default x read None = Some x
 default x read (Some text) = read text
 
-abbrev pub status_named : List ℕ → Option Status
-status_named word =
-    if bytes_eq word (codes "publish") then Some Publish else
-    (if bytes_eq word (codes "future") then Some Future else
-    (if bytes_eq word (codes "draft") then Some Draft else
-    (if bytes_eq word (codes "pending") then Some Pending else
-    (if bytes_eq word (codes "private") then Some Private else
-    (if bytes_eq word (codes "trash") then Some Trash else None)))))
-
 -- draft, where none is told (`wp_insert_post`)
 abbrev pub status_at : List ℕ → Result Status HttpFault
 status_at form = or_bad (default Draft status_named (first_named (codes "status") form))
@@ -106,20 +99,8 @@ option_set form = do
   value ← text_at (codes "value") form
   Ok (command.SetOption name value)
 
-abbrev pub kind_of : List ℕ → Option CommandKind
-kind_of name =
-    if bytes_eq name (codes "insert") then Some kind.Insert else
-    (if bytes_eq name (codes "update") then Some kind.Update else
-    (if bytes_eq name (codes "trash") then Some kind.Trash else
-    (if bytes_eq name (codes "untrash") then Some kind.Untrash else
-    (if bytes_eq name (codes "delete") then Some kind.Delete else
-    (if bytes_eq name (codes "option") then Some kind.SetOption else
-    (if bytes_eq name (codes "activate") then Some kind.Activate else
-    (if bytes_eq name (codes "deactivate") then Some kind.Deactivate else
-    (if bytes_eq name (codes "tick") then Some kind.Tick else None))))))))
-
 abbrev pub kind_at : List ℕ → Result CommandKind HttpFault
-kind_at form = or_bad (option_and_then kind_of (first_named (codes "kind") form))
+kind_at form = or_bad (option_and_then kind_named (first_named (codes "kind") form))
 
 unfoldable pub command_by : CommandKind → ℕ → List ℕ → Result Command HttpFault
 command_by kind.Insert now form = made inserts (written now form)

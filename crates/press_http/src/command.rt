@@ -4,10 +4,9 @@ ghost use Rattle.std.specs.Prelude.{◌≡◌, Err, codes};
 ghost use Rattle.press_http.specs.Forms as spec;
 ghost use Rattle.press_http.specs.Gives.{Gives};
 
-use crate::command_kind::CommandKind;
 use crate::fault::HttpFault;
 use crate::form::{Form, moment_in};
-use press_apply::{Command, Stamped};
+use press_apply::{Command, CommandKind, Stamped};
 use press_posts::Status;
 use press_site::Token;
 use press_text::{Moment, Text};
@@ -22,26 +21,6 @@ pub(crate) struct Written {
     pub date: Moment,
 }
 
-fn status_named(word: &str) -> Option<Status>
-    ensures { result ≡ spec.status_named word.now }
-{
-    if word == "publish" {
-        Some(Status::Publish)
-    } else if word == "future" {
-        Some(Status::Future)
-    } else if word == "draft" {
-        Some(Status::Draft)
-    } else if word == "pending" {
-        Some(Status::Pending)
-    } else if word == "private" {
-        Some(Status::Private)
-    } else if word == "trash" {
-        Some(Status::Trash)
-    } else {
-        None
-    }
-}
-
 impl<'f> Form<'f> {
     // Draft, where nothing is told.
     fn status(&self) -> Result<Status, HttpFault>
@@ -49,7 +28,7 @@ impl<'f> Form<'f> {
     {
         match self.found("status")? {
             None => Ok(Status::Draft),
-            Some(word) => match status_named(word.as_str()) {
+            Some(word) => match Status::named(word.as_str()) {
                 Some(status) => Ok(status),
                 None => Err(HttpFault::BadForm),
             },

@@ -6,7 +6,6 @@
 mod asked;
 mod body;
 mod command;
-mod command_kind;
 mod fault;
 mod fields;
 mod form;

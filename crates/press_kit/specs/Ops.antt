@@ -3,31 +3,48 @@
 -- the Shortcode API's: `add_shortcode`, `remove_shortcode`, `do_shortcode`, `shortcode_exists`; the Options API's: `update_option`, `get_option`;
 -- and WP-Cron's: `wp_schedule_event`, `check_and_publish_future_post`).
 use Rattle.std.specs.Prelude.{ℕ, List, [], ◌∷◌, bytes_eq, if◌then◌else◌, Option, Some, None, codes}
+use Rattle.std.specs.Option.{option_or}
 use Rattle.press_kit.specs.declared.op_kind.OpKind.{OpKind}
 use Rattle.press_kit.specs.declared.op_kind.OpKind.TheVariants.{Set, AddHook, RemoveHook, RemoveAll, AddTag, RemoveTag, SkipIf, Apply, Do, Shortcodes, Did, Doing, HasHook, HasTag, ReadOption, SetOption, Schedule, Publish, Echo, Return}
 
-abbrev pub kind_of : List ℕ → Option OpKind
-kind_of name =
-    if bytes_eq name (codes "set") then Some Set else
-    (if bytes_eq name (codes "add_hook") then Some AddHook else
+-- steps that edit the tables
+abbrev pub edit_named : List ℕ → Option OpKind
+edit_named name =
+    if bytes_eq name (codes "add_hook") then Some AddHook else
     (if bytes_eq name (codes "remove_hook") then Some RemoveHook else
     (if bytes_eq name (codes "remove_all") then Some RemoveAll else
     (if bytes_eq name (codes "add_tag") then Some AddTag else
-    (if bytes_eq name (codes "remove_tag") then Some RemoveTag else
+    (if bytes_eq name (codes "remove_tag") then Some RemoveTag else None))))
+
+-- questions
+abbrev pub question_named : List ℕ → Option OpKind
+question_named name =
+    if bytes_eq name (codes "did") then Some Did else
+    (if bytes_eq name (codes "doing") then Some Doing else
+    (if bytes_eq name (codes "has_hook") then Some HasHook else
+    (if bytes_eq name (codes "has_tag") then Some HasTag else
+    (if bytes_eq name (codes "option") then Some ReadOption else None))))
+
+-- steps that change the site
+abbrev pub change_named : List ℕ → Option OpKind
+change_named name =
+    if bytes_eq name (codes "set_option") then Some SetOption else
+    (if bytes_eq name (codes "schedule") then Some Schedule else
+    (if bytes_eq name (codes "publish") then Some Publish else None))
+
+-- steps that make a text or run a hook
+abbrev pub turn_named : List ℕ → Option OpKind
+turn_named name =
+    if bytes_eq name (codes "set") then Some Set else
     (if bytes_eq name (codes "skip_if") then Some SkipIf else
     (if bytes_eq name (codes "apply") then Some Apply else
     (if bytes_eq name (codes "do") then Some Do else
     (if bytes_eq name (codes "shortcodes") then Some Shortcodes else
-    (if bytes_eq name (codes "did") then Some Did else
-    (if bytes_eq name (codes "doing") then Some Doing else
-    (if bytes_eq name (codes "has_hook") then Some HasHook else
-    (if bytes_eq name (codes "has_tag") then Some HasTag else
-    (if bytes_eq name (codes "option") then Some ReadOption else
-    (if bytes_eq name (codes "set_option") then Some SetOption else
-    (if bytes_eq name (codes "schedule") then Some Schedule else
-    (if bytes_eq name (codes "publish") then Some Publish else
     (if bytes_eq name (codes "echo") then Some Echo else
-    (if bytes_eq name (codes "return") then Some Return else None)))))))))))))))))))
+    (if bytes_eq name (codes "return") then Some Return else None))))))
+
+abbrev pub kind_of : List ℕ → Option OpKind
+kind_of name = option_or (edit_named name) (option_or (question_named name) (option_or (change_named name) (turn_named name)))
 
 abbrev pub keys_of : OpKind → List (List ℕ)
 keys_of Set = codes "op" ∷ codes "text" ∷ []

@@ -5,15 +5,17 @@ use Rattle.serde_json.specs.Data.{Data}
 use Rattle.serde_json.specs.Find.{get, as_str}
 use Rattle.press_text.specs.Moments.{moment_of}
 use Rattle.press_posts.specs.declared.status.Status.{Status}
-use Rattle.press_posts.specs.declared.status.Status.TheVariants.{Publish, Future, Draft, Pending, Private, Trash}
+use Rattle.press_posts.specs.declared.status.Status.TheVariants.{Draft}
+use Rattle.press_posts.specs.Transitions.{status_named}
 use Rattle.press_site.specs.declared.token.Token.{Token}
 use Rattle.press_apply.specs.declared.command.Command.{Command}
 use Rattle.press_apply.specs.declared.command.Command.TheVariants as command
 use Rattle.press_apply.specs.declared.command.Stamped.{Stamped}
+use Rattle.press_apply.specs.declared.kind.CommandKind.{CommandKind}
+use Rattle.press_apply.specs.declared.kind.CommandKind.TheVariants as kind
+use Rattle.press_apply.specs.Kinds.{kind_named}
 use Rattle.press_kit.specs.declared.place.Place.{Place}
 use Rattle.press_kit.specs.declared.place.Place.TheVariants as place
-use Rattle.press_kit.specs.declared.command_kind.CommandKind.{CommandKind}
-use Rattle.press_kit.specs.declared.command_kind.CommandKind.TheVariants as kind
 use Rattle.press_kit.specs.declared.commands.Written.{Written}
 use Rattle.press_kit.specs.Fields.{◌>>=◌, made, or_bad, text_at, name_at, number_in, number_at, default, list_at, each}
 use Rattle.press_kit.specs.KitFile.{file_in}
@@ -26,17 +28,8 @@ moment_in d = option_and_then moment_of (number_in d)
 abbrev pub moment_at : Place → List ℕ → Data → Result ℕ Place
 moment_at at key d = or_bad at (option_and_then moment_in (get key d))
 
-abbrev pub status_of : List ℕ → Option Status
-status_of word =
-    if bytes_eq word (codes "publish") then Some Publish else
-    (if bytes_eq word (codes "future") then Some Future else
-    (if bytes_eq word (codes "draft") then Some Draft else
-    (if bytes_eq word (codes "pending") then Some Pending else
-    (if bytes_eq word (codes "private") then Some Private else
-    (if bytes_eq word (codes "trash") then Some Trash else None)))))
-
 abbrev pub status_in : Data → Option Status
-status_in d = option_and_then status_of (as_str d)
+status_in d = option_and_then status_named (as_str d)
 
 -- draft, where none is told (`wp_insert_post`)
 abbrev pub status_at : Place → Data → Result Status Place
@@ -71,18 +64,6 @@ option_set at d = do
   value ← text_at at (codes "value") d
   Ok (command.SetOption name value)
 
-abbrev pub kind_of : List ℕ → Option CommandKind
-kind_of name =
-    if bytes_eq name (codes "insert") then Some kind.Insert else
-    (if bytes_eq name (codes "update") then Some kind.Update else
-    (if bytes_eq name (codes "trash") then Some kind.Trash else
-    (if bytes_eq name (codes "untrash") then Some kind.Untrash else
-    (if bytes_eq name (codes "delete") then Some kind.Delete else
-    (if bytes_eq name (codes "option") then Some kind.SetOption else
-    (if bytes_eq name (codes "activate") then Some kind.Activate else
-    (if bytes_eq name (codes "deactivate") then Some kind.Deactivate else
-    (if bytes_eq name (codes "tick") then Some kind.Tick else None))))))))
-
 unfoldable pub command_by : CommandKind → ℕ → Place → Data → Result Command Place
 command_by kind.Insert now at d = made inserts (written now at d)
 command_by kind.Update now at d = updated now at d
@@ -104,7 +85,7 @@ unfoldable pub command_of : Place → Data → Result Stamped Place
 command_of at d = do
   token ← token_of at d
   now ← moment_at at (codes "at") d
-  kind ← or_bad at (option_and_then kind_of (option_and_then as_str (get (codes "kind") d)))
+  kind ← or_bad at (option_and_then kind_named (option_and_then as_str (get (codes "kind") d)))
   command ← command_by kind now at d
   Ok (record { token = token; at = now; command = command })
 

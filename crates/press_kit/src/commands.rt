@@ -3,15 +3,15 @@
 ghost use Rattle.std.specs.Prelude.{◌≡◌, option_and_then, codes};
 ghost use Rattle.serde_json.specs.Find.{get, as_str};
 ghost use Rattle.serde_json.specs.View.{view};
+ghost use Rattle.press_apply.specs.Kinds.{kind_named};
 ghost use Rattle.press_kit.specs.Gives.{Gives};
 ghost use Rattle.press_kit.specs.SiteFile as spec;
 
-use crate::command_kind::CommandKind;
 use crate::fault::KitFileFault;
 use crate::fields::Fields;
 use crate::listed::Listed;
 use crate::place::Place;
-use press_apply::{Command, Stamped};
+use press_apply::{Command, CommandKind, Stamped};
 use press_posts::Status;
 use press_site::Token;
 use press_text::{Moment, Text};
@@ -27,32 +27,12 @@ pub(crate) struct Written {
     pub date: Moment,
 }
 
-fn status_named(word: &str) -> Option<Status>
-    ensures { result ≡ spec.status_of word.now }
-{
-    if word == "publish" {
-        Some(Status::Publish)
-    } else if word == "future" {
-        Some(Status::Future)
-    } else if word == "draft" {
-        Some(Status::Draft)
-    } else if word == "pending" {
-        Some(Status::Pending)
-    } else if word == "private" {
-        Some(Status::Private)
-    } else if word == "trash" {
-        Some(Status::Trash)
-    } else {
-        None
-    }
-}
-
 fn status(value: &Value) -> Option<Status>
     ensures { result ≡ spec.status_in (view value.now) }
 {
     match value.as_str() {
         None => None,
-        Some(word) => status_named(word),
+        Some(word) => Status::named(word),
     }
 }
 
@@ -186,7 +166,7 @@ impl<'v> Fields<'v> {
     }
 
     fn command_kind(&self) -> Option<CommandKind>
-        ensures { result ≡ option_and_then spec.kind_of (option_and_then as_str (get (codes "kind") (view self.now.value.now))) }
+        ensures { result ≡ option_and_then kind_named (option_and_then as_str (get (codes "kind") (view self.now.value.now))) }
     {
         match self.value.get("kind").and_then(Value::as_str) {
             None => None,

@@ -3,7 +3,6 @@
 //! A file gives what the definitions give, or the first place at which it is bad.
 #![tactic(auto)]
 
-mod command_kind;
 mod commands;
 mod fault;
 mod fields;

@@ -23,9 +23,6 @@ asymmetric a b h = grind (arith, nat_tests)
 older_yet : (d e f : Dated) → is_older e d ≡ true → is_older e f ≡ false → is_older f d ≡ true
 older_yet d e f h k = grind (arith, nat_tests)
 
-passes_on : (a b c : Dated) → is_older a b ≡ false → is_older b c ≡ false → is_older a c ≡ false
-passes_on a b c h k = grind (arith, nat_tests)
-
 -- ---- put in before the first older one
 
 abbrev put : Dated → List Dated → List Dated
@@ -188,9 +185,22 @@ all_of (suc n) (e ∷ es) h = ap (λ (ys : List Dated). e ∷ ys) (all_of n es (
 pub all_published : (posts : List (Option Post)) → take (length posts) (published posts) ≡ published posts
 all_published posts = take-map (λ (d : Dated). d.id) (length posts) (newest_first posts) ∙ ap (λ (ds : List Dated). map (λ (d : Dated). d.id) ds) (all_of (length posts) (newest_first posts) (few posts))
 
+pub few_taken : (n : ℕ) (es : List Dated) → length (take n es) ≤ n
+few_taken zero es = omega arith
+few_taken (suc n) [] = omega arith
+few_taken (suc n) (e ∷ es) = let h = few_taken n es in omega arith
+
+-- what is put in behind so many is not among them
+pub put_behind : (n place : ℕ) (d : Dated) (es : List Dated) → place ≤ length es → n ≤ place → length es ≤ n → es ≡ take n (insert es place d)
+put_behind zero place d [] at le few = refl
+put_behind zero place d (e ∷ es) at le few = absurd (omega arith)
+put_behind (suc n) place d [] at le few = absurd (omega arith)
+put_behind (suc n) zero d (e ∷ es) at le few = absurd (omega arith)
+put_behind (suc n) (suc place) d (e ∷ es) at le few = ap (λ (ys : List Dated). e ∷ ys) (put_behind n place d es (omega arith) (omega arith) (omega arith))
+
 -- one turn of a loop from the last place to the first
 pub turned : (n left : ℕ) (places : List (Option Post)) (p : Option Post) (old new : List Dated) → 0 < left → left ≤ length places → p ≡ get_or places (left - 1) p
-    → old ≡ take n (newest_first (drop left places)) → new ≡ with_dated (dated_of p) old → take n new ≡ take n (newest_first (drop (left - 1) places))
+    → old ≡ take n (newest_first (drop left places)) → new ≡ take n (with_dated (dated_of p) old) → new ≡ take n (newest_first (drop (left - 1) places))
 turned n left places p old new lt le at before put =
     let on : left - 1 + 1 ≡ left = omega arith in
     let tail : drop (left - 1) places ≡ p ∷ drop (left - 1 + 1) places = rw (add-one, drop-cons places (left - 1) p (omega arith), ← at) refl in

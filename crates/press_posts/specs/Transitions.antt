@@ -1,6 +1,6 @@
 -- What a change of a post's status fires (Plugin Handbook, Post Status Transitions: `transition_post_status`, `{old}_to_{new}`, `{new}_post`;
 -- hook reference, `save_post`). The status of a post before its insert is `new`. The arguments are own.
-use Rattle.std.specs.Prelude.{ℕ, List, [], ◌∷◌, ◌++◌, Option, Some, None, codes, decimal}
+use Rattle.std.specs.Prelude.{ℕ, List, [], ◌∷◌, ◌++◌, Option, Some, None, bytes_eq, codes, decimal, if◌then◌else◌}
 use Rattle.press_posts.specs.declared.fire.Fire.{Fire}
 use Rattle.press_posts.specs.declared.status.Status.{Status}
 use Rattle.press_posts.specs.declared.status.Status.TheVariants.{Publish, Future, Draft, Pending, Private, Trash}
@@ -12,6 +12,16 @@ status_word Draft = codes "draft"
 status_word Pending = codes "pending"
 status_word Private = codes "private"
 status_word Trash = codes "trash"
+
+-- the status of that word
+abbrev pub status_named : List ℕ → Option Status
+status_named word =
+    if bytes_eq word (codes "publish") then Some Publish else
+    (if bytes_eq word (codes "future") then Some Future else
+    (if bytes_eq word (codes "draft") then Some Draft else
+    (if bytes_eq word (codes "pending") then Some Pending else
+    (if bytes_eq word (codes "private") then Some Private else
+    (if bytes_eq word (codes "trash") then Some Trash else None)))))
 
 abbrev pub old_word : Option Status → List ℕ
 old_word None = codes "new"

@@ -254,20 +254,24 @@ fn newest_first(
     let mut left = places.len();
     while left > 0 {
         left -= 1;
-        put_dated(&mut found, dated_of(&places[left]))?;
-        found.truncate(most);
+        keep_newest(&mut found, dated_of(&places[left]), most)?;
     }
     Ok(found)
 }
 
-fn put_dated(found: &mut Vec<Dated>, dated: Option<Dated>) -> Result<(), AllocError>
-    ensures { OnOk result (found.new.items ≡ with_dated dated found.old.items) }
+// A post behind so many newer ones moves nothing.
+fn keep_newest(found: &mut Vec<Dated>, dated: Option<Dated>, most: usize) -> Result<(), AllocError>
+    requires { length found.old.items ≤ most }
+    ensures { OnOk result (found.new.items ≡ take most (with_dated dated found.old.items)) }
 {
     let Some(dated) = dated else {
         return Ok(());
     };
     let place = place_in(found, &dated);
-    found.insert(place, dated)?;
+    if place < most {
+        found.insert(place, dated)?;
+        found.truncate(most);
+    }
     Ok(())
 }
 

@@ -1,5 +1,5 @@
 ghost use Rattle.std.specs.Prelude.{◌≡◌};
-ghost use Rattle.press_posts.specs.Transitions.{status_word};
+ghost use Rattle.press_posts.specs.Transitions.{status_named, status_word};
 ghost use Rattle.press_posts.specs.PostChange.{settled, is_trash, is_future, is_publish};
 
 use press_text::Moment;
@@ -16,6 +16,27 @@ pub enum Status {
 }
 
 impl Status {
+    /// The status of that word.
+    pub fn named(word: &str) -> Option<Status>
+        ensures { result ≡ status_named word.now }
+    {
+        if word == "publish" {
+            Some(Status::Publish)
+        } else if word == "future" {
+            Some(Status::Future)
+        } else if word == "draft" {
+            Some(Status::Draft)
+        } else if word == "pending" {
+            Some(Status::Pending)
+        } else if word == "private" {
+            Some(Status::Private)
+        } else if word == "trash" {
+            Some(Status::Trash)
+        } else {
+            None
+        }
+    }
+
     /// The word for it in the names of hooks.
     pub fn word(self) -> &'static str
         ensures { result.now ≡ status_word self }

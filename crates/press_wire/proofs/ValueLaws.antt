@@ -11,8 +11,8 @@ use Rattle.press_apply.specs.declared.value.Value.{Value}
 use Rattle.press_apply.specs.declared.value.Value.TheVariants.{Noop, Cmd}
 use Rattle.press_wire.specs.declared.fault.WireFault.{WireFault}
 use Rattle.press_wire.specs.declared.fault.WireFault.TheVariants.{TooLong, BadKind, Extra}
-use Rattle.press_wire.specs.declared.kind.CommandKind.{CommandKind}
-use Rattle.press_wire.specs.declared.kind.CommandKind.TheVariants as kind
+use Rattle.press_apply.specs.declared.kind.CommandKind.{CommandKind}
+use Rattle.press_apply.specs.declared.kind.CommandKind.TheVariants as kind
 use Rattle.press_wire.specs.declared.kind.ValueKind.{ValueKind}
 use Rattle.press_wire.specs.declared.kind.ValueKind.TheVariants as value
 use Rattle.press_wire.specs.declared.post.PostFields.{PostFields}
@@ -21,7 +21,8 @@ use Rattle.std.specs.Prelude.{IfOk}
 use Rattle.press_wire.specs.Gives.{Gives}
 use Rattle.press_wire.specs.Measures.{Measures}
 use Rattle.press_wire.specs.Held.{IsBytes, IsMoment, IsCommand, IsValue, HasShortTexts, IsShort}
-use Rattle.press_wire.specs.Kinds.{command_number, command_kind_of, kind_of_command, value_kind_of}
+use Rattle.press_apply.specs.Kinds.{command_number, command_kind_of, kind_of_command}
+use Rattle.press_wire.specs.Kinds.{value_kind_of}
 use Rattle.press_wire.specs.Reading.{ended, post_at, insert_at, update_at, option_at, fields_at, stamped_at, behind_kind, command_at, read_value, read_command}
 use Rattle.press_wire.specs.Spelling.{number8, name, text, post, fields, stamped, spelled_command, longest, is_too_long}
 use Rattle.press_wire.proofs.Codec.{Takes, Codec, step, step_again, join, ok_is, checked_codec, or_next, or_none, recast, mapped_codec, paired_codec}

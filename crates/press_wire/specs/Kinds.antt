@@ -1,11 +1,8 @@
 -- The numbers of kinds and statuses (own).
 use Rattle.std.specs.Prelude.{ℕ, ◌==◌, Option, Some, None, option_map, if◌then◌else◌}
-use Rattle.press_apply.specs.declared.command.Command.{Command}
-use Rattle.press_apply.specs.declared.command.Command.TheVariants as command
+use Rattle.press_apply.specs.Kinds.{command_kind_of}
 use Rattle.press_posts.specs.declared.status.Status.{Status}
 use Rattle.press_posts.specs.declared.status.Status.TheVariants as status
-use Rattle.press_wire.specs.declared.kind.CommandKind.{CommandKind}
-use Rattle.press_wire.specs.declared.kind.CommandKind.TheVariants as kind
 use Rattle.press_wire.specs.declared.kind.ValueKind.{ValueKind}
 use Rattle.press_wire.specs.declared.kind.ValueKind.TheVariants as value
 use Rattle.press_wire.specs.declared.kind.MessageKind.{MessageKind}
@@ -13,44 +10,10 @@ use Rattle.press_wire.specs.declared.kind.MessageKind.TheVariants as about
 use Rattle.press_wire.specs.declared.message.Body.{Body}
 use Rattle.press_wire.specs.declared.message.Body.TheVariants as body
 
--- ---- commands; the kind 0 is that of a value without a command
-
-abbrev pub command_number : CommandKind → ℕ
-command_number kind.Insert = 1
-command_number kind.Update = 2
-command_number kind.Trash = 3
-command_number kind.Untrash = 4
-command_number kind.Delete = 5
-command_number kind.SetOption = 6
-command_number kind.Activate = 7
-command_number kind.Deactivate = 8
-command_number kind.Tick = 9
-
-abbrev pub command_kind_of : ℕ → Option CommandKind
-command_kind_of n =
-    if n == 1 then Some kind.Insert else
-    (if n == 2 then Some kind.Update else
-    (if n == 3 then Some kind.Trash else
-    (if n == 4 then Some kind.Untrash else
-    (if n == 5 then Some kind.Delete else
-    (if n == 6 then Some kind.SetOption else
-    (if n == 7 then Some kind.Activate else
-    (if n == 8 then Some kind.Deactivate else
-    (if n == 9 then Some kind.Tick else None))))))))
+-- ---- values; the kind 0 is that of a value without a command
 
 abbrev pub value_kind_of : ℕ → Option ValueKind
 value_kind_of n = if n == 0 then Some value.Noop else option_map value.Cmd (command_kind_of n)
-
-abbrev pub kind_of_command : Command → CommandKind
-kind_of_command (command.Insert title content status date) = kind.Insert
-kind_of_command (command.Update id title content status date) = kind.Update
-kind_of_command (command.Trash id) = kind.Trash
-kind_of_command (command.Untrash id) = kind.Untrash
-kind_of_command (command.Delete id) = kind.Delete
-kind_of_command (command.SetOption name value) = kind.SetOption
-kind_of_command (command.Activate plugin) = kind.Activate
-kind_of_command (command.Deactivate plugin) = kind.Deactivate
-kind_of_command command.Tick = kind.Tick
 
 -- ---- messages
 

@@ -7,8 +7,8 @@ use Rattle.press_apply.specs.declared.value.Value.{Value}
 use Rattle.press_apply.specs.declared.value.Value.TheVariants.{Noop, Cmd}
 use Rattle.press_wire.specs.declared.fault.WireFault.{WireFault}
 use Rattle.press_wire.specs.declared.fault.WireFault.TheVariants.{TooLong, BadKind, BadField, Extra}
-use Rattle.press_wire.specs.declared.kind.CommandKind.{CommandKind}
-use Rattle.press_wire.specs.declared.kind.CommandKind.TheVariants as kind
+use Rattle.press_apply.specs.declared.kind.CommandKind.{CommandKind}
+use Rattle.press_apply.specs.declared.kind.CommandKind.TheVariants as kind
 use Rattle.press_wire.specs.declared.kind.ValueKind.{ValueKind}
 use Rattle.press_wire.specs.declared.kind.ValueKind.TheVariants as value
 use Rattle.press_wire.specs.declared.kind.MessageKind.{MessageKind}

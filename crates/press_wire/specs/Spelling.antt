@@ -12,7 +12,8 @@ use Rattle.press_wire.specs.declared.message.Body.{Body}
 use Rattle.press_wire.specs.declared.message.Body.TheVariants.{Prepare, Promise, Nack, Accept, Accepted, Query}
 use Rattle.press_wire.specs.declared.message.Message.{Message}
 use Rattle.press_wire.specs.declared.vote.Vote.{Vote}
-use Rattle.press_wire.specs.Kinds.{command_number, kind_of_command, message_number, kind_of_body, status_number}
+use Rattle.press_apply.specs.Kinds.{command_number, kind_of_command}
+use Rattle.press_wire.specs.Kinds.{message_number, kind_of_body, status_number}
 
 -- ---- fields
 

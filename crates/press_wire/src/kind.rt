@@ -1,24 +1,10 @@
-//! The kinds of commands and messages, each with its number.
+//! The kinds of values and messages, each with its number.
 
 ghost use Rattle.std.specs.Prelude.{◌≡◌};
-ghost use Rattle.press_wire.specs.Kinds.{command_kind_of, command_number, message_kind_of, message_number, kind_of_command, kind_of_body, value_kind_of};
+ghost use Rattle.press_wire.specs.Kinds.{message_kind_of, message_number, kind_of_body, value_kind_of};
 
 use crate::message::Body;
-use press_apply::Command;
-
-/// The kind of a command.
-#[derive(Clone, Copy, Debug, PartialEq, Eq)]
-pub enum CommandKind {
-    Insert,
-    Update,
-    Trash,
-    Untrash,
-    Delete,
-    SetOption,
-    Activate,
-    Deactivate,
-    Tick,
-}
+use press_apply::CommandKind;
 
 /// The kind of a value: 0 on the wire, or that of its command.
 #[derive(Clone, Copy, Debug, PartialEq, Eq)]
@@ -36,57 +22,6 @@ pub enum MessageKind {
     Accept,
     Accepted,
     Query,
-}
-
-impl CommandKind {
-    pub fn from_number(number: u8) -> Option<CommandKind>
-        ensures { result ≡ command_kind_of number }
-    {
-        match number {
-            1 => Some(CommandKind::Insert),
-            2 => Some(CommandKind::Update),
-            3 => Some(CommandKind::Trash),
-            4 => Some(CommandKind::Untrash),
-            5 => Some(CommandKind::Delete),
-            6 => Some(CommandKind::SetOption),
-            7 => Some(CommandKind::Activate),
-            8 => Some(CommandKind::Deactivate),
-            9 => Some(CommandKind::Tick),
-            _ => None,
-        }
-    }
-
-    pub fn number(self) -> u8
-        ensures { result ≡ command_number self }
-    {
-        match self {
-            CommandKind::Insert => 1,
-            CommandKind::Update => 2,
-            CommandKind::Trash => 3,
-            CommandKind::Untrash => 4,
-            CommandKind::Delete => 5,
-            CommandKind::SetOption => 6,
-            CommandKind::Activate => 7,
-            CommandKind::Deactivate => 8,
-            CommandKind::Tick => 9,
-        }
-    }
-
-    pub fn of(command: &Command) -> CommandKind
-        ensures { result ≡ kind_of_command command.now }
-    {
-        match command {
-            Command::Insert { .. } => CommandKind::Insert,
-            Command::Update { .. } => CommandKind::Update,
-            Command::Trash { .. } => CommandKind::Trash,
-            Command::Untrash { .. } => CommandKind::Untrash,
-            Command::Delete { .. } => CommandKind::Delete,
-            Command::SetOption { .. } => CommandKind::SetOption,
-            Command::Activate { .. } => CommandKind::Activate,
-            Command::Deactivate { .. } => CommandKind::Deactivate,
-            Command::Tick => CommandKind::Tick,
-        }
-    }
 }
 
 impl ValueKind {

@@ -6,11 +6,11 @@ ghost use Rattle.press_wire.specs.Spelling.{longest};
 ghost use Rattle.press_wire.specs.Reading.{post_at, insert_at, update_at, option_at, fields_at, stamped_at, behind_kind, command_at, read_value, read_command};
 
 use crate::fault::WireFault;
-use crate::kind::{CommandKind, ValueKind};
+use crate::kind::ValueKind;
 use crate::post::PostFields;
 use crate::reader::Reader;
 use crate::write_value::LONGEST;
-use press_apply::{Command, Stamped, Value};
+use press_apply::{Command, CommandKind, Stamped, Value};
 use press_site::Token;
 use std::alloc::Global;
 

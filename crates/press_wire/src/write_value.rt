@@ -7,10 +7,9 @@ ghost use Rattle.press_wire.specs.Spelling as spell;
 ghost use Rattle.press_wire.specs.Spelling.{longest};
 ghost use Rattle.press_wire.specs.Measures.{Measures, MeasuresWell};
 
-use crate::kind::CommandKind;
 use crate::status::status_number;
 use crate::writer::Writer;
-use press_apply::{Command, Stamped, Value};
+use press_apply::{Command, CommandKind, Stamped, Value};
 use press_posts::Status;
 use press_text::{Moment, Text};
 use std::alloc::AllocError;
