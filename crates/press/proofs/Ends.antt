@@ -20,7 +20,7 @@ use Rattle.press.specs.declared.ending.Ending.{Ending}
 use Rattle.press.specs.declared.ending.Ending.TheVariants.{Fault}
 use Rattle.press.specs.declared.fault.ReplayFault.{ReplayFault}
 use Rattle.press.specs.declared.fault.ReplayFault.TheVariants.{NoMemory, ReadFault, WriteFault, BadSchedule}
-use Rattle.press.specs.Endings.{ending_of, page_ending, EndsOn, IsOutside}
+use Rattle.press.specs.Endings.{page_ending, EndsOn, IsOutside}
 use Rattle.press.specs.Faults.{fault_of_file, fault_of_reading}
 use Rattle.press.specs.Streams.{Has, ReadGives, ReadMisses, ReadsAs}
 

@@ -1,5 +1,5 @@
 -- What the program does for its words and its input (own).
-use Rattle.std.specs.Prelude.{◌≡◌, ◌⊎◌, ℕ, List, map, nat_eq, if◌then◌else◌, true, false, Option, Some, None, Result, Ok, Err, codes}
+use Rattle.std.specs.Prelude.{◌≡◌, ◌⊎◌, ℕ, List, map, nat_eq, if◌then◌else◌, false, Option, Some, None, Result, Ok, Err, codes}
 use Rattle.std.specs.Io.KnownBytes.{Appends, Keeps}
 use Rattle.press_callbacks.specs.Kits.{KitView}
 use Rattle.press_apply.specs.declared.command.Stamped.{Stamped}

@@ -1,6 +1,6 @@
 use Rattle.std.proofs.Common.{rules, ap, ap₂, refl, codes, true, map, subst, ◌≡◌, ◌∙◌, string_bytes}
 use Rattle.std.proofs.lemmas.Result.{IfOk-weaker}
-use Rattle.clap.specs.Words.{App, Rule, app_of, fault_of, is_simple, is_simple_and_free, rule_of, subcommand_of, with_rule, with_subcommand, FailsBy}
+use Rattle.clap.specs.Words.{App, app_of, fault_of, is_simple, is_simple_and_free, rule_of, subcommand_of, with_rule, with_subcommand, FailsBy}
 use Rattle.clap.proofs.OnLiterals.{clap_on_literals}
 use Rattle.press.specs.Words as spec
 use Rattle.press.proofs.words.parsed.Goals as goal

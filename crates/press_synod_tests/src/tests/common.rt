@@ -1,0 +1,27 @@
+use press_apply::Value;
+use press_text::Moment;
+use press_wire::{Ballot, Node, Round, Slot};
+use std::test::Fail;
+
+pub fn node(number: u8) -> Result<Node, Fail> {
+    Ok(Node::new(number).ok_or("no node")?)
+}
+
+pub fn round(number: u64) -> Result<Round, Fail> {
+    Ok(Round::new(number).ok_or("no round")?)
+}
+
+pub fn ballot(round_number: u64, number: u8) -> Result<Ballot, Fail> {
+    Ok(Ballot {
+        round: round(round_number)?,
+        node: node(number)?,
+    })
+}
+
+pub fn slot() -> Result<Slot, Fail> {
+    Ok(Slot::new(1).ok_or("no slot")?)
+}
+
+pub fn noop() -> Value {
+    Value::Noop { at: Moment::zero() }
+}
