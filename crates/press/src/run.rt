@@ -1,6 +1,6 @@
 //! One run of the program over any reader and writers.
 
-ghost use Rattle.std.specs.Prelude.{◌≡◌, ◌+◌, None, false, map, string_bytes, IfOk, IfErr};
+ghost use Rattle.std.specs.Prelude.{◌≡◌, ◌+◌, None, false, map, option_map, string_bytes, IfOk, IfErr};
 ghost use Rattle.std.specs.Io.KnownBytes.{Appends, Keeps};
 ghost use Rattle.press_kit.specs.KitFile.{file_limit};
 ghost use Rattle.press_text.specs.Streams.{AppendsFront, TakesAtMost};
@@ -15,7 +15,7 @@ use crate::words::{Wanted, read_words};
 use press_callbacks::{BoxedTurns, CallIn, Kit, Stored, script_turn};
 use press_page::Target;
 use press_text::write_once;
-use std::alloc::{AllocError, Global};
+use std::alloc::Global;
 use std::io::{Read, Write};
 use std::rt::Files;
 use std::{fs, io};
@@ -132,20 +132,19 @@ fn ended<Rt: AllocGlobal + Files, R: Read>(rt: &Rt, wanted: &Wanted<'_>, reader:
     }
 }
 
-// What words come to. Those that are refused read nothing.
+// The end of a run for what is asked, where something is. Refused words read nothing.
 fn answered<Rt: AllocGlobal + Files, R: Read>(
     rt: &Rt,
-    words: &[String],
+    wanted: &Option<Wanted<'_>>,
     reader: &mut R,
-) -> Result<Option<Ending>, AllocError>
+) -> Option<Ending>
     ensures took { TakesAtMost (R.remaining reader.old) (R.remaining reader.new) (file_limit + 1) }
-    ensures asked { ReadsAsked (asked_by (map string_bytes words.now)) (R.remaining reader.old) (R.remaining reader.new) }
-    ensures unread { IfErr result (λ _. Keeps (R.remaining reader.old) (R.remaining reader.new)) }
-    ensures ends { IfOk result (λ end. Answers demonstration (asked_by (map string_bytes words.now)) (R.remaining reader.old) end) }
+    ensures asked { ReadsAsked (option_map (λ w. (w.file.now, w.target)) wanted.now) (R.remaining reader.old) (R.remaining reader.new) }
+    ensures ends { Answers demonstration (option_map (λ w. (w.file.now, w.target)) wanted.now) (R.remaining reader.old) result }
 {
-    match read_words(rt.alloc(), words)? {
-        Some(wanted) => Ok(Some(ended(rt, &wanted, reader))),
-        None => Ok(None),
+    match wanted {
+        Some(wanted) => Some(ended(rt, wanted, reader)),
+        None => None,
     }
 }
 
@@ -166,9 +165,11 @@ pub fn run<Rt: AllocGlobal + Files, R: Read, W: Write, E: Write>(
     ensures refused { RefusesWords (asked_by (map string_bytes words.now)) result (R.remaining reader.old) (R.remaining reader.new)
         (W.contents writer.old) (W.contents writer.new) (E.contents error.old) (E.contents error.new) }
 {
-    match answered(rt, words, reader) {
-        Ok(Some(end)) => finish(end, writer, error),
-        Ok(None) => refuse(error),
-        Err(_) => fail(ReplayFault::NoMemory, error),
+    let Ok(wanted) = read_words(rt.alloc(), words) else {
+        return fail(ReplayFault::NoMemory, error);
+    };
+    match answered(rt, &wanted, reader) {
+        Some(end) => finish(end, writer, error),
+        None => refuse(error),
     }
 }
