@@ -133,6 +133,7 @@ impl Learner {
         requires window { IsTrue (is_in_window self.old.applied slot) }
         ensures ok { OnOk result (self.new ≡ kept_with self.old from slot vote) }
         ensures err { OnErr result (self.new ≡ self.old) }
+        ensures members { self.new.members ≡ self.old.members }
         ensures memory { OnErr result (vote_at self.old slot from ≡ None) }
     {
         self.votes.insert((slot.number(), from.number()), vote)?;
@@ -145,6 +146,7 @@ impl Learner {
         requires { from ≤ self.old.members }
         ensures ok { OnOk result (self.new ≡ with_vote self.old from slot vote) }
         ensures err { OnErr result (self.new ≡ self.old) }
+        ensures members { self.new.members ≡ self.old.members }
         ensures memory { OnErr result (IsTrue (is_in_window self.old.applied slot) × (vote_at self.old slot from ≡ None)) }
     {
         if self.is_within(slot.number()) && self.is_news(from.number(), slot.number(), vote.ballot) {
