@@ -1,5 +1,5 @@
 -- Two majorities have a member in common, so one ballot at most has a majority of the kept votes for a slot.
-use Rattle.std.proofs.Common.{ℕ, zero, suc, ◌+◌, ◌-◌, ◌*◌, ◌<◌, ◌≤◌, ◌≡◌, ◌⊎◌, inl, inr, Bool, true, false, cond, ◌&&◌, nat_lt, IsSome, is_some, List, [], ◌∷◌, Option, Some, None, refl, sym, ap, subst, ◌∙◌, arith}
+use Rattle.std.proofs.Common.{ℕ, zero, suc, ◌+◌, ◌*◌, ◌<◌, ◌≤◌, ◌≡◌, ◌⊎◌, inl, inr, Bool, true, false, cond, nat_lt, IsSome, is_some, List, Option, Some, None, refl, sym, ap, subst, ◌∙◌, arith}
 use Rattle.std.proofs.lemmas.Bool.{and_from, and_parts, eqb-true, eq-eqb, ltb-true, lt-ltb, true≢false, cases_order}
 use Rattle.std.proofs.lemmas.List.Sums.{sum_by-cons}
 use Rattle.std.specs.List.{count_by, range_with_len}
@@ -117,6 +117,7 @@ first_of k slot a (suc n) value e = go (won k slot (vote_at k slot a)) refl e (f
   where
     rest : List ℕ
     rest = range_with_len (a + 1) n
+
     go : (r : Option Value) → won k slot (vote_at k slot a) ≡ r → or_else r (first_won k slot rest) ≡ Some value → (first_won k slot rest ≡ Some value → (m : ℕ) × IsFirst k slot (a + 1) n value m) → (m : ℕ) × IsFirst k slot a (suc n) value m
     go (Some v) f e later = (a, (omega arith, omega arith, f ∙ e, λ o g h. absurd (omega (arith, g, h))))
     go None f e later =
@@ -129,6 +130,7 @@ is_first k slot a (suc n) m value f = go (cases_order a m) (is_first k slot (a +
   where
     rest : List ℕ
     rest = range_with_len (a + 1) n
+
     go : (a ≡ m) ⊎ ((a < m) ⊎ (m < a)) → (IsFirst k slot (a + 1) n value m → first_won k slot rest ≡ Some value) → or_else (won k slot (vote_at k slot a)) (first_won k slot rest) ≡ Some value
     go (inl e) later = ap (λ r. or_else r (first_won k slot rest)) (subst (λ x. won k slot (vote_at k slot x) ≡ Some value) (sym e) f.2)
     go (inr (inl lt)) later =

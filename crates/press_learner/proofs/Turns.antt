@@ -1,17 +1,14 @@
 -- What the learner's calls come to.
-use Rattle.std.proofs.Common.{ℕ, suc, ◌+◌, ◌-◌, ◌<◌, ◌≤◌, ◌≡◌, Bool, true, false, cond, ◌&&◌, nat_lt, nat_le, List, Option, Some, None, refl, sym, ap, subst, ◌∙◌, arith, count_by}
+use Rattle.std.proofs.Common.{ℕ, suc, ◌+◌, ◌-◌, ◌<◌, ◌≤◌, ◌≡◌, Bool, true, false, cond, ◌&&◌, nat_lt, nat_le, Some, None, sym, ap, ◌∙◌, arith}
 use Rattle.std.proofs.lemmas.Bool.{lt-ltb, le-ltb}
 use Rattle.std.proofs.lemmas.List.FromFn.{length-range_with_len}
 use Rattle.std.proofs.lemmas.List.Sums.{count_by-le-length}
-use Rattle.std.specs.FinMap.{from_entries, keys}
-use Rattle.std.specs.List.{list_any, range_with_len}
-use Rattle.std.specs.Map.{keys_of}
+use Rattle.std.specs.List.{range_with_len}
 use Rattle.press_apply.specs.declared.value.Value.{Value}
 use Rattle.press_wire.specs.declared.ballot.Ballot.{Ballot}
 use Rattle.press_wire.specs.declared.vote.Vote.{Vote}
-use Rattle.press_learner.specs.Chosen.{ballot_count, chosen_next, first_won, has_ballot, has_gap, or_else, won}
-use Rattle.press_learner.specs.Kept.{Kept, is_in_window, is_news, kept_with, next_slot, place_cmp, vote_at, with_vote}
-use Rattle.press_learner.proofs.Places.{any_keys}
+use Rattle.press_learner.specs.Chosen.{ballot_count, chosen_next, first_won, has_ballot, or_else, won}
+use Rattle.press_learner.specs.Kept.{Kept, is_in_window, is_news, kept_with, next_slot, vote_at, with_vote}
 
 -- no more than there are members
 pub count_within : (k : Kept) (slot : ℕ) (ballot : Ballot) → ballot_count k slot ballot ≤ k.members
@@ -59,4 +56,3 @@ is_dropped k from slot vote e f = sym (ap (λ b. cond (b && is_news (vote_at k s
 
 pub is_outside : (k : Kept) (from slot : ℕ) (vote : Vote) → is_in_window k.applied slot ≡ false → k ≡ with_vote k from slot vote
 is_outside k from slot vote e = sym (ap (λ b. cond (b && is_news (vote_at k slot from) vote.ballot) (kept_with k from slot vote) k) e)
-

@@ -1,13 +1,13 @@
 -- Kept votes stay in the window.
-use Rattle.std.proofs.Common.{ℕ, ◌+◌, ◌<◌, ◌≤◌, ◌≡◌, Bool, true, false, cond, ◌&&◌, ◌||◌, nat_lt, nat_le, IsTrue, IsSome, is_some, List, [], ◌∷◌, map, Option, Some, None, refl, sym, ap, subst, ◌∙◌, arith}
-use Rattle.std.proofs.lemmas.Bool.{and_from, and_parts, or_cases, leb-true, le-leb, ltb-true, lt-ltb, true≢false}
+use Rattle.std.proofs.Common.{ℕ, ◌+◌, ◌<◌, ◌≡◌, Bool, true, false, cond, ◌&&◌, ◌||◌, nat_lt, nat_le, IsTrue, IsSome, is_some, List, [], ◌∷◌, Some, None, refl, sym, ap, subst, ◌∙◌, arith}
+use Rattle.std.proofs.lemmas.Bool.{and_from, and_parts, leb-true, le-leb, ltb-true, true≢false}
 use Rattle.std.specs.Cmp.{eq_by_cmp_equiv}
-use Rattle.std.specs.FinMap.{FinMap, get, empty, keys, get-empty, get-insert, contains_key-keys}
+use Rattle.std.specs.FinMap.{keys, get-empty, get-insert, contains_key-keys}
 use Rattle.std.specs.List.{list_any}
 use Rattle.std.specs.Ordering.{eq_by_cmp}
 use Rattle.press_wire.specs.declared.vote.Vote.{Vote}
 use Rattle.press_learner.specs.Chosen.{has_gap}
-use Rattle.press_learner.specs.Kept.{Kept, IsWindow, IsInPlace, is_in_window, kept_with, advanced, new_learner, next_slot, place_cmp, vote_at}
+use Rattle.press_learner.specs.Kept.{Kept, IsWindow, IsInPlace, is_in_window, kept_with, advanced, new_learner, place_cmp, vote_at}
 use Rattle.press_learner.proofs.Places.{places_total, same_place, get_retained}
 
 pub new_window : (n : ℕ) → IsWindow (new_learner n)
@@ -43,9 +43,11 @@ found p (x ∷ xs) h = go (p x) refl h (found p xs)
     here : (b c : Bool) → b ≡ true → (b || c) ≡ true
     here true c e = refl
     here false c e = absurd (true≢false (sym e))
+
     there : (b c : Bool) → c ≡ true → (b || c) ≡ true
     there true c e = refl
     there false c e = e
+
     go : (t : Bool) → p x ≡ t → (t || list_any p xs) ≡ true → (list_any p xs ≡ true → (y : ℕ × ℕ) × (p y ≡ true) × (list_any (eq_by_cmp place_cmp y) xs ≡ true)) → (y : ℕ × ℕ) × (p y ≡ true) × (list_any (eq_by_cmp place_cmp y) (x ∷ xs) ≡ true)
     go true e h later = (x, e, here (eq_by_cmp place_cmp x x) _ ((eq_by_cmp_equiv places_total).refl x))
     go false e h later = let r = later h in (r.0, r.1, there (eq_by_cmp place_cmp r.0 x) _ r.2)

@@ -1,5 +1,5 @@
 -- Which value is chosen for the next slot, by the kept votes (Paxos Made Simple, 2.1: "a single value is chosen by a majority of acceptors"; 2.3).
-use Rattle.std.specs.Prelude.{ℕ, ◌+◌, ◌*◌, ◌≡◌, ◌<◌, ◌≤◌, nat_lt, Bool, false, Option, None, Some, List, [], ◌∷◌, if◌then◌else◌}
+use Rattle.std.specs.Prelude.{ℕ, ◌*◌, ◌≡◌, ◌<◌, ◌≤◌, nat_lt, Bool, false, Option, None, Some, List, [], ◌∷◌, if◌then◌else◌}
 use Rattle.std.specs.List.{count_by, range_with_len, list_any}
 use Rattle.std.specs.FinMap as map
 use Rattle.press_apply.specs.declared.value.Value.{Value}

@@ -149,7 +149,9 @@ impl Learner {
         ensures members { self.new.members ≡ self.old.members }
         ensures memory { OnErr result (IsTrue (is_in_window self.old.applied slot) × (vote_at self.old slot from ≡ None)) }
     {
-        if self.is_within(slot.number()) && self.is_news(from.number(), slot.number(), vote.ballot) {
+        if self.is_within(slot.number())
+            && self.is_news(from.number(), slot.number(), vote.ballot)
+        {
             return self.put(from, slot, vote);
         }
         Ok(())

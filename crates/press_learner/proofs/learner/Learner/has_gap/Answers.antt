@@ -16,6 +16,6 @@ returns-clause-value c =
 pub returns-clause-last : goal.returns-clause-last
 returns-clause-last c = λ h.
     let is : c.any.result ≡ has_gap c.args.self.now =
-      any_from_yields_List (λ (p : ℕ × ℕ). nat_lt (c.self.inside.applied + 1) p.0) _ _ c.any.result c.any.ensures.ran (YieldsList-from_rest (keys_of c.self.inside.votes.entries) c.keys.ensures.rest) (λ x b q k. search (rules, tests))
-      ∙ gap_seen c.self.inside.members c.self.inside.applied c.self.inside.votes.entries c.args.self.now c.self.view_is in
+    any_from_yields_List (λ (p : ℕ × ℕ). nat_lt (c.self.inside.applied + 1) p.0) _ _ c.any.result c.any.ensures.ran (YieldsList-from_rest (keys_of c.self.inside.votes.entries) c.keys.ensures.rest) (λ x b q k. search (rules, tests))
+    ∙ gap_seen c.self.inside.members c.self.inside.applied c.self.inside.votes.entries c.args.self.now c.self.view_is in
     gap_before_last c.args.self.now (subst IsWindow c.self.view_is c.self.invariant.2) (sym is ∙ h)
