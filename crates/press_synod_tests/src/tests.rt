@@ -1,2 +1,3 @@
 mod acceptor;
 mod common;
+mod learner;

@@ -1,0 +1,5 @@
+mod Majorities
+mod Places
+mod Turns
+mod Views
+mod Window

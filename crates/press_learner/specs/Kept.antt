@@ -1,0 +1,61 @@
+-- What a learner keeps: of each member one vote for each of the next 64 slots, that of the greatest ballot (Paxos Made Simple, 2.3, and
+-- for many slots 3; own: the window, and that of equal ballots the first vote stays).
+use Rattle.std.specs.Prelude.{ℕ, ◌+◌, ◌≤◌, ◌&&◌, nat_lt, nat_le, Bool, true, IsTrue, IsSome, Option, None, Some, if◌then◌else◌}
+use Rattle.std.specs.Ordering.{nat_cmp, ordering_then}
+use Rattle.std.specs.declared.cmp.Ordering.{Ordering}
+use Rattle.std.specs.FinMap as map
+use Rattle.std.specs.FinMap.{FinMap}
+use Rattle.press_wire.specs.Ballots.{is_less}
+use Rattle.press_wire.specs.declared.ballot.Ballot.{Ballot}
+use Rattle.press_wire.specs.declared.vote.Vote.{Vote}
+
+-- by slot, then by member
+abbrev pub place_cmp : ℕ × ℕ → ℕ × ℕ → Ordering
+place_cmp x y = ordering_then (nat_cmp x.0 y.0) (nat_cmp x.1 y.1)
+
+pub record Kept : Type 0 where
+  -- how many members there are: they are numbered from 1
+  pub members : ℕ
+  -- the kept votes, by slot and member
+  pub votes : FinMap place_cmp Vote
+  -- how many slots are applied: the next slot is the one after them
+  pub applied : ℕ
+
+abbrev pub new_learner : ℕ → Kept
+new_learner members = record { members = members; votes = map.empty; applied = 0 }
+
+abbrev pub next_slot : Kept → ℕ
+next_slot k = k.applied + 1
+
+-- the member's kept vote for the slot
+abbrev pub vote_at : Kept → ℕ → ℕ → Option Vote
+vote_at k slot member = map.get k.votes (slot, member)
+
+-- one of the 64 slots after those applied
+unfoldable pub is_in_window : ℕ → ℕ → Bool
+is_in_window applied slot = nat_lt applied slot && nat_le slot (applied + 64)
+
+-- the ballot is greater than that of the kept vote, or there is none
+abbrev pub is_news : Option Vote → Ballot → Bool
+is_news None ballot = true
+is_news (Some old) ballot = is_less old.ballot ballot
+
+-- after a vote that is kept
+abbrev pub kept_with : Kept → ℕ → ℕ → Vote → Kept
+kept_with k from slot vote = record { members = k.members; votes = map.insert k.votes (slot, from) vote; applied = k.applied }
+
+-- after a vote came: it is kept, or dropped
+abbrev pub with_vote : Kept → ℕ → ℕ → Vote → Kept
+with_vote k from slot vote = if is_in_window k.applied slot && is_news (vote_at k slot from) vote.ballot then kept_with k from slot vote else k
+
+-- after the next slot's value was applied: the votes for later slots stay
+abbrev pub advanced : Kept → Kept
+advanced k = record { members = k.members; votes = map.retain_keys k.votes (λ place. nat_lt (k.applied + 1) place.0); applied = k.applied + 1 }
+
+-- the vote is of a member, for a slot of the window, and for none after 1,000,000
+abbrev pub IsInPlace : Kept → ℕ → ℕ → Type 0
+IsInPlace k slot member = IsTrue (is_in_window k.applied slot) × (slot ≤ 1000000) × (1 ≤ member) × (member ≤ k.members)
+
+-- each kept vote is: so there are at most 64 for each member
+abbrev pub IsWindow : Kept → Type 0
+IsWindow k = (slot member : ℕ) → IsSome (vote_at k slot member) → IsInPlace k slot member

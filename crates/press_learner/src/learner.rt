@@ -1,0 +1,178 @@
+//! The votes that a node keeps.
+
+ghost use Rattle.std.specs.Prelude.{◌≡◌, ◌<◌, ◌≤◌, ◌*◌, nat_lt, IsTrue, IsSome, IfSome, OnOk, OnErr, None, option_copied};
+ghost use Rattle.press_learner.specs.Chosen.{has_ballot, ballot_count, won, chosen_next, has_gap};
+ghost use Rattle.press_learner.specs.Kept.{new_learner, vote_at, is_in_window, is_news, kept_with, with_vote, advanced, next_slot};
+
+use press_apply::Value;
+use press_wire::{Ballot, Node, Slot, Vote};
+use std::alloc::{AllocError, Global};
+use std::collections::BTreeMap;
+use std::marker::Model;
+
+const WINDOW: u32 = 64;
+
+/// The votes of a cluster's members for the next 64 slots, and how many slots are applied.
+#[derive(Debug, Drop)]
+pub struct Learner {
+    members: u8,
+    votes: BTreeMap<(u32, u8), Vote>,
+    applied: u32,
+    alloc: Global,
+}
+
+impl Model for Learner {
+    ghost use Rattle.std.specs.Coded.{codes};
+    ghost use Rattle.std.specs.FinMap.{from_entries};
+    ghost use Rattle.std.specs.Prelude.{◌≤◌};
+    ghost use Rattle.press_learner.specs.Codes.{kept_code};
+    ghost use Rattle.press_learner.specs.Kept.{Kept, IsWindow, place_cmp};
+
+    ghost Value = { Kept };
+
+    ghost coded = { kept_code (Prim.hlevel codes) };
+
+    ghost view = { λ a. record { members = a.members; votes = from_entries {R = place_cmp} a.votes.entries; applied = a.applied } };
+
+    ghost invariant = { λ a. (a.members ≤ 7) × (a.applied ≤ 1000000) × IsWindow (record { members = a.members; votes = from_entries {R = place_cmp} a.votes.entries; applied = a.applied }) };
+}
+
+impl Learner {
+    /// A learner of a cluster with that many members, which has no votes yet and takes no memory.
+    pub fn new(alloc: Global, members: u8) -> Learner
+        requires { members ≤ 7 }
+        ensures { result ≡ new_learner members }
+    {
+        Learner {
+            members,
+            votes: BTreeMap::new(alloc),
+            applied: 0,
+            alloc,
+        }
+    }
+
+    /// How many slots are applied.
+    pub fn applied(&self) -> u64
+        ensures value { result ≡ self.now.applied }
+        ensures range { result ≤ 1000000 }
+    {
+        u64::from(self.applied)
+    }
+
+    fn vote(&self, slot: u32, member: u8) -> Option<&Vote>
+        ensures { option_copied result ≡ vote_at self.now slot member }
+    {
+        self.votes.get(&(slot, member))
+    }
+
+    fn has_ballot(&self, slot: u32, member: u8, ballot: Ballot) -> bool
+        ensures { result ≡ has_ballot (vote_at self.now slot member) ballot }
+    {
+        match self.vote(slot, member) {
+            Some(vote) => vote.ballot.is(ballot),
+            None => false,
+        }
+    }
+
+    fn count(&self, slot: u32, ballot: Ballot) -> usize
+        ensures count { result ≡ ballot_count self.now slot ballot }
+        ensures small { result ≤ 7 }
+    {
+        (1..self.members + 1)
+            .filter(|member| self.has_ballot(slot, *member, ballot))
+            .count()
+    }
+
+    fn is_majority(&self, slot: u32, ballot: Ballot) -> bool
+        ensures { result ≡ nat_lt self.now.members (2 * ballot_count self.now slot ballot) }
+    {
+        usize::from(self.members) < 2 * self.count(slot, ballot)
+    }
+
+    fn won(&self, slot: u32, member: u8) -> Option<&Value>
+        ensures { option_copied result ≡ won self.now slot (vote_at self.now slot member) }
+    {
+        let vote = self.vote(slot, member)?;
+        if self.is_majority(slot, vote.ballot) {
+            return Some(&vote.value);
+        }
+        None
+    }
+
+    /// The value that is chosen for the next slot, by the kept votes. None once 1,000,000 slots are applied.
+    pub fn next_chosen(&self) -> Option<&Value>
+        ensures value { option_copied result ≡ chosen_next self.now }
+        ensures last { IsSome result → self.now.applied < 1000000 }
+    {
+        for i in 0..self.members {
+            match self.won(self.applied + 1, i + 1) {
+                Some(value) => return Some(value),
+                None => {}
+            }
+        }
+        None
+    }
+
+    fn is_within(&self, slot: u32) -> bool
+        ensures { result ≡ is_in_window self.now.applied slot }
+    {
+        self.applied < slot && slot <= self.applied + WINDOW
+    }
+
+    fn is_news(&self, from: u8, slot: u32, ballot: Ballot) -> bool
+        ensures { result ≡ is_news (vote_at self.now slot from) ballot }
+    {
+        match self.vote(slot, from) {
+            Some(old) => old.ballot.is_less(ballot),
+            None => true,
+        }
+    }
+
+    fn put(&mut self, from: Node, slot: Slot, vote: Vote) -> Result<(), AllocError>
+        requires member { from ≤ self.old.members }
+        requires window { IsTrue (is_in_window self.old.applied slot) }
+        ensures ok { OnOk result (self.new ≡ kept_with self.old from slot vote) }
+        ensures err { OnErr result (self.new ≡ self.old) }
+        ensures members { self.new.members ≡ self.old.members }
+        ensures memory { OnErr result (vote_at self.old slot from ≡ None) }
+    {
+        self.votes.insert((slot.number(), from.number()), vote)?;
+        Ok(())
+    }
+
+    /// A vote that came. It is kept where its slot is one of the next 64 and the member has no kept vote of as great a ballot for it,
+    /// and else dropped. Only a member's first vote for a slot takes memory.
+    pub fn on_vote(&mut self, from: Node, slot: Slot, vote: Vote) -> Result<(), AllocError>
+        requires { from ≤ self.old.members }
+        ensures ok { OnOk result (self.new ≡ with_vote self.old from slot vote) }
+        ensures err { OnErr result (self.new ≡ self.old) }
+        ensures members { self.new.members ≡ self.old.members }
+        ensures memory { OnErr result (IsTrue (is_in_window self.old.applied slot) × (vote_at self.old slot from ≡ None)) }
+    {
+        if self.is_within(slot.number())
+            && self.is_news(from.number(), slot.number(), vote.ballot)
+        {
+            return self.put(from, slot, vote);
+        }
+        Ok(())
+    }
+
+    /// The next slot's value was applied. The votes for it are dropped.
+    pub fn advance(&mut self)
+        requires { IsSome (chosen_next self.old) }
+        ensures { self.new ≡ advanced self.old }
+    {
+        let slot = self.applied + 1;
+        self.votes.retain(|place, _| slot < place.0);
+        self.applied = slot;
+    }
+
+    /// Whether a vote is kept for a slot after the next one. False once 999,999 slots are applied.
+    pub fn has_gap(&self) -> bool
+        ensures value { result ≡ has_gap self.now }
+        ensures last { IsTrue result → self.now.applied < 999999 }
+    {
+        let slot = self.applied + 1;
+        self.votes.keys().any(|place| slot < place.0)
+    }
+}

@@ -1,0 +1,9 @@
+//! The learner of Paxos Made Simple for many slots at once: it keeps the members' votes for the next slots, and says which value is chosen
+//! for the next one. It asks nobody and stores nothing.
+#![tactic(auto)]
+
+mod laws;
+mod learner;
+
+pub use laws::chosen_by_majority;
+pub use learner::Learner;
