@@ -9,10 +9,7 @@ use press_text::Text;
 pub fn show_failing_reads(rt: &HostRuntime, name: &str, bytes: &[u8]) -> anyhow::Result<()> {
     let mut before = String::new(rt.alloc());
     for call in 0..bytes.len() / 16 + 3 {
-        let now = line(
-            rt.alloc(),
-            Pieces::new(bytes, 16, Failure::AtCall(call)),
-        )?;
+        let now = line(rt.alloc(), Pieces::new(bytes, 16, Failure::AtCall(call)))?;
         if now != before {
             println!(rt; "{name}, where read {call} fails: {now}")?;
             before = now;

@@ -11,8 +11,9 @@ pub enum Failure {
     AtCall(usize),
 }
 
-fn failed<T>() -> io::Result<T> {
-    Err(io::Error::from(ErrorKind::Interrupted))
+// That after which the standard library's own loops try again.
+fn interrupted() -> io::Error {
+    io::Error::from(ErrorKind::Interrupted)
 }
 
 /// A reader that gives its bytes in pieces.
@@ -49,7 +50,7 @@ impl Read for Pieces<'_> {
         self.reads = self.reads.saturating_add(1);
         if fails {
             self.failure = Failure::Never;
-            return failed();
+            return Err(interrupted());
         }
         let room = self.size.min(buf.len());
         self.left.read(&mut buf[..room])
@@ -81,7 +82,7 @@ impl Write for Taken {
         let fails = self.writes == self.fails_at;
         self.writes = self.writes.saturating_add(1);
         if fails {
-            return failed();
+            return Err(interrupted());
         }
         let taken = self.size.min(buf.len());
         self.bytes = self.bytes.saturating_add(taken);
