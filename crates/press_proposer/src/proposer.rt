@@ -1,0 +1,223 @@
+//! What a proposer does at each event: at most one save, and the messages that go out after it.
+
+ghost use Rattle.std.specs.Prelude.{◌≡◌, ◌⊎◌, ◌<◌, ◌≤◌, ◌^◌, Err, IfOk, ◌+◌, IfErr, IsErrAnd, IsTrue, OnOk, OnErr, false, nat_lt, true, if◌then◌else◌};
+ghost use Rattle.press_acceptor.specs.Messages as messages;
+ghost use Rattle.press_acceptor.specs.StoreMap.{NoMore, Only};
+ghost use Rattle.press_acceptor.specs.declared.fault.StoreFault.TheVariants.{NoMemory};
+ghost use Rattle.press_wire.specs.Ranges.{round_of};
+ghost use Rattle.press_wire.specs.declared.message.Body.TheVariants.{Accept};
+ghost use Rattle.press_proposer.specs.Faults.{IsWakeFault};
+ghost use Rattle.press_proposer.specs.Proposing.{started, in_phase, left_by};
+ghost use Rattle.press_proposer.specs.Queues.{is_full};
+ghost use Rattle.press_proposer.specs.Turns.{queued_by, is_content, is_used_up, next_round, wake_turn, promise_turn, nacked_by, applied_by};
+
+use crate::fault::ProposerFault;
+use crate::phase::Phase;
+use crate::promises::{Promise, Promises, lacks_one, value_with};
+use crate::queue::Queue;
+use press_acceptor::{PromiseStore, StoreFault, to_all};
+use press_apply::{Stamped, Value};
+use press_wire::{Ballot, Body, Message, Node, Round, Slot, Vote};
+use std::alloc::{AllocError, Global};
+use std::marker::Model;
+
+/// The proposer of Paxos Made Simple (2.2 to 2.5): it prepares a ballot for the next slot, and at a majority of promises asks for votes.
+#[derive(Debug, Drop)]
+pub struct Proposer {
+    id: Node,
+    members: u8,
+    queue: Queue,
+    phase: Phase,
+    nacked: u64,
+    alloc: Global,
+}
+
+impl Model for Proposer {
+    ghost use Rattle.std.specs.Prelude.{◌≤◌};
+    ghost use Rattle.press_proposer.specs.Proposing.{Proposing};
+
+    ghost Value = { Proposing };
+
+    ghost view = { λ p. record { id = p.id; members = p.members; queue = p.queue; phase = p.phase; nacked = p.nacked } };
+
+    ghost invariant = { λ p. p.members ≤ 7 };
+}
+
+impl Proposer {
+    /// A proposer that waits, at a start of the node `id` of so many members.
+    ///
+    /// `last_round` is the last round of the store: no round up to it is used again, whatever the store answers later.
+    pub fn new(alloc: Global, id: Node, members: u8, last_round: u64) -> Proposer
+        requires { members ≤ 7 }
+        ensures { result ≡ started id members last_round }
+    {
+        Proposer {
+            id,
+            members,
+            queue: Queue::new(alloc),
+            phase: Phase::Idle,
+            nacked: last_round,
+            alloc,
+        }
+    }
+
+    /// Puts a command at the end of the queue. Full where 256 wait, which is seen before any memory is taken.
+    pub fn submit(&mut self, command: Stamped) -> Result<(), ProposerFault>
+        ensures queued { OnOk result (self.new ≡ queued_by self.old command) }
+        ensures room { IfOk result (λ _. is_full self.old.queue ≡ false) }
+        ensures fault { IfErr result (λ fault. fault ≡ (if is_full self.old.queue then ProposerFault.Full else ProposerFault.Store NoMemory)) }
+        ensures unchanged { OnErr result (self.new ≡ self.old) }
+    {
+        if self.queue.is_full() {
+            return Err(ProposerFault::Full);
+        }
+        self.queue.push(command)?;
+        Ok(())
+    }
+
+    /// With a queue or a gap it begins a round: the round is saved, and Prepare for the next slot goes to all members. Otherwise it asks
+    /// them for their votes. `applied` slots have values; a gap is a vote for a slot beyond the next one.
+    ///
+    /// RoundsUsedUp where the round would pass 2^40. A fault leaves the store as it was before or after the save.
+    pub fn wake<S: PromiseStore>(
+        &mut self,
+        store: &mut S,
+        applied: u32,
+        gap: bool,
+    ) -> Result<Vec<Message>, ProposerFault>
+        requires { applied < 1000000 }
+        ensures kept { self.new ≡ in_phase self.old self.new.phase }
+        ensures after { S.is_honest store.new → OnOk result (self.new ≡ (wake_turn (S.kept store.old) self.old applied gap).after) }
+        ensures out { S.is_honest store.new → IfOk result (λ out. out.items ≡ (wake_turn (S.kept store.old) self.old applied gap).out) }
+        ensures saved { S.is_honest store.new → IsTrue (S.is_open store.new) → OnOk result (S.kept store.new ≡ left_by (S.kept store.old) (wake_turn (S.kept store.old) self.old applied gap)) }
+        ensures durable { S.is_honest store.new → IsTrue (S.is_open store.new) → Only (S.kept store.old) (S.may_leave store.old) → OnOk result (Only (S.kept store.new) (S.may_leave store.new)) }
+        ensures unchanged { OnErr result (self.new ≡ self.old) }
+        ensures failed { S.is_honest store.new → IsTrue (S.is_open store.new) → OnErr result ((S.kept store.new ≡ S.kept store.old) ⊎ (S.kept store.new ≡ left_by (S.kept store.old) (wake_turn (S.kept store.old) self.old applied gap))) }
+        ensures honest { S.is_honest store.new → S.is_honest store.old }
+        ensures fault { IfErr result (IsWakeFault (λ fault. (fault ≡ NoMemory) ⊎ S.fails_by fault)) }
+        ensures used_up { S.is_honest store.new → IsTrue (is_used_up (S.kept store.old) self.old gap) → IsErrAnd result (IsWakeFault S.fails_by) }
+        ensures rounds { S.is_honest store.new → result ≡ Err ProposerFault.RoundsUsedUp → IsTrue (is_used_up (S.kept store.old) self.old gap) }
+        ensures refused { S.is_honest store.new → IsTrue (S.is_open store.new) → result ≡ Err ProposerFault.RoundsUsedUp → S.kept store.new ≡ S.kept store.old }
+    {
+        let slot = slot_after(applied);
+        if self.is_content(gap) {
+            let out = self.to_all(slot, Body::Query)?;
+            return Ok(out);
+        }
+        let round = self.next_round(store)?;
+        let out = self.to_all(slot, Body::Prepare { round })?;
+        store.save_round(round)?;
+        let ballot = Ballot {
+            round,
+            node: self.id,
+        };
+        self.phase = Phase::Preparing {
+            slot,
+            ballot,
+            promises: Promises::new(self.alloc),
+        };
+        Ok(out)
+    }
+
+    /// A member's promise came, with its vote. At a majority Accept goes to all members.
+    pub fn on_promise(
+        &mut self,
+        from: Node,
+        slot: Slot,
+        ballot: Ballot,
+        vote: Option<Vote>,
+    ) -> Result<Vec<Message>, AllocError>
+        requires { from ≤ self.old.members }
+        ensures kept { self.new ≡ in_phase self.old self.new.phase }
+        ensures after { OnOk result (self.new ≡ (promise_turn self.old from slot ballot vote).after) }
+        ensures out { IfOk result (λ out. out.items ≡ (promise_turn self.old from slot ballot vote).out) }
+        ensures unchanged { OnErr result (self.new ≡ self.old) }
+    {
+        if !self.phase.awaits(from, slot, &ballot) {
+            return Ok(Vec::new(self.alloc));
+        }
+        if lacks_one(self.phase.promises(), self.members) {
+            let value = value_with(self.alloc, self.phase.promises(), &vote, &self.queue)?;
+            let out = self.ask(slot, &ballot, value)?;
+            self.phase = Phase::Asking { slot, ballot };
+            return Ok(out);
+        }
+        self.phase.push(Promise { from, vote })?;
+        Ok(Vec::new(self.alloc))
+    }
+
+    /// A refusal came, which tells the ballot that was promised.
+    pub fn on_nack(&mut self, slot: Slot, ballot: Ballot, promised: Ballot)
+        ensures { self.new ≡ nacked_by self.old slot ballot promised }
+    {
+        if self.phase.is_current(slot, ballot) {
+            self.phase = Phase::Idle;
+        }
+        self.nacked = self.nacked.max(promised.round.number());
+    }
+
+    /// The slot's value was applied: the proposer is idle, and the first command that is the value leaves the queue.
+    pub fn on_applied(&mut self, _slot: Slot, value: &Value)
+        ensures { self.new ≡ applied_by self.old value.now }
+    {
+        self.phase = Phase::Idle;
+        self.queue.remove(value);
+    }
+
+    /// Nothing waits, and no vote stands beyond the next slot.
+    fn is_content(&self, gap: bool) -> bool
+        ensures { result ≡ is_content self.now gap }
+    {
+        self.queue.is_empty() && !gap
+    }
+
+    /// The round behind the greatest that was saved or told.
+    fn next_round<S: PromiseStore>(&self, store: &mut S) -> Result<Round, ProposerFault>
+        ensures round { S.is_honest store.new → IfOk result (λ round. round ≡ next_round (S.kept store.old) self.now) }
+        ensures left { S.is_honest store.new → IfOk result (λ _. nat_lt (2 ^ 40) (next_round (S.kept store.old) self.now) ≡ false) }
+        ensures used_up { S.is_honest store.new → result ≡ Err ProposerFault.RoundsUsedUp → nat_lt (2 ^ 40) (next_round (S.kept store.old) self.now) ≡ true }
+        ensures same { S.is_honest store.new → IsTrue (S.is_open store.new) → IsTrue (S.is_open store.old) × (S.kept store.new ≡ S.kept store.old) }
+        ensures crash { S.is_honest store.new → NoMore (S.may_leave store.old) (S.may_leave store.new) }
+        ensures honest { S.is_honest store.new → S.is_honest store.old }
+        ensures fault { IfErr result (IsWakeFault S.fails_by) }
+    {
+        let last = store.last_round()?.max(self.nacked);
+        let Some(round) = round_after(last) else {
+            return Err(ProposerFault::RoundsUsedUp);
+        };
+        Ok(round)
+    }
+
+    /// Asks each member for a vote.
+    fn ask(&self, slot: Slot, ballot: &Ballot, value: Value) -> Result<Vec<Message>, AllocError>
+        ensures { IfOk result (λ out. out.items ≡ messages.to_all self.now.members self.now.id slot (Accept ballot.now.round value)) }
+    {
+        let round = ballot.round;
+        self.to_all(slot, Body::Accept { round, value })
+    }
+
+    /// A message to each member.
+    fn to_all(&self, slot: Slot, body: Body) -> Result<Vec<Message>, AllocError>
+        ensures { IfOk result (λ out. out.items ≡ messages.to_all self.now.members self.now.id slot body) }
+    {
+        to_all(self.alloc, self.members, self.id, slot, &body)
+    }
+}
+
+/// The slot behind so many.
+fn slot_after(applied: u32) -> Slot
+    requires { applied < 1000000 }
+    ensures { result ≡ applied + 1 }
+{
+    let Some(slot) = Slot::new(applied + 1) else {
+        unreachable!()
+    };
+    slot
+}
+
+/// The round behind the last one, where one is left.
+fn round_after(last: u64) -> Option<Round>
+    ensures { result ≡ round_of (last + 1) }
+{
+    Round::new(last.checked_add(1)?)
+}
