@@ -1,6 +1,8 @@
-use press_apply::Value;
-use press_text::Moment;
+use press_apply::{Command, Stamped, Value};
+use press_site::Token;
+use press_text::{Moment, Name};
 use press_wire::{Ballot, Node, Round, Slot};
+use std::alloc::Global;
 use std::test::Fail;
 
 pub fn node(number: u8) -> Result<Node, Fail> {
@@ -24,4 +26,15 @@ pub fn slot() -> Result<Slot, Fail> {
 
 pub fn noop() -> Value {
     Value::Noop { at: Moment::zero() }
+}
+
+pub fn tick(alloc: Global, seq: u64) -> Result<Stamped, Fail> {
+    Ok(Stamped {
+        token: Token {
+            editor: Name::new(alloc, "ann")?,
+            seq,
+        },
+        at: Moment::zero(),
+        command: Command::Tick,
+    })
 }
