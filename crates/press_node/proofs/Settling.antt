@@ -1,0 +1,43 @@
+-- Applying one value after another is settling, and the site stays what the applied values make.
+use Rattle.std.proofs.Common.{ℕ, zero, suc, ◌+◌, ◌-◌, ◌<◌, ◌≤◌, ◌≡◌, Bool, true, false, List, [], ◌∷◌, ◌++◌, refl, sym, ap, ◌∙◌, arith, subst}
+use Rattle.press_callbacks.specs.Kits.{KitView}
+use Rattle.press_site.specs.SiteView.{SiteView}
+use Rattle.press_apply.specs.declared.value.Value.{Value}
+use Rattle.press_apply.specs.Apply.{applied, folded, site_after}
+use Rattle.press_site.specs.Effects.{no_site}
+use Rattle.press_node.specs.NodeEvent.{Running, if_chosen, applies, settled, with_applied}
+use Rattle.press_node.specs.Views.{Applies, IsUpFolded, running_of}
+use Rattle.press_node.specs.declared.up.Up.{Up}
+
+folded_more : (kit : KitView) (site : SiteView) (values : List Value) (value : Value) → folded kit site (values ++ value ∷ []) ≡ (applied kit (folded kit site values) value).0
+folded_more kit site [] value = refl
+folded_more kit site (v ∷ vs) value = folded_more kit (applied kit site v).0 vs value
+
+applies_more : (most : ℕ) (kit : KitView) (old new : Up) → Applies kit old true new → applies (suc most) (running_of old) ≡ applies most (running_of new)
+applies_more most kit old new h = ap (λ o. if_chosen o (λ value. applies most (with_applied (running_of old) value)) (running_of old)) h.1 ∙ ap (applies most) (sym h.2)
+
+applies_end : (most : ℕ) (kit : KitView) (old new : Up) → Applies kit old false new → applies most (running_of old) ≡ running_of new
+applies_end zero kit old new h = ap running_of (sym h.1)
+applies_end (suc most) kit old new h = ap (λ o. if_chosen o (λ value. applies most (with_applied (running_of old) value)) (running_of old)) h.0 ∙ ap running_of (sym h.1)
+
+pub stays_folded : (kit : KitView) (old new : Up) (more : Bool) → Applies kit old more new → IsUpFolded kit old → IsUpFolded kit new
+stays_folded kit old new true h f =
+    h.3 ∙ (ap (λ s. (applied kit s h.0).0) f ∙ (sym (folded_more kit no_site old.values.items h.0) ∙ ap (λ (r : Running). site_after kit r.values) (sym h.2)))
+stays_folded kit old new false h f = subst (IsUpFolded kit) (sym h.1) f
+
+-- from here on the node settles as from the beginning
+abbrev pub SettlesOn : ℕ → Running → Running → Type 0
+SettlesOn i now first = (most : ℕ) → i + most ≡ 64 → applies most now ≡ settled first
+
+pub settles_start : (first : Running) → SettlesOn 0 first first
+unfolding settled
+settles_start first most e = let k : most ≡ 64 = omega arith in ap (λ m. applies m first) k
+
+pub settles_more : (i : ℕ) (kit : KitView) (old new : Up) (first : Running) → Applies kit old true new → SettlesOn i (running_of old) first → SettlesOn (i + 1) (running_of new) first
+settles_more i kit old new first h s most e = sym (applies_more most kit old new h) ∙ s (suc most) (omega arith)
+
+pub settles_stop : (i : ℕ) (kit : KitView) (old new : Up) (first : Running) → i < 64 → Applies kit old false new → SettlesOn i (running_of old) first → running_of new ≡ settled first
+settles_stop i kit old new first lt h s = sym (applies_end (64 - i) kit old new h) ∙ s (64 - i) (omega arith)
+
+pub settles_out : (i : ℕ) (now first : Running) → 64 ≤ i → i ≤ 64 → SettlesOn i now first → now ≡ settled first
+settles_out i now first a b s = s 0 (omega arith)

@@ -1,0 +1,131 @@
+-- What an answer says is what its save leaves in the store.
+use Rattle.std.proofs.Common.{ℕ, ◌+◌, ◌≤◌, ◌≡◌, ◌==◌, ◌&&◌, not, nat_le, Bool, true, false, List, [], ◌∷◌, ◌++◌, map, All, get_or, Option, None, Some, unwrap_or, if◌then◌else◌, refl, sym, ap, ◌∙◌, arith}
+use Rattle.std.proofs.lemmas.List.Elements.{All-nil, All-cons, All-map}
+use Rattle.std.specs.List.{range_with_len}
+use Rattle.press_apply.specs.declared.value.Value.{Value}
+use Rattle.press_wire.specs.Ballots.{is_same}
+use Rattle.press_wire.specs.declared.ballot.Ballot.{Ballot}
+use Rattle.press_wire.specs.declared.vote.Vote.{Vote}
+use Rattle.press_wire.specs.declared.message.Body.{Body}
+use Rattle.press_wire.specs.declared.message.Body.TheVariants.{Prepare, Promise, Nack, Accept, Accepted, Query}
+use Rattle.press_wire.specs.declared.message.Message.{Message}
+use Rattle.press_acceptor.specs.declared.row.Row.{Row}
+use Rattle.press_acceptor.specs.declared.said.Said.TheVariants as says
+use Rattle.press_acceptor.specs.Answers.{answer_to, said_out, query_out}
+use Rattle.press_acceptor.specs.Messages.{message_to, to_all}
+use Rattle.press_acceptor.specs.StoreMap.{StoreMap, promise_of, new_row, row_at, saved_if, vote_of, with_round, with_row}
+use Rattle.press_acceptor.specs.Turns.{cast_in, if_less, unless_greater, prepare_by, accept_by, told}
+use Rattle.press_proposer.specs.Phases.{awaits, promises_in, with_promise}
+use Rattle.press_proposer.specs.Promises.{is_majority}
+use Rattle.press_proposer.specs.Proposing.{Proposing, Turn, quiet, in_phase}
+use Rattle.press_proposer.specs.Turns.{is_content, asks, prepares, next_round, wake_turn, proposes, counted, promise_turn}
+use Rattle.press_proposer.specs.declared.promises.Promise as promises
+use Rattle.press_learner.specs.Chosen.{has_gap}
+use Rattle.press_node.specs.declared.event.Event.{Event}
+use Rattle.press_node.specs.declared.event.Event.TheVariants.{Submit, Wake, Deliver}
+use Rattle.press_node.specs.Durable.{AreStored, IsStored, IsBodyStored}
+use Rattle.press_node.specs.NodeEvent.{Running, Answer, quiet as node_quiet, is_for, left_by, on_body, on_message, on_event}
+use Rattle.press_acceptor.proofs.Maps.{get_here}
+use Rattle.press_node.proofs.Few.{either}
+
+always : {X : Type 0} (P : X → Type 0) (xs : List X) → ((x : X) → P x) → All P xs
+always P xs h = λ k d below. h (get_or xs k d)
+
+none : (store : StoreMap) → AreStored store []
+none store = All-nil (IsStored store)
+
+one : (store : StoreMap) (message : Message) → IsStored store message → AreStored store (message ∷ [])
+one store message h = All-cons (IsStored store) message [] h (none store)
+
+to_all_stored : (store : StoreMap) (n id slot : ℕ) (body : Body) → IsBodyStored store slot body → AreStored store (to_all n id slot body)
+to_all_stored store n id slot body h = All-map (IsStored store) (message_to id slot body) (range_with_len 1 n) (always (λ to. IsStored store (message_to id slot body to)) (range_with_len 1 n) (λ to. h))
+
+-- the row that was saved
+row_here : (store : StoreMap) (slot : ℕ) (row : Row) → row_at (with_row store slot row) slot ≡ row
+row_here store slot row = ap (λ o. unwrap_or o new_row) (get_here store.rows slot row slot refl)
+
+-- ---- the acceptor
+
+prepare_stored : (n id : ℕ) (store : StoreMap) (asker slot : ℕ) (ballot : Ballot) (o : Option Ballot) →
+    let turn = prepare_by o (vote_of store slot) slot ballot in
+    AreStored (saved_if store turn.save) (said_out n id slot ballot asker turn.said)
+prepare_stored n id store asker slot ballot None =
+    let e = row_here store slot (record { promised = Some ballot; vote = vote_of store slot }) in
+    one (with_row store slot (record { promised = Some ballot; vote = vote_of store slot })) (message_to id slot (Promise ballot (vote_of store slot)) asker)
+    (ap (λ (r : Row). r.promised) e, ap (λ (r : Row). r.vote) e)
+prepare_stored n id store asker slot ballot (Some promised) = one store (message_to id slot (Nack ballot promised) asker) tt
+
+cast_by : (b : Bool) (vote cast : Vote) → (if b then Some vote else None) ≡ Some cast → Some vote ≡ Some cast
+cast_by true vote cast e = e
+cast_by false vote cast e = absurd (let x : None ≡ Some cast = e in cc)
+
+cast_is : (o : Option Vote) (ballot : Ballot) (cast : Vote) → cast_in o ballot ≡ Some cast → o ≡ Some cast
+cast_is None ballot cast e = absurd (let x : None ≡ Some cast = e in cc)
+cast_is (Some vote) ballot cast e = cast_by (is_same vote.ballot ballot) vote cast e
+
+accept_stored : (n id : ℕ) (store : StoreMap) (asker slot : ℕ) (vote : Vote) (c : Option Vote) (o : Option Ballot) → cast_in (vote_of store slot) vote.ballot ≡ c →
+    let turn = accept_by c o slot vote in
+    AreStored (saved_if store turn.save) (said_out n id slot vote.ballot asker turn.said)
+accept_stored n id store asker slot vote (Some cast) o e = to_all_stored store n id slot (Accepted cast) (cast_is (vote_of store slot) vote.ballot cast e)
+accept_stored n id store asker slot vote None None e =
+    let row : Row = record { promised = Some vote.ballot; vote = Some vote } in
+    to_all_stored (with_row store slot row) n id slot (Accepted vote) (ap (λ (r : Row). r.vote) (row_here store slot row))
+accept_stored n id store asker slot vote None (Some promised) e = one store (message_to id slot (Nack vote.ballot promised) asker) tt
+
+query_stored : (id : ℕ) (store : StoreMap) (asker slot : ℕ) (o : Option Vote) → vote_of store slot ≡ o → AreStored store (query_out id slot asker (told o))
+query_stored id store asker slot None e = none store
+query_stored id store asker slot (Some vote) e = one store (message_to id slot (Accepted vote) asker) e
+
+acceptor_stored : (n id : ℕ) (store : StoreMap) (asker slot : ℕ) (body : Body) → AreStored (saved_if store (answer_to n id store asker slot body).save) (answer_to n id store asker slot body).out
+acceptor_stored n id store asker slot (Prepare round) =
+    let ballot : Ballot = record { round = round; node = asker } in
+    prepare_stored n id store asker slot ballot (unless_greater (promise_of store slot) ballot)
+acceptor_stored n id store asker slot (Accept round value) =
+    let ballot : Ballot = record { round = round; node = asker } in
+    accept_stored n id store asker slot (record { ballot = ballot; value = value }) (cast_in (vote_of store slot) ballot) (if_less (promise_of store slot) ballot) refl
+acceptor_stored n id store asker slot Query = query_stored id store asker slot (vote_of store slot) refl
+acceptor_stored n id store asker slot (Promise ballot vote) = none store
+acceptor_stored n id store asker slot (Nack refused promised) = none store
+acceptor_stored n id store asker slot (Accepted vote) = none store
+
+-- ---- the proposer
+
+abbrev IsTurnStored : StoreMap → Turn → Type 0
+IsTurnStored store turn = AreStored (saved_if store turn.save) turn.out
+
+wake_stored : (store : StoreMap) (p : Proposing) (applied : ℕ) (gap : Bool) → IsTurnStored store (wake_turn store p applied gap)
+wake_stored store p applied gap =
+    let round = next_round store p in
+    either (IsTurnStored store) (is_content p gap) (asks p (applied + 1)) (prepares p (applied + 1) round)
+    (to_all_stored store p.members p.id (applied + 1) Query tt)
+    (to_all_stored (with_round store round) p.members p.id (applied + 1) (Prepare round) (omega arith))
+
+counted_stored : (store : StoreMap) (p : Proposing) (slot : ℕ) (ballot : Ballot) (earlier : List promises.Promise) (promise : promises.Promise) → IsTurnStored store (counted p slot ballot earlier promise)
+counted_stored store p slot ballot earlier promise =
+    let came : List promises.Promise = earlier ++ promise ∷ [] in
+    either (IsTurnStored store) (is_majority p.members came) (proposes p slot ballot came) (quiet (in_phase p (with_promise p.phase promise)))
+    (to_all_stored store p.members p.id slot _ tt) (none store)
+
+promise_stored : (store : StoreMap) (p : Proposing) (from slot : ℕ) (ballot : Ballot) (vote : Option Vote) → IsTurnStored store (promise_turn p from slot ballot vote)
+promise_stored store p from slot ballot vote =
+    either (IsTurnStored store) (awaits p.phase from slot ballot) (counted p slot ballot (promises_in p.phase) (record { from = from; vote = vote })) (quiet p)
+    (counted_stored store p slot ballot (promises_in p.phase) (record { from = from; vote = vote })) (none store)
+
+-- ---- the node
+
+abbrev IsAnswerStored : StoreMap → Answer → Type 0
+IsAnswerStored store a = AreStored (left_by store a) a.out
+
+body_stored : (n id : ℕ) (store : StoreMap) (node : Running) (message : Message) (body : Body) → IsAnswerStored store (on_body n id store node message body)
+body_stored n id store node message (Prepare round) = acceptor_stored n id store message.from message.slot message.body
+body_stored n id store node message (Accept round value) = acceptor_stored n id store message.from message.slot message.body
+body_stored n id store node message Query = acceptor_stored n id store message.from message.slot message.body
+body_stored n id store node message (Promise ballot vote) = promise_stored store node.proposer message.from message.slot ballot vote
+body_stored n id store node message (Nack refused promised) = none store
+body_stored n id store node message (Accepted vote) = none store
+
+pub event_stored : (n id : ℕ) (store : StoreMap) (node : Running) (event : Event) → AreStored (left_by store (on_event n id store node event)) (on_event n id store node event).out
+event_stored n id store node (Submit command) = none store
+event_stored n id store node Wake = wake_stored store node.proposer node.learner.applied (has_gap node.learner)
+event_stored n id store node (Deliver message) =
+    either (IsAnswerStored store) (is_for n id message) (on_body n id store node message message.body) (node_quiet node) (body_stored n id store node message message.body) (none store)

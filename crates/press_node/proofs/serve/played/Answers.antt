@@ -1,0 +1,41 @@
+use Rattle.std.proofs.Common.{Ok, Err}
+use Rattle.press_node.proofs.Serving.{told_answers, refused_answers, refused_too}
+use Rattle.press_node.specs.Refusals.{refusal_at_once}
+use Rattle.press_node.specs.States.{running_in}
+use Rattle.press_node.proofs.serve.played.Goals as goal
+
+pub returns-in-Ok-clause-plays : goal.returns-in-Ok-clause-plays
+returns-in-Ok-clause-plays g c =
+    let e = c.in-Ok.ensures in (
+      Ok c.in-Ok.outbox.items,
+      record {
+        messages = e.messages;
+        after = e.after;
+        saved = e.saved;
+        was_stopped = tt;
+        unchanged = tt;
+        failed = λ h o. tt;
+        unsaved = λ h o. tt;
+        at_once = refused_too (λ v. v.items) (Ok c.in-Ok.outbox) (refusal_at_once (running_in c.args.node.now.state) c.args.event) e.at_once;
+        refused = λ h. tt;
+      },
+      told_answers (λ s. s.status) (λ s. s.outbox.items) c.args.reply.now (g.W.Write.contents c.args.writer.now) (g.W.Write.contents c.told.new.writer) c.told.result c.in-Ok.outbox.items c.told.ensures.outbox c.told.ensures.ok c.told.ensures.err c.told.ensures.fault,
+    )
+
+pub returns-in-Err-clause-plays : goal.returns-in-Err-clause-plays
+returns-in-Err-clause-plays g c =
+    let e = c.in-Err.ensures in (
+      Err c.in-Err.fault,
+      record {
+        messages = λ h. tt;
+        after = λ h. tt;
+        saved = λ h o. tt;
+        was_stopped = e.stopped;
+        unchanged = e.unchanged;
+        failed = e.failed;
+        unsaved = e.unsaved;
+        at_once = refused_too (λ v. v.items) (Err c.in-Err.fault) (refusal_at_once (running_in c.args.node.now.state) c.args.event) e.at_once;
+        refused = e.refused;
+      },
+      refused_answers (λ s. s.status) (λ s. s.outbox.items) c.args.reply.now (g.W.Write.contents c.args.writer.now) (g.W.Write.contents c.refused.new.writer) c.refused.result c.in-Err.fault c.status.result c.status.ensures.value c.refused.ensures.ok c.refused.ensures.err c.refused.ensures.fault,
+    )

@@ -1,0 +1,53 @@
+-- A node without its kit and its store: which member it is, and what it has in memory while it is up.
+use Rattle.std.specs.Prelude.{◌≡◌, ℕ, Bool, true, false, Option, None, Some, option_map, length}
+use Rattle.press_callbacks.specs.Kits.{KitView}
+use Rattle.press_apply.specs.Apply.{site_after}
+use Rattle.press_site.specs.SiteView.{SiteView}
+use Rattle.press_site.specs.Effects.{no_site}
+use Rattle.press_acceptor.specs.StoreMap.{StoreMap}
+use Rattle.press_node.specs.declared.event.Event.{Event}
+use Rattle.press_node.specs.NodeEvent.{Running, Answer, fresh, on_event}
+
+pub record Up : Type 0 where
+  pub running : Running
+  -- what the applied values make
+  pub site : SiteView
+
+pub record NodeState : Type 0 where
+  pub id : ℕ
+  pub members : ℕ
+  -- none where the node is down
+  pub up : Option Up
+
+abbrev pub running_in : NodeState → Option Running
+running_in state = option_map (λ up. up.running) state.up
+
+-- its answer to an event, where it is up
+abbrev pub answer_in : StoreMap → NodeState → Event → Option Answer
+answer_in store state event = option_map (λ up. on_event state.members state.id store up.running event) state.up
+
+abbrev pub stopped : NodeState → NodeState
+stopped state = record { id = state.id; members = state.members; up = None }
+
+-- just started, over a store with this last round
+abbrev pub started_at : ℕ → ℕ → ℕ → NodeState
+started_at id members last_round = record { id = id; members = members; up = Some (record { running = fresh members id last_round; site = no_site }) }
+
+abbrev pub is_down_where : Option Up → Bool
+is_down_where None = true
+is_down_where (Some up) = false
+
+abbrev pub is_down : NodeState → Bool
+is_down state = is_down_where state.up
+
+-- how many values were applied since the start; none where the node is down
+abbrev pub count_where : Option Up → ℕ
+count_where None = 0
+count_where (Some up) = length up.running.values
+
+abbrev pub applied_count : NodeState → ℕ
+applied_count state = count_where state.up
+
+-- the site is what the kit makes of the applied values
+abbrev pub IsFolded : KitView → NodeState → Type 0
+IsFolded kit state = option_map (λ up. up.site) state.up ≡ option_map (λ up. site_after kit up.running.values) state.up

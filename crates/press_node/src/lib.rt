@@ -1,0 +1,18 @@
+//! One node of a cluster: a kit, a store, and what it has in memory. It answers events with messages and requests with pages.
+#![tactic(auto)]
+
+mod event;
+mod fault;
+mod kept;
+mod node;
+mod serve;
+mod start_fault;
+mod state;
+mod up;
+
+pub use event::Event;
+pub use fault::NodeFault;
+pub use kept::Node;
+pub use serve::Served;
+pub use start_fault::StartFault;
+pub use state::State;

@@ -1,0 +1,371 @@
+//! What a running node has in memory, and what each event does to it.
+
+ghost use Rattle.std.specs.Prelude.{◌≡◌, ◌⊎◌, ◌≤◌, ◌+◌, ◌<◌, length, IsTrue, IfOk, IfErr, IfSome, OnOk, OnErr, None, Some, true, false, Err};
+ghost use Rattle.press_callbacks.specs.Kits.{kit_view};
+ghost use Rattle.press_acceptor.specs.Answers.{acceptor_answer};
+ghost use Rattle.press_acceptor.specs.StoreMap.{saved_if};
+ghost use Rattle.press_apply.specs.declared.value.Value.TheVariants.{Cmd};
+ghost use Rattle.press_learner.specs.Chosen.{has_gap};
+ghost use Rattle.press_learner.specs.Kept.{new_learner, with_vote};
+ghost use Rattle.press_proposer.specs.Proposing.{started};
+ghost use Rattle.press_proposer.specs.Turns.{queued_by, wake_turn, promise_turn, nacked_by};
+ghost use Rattle.press_site.specs.Effects.{no_site};
+ghost use Rattle.press_wire.specs.Spelling as spell;
+ghost use Rattle.press_node.specs.Faults.{stops};
+ghost use Rattle.press_node.specs.NodeEvent.{by_acceptor, by_proposer, fresh, is_for, on_body, on_event, on_message, quiet, settled, with_learner, with_proposer};
+ghost use Rattle.press_node.specs.Refusals.{is_at_end, refusal_up, refusal};
+ghost use Rattle.press_node.specs.Views.{Applies, IsBeside, IsDone, IsFailed, IsUpAt, IsUpFolded, Leaves, running_of, view_one};
+
+use crate::event::Event;
+use crate::fault::NodeFault;
+use press_acceptor::{Acceptor, PromiseStore};
+use press_apply::{Stamped, Value, apply};
+use press_callbacks::Kit;
+use press_learner::Learner;
+use press_proposer::Proposer;
+use press_site::Site;
+use press_wire::{Ballot, Body, Message, Node as Member, Slot, Vote, WireFault, encode_cmd};
+use std::alloc::Global;
+
+/// How many slots there are.
+const SLOTS: u64 = 1_000_000;
+
+/// For how many slots votes are kept.
+const WINDOW: u8 = 64;
+
+#[derive(Drop)]
+pub(crate) struct Up {
+    pub(crate) proposer: Proposer,
+    pub(crate) learner: Learner,
+    pub(crate) values: Vec<Value>,
+    pub(crate) site: Site,
+}
+
+/// The slot behind so many.
+fn slot_behind(applied: u64) -> Slot
+    requires { applied < 1000000 }
+    ensures { result ≡ applied + 1 }
+{
+    let Some(slot) = Slot::new(applied as u32 + 1) else {
+        unreachable!()
+    };
+    slot
+}
+
+/// Whether more bytes spell the value than a command may have. (Want of memory is told only of a value that isn't too long.)
+fn is_too_long(alloc: Global, value: &Value) -> bool
+    ensures { result ≡ spell.is_too_long value.now }
+{
+    match encode_cmd(alloc, value) {
+        Err(WireFault::TooLong) => true,
+        Ok(_) | Err(_) => false,
+    }
+}
+
+/// The command, where it isn't too long.
+fn short(alloc: Global, command: Stamped) -> Result<Stamped, NodeFault>
+    ensures ok { IfOk result (λ c. (c ≡ command) × (spell.is_too_long (Cmd command) ≡ false)) }
+    ensures err { IfErr result (λ fault. (fault ≡ NodeFault.TooLong) × (spell.is_too_long (Cmd command) ≡ true)) }
+{
+    let value = Value::Cmd(command);
+    if is_too_long(alloc, &value) {
+        return Err(NodeFault::TooLong);
+    }
+    let Value::Cmd(command) = value else {
+        unreachable!()
+    };
+    Ok(command)
+}
+
+/// What the acceptor answers to a request or a query.
+fn answered<S: PromiseStore>(
+    alloc: Global,
+    store: &mut S,
+    members: u8,
+    id: Member,
+    message: &Message,
+) -> Result<Vec<Message>, NodeFault>
+    requires { members ≤ 7 }
+    ensures out { S.is_honest store.new → IfOk result (λ out. out.items ≡ (acceptor_answer members id (S.kept store.old) message.now).out) }
+    ensures saved { S.is_honest store.new → IsTrue (S.is_open store.new) → OnOk result (S.kept store.new ≡ saved_if (S.kept store.old) (acceptor_answer members id (S.kept store.old) message.now).save) }
+    ensures failed { S.is_honest store.new → IsTrue (S.is_open store.new) → OnErr result ((S.kept store.new ≡ S.kept store.old) ⊎ (S.kept store.new ≡ saved_if (S.kept store.old) (acceptor_answer members id (S.kept store.old) message.now).save)) }
+    ensures honest { S.is_honest store.new → S.is_honest store.old }
+    ensures stops { IfErr result (λ fault. stops fault ≡ true) }
+{
+    match Acceptor::answer(alloc, store, members, id, message) {
+        Ok(out) => Ok(out),
+        Err(fault) => Err(NodeFault::of_store(fault)),
+    }
+}
+
+/// Whether the message is for this node and from a member.
+fn is_for(members: u8, id: Member, message: &Message) -> bool
+    ensures { result ≡ is_for members id message.now }
+{
+    message.to == id && message.from.number() <= members
+}
+
+impl Up {
+    pub(crate) fn new(alloc: Global, id: Member, members: u8, last_round: u64) -> Up
+        requires { members ≤ 7 }
+        ensures running { running_of result ≡ fresh members id last_round }
+        ensures site { result.site ≡ no_site }
+    {
+        Up {
+            proposer: Proposer::new(alloc, id, members, last_round),
+            learner: Learner::new(alloc, members),
+            values: Vec::new(alloc),
+            site: Site::new(alloc),
+        }
+    }
+
+    /// Applies the next slot's value, where one is chosen; whether one was.
+    fn apply_next(&mut self, alloc: Global, kit: &Kit) -> Result<bool, NodeFault>
+        requires count { self.old.learner.applied ≡ length self.old.values.items }
+        ensures id { self.new.proposer.id ≡ self.old.proposer.id }
+        ensures members { self.new.proposer.members ≡ self.old.proposer.members }
+        ensures learner_members { self.new.learner.members ≡ self.old.learner.members }
+        ensures count { OnOk result (self.new.learner.applied ≡ length self.new.values.items) }
+        ensures stops { IfErr result (λ fault. stops fault ≡ true) }
+        ensures applies { IfOk result (λ more. Applies (kit_view kit.now) self.old more self.new) }
+    {
+        let value = match self.learner.next_chosen() {
+            None => return Ok(false),
+            Some(value) => match value.copy(alloc) {
+                Ok(value) => value,
+                Err(_) => return Err(NodeFault::NoMemory),
+            },
+        };
+        match apply(alloc, &mut self.site, kit, &value) {
+            Ok(_) => {}
+            Err(_) => return Err(NodeFault::NoMemory),
+        }
+        let slot = slot_behind(self.learner.applied());
+        self.proposer.on_applied(slot, &value);
+        match self.values.push(value) {
+            Ok(()) => {}
+            Err(_) => return Err(NodeFault::NoMemory),
+        }
+        self.learner.advance();
+        Ok(true)
+    }
+
+    /// Applies chosen values as long as the next slot has one.
+    fn settle(&mut self, alloc: Global, kit: &Kit) -> Result<(), NodeFault>
+        requires count { self.old.learner.applied ≡ length self.old.values.items }
+        ensures id { self.new.proposer.id ≡ self.old.proposer.id }
+        ensures members { self.new.proposer.members ≡ self.old.proposer.members }
+        ensures learner_members { self.new.learner.members ≡ self.old.learner.members }
+        ensures count { OnOk result (self.new.learner.applied ≡ length self.new.values.items) }
+        ensures stops { IfErr result (λ fault. stops fault ≡ true) }
+        ensures settled { OnOk result (running_of self.new ≡ settled (running_of self.old)) }
+        ensures folded { OnOk result (IsUpFolded (kit_view kit.now) self.old → IsUpFolded (kit_view kit.now) self.new) }
+    {
+        for i in 0..WINDOW {
+            match self.apply_next(alloc, kit) {
+                Ok(true) => {}
+                Ok(false) => return Ok(()),
+                Err(fault) => return Err(fault),
+            }
+        }
+        Ok(())
+    }
+
+    /// A vote came.
+    fn on_vote(
+        &mut self,
+        alloc: Global,
+        kit: &Kit,
+        from: Member,
+        slot: Slot,
+        vote: Vote,
+    ) -> Result<(), NodeFault>
+        requires count { self.old.learner.applied ≡ length self.old.values.items }
+        requires member { from ≤ self.old.learner.members }
+        ensures id { self.new.proposer.id ≡ self.old.proposer.id }
+        ensures members { self.new.proposer.members ≡ self.old.proposer.members }
+        ensures learner_members { self.new.learner.members ≡ self.old.learner.members }
+        ensures count { OnOk result (self.new.learner.applied ≡ length self.new.values.items) }
+        ensures stops { IfErr result (λ fault. stops fault ≡ true) }
+        ensures voted { OnOk result (running_of self.new ≡ settled (with_learner (running_of self.old) (with_vote self.old.learner from slot vote))) }
+        ensures folded { OnOk result (IsUpFolded (kit_view kit.now) self.old → IsUpFolded (kit_view kit.now) self.new) }
+    {
+        match self.learner.on_vote(from, slot, vote) {
+            Ok(()) => self.settle(alloc, kit),
+            Err(_) => Err(NodeFault::NoMemory),
+        }
+    }
+
+    /// A command came.
+    fn submit(&mut self, alloc: Global, command: Stamped) -> Result<(), NodeFault>
+        ensures rest { IsBeside self.old self.new }
+        ensures queued { OnOk result (self.new.proposer ≡ queued_by self.old.proposer command) }
+        ensures refused { IfSome (refusal_up (running_of self.old) (Event.Submit command)) (λ fault. result ≡ Err fault) }
+        ensures fault { IfErr result (λ fault. stops fault ≡ false → refusal_up (running_of self.old) (Event.Submit command) ≡ Some fault) }
+        ensures passes { OnOk result (refusal_up (running_of self.old) (Event.Submit command) ≡ None) }
+        ensures err { OnErr result (self.new ≡ self.old) }
+    {
+        let command = match short(alloc, command) {
+            Ok(command) => command,
+            Err(fault) => return Err(fault),
+        };
+        match self.proposer.submit(command) {
+            Ok(()) => Ok(()),
+            Err(fault) => Err(NodeFault::of_proposer(fault)),
+        }
+    }
+
+    /// Whether every slot has its value.
+    #[tactic(auto, unfolding(crate::specs::Refusals::is_at_end))]
+    fn is_at_end(&self) -> bool
+        ensures value { result ≡ is_at_end (running_of self.now) }
+        ensures more { result ≡ false → self.now.learner.applied < 1000000 }
+    {
+        self.learner.applied() >= SLOTS
+    }
+
+    /// A wake.
+    fn wake<S: PromiseStore>(&mut self, store: &mut S) -> Result<Vec<Message>, NodeFault>
+        ensures rest { IsBeside self.old self.new }
+        ensures out { S.is_honest store.new → IfOk result (λ out. out.items ≡ (wake_turn (S.kept store.old) self.old.proposer self.old.learner.applied (has_gap self.old.learner)).out) }
+        ensures after { S.is_honest store.new → OnOk result (self.new.proposer ≡ (wake_turn (S.kept store.old) self.old.proposer self.old.learner.applied (has_gap self.old.learner)).after) }
+        ensures saved { S.is_honest store.new → IsTrue (S.is_open store.new) → OnOk result (S.kept store.new ≡ saved_if (S.kept store.old) (wake_turn (S.kept store.old) self.old.proposer self.old.learner.applied (has_gap self.old.learner)).save) }
+        ensures err { OnErr result (self.new ≡ self.old) }
+        ensures failed { S.is_honest store.new → IsTrue (S.is_open store.new) → OnErr result ((S.kept store.new ≡ S.kept store.old) ⊎ (S.kept store.new ≡ saved_if (S.kept store.old) (wake_turn (S.kept store.old) self.old.proposer self.old.learner.applied (has_gap self.old.learner)).save)) }
+        ensures unsaved { S.is_honest store.new → IsTrue (S.is_open store.new) → IfErr result (λ fault. stops fault ≡ false → S.kept store.new ≡ S.kept store.old) }
+        ensures refused { IfSome (refusal_up (running_of self.old) Event.Wake) (λ fault. result ≡ Err fault) }
+        ensures fault { S.is_honest store.new → IfErr result (λ fault. stops fault ≡ false → refusal (S.kept store.old) (Some (running_of self.old)) Event.Wake ≡ Some fault) }
+        ensures passes { S.is_honest store.new → OnOk result (refusal (S.kept store.old) (Some (running_of self.old)) Event.Wake ≡ None) }
+        ensures honest { S.is_honest store.new → S.is_honest store.old }
+    {
+        if self.is_at_end() {
+            return Err(NodeFault::SlotsUsedUp);
+        }
+        let (applied, gap) = (self.learner.applied(), self.learner.has_gap());
+        match self.proposer.wake(store, applied as u32, gap) {
+            Ok(out) => Ok(out),
+            Err(fault) => Err(NodeFault::of_proposer(fault)),
+        }
+    }
+
+    /// A promise came.
+    fn promise(
+        &mut self,
+        from: Member,
+        slot: Slot,
+        ballot: Ballot,
+        vote: Option<Vote>,
+    ) -> Result<Vec<Message>, NodeFault>
+        requires { from ≤ self.old.proposer.members }
+        ensures rest { IsBeside self.old self.new }
+        ensures out { IfOk result (λ out. out.items ≡ (promise_turn self.old.proposer from slot ballot vote).out) }
+        ensures after { OnOk result (self.new.proposer ≡ (promise_turn self.old.proposer from slot ballot vote).after) }
+        ensures stops { IfErr result (λ fault. stops fault ≡ true) }
+    {
+        match self.proposer.on_promise(from, slot, ballot, vote) {
+            Ok(out) => Ok(out),
+            Err(_) => Err(NodeFault::NoMemory),
+        }
+    }
+
+    /// A refusal came.
+    fn nack(&mut self, slot: Slot, refused: Ballot, promised: Ballot)
+        ensures rest { IsBeside self.old self.new }
+        ensures after { self.new.proposer ≡ nacked_by self.old.proposer slot refused promised }
+    {
+        self.proposer.on_nack(slot, refused, promised);
+    }
+
+    /// A message for the node came, from a member.
+    fn on_body<S: PromiseStore>(
+        &mut self,
+        alloc: Global,
+        kit: &Kit,
+        store: &mut S,
+        id: Member,
+        members: u8,
+        message: Message,
+    ) -> Result<Vec<Message>, NodeFault>
+        requires up { IsUpAt id members self.old }
+        requires member { message.from ≤ members }
+        ensures ok { IfOk result (λ out. IsDone (S.is_honest store.new) (IsTrue (S.is_open store.new)) (kit_view kit.now) id members (on_body members id (S.kept store.old) (running_of self.old) message message.body) out.items (S.kept store.old) (S.kept store.new) self.old self.new) }
+        ensures err { IfErr result (λ fault. (stops fault ≡ true) × (S.is_honest store.new → IsTrue (S.is_open store.new) → Leaves (on_body members id (S.kept store.old) (running_of self.old) message message.body) (S.kept store.old) (S.kept store.new))) }
+        ensures honest { S.is_honest store.new → S.is_honest store.old }
+    {
+        let Message {
+            from,
+            to,
+            slot,
+            body,
+        } = message;
+        match body {
+            Body::Promise { ballot, vote } => self.promise(from, slot, ballot, vote),
+            Body::Nack { refused, promised } => {
+                self.nack(slot, refused, promised);
+                Ok(Vec::new(alloc))
+            }
+            Body::Accepted { vote } => match self.on_vote(alloc, kit, from, slot, vote) {
+                Ok(()) => Ok(Vec::new(alloc)),
+                Err(fault) => Err(fault),
+            },
+            body @ (Body::Prepare { .. } | Body::Accept { .. } | Body::Query) => {
+                let request = Message {
+                    from,
+                    to,
+                    slot,
+                    body,
+                };
+                answered(alloc, store, members, id, &request)
+            }
+        }
+    }
+
+    /// A message came; it is ignored where it is for another node or not from a member.
+    fn on_message<S: PromiseStore>(
+        &mut self,
+        alloc: Global,
+        kit: &Kit,
+        store: &mut S,
+        id: Member,
+        members: u8,
+        message: Message,
+    ) -> Result<Vec<Message>, NodeFault>
+        requires { IsUpAt id members self.old }
+        ensures ok { IfOk result (λ out. IsDone (S.is_honest store.new) (IsTrue (S.is_open store.new)) (kit_view kit.now) id members (on_message members id (S.kept store.old) (running_of self.old) message) out.items (S.kept store.old) (S.kept store.new) self.old self.new) }
+        ensures err { IfErr result (λ fault. (stops fault ≡ true) × (S.is_honest store.new → IsTrue (S.is_open store.new) → Leaves (on_message members id (S.kept store.old) (running_of self.old) message) (S.kept store.old) (S.kept store.new))) }
+        ensures honest { S.is_honest store.new → S.is_honest store.old }
+    {
+        if !is_for(members, id, &message) {
+            return Ok(Vec::new(alloc));
+        }
+        self.on_body(alloc, kit, store, id, members, message)
+    }
+
+    /// An event. After a fault that stops the node nothing is said of what is in memory.
+    pub(crate) fn on<S: PromiseStore>(
+        &mut self,
+        alloc: Global,
+        kit: &Kit,
+        store: &mut S,
+        id: Member,
+        members: u8,
+        event: Event,
+    ) -> Result<Vec<Message>, NodeFault>
+        requires { IsUpAt id members self.old }
+        ensures ok { IfOk result (λ out. IsDone (S.is_honest store.new) (IsTrue (S.is_open store.new)) (kit_view kit.now) id members (on_event members id (S.kept store.old) (running_of self.old) event) out.items (S.kept store.old) (S.kept store.new) self.old self.new) }
+        ensures err { IfErr result (λ fault. IsFailed (S.is_honest store.new) (IsTrue (S.is_open store.new)) (on_event members id (S.kept store.old) (running_of self.old) event) (stops fault) (S.kept store.old) (S.kept store.new) self.old self.new) }
+        ensures at_once { IfSome (refusal_up (running_of self.old) event) (λ fault. result ≡ Err fault) }
+        ensures refused { S.is_honest store.new → IfErr result (λ fault. stops fault ≡ false → refusal (S.kept store.old) (Some (running_of self.old)) event ≡ Some fault) }
+        ensures passes { S.is_honest store.new → OnOk result (refusal (S.kept store.old) (Some (running_of self.old)) event ≡ None) }
+        ensures honest { S.is_honest store.new → S.is_honest store.old }
+    {
+        match event {
+            Event::Submit(command) => match self.submit(alloc, command) {
+                Ok(()) => Ok(Vec::new(alloc)),
+                Err(fault) => Err(fault),
+            },
+            Event::Wake => self.wake(store),
+            Event::Deliver(message) => self.on_message(alloc, kit, store, id, members, message),
+        }
+    }
+}
