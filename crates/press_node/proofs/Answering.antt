@@ -1,11 +1,10 @@
 -- What a request does to a node is what it does to its acceptor.
-use Rattle.std.proofs.Common.{ℕ, ◌≡◌, ◌⊎◌, inl, inr, Bool, true, List, Option, None, Some, Result, Ok, Err, IfOk, IfErr, OnOk, OnErr, refl, sym, ap, ◌∙◌, subst}
+use Rattle.std.proofs.Common.{ℕ, ◌≡◌, ◌⊎◌, inl, inr, true, List, Result, Ok, Err, IfOk, IfErr, OnOk, OnErr, sym, ap, ◌∙◌, subst}
 use Rattle.press_apply.specs.declared.value.Value.{Value}
 use Rattle.press_callbacks.specs.Kits.{KitView}
 use Rattle.press_wire.specs.declared.message.Body.{Body}
 use Rattle.press_wire.specs.declared.message.Body.TheVariants.{Prepare, Accept, Query}
 use Rattle.press_wire.specs.declared.message.Message.{Message}
-use Rattle.press_acceptor.specs.Answers as acceptor
 use Rattle.press_acceptor.specs.Answers.{acceptor_answer}
 use Rattle.press_acceptor.specs.StoreMap.{StoreMap, saved_if}
 use Rattle.press_node.specs.declared.fault.NodeFault.{NodeFault}

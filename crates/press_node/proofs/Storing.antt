@@ -1,8 +1,7 @@
 -- What an answer says is what its save leaves in the store.
-use Rattle.std.proofs.Common.{ℕ, ◌+◌, ◌≤◌, ◌≡◌, ◌==◌, ◌&&◌, not, nat_le, Bool, true, false, List, [], ◌∷◌, ◌++◌, map, All, get_or, Option, None, Some, unwrap_or, if◌then◌else◌, refl, sym, ap, ◌∙◌, arith}
+use Rattle.std.proofs.Common.{ℕ, ◌+◌, ◌≡◌, Bool, true, false, List, [], ◌∷◌, ◌++◌, All, get_or, Option, None, Some, unwrap_or, if◌then◌else◌, refl, ap, arith}
 use Rattle.std.proofs.lemmas.List.Elements.{All-nil, All-cons, All-map}
 use Rattle.std.specs.List.{range_with_len}
-use Rattle.press_apply.specs.declared.value.Value.{Value}
 use Rattle.press_wire.specs.Ballots.{is_same}
 use Rattle.press_wire.specs.declared.ballot.Ballot.{Ballot}
 use Rattle.press_wire.specs.declared.vote.Vote.{Vote}
@@ -10,7 +9,6 @@ use Rattle.press_wire.specs.declared.message.Body.{Body}
 use Rattle.press_wire.specs.declared.message.Body.TheVariants.{Prepare, Promise, Nack, Accept, Accepted, Query}
 use Rattle.press_wire.specs.declared.message.Message.{Message}
 use Rattle.press_acceptor.specs.declared.row.Row.{Row}
-use Rattle.press_acceptor.specs.declared.said.Said.TheVariants as says
 use Rattle.press_acceptor.specs.Answers.{answer_to, said_out, query_out}
 use Rattle.press_acceptor.specs.Messages.{message_to, to_all}
 use Rattle.press_acceptor.specs.StoreMap.{StoreMap, promise_of, new_row, row_at, saved_if, vote_of, with_round, with_row}
@@ -24,7 +22,7 @@ use Rattle.press_learner.specs.Chosen.{has_gap}
 use Rattle.press_node.specs.declared.event.Event.{Event}
 use Rattle.press_node.specs.declared.event.Event.TheVariants.{Submit, Wake, Deliver}
 use Rattle.press_node.specs.Durable.{AreStored, IsStored, IsBodyStored}
-use Rattle.press_node.specs.NodeEvent.{Running, Answer, quiet as node_quiet, is_for, left_by, on_body, on_message, on_event}
+use Rattle.press_node.specs.NodeEvent.{Running, Answer, quiet as node_quiet, is_for, left_by, on_body, on_event}
 use Rattle.press_acceptor.proofs.Maps.{get_here}
 use Rattle.press_node.proofs.Few.{either}
 

@@ -1,5 +1,5 @@
 -- A node's state, as data.
-use Rattle.std.specs.Prelude.{◌≡◌, ℕ, List, Option, None, Some, option_map, refl}
+use Rattle.std.specs.Prelude.{ℕ, List, Option, refl}
 use Rattle.std.specs.Coded.{Coded, code_by, coded×, coded_ℕ, coded_option}
 use Rattle.press_apply.specs.declared.value.Value.{Value}
 use Rattle.press_learner.specs.Kept.{Kept}

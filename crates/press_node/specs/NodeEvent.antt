@@ -1,7 +1,6 @@
 -- Node event: what a node saves with an event, what it becomes, and what it sends, each part by its own turn (Paxos Made Simple, 2.2 to 2.5 and 3; own: that
 -- a message for another node or from a node that is no member is ignored, and that values are applied as soon as they are chosen).
 use Rattle.std.specs.Prelude.{ℕ, zero, suc, ◌&&◌, ◌==◌, nat_le, Bool, Option, None, Some, List, [], ◌∷◌, ◌++◌, if◌then◌else◌}
-use Rattle.press_apply.specs.declared.command.Stamped.{Stamped}
 use Rattle.press_apply.specs.declared.value.Value.{Value}
 use Rattle.press_wire.specs.declared.message.Body.{Body}
 use Rattle.press_wire.specs.declared.message.Body.TheVariants.{Prepare, Promise, Nack, Accept, Accepted, Query}

@@ -1,5 +1,5 @@
 -- Which events a node refuses, and with which fault, in the order in which these are looked for (own).
-use Rattle.std.specs.Prelude.{ℕ, nat_le, Bool, Option, None, Some, if◌then◌else◌}
+use Rattle.std.specs.Prelude.{nat_le, Bool, Option, None, Some, if◌then◌else◌}
 use Rattle.press_apply.specs.declared.value.Value.TheVariants.{Cmd}
 use Rattle.press_wire.specs.Spelling.{is_too_long}
 use Rattle.press_acceptor.specs.StoreMap.{StoreMap}

@@ -1,3 +1,5 @@
 mod acceptor;
 mod common;
+mod node;
+mod proposer;
 mod learner;

@@ -1,6 +1,5 @@
 use Rattle.std.proofs.Common.{◌≤◌, length, sym, subst}
 use Rattle.press_node.specs.Durable.{AreStored}
-use Rattle.press_node.specs.NodeEvent.{on_event}
 use Rattle.press_node.specs.Views.{running_of}
 use Rattle.press_node.proofs.Few.{event_few}
 use Rattle.press_node.proofs.Storing.{event_stored}
