@@ -31,8 +31,9 @@ impl OpKind {
     pub fn named(name: &str) -> Option<OpKind>
         ensures { result ≡ kind_of name.now }
     {
-        OpKind::edit_named(name)
-            .or(OpKind::question_named(name).or(OpKind::change_named(name).or(OpKind::turn_named(name))))
+        OpKind::edit_named(name).or(OpKind::question_named(name).or(OpKind::change_named(name).or(
+            OpKind::turn_named(name),
+        )))
     }
 
     fn edit_named(name: &str) -> Option<OpKind>

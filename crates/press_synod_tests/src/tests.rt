@@ -1,5 +1,5 @@
 mod acceptor;
 mod common;
+mod learner;
 mod node;
 mod proposer;
-mod learner;
