@@ -4,6 +4,5 @@ pub mod Faults
 pub mod NodeEvent
 pub mod Nodes
 pub mod Refusals
-pub mod Serving
 pub mod States
 pub mod Views
