@@ -1,6 +1,6 @@
 //! What an acceptor does with each request: at most one save, and what it says after it.
 
-ghost use Rattle.std.specs.Prelude.{◌≡◌, ◌⊎◌, IsTrue, IfOk, IfErr, OnOk, OnErr};
+ghost use Rattle.std.specs.Prelude.{◌≡◌, ◌⊎◌, ◌<◌, IsTrue, IfOk, IfErr, OnOk, OnErr, Err};
 ghost use Rattle.press_acceptor.specs.StoreMap.{Only};
 ghost use Rattle.press_acceptor.specs.Turns.{prepare_turn, accept_turn, query_turn, left_by};
 ghost use Rattle.press_acceptor.specs.declared.fault.StoreFault.TheVariants.{NoMemory};
@@ -32,6 +32,7 @@ impl Acceptor {
         ensures failed { S.is_honest store.new → IsTrue (S.is_open store.new) → OnErr result ((S.kept store.new ≡ S.kept store.old) ⊎ (S.kept store.new ≡ left_by (S.kept store.old) (prepare_turn (S.kept store.old) slot ballot))) }
         ensures honest { S.is_honest store.new → S.is_honest store.old }
         ensures fault { IfErr result S.fails_by }
+        ensures disk { result ≡ Err StoreFault.Disk → S.faults store.old < S.faults store.new }
     {
         let row = store.load(slot)?;
         if let Some(promised) = row.refuses_prepare(&ballot) {
@@ -59,6 +60,7 @@ impl Acceptor {
         ensures failed { S.is_honest store.new → IsTrue (S.is_open store.new) → OnErr result ((S.kept store.new ≡ S.kept store.old) ⊎ (S.kept store.new ≡ left_by (S.kept store.old) (accept_turn (S.kept store.old) slot (record { ballot = ballot; value = value.now })))) }
         ensures honest { S.is_honest store.new → S.is_honest store.old }
         ensures fault { IfErr result (λ f. (f ≡ NoMemory) ⊎ S.fails_by f) }
+        ensures disk { result ≡ Err StoreFault.Disk → S.faults store.old < S.faults store.new }
     {
         let row = store.load(slot)?;
         let refused = row.refuses_accept(&ballot);
@@ -81,6 +83,7 @@ impl Acceptor {
         ensures durable { S.is_honest store.new → IsTrue (S.is_open store.new) → Only (S.kept store.old) (S.may_leave store.old) → Only (S.kept store.new) (S.may_leave store.new) }
         ensures honest { S.is_honest store.new → S.is_honest store.old }
         ensures fault { IfErr result S.fails_by }
+        ensures disk { result ≡ Err StoreFault.Disk → S.faults store.old < S.faults store.new }
     {
         let row = store.load(slot)?;
         Ok(Said::of_vote(row.vote))

@@ -1,6 +1,6 @@
 //! The acceptor's part of a node's event: the messages that answer one message.
 
-ghost use Rattle.std.specs.Prelude.{◌≡◌, ◌⊎◌, ◌≤◌, IsTrue, IfOk, IfErr, OnOk, OnErr};
+ghost use Rattle.std.specs.Prelude.{◌≡◌, ◌⊎◌, ◌<◌, ◌≤◌, IsTrue, IfOk, IfErr, OnOk, OnErr, Err};
 ghost use Rattle.press_acceptor.specs.Answers.{acceptor_answer, left_by_answer, said_out, query_out};
 ghost use Rattle.press_acceptor.specs.declared.fault.StoreFault.TheVariants.{NoMemory};
 
@@ -29,6 +29,7 @@ impl Acceptor {
         ensures failed { S.is_honest store.new → IsTrue (S.is_open store.new) → OnErr result ((S.kept store.new ≡ S.kept store.old) ⊎ (S.kept store.new ≡ left_by_answer (S.kept store.old) (acceptor_answer members id (S.kept store.old) message.now))) }
         ensures honest { S.is_honest store.new → S.is_honest store.old }
         ensures fault { IfErr result (λ f. (f ≡ NoMemory) ⊎ S.fails_by f) }
+        ensures disk { result ≡ Err StoreFault.Disk → S.faults store.old < S.faults store.new }
     {
         let (asker, slot) = (message.from, message.slot);
         match &message.body {

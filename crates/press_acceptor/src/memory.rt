@@ -102,6 +102,8 @@ impl PromiseStore for MemoryStore {
 
     ghost fails_by = { λ f. f ≡ NoMemory };
 
+    ghost round_fails_by = { λ _. ⊥ };
+
     fn faults(&self) -> u64 {
         0
     }

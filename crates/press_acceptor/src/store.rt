@@ -29,6 +29,9 @@ pub trait PromiseStore {
     /// The faults that it can answer.
     ghost fails_by: { StoreFault → Type 0 };
 
+    /// Those that it can answer when it is asked for the last round.
+    ghost round_fails_by: { StoreFault → Type 0 };
+
     /// How often the device has failed.
     fn faults(&self) -> u64
         ensures { result ≡ faults self.now };
@@ -61,6 +64,7 @@ pub trait PromiseStore {
         ensures crash { is_honest self.new → NoMore (may_leave self.old) (may_leave self.new) }
         ensures honest { is_honest self.new → is_honest self.old }
         ensures fault { IfErr result fails_by }
+        ensures round_fault { IfErr result round_fails_by }
         ensures disk { result ≡ Err StoreFault.Disk → faults self.old < faults self.new }
         ensures counts { faults self.old ≤ faults self.new };
 

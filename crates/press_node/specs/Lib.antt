@@ -4,5 +4,6 @@ pub mod Faults
 pub mod NodeEvent
 pub mod Nodes
 pub mod Refusals
+pub mod Serving
 pub mod States
 pub mod Views

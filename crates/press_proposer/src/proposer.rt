@@ -3,10 +3,11 @@
 ghost use Rattle.std.specs.Prelude.{◌≡◌, ◌⊎◌, ◌<◌, ◌≤◌, ◌^◌, Err, IfOk, ◌+◌, IfErr, IsErrAnd, IsTrue, OnOk, OnErr, false, nat_lt, true, if◌then◌else◌};
 ghost use Rattle.press_acceptor.specs.Messages as messages;
 ghost use Rattle.press_acceptor.specs.StoreMap.{NoMore, Only};
-ghost use Rattle.press_acceptor.specs.declared.fault.StoreFault.TheVariants.{NoMemory};
+ghost use Rattle.press_acceptor.specs.declared.fault.StoreFault.TheVariants.{Disk, NoMemory};
 ghost use Rattle.press_wire.specs.Ranges.{round_of};
 ghost use Rattle.press_wire.specs.declared.message.Body.TheVariants.{Accept};
 ghost use Rattle.press_proposer.specs.Faults.{IsWakeFault};
+ghost use Rattle.press_proposer.specs.Phases.{awaits};
 ghost use Rattle.press_proposer.specs.Proposing.{started, in_phase, left_by};
 ghost use Rattle.press_proposer.specs.Queues.{is_full};
 ghost use Rattle.press_proposer.specs.Turns.{queued_by, is_content, is_used_up, next_round, wake_turn, promise_turn, nacked_by, applied_by};
@@ -95,7 +96,8 @@ impl Proposer {
         ensures failed { S.is_honest store.new → IsTrue (S.is_open store.new) → OnErr result ((S.kept store.new ≡ S.kept store.old) ⊎ (S.kept store.new ≡ left_by (S.kept store.old) (wake_turn (S.kept store.old) self.old applied gap))) }
         ensures honest { S.is_honest store.new → S.is_honest store.old }
         ensures fault { IfErr result (IsWakeFault (λ fault. (fault ≡ NoMemory) ⊎ S.fails_by fault)) }
-        ensures used_up { S.is_honest store.new → IsTrue (is_used_up (S.kept store.old) self.old gap) → IsErrAnd result (IsWakeFault S.fails_by) }
+        ensures used_up { S.is_honest store.new → IsTrue (is_used_up (S.kept store.old) self.old gap) → IsErrAnd result (IsWakeFault S.round_fails_by) }
+        ensures disk { result ≡ Err (ProposerFault.Store Disk) → S.faults store.old < S.faults store.new }
         ensures rounds { S.is_honest store.new → result ≡ Err ProposerFault.RoundsUsedUp → IsTrue (is_used_up (S.kept store.old) self.old gap) }
         ensures refused { S.is_honest store.new → IsTrue (S.is_open store.new) → result ≡ Err ProposerFault.RoundsUsedUp → S.kept store.new ≡ S.kept store.old }
     {
@@ -132,6 +134,7 @@ impl Proposer {
         ensures after { OnOk result (self.new ≡ (promise_turn self.old from slot ballot vote).after) }
         ensures out { IfOk result (λ out. out.items ≡ (promise_turn self.old from slot ballot vote).out) }
         ensures unchanged { OnErr result (self.new ≡ self.old) }
+        ensures memory { OnErr result (IsTrue (awaits self.old.phase from slot ballot)) }
     {
         if !self.phase.awaits(from, slot, &ballot) {
             return Ok(Vec::new(self.alloc));
@@ -180,6 +183,8 @@ impl Proposer {
         ensures crash { S.is_honest store.new → NoMore (S.may_leave store.old) (S.may_leave store.new) }
         ensures honest { S.is_honest store.new → S.is_honest store.old }
         ensures fault { IfErr result (IsWakeFault S.fails_by) }
+        ensures round_fault { IfErr result (IsWakeFault S.round_fails_by) }
+        ensures disk { result ≡ Err (ProposerFault.Store Disk) → S.faults store.old < S.faults store.new }
     {
         let last = store.last_round()?.max(self.nacked);
         let Some(round) = round_after(last) else {

@@ -1,0 +1,135 @@
+-- What a connection gets: a reply to what its request asks, or nothing, where it is closed (RFC 9112, 9.6; own: which fault of a node has which status).
+use Rattle.std.specs.Prelude.{◌≡◌, ◌⊎◌, ℕ, List, [], length, ◌≤◌, true, false, Option, None, Some, Result, Ok, Err, IfOk, IfErr, IfSome, OnOk, OnErr, IsErrAnd, MatchResult, codes}
+use Rattle.std.specs.Option.{IsSomeAnd}
+use Rattle.std.specs.Io.KnownBytes.{Appends}
+use Rattle.press_callbacks.specs.Kits.{KitView}
+use Rattle.press_text.specs.Streams.{AppendsFront}
+use Rattle.press_http.specs.declared.asked.Asked.{Asked}
+use Rattle.press_http.specs.declared.asked.Asked.TheVariants.{Page, Command, Peer}
+use Rattle.press_http.specs.declared.fault.HttpFault.{HttpFault}
+use Rattle.press_http.specs.declared.fault.HttpFault.TheVariants.{WriteFault}
+use Rattle.press_http.specs.Faults.{status_of}
+use Rattle.press_http.specs.declared.request.Request.{Request}
+use Rattle.press_http.specs.Gives.{Gives}
+use Rattle.press_http.specs.Replies.{fault_bytes, reply_bytes}
+use Rattle.press_http.specs.Requests.{IsRequest, Refuses}
+use Rattle.press_http.specs.Routes.{asked}
+use Rattle.press_page.specs.declared.reply.ContentKind.TheVariants.{Json, Text}
+use Rattle.press_page.specs.declared.reply.Reply.{Reply}
+use Rattle.press_page.specs.declared.reply.Target.{Target}
+use Rattle.press_node.specs.declared.fault.NodeFault.{NodeFault}
+use Rattle.press_node.specs.declared.fault.NodeFault.TheVariants.{Down, TooLong, Full, SlotsUsedUp, RoundsUsedUp, Disk, Damaged, NoMemory}
+use Rattle.press_wire.specs.declared.message.Message.{Message}
+use Rattle.press_acceptor.specs.StoreMap.{StoreMap}
+use Rattle.press_node.specs.declared.event.Event.{Event}
+use Rattle.press_node.specs.declared.event.Event.TheVariants.{Submit, Deliver}
+use Rattle.press_node.specs.declared.serve.Served.{Served}
+use Rattle.press_node.specs.Durable.{AreStored}
+use Rattle.press_node.specs.Faults.{stops}
+use Rattle.press_node.specs.NodeEvent.{left_by}
+use Rattle.press_node.specs.Nodes.{IsPageAt}
+use Rattle.press_node.specs.Refusals.{refusal, refusal_at_once}
+use Rattle.press_node.specs.States.{NodeState, Up, answer_in, running_in, stopped}
+
+-- too long a command is too big a body; for all else the node has no answer now
+abbrev pub status_of_node : NodeFault → ℕ
+status_of_node TooLong = 413
+status_of_node Down = 503
+status_of_node Full = 503
+status_of_node SlotsUsedUp = 503
+status_of_node RoundsUsedUp = 503
+status_of_node Disk = 503
+status_of_node Damaged = 503
+status_of_node NoMemory = 503
+
+-- a command waits to be chosen
+abbrev pub queued : Reply
+queued = record { status = 202; kind = Json; body = codes "{\"queued\":true}" }
+
+-- a message was taken
+abbrev pub taken : Reply
+taken = record { status = 200; kind = Text; body = [] }
+
+-- what the bytes that were seen ask for, or why they ask for nothing: they are no request, or its route tells
+abbrev pub AsksFor : List ℕ → Option (List ℕ) → Result Asked HttpFault → Type 0
+AsksFor seen left result =
+    IsErrAnd result (λ e. Refuses e seen left) ⊎ ((r : Request) × IsRequest seen r × Gives result (asked r.method r.target r.body))
+
+-- ---- replies
+
+-- a reply was written whole: the one that is meant, or 503 where there was no memory for its head
+abbrev pub Tells : Option (List ℕ) → Option (List ℕ) → Reply → ℕ → Type 0
+Tells old new reply status = ((status ≡ reply.status) × Appends old new (reply_bytes reply)) ⊎ ((status ≡ 503) × Appends old new (fault_bytes 503))
+
+-- a front of it was
+abbrev pub TellsFront : Option (List ℕ) → Option (List ℕ) → Reply → Type 0
+TellsFront old new reply = AppendsFront old new (reply_bytes reply) ⊎ AppendsFront old new (fault_bytes 503)
+
+-- the page that is asked was told, or that there is none now
+abbrev pub Shows : KitView → Option Up → Target → Option (List ℕ) → Option (List ℕ) → ℕ → Type 0
+Shows kit up target old new status = ((reply : Reply) × IsPageAt kit up target reply × Tells old new reply status) ⊎ ((status ≡ 503) × Appends old new (fault_bytes 503))
+
+abbrev pub ShowsFront : KitView → Option Up → Target → Option (List ℕ) → Option (List ℕ) → Type 0
+ShowsFront kit up target old new = ((reply : Reply) × IsPageAt kit up target reply × TellsFront old new reply) ⊎ AppendsFront old new (fault_bytes 503)
+
+-- ---- events
+
+-- What an event did to a node and its store, over a store that is honest and open.
+pub record Plays (honest is_open : Type 0) (kept after_kept : StoreMap) (state after_state : NodeState) (event : Event) (outcome : Result (List Message) NodeFault) : Type 0 where
+  pub same_id : after_state.id ≡ state.id
+  pub same_members : after_state.members ≡ state.members
+  pub messages : honest → IfOk outcome (λ out. IsSomeAnd (answer_in kept state event) (λ a. out ≡ a.out))
+  pub after : honest → OnOk outcome (IsSomeAnd (answer_in kept state event) (λ a. running_in after_state ≡ Some a.after))
+  pub saved : honest → is_open → OnOk outcome (IsSomeAnd (answer_in kept state event) (λ a. after_kept ≡ left_by kept a))
+  pub durable : honest → is_open → IfOk outcome (λ out. AreStored after_kept out)
+  pub few : honest → IfOk outcome (λ out. length out ≤ 7)
+  pub was_stopped : IfErr outcome (λ fault. stops fault ≡ true → after_state ≡ stopped state)
+  pub unchanged : IfErr outcome (λ fault. stops fault ≡ false → after_state ≡ state)
+  pub failed : honest → is_open → OnErr outcome ((after_kept ≡ kept) ⊎ IsSomeAnd (answer_in kept state event) (λ a. after_kept ≡ left_by kept a))
+  pub unsaved : honest → is_open → IfErr outcome (λ fault. stops fault ≡ false → after_kept ≡ kept)
+  pub at_once : IfSome (refusal_at_once (running_in state) event) (λ fault. outcome ≡ Err fault)
+  pub refused : honest → IfErr outcome (λ fault. stops fault ≡ false → refusal kept (running_in state) event ≡ Some fault)
+  pub passes : honest → OnOk outcome (refusal kept (running_in state) event ≡ None)
+
+-- the reply, with the event's messages to be sent; or the fixed body of its fault, with nothing to be sent
+abbrev pub AnswersBy : Result (List Message) NodeFault → Reply → Option (List ℕ) → Option (List ℕ) → ℕ → List Message → Type 0
+AnswersBy (Ok out) reply old new status outbox = (outbox ≡ out) × Tells old new reply status
+AnswersBy (Err fault) reply old new status outbox = (outbox ≡ []) × (status ≡ status_of_node fault) × Appends old new (fault_bytes (status_of_node fault))
+
+abbrev pub AnswersFront : Result (List Message) NodeFault → Reply → Option (List ℕ) → Option (List ℕ) → Type 0
+AnswersFront (Ok out) reply old new = TellsFront old new reply
+AnswersFront (Err fault) reply old new = AppendsFront old new (fault_bytes (status_of_node fault))
+
+-- the event was played and answered
+abbrev pub IsPlayed : (Event → Result (List Message) NodeFault → Type 0) → Event → Reply → Option (List ℕ) → Option (List ℕ) → Result Served HttpFault → Type 0
+IsPlayed plays event reply old new result =
+    (outcome : Result (List Message) NodeFault) × plays event outcome
+    × MatchResult result (λ s. AnswersBy outcome reply old new s.status s.outbox.items) (λ e. (e ≡ WriteFault) × AnswersFront outcome reply old new)
+
+-- ---- one request
+
+-- the page was shown, with nothing to be sent
+abbrev pub IsShown : KitView → Option Up → Target → Option (List ℕ) → Option (List ℕ) → Result Served HttpFault → Type 0
+IsShown kit up target old new result =
+    MatchResult result (λ s. (s.outbox.items ≡ []) × Shows kit up target old new s.status) (λ e. (e ≡ WriteFault) × ShowsFront kit up target old new)
+
+-- the fixed body of a status was told, with nothing to be sent
+abbrev pub IsRefused : ℕ → Option (List ℕ) → Option (List ℕ) → Result Served HttpFault → Type 0
+IsRefused status old new result =
+    MatchResult result (λ s. (s.status ≡ status) × (s.outbox.items ≡ []) × Appends old new (fault_bytes status)) (λ e. (e ≡ WriteFault) × AppendsFront old new (fault_bytes status))
+
+-- where a fault has no status the connection is closed without a word
+abbrev pub IsClosed : HttpFault → Option ℕ → Option (List ℕ) → Option (List ℕ) → Result Served HttpFault → Type 0
+IsClosed fault None old new result = (result ≡ Err fault) × (new ≡ old)
+IsClosed fault (Some status) old new result = IsRefused status old new result
+
+-- What is asked is done and told. A page leaves the node unchanged, and so does a command whose reply has no memory before it is played.
+abbrev pub IsAnswered : Type 0 → (Event → Result (List Message) NodeFault → Type 0) → KitView → Option Up → Option (List ℕ) → Option (List ℕ) → Asked → Result Served HttpFault → Type 0
+IsAnswered unchanged plays kit up old new (Page target) result = unchanged × IsShown kit up target old new result
+IsAnswered unchanged plays kit up old new (Command stamped) result = IsPlayed plays (Submit stamped) queued old new result ⊎ (unchanged × IsRefused 503 old new result)
+IsAnswered unchanged plays kit up old new (Peer message) result = IsPlayed plays (Deliver message) taken old new result
+
+-- and bytes that ask for nothing leave it unchanged
+abbrev pub IsServed : Type 0 → (Event → Result (List Message) NodeFault → Type 0) → KitView → Option Up → Option (List ℕ) → Option (List ℕ) → Result Asked HttpFault → Result Served HttpFault → Type 0
+IsServed unchanged plays kit up old new (Ok asked) result = IsAnswered unchanged plays kit up old new asked result
+IsServed unchanged plays kit up old new (Err fault) result = unchanged × IsClosed fault (status_of fault) old new result

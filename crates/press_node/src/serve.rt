@@ -1,0 +1,206 @@
+//! One request of a connection, from its bytes to the bytes of its reply.
+
+ghost use Rattle.std.specs.Prelude.{◌≡◌, ◌⊎◌, ◌≤◌, ℕ, List, [], length, IfOk, IfErr, OnOk, OnErr, IsTrue, true, Result, MatchResult};
+ghost use Rattle.std.specs.Io.KnownBytes.{Appends, Consumes};
+ghost use Rattle.press_callbacks.specs.Kits.{kit_view};
+ghost use Rattle.press_text.specs.Streams.{AppendsFront};
+ghost use Rattle.press_http.specs.Replies.{IsTold, fault_bytes};
+ghost use Rattle.press_http.specs.Requests.{longest_request};
+ghost use Rattle.press_node.specs.Serving.{AsksFor, IsAnswered, IsClosed, IsPlayed, IsServed, Plays, queued, Shows, ShowsFront, taken, Tells, TellsFront, status_of_node};
+ghost use Rattle.press_http.specs.Faults.{status_of};
+
+use crate::event::Event;
+use crate::fault::NodeFault;
+use crate::kept::Node;
+use press_acceptor::PromiseStore;
+use press_http::{Asked, HttpFault, read_request, route, write_fault, write_reply};
+use press_page::{ContentKind, Reply, Target};
+use press_text::Text;
+use press_wire::Message;
+use std::alloc::{AllocError, Global};
+use std::io::{Read, Write};
+
+/// What a connection got, and what is to be sent because of it.
+#[derive(Drop)]
+pub struct Served {
+    pub status: u16,
+    pub outbox: Vec<Message>,
+}
+
+impl NodeFault {
+    /// The status of the reply that tells the fault.
+    pub fn status(self) -> u16
+        ensures value { result ≡ status_of_node self }
+        ensures told { IsTold result }
+    {
+        match self {
+            NodeFault::TooLong => 413,
+            NodeFault::Down
+            | NodeFault::Full
+            | NodeFault::SlotsUsedUp
+            | NodeFault::RoundsUsedUp
+            | NodeFault::Disk
+            | NodeFault::Damaged
+            | NodeFault::NoMemory => 503,
+        }
+    }
+}
+
+/// What the request on a connection asks for.
+fn asked<R: Read>(alloc: Global, reader: &mut R) -> Result<Asked, HttpFault>
+    ensures { (seen : List ℕ) × Consumes (R.remaining reader.old) (R.remaining reader.new) seen × (length seen ≤ longest_request) × AsksFor seen (R.remaining reader.new) result }
+{
+    match read_request(alloc, reader) {
+        Ok(request) => route(alloc, &request),
+        Err(fault) => Err(fault),
+    }
+}
+
+/// A reply with a fixed body, and nothing to be sent.
+fn refused<W: Write>(alloc: Global, writer: &mut W, status: u16) -> Result<Served, HttpFault>
+    requires { IsTold status }
+    ensures ok { IfOk result (λ s. (s.status ≡ status) × (s.outbox.items ≡ []) × Appends (W.contents writer.old) (W.contents writer.new) (fault_bytes status)) }
+    ensures err { OnErr result (AppendsFront (W.contents writer.old) (W.contents writer.new) (fault_bytes status)) }
+    ensures fault { IfErr result (λ e. e ≡ HttpFault.WriteFault) }
+{
+    match write_fault(writer, status) {
+        Ok(()) => Ok(Served {
+            status,
+            outbox: Vec::new(alloc),
+        }),
+        Err(fault) => Err(fault),
+    }
+}
+
+/// That a command waits to be chosen.
+fn queued(alloc: Global) -> Result<Reply, AllocError>
+    ensures { IfOk result (λ r. r ≡ queued) }
+{
+    Ok(Reply {
+        status: 202,
+        kind: ContentKind::Json,
+        body: Text::from_str(alloc, "{\"queued\":true}")?,
+    })
+}
+
+/// That a message was taken.
+fn taken(alloc: Global) -> Reply
+    ensures { result ≡ taken }
+{
+    Reply {
+        status: 200,
+        kind: ContentKind::Text,
+        body: Text::new(alloc),
+    }
+}
+
+/// A reply, with what is to be sent. Where there is no memory for its head, 503 is told in its place.
+fn told<W: Write>(
+    alloc: Global,
+    writer: &mut W,
+    reply: &Reply,
+    outbox: Vec<Message>,
+) -> Result<Served, HttpFault>
+    ensures outbox { IfOk result (λ s. s.outbox.items ≡ outbox.items) }
+    ensures ok { IfOk result (λ s. Tells (W.contents writer.old) (W.contents writer.new) reply.now s.status) }
+    ensures err { OnErr result (TellsFront (W.contents writer.old) (W.contents writer.new) reply.now) }
+    ensures fault { IfErr result (λ e. e ≡ HttpFault.WriteFault) }
+{
+    match write_reply(alloc, writer, reply) {
+        Ok(()) => Ok(Served {
+            status: reply.status,
+            outbox,
+        }),
+        Err(HttpFault::NoMemory) => match write_fault(writer, 503) {
+            Ok(()) => Ok(Served {
+                status: 503,
+                outbox,
+            }),
+            Err(fault) => Err(fault),
+        },
+        Err(fault) => Err(fault),
+    }
+}
+
+/// The page that is asked, or 503 where the node is down or memory is wanting.
+fn shown<S: PromiseStore, W: Write>(
+    node: &Node<S>,
+    writer: &mut W,
+    target: &Target,
+) -> Result<Served, HttpFault>
+    ensures outbox { IfOk result (λ s. s.outbox.items ≡ []) }
+    ensures ok { IfOk result (λ s. Shows (kit_view node.now.kit) node.now.state.up target.now (W.contents writer.old) (W.contents writer.new) s.status) }
+    ensures err { OnErr result (ShowsFront (kit_view node.now.kit) node.now.state.up target.now (W.contents writer.old) (W.contents writer.new)) }
+    ensures fault { IfErr result (λ e. e ≡ HttpFault.WriteFault) }
+{
+    match node.get(target) {
+        Ok(reply) => told(node.alloc, writer, &reply, Vec::new(node.alloc)),
+        Err(_) => refused(node.alloc, writer, 503),
+    }
+}
+
+/// An event, with the reply that tells it, or its fault.
+fn played<S: PromiseStore, W: Write>(
+    node: &mut Node<S>,
+    writer: &mut W,
+    event: Event,
+    reply: &Reply,
+) -> Result<Served, HttpFault>
+    ensures kit { kit_view node.new.kit ≡ kit_view node.old.kit }
+    ensures plays { IsPlayed (Plays (S.is_honest node.new.store) (IsTrue (S.is_open node.new.store)) (S.kept node.old.store) (S.kept node.new.store) node.old.state node.new.state) event reply.now (W.contents writer.old) (W.contents writer.new) result }
+    ensures honest { S.is_honest node.new.store → S.is_honest node.old.store }
+{
+    let alloc = node.alloc;
+    match node.on(event) {
+        Ok(outbox) => told(alloc, writer, reply, outbox),
+        Err(fault) => refused(alloc, writer, fault.status()),
+    }
+}
+
+/// A request that asks for nothing. A read that failed and an end before the whole request close the connection without a reply.
+fn closed<W: Write>(alloc: Global, writer: &mut W, fault: HttpFault) -> Result<Served, HttpFault>
+    ensures { IsClosed fault (status_of fault) (W.contents writer.old) (W.contents writer.new) result }
+{
+    match fault.status() {
+        Some(status) => refused(alloc, writer, status),
+        None => Err(fault),
+    }
+}
+
+/// What is asked, done and told. The reply to a command is made before it is played, so that want of memory for it leaves the node as it was.
+fn answered<S: PromiseStore, W: Write>(
+    node: &mut Node<S>,
+    writer: &mut W,
+    asked: Asked,
+) -> Result<Served, HttpFault>
+    ensures kit { kit_view node.new.kit ≡ kit_view node.old.kit }
+    ensures honest { S.is_honest node.new.store → S.is_honest node.old.store }
+    ensures answered { IsAnswered (node.new ≡ node.old) (Plays (S.is_honest node.new.store) (IsTrue (S.is_open node.new.store)) (S.kept node.old.store) (S.kept node.new.store) node.old.state node.new.state) (kit_view node.old.kit) node.old.state.up (W.contents writer.old) (W.contents writer.new) asked result }
+{
+    let alloc = node.alloc;
+    match asked {
+        Asked::Page(target) => shown(node, writer, &target),
+        Asked::Command(stamped) => match queued(alloc) {
+            Ok(reply) => played(node, writer, Event::Submit(stamped), &reply),
+            Err(_) => refused(alloc, writer, 503),
+        },
+        Asked::Peer(message) => played(node, writer, Event::Deliver(message), &taken(alloc)),
+    }
+}
+
+/// One request of a connection: it is read, what it asks is done, and the reply is written. The caller sends the outbox. After a failed write the
+/// event stands and its messages are lost.
+pub fn serve_one<S: PromiseStore, R: Read, W: Write>(
+    node: &mut Node<S>,
+    reader: &mut R,
+    writer: &mut W,
+) -> Result<Served, HttpFault>
+    ensures kit { kit_view node.new.kit ≡ kit_view node.old.kit }
+    ensures honest { S.is_honest node.new.store → S.is_honest node.old.store }
+    ensures served { (seen : List ℕ) × Consumes (R.remaining reader.old) (R.remaining reader.new) seen × (length seen ≤ longest_request) × (meant : Result Asked HttpFault) × AsksFor seen (R.remaining reader.new) meant × IsServed (node.new ≡ node.old) (Plays (S.is_honest node.new.store) (IsTrue (S.is_open node.new.store)) (S.kept node.old.store) (S.kept node.new.store) node.old.state node.new.state) (kit_view node.old.kit) node.old.state.up (W.contents writer.old) (W.contents writer.new) meant result }
+{
+    match asked(node.alloc, reader) {
+        Ok(asked) => answered(node, writer, asked),
+        Err(fault) => closed(node.alloc, writer, fault),
+    }
+}
