@@ -1,10 +1,12 @@
 //! Laws of the protocol.
 
-ghost use Rattle.std.specs.Prelude.{◌≡◌, ◌≢◌, ℕ, List, ◌∷◌, ◌++◌, Some};
+ghost use Rattle.std.specs.Prelude.{◌≡◌, ◌≢◌, ℕ, List, ◌∷◌, ◌++◌, Some, true, false};
 ghost use Rattle.press_apply.specs.declared.value.Value.{Value};
+ghost use Rattle.press_wire.specs.Ballots.{is_less};
 ghost use Rattle.press_wire.specs.declared.ballot.Ballot.{Ballot};
 ghost use Rattle.press_wire.specs.declared.vote.Vote.{Vote};
 ghost use Rattle.press_acceptor.specs.Agrees.{StoreAgrees, IsLegalSave, IsOf};
+ghost use Rattle.press_acceptor.specs.Ballots.{AtMost, Less};
 ghost use Rattle.press_acceptor.specs.Blocks.{block_of};
 ghost use Rattle.press_acceptor.specs.StoreMap.{StoreMap, Save};
 ghost use Rattle.press_acceptor.specs.Trace.{Fact, Has, Legal, Chosen};
@@ -29,4 +31,10 @@ pub fn acceptor_saves_legal_facts()
     ensures votes { (n member : ℕ) (store : StoreMap) (slot : ℕ) (vote : Vote) (trace : List Fact) (save : Save) → StoreAgrees member store trace → Has trace (Proposed vote.ballot slot vote.value) → (accept_turn store slot vote).save ≡ Some save → IsLegalSave n member store trace save }
     ensures others { (member other : ℕ) (store : StoreMap) (fact : Fact) (trace : List Fact) → member ≢ other → IsOf other fact → StoreAgrees member store trace → StoreAgrees member store (fact ∷ trace) }
     ensures proposals { (member : ℕ) (store : StoreMap) (ballot : Ballot) (slot : ℕ) (value : Value) (trace : List Fact) → StoreAgrees member store trace → StoreAgrees member store (Proposed ballot slot value ∷ trace) }
+{}
+
+/// The computed order of ballots is that of the protocol's definitions.
+pub fn ballots_are_ordered()
+    ensures less { (b c : Ballot) → is_less b c ≡ true → Less b c }
+    ensures at_most { (b c : Ballot) → is_less b c ≡ false → AtMost c b }
 {}

@@ -1,5 +1,6 @@
 mod Majorities
 mod Places
+mod Settled
 mod Turns
 mod Views
 mod Window

@@ -1,12 +1,12 @@
 -- Which value is chosen for the next slot, by the kept votes (Paxos Made Simple, 2.1: "a single value is chosen by a majority of acceptors"; 2.3).
-use Rattle.std.specs.Prelude.{ℕ, ◌*◌, ◌≡◌, ◌<◌, ◌≤◌, nat_lt, Bool, false, Option, None, Some, List, [], ◌∷◌, if◌then◌else◌}
+use Rattle.std.specs.Prelude.{ℕ, zero, suc, ◌*◌, ◌≡◌, ◌<◌, ◌≤◌, nat_lt, Bool, false, Option, None, Some, List, [], ◌∷◌, if◌then◌else◌}
 use Rattle.std.specs.List.{count_by, range_with_len, list_any}
 use Rattle.std.specs.FinMap as map
 use Rattle.press_apply.specs.declared.value.Value.{Value}
 use Rattle.press_wire.specs.Ballots.{is_same}
 use Rattle.press_wire.specs.declared.ballot.Ballot.{Ballot}
 use Rattle.press_wire.specs.declared.vote.Vote.{Vote}
-use Rattle.press_learner.specs.Kept.{Kept, vote_at, next_slot}
+use Rattle.press_learner.specs.Kept.{Kept, vote_at, next_slot, advanced}
 
 -- it is a vote of the ballot
 abbrev pub has_ballot : Option Vote → Ballot → Bool
@@ -45,6 +45,17 @@ first_won k slot (member ∷ members) = or_else (won k slot (vote_at k slot memb
 -- the value that is chosen for the next slot
 unfoldable pub chosen_next : Kept → Option Value
 chosen_next k = first_won k (next_slot k) (range_with_len 1 k.members)
+
+-- ---- applying what is chosen
+
+abbrev pub if_won : Option Value → Kept → Kept → Kept
+if_won None more k = k
+if_won (Some value) more k = more
+
+-- values are applied as long as the next slot has one, so many at most
+unfoldable pub with_chosen_applied : ℕ → Kept → Kept
+with_chosen_applied zero k = k
+with_chosen_applied (suc most) k = if_won (chosen_next k) (with_chosen_applied most (advanced k)) k
 
 -- ---- a gap
 

@@ -2,7 +2,7 @@
 
 ghost use Rattle.std.specs.Prelude.{◌≡◌, ◌<◌, ◌≤◌, ◌*◌, nat_lt, IsTrue, IsSome, IfSome, OnOk, OnErr, None, option_copied};
 ghost use Rattle.press_learner.specs.Chosen.{has_ballot, ballot_count, won, chosen_next, has_gap};
-ghost use Rattle.press_learner.specs.Kept.{new_learner, vote_at, is_in_window, is_news, kept_with, with_vote, advanced, next_slot};
+ghost use Rattle.press_learner.specs.Kept.{IsWindow, new_learner, vote_at, is_in_window, is_news, kept_with, with_vote, advanced, next_slot};
 
 use press_apply::Value;
 use press_wire::{Ballot, Node, Slot, Vote};
@@ -41,7 +41,8 @@ impl Learner {
     /// A learner of a cluster with that many members, which has no votes yet and takes no memory.
     pub fn new(alloc: Global, members: u8) -> Learner
         requires { members ≤ 7 }
-        ensures { result ≡ new_learner members }
+        ensures value { result ≡ new_learner members }
+        ensures none { chosen_next result ≡ None }
     {
         Learner {
             members,
@@ -55,6 +56,7 @@ impl Learner {
     pub fn applied(&self) -> u64
         ensures value { result ≡ self.now.applied }
         ensures range { result ≤ 1000000 }
+        ensures window { IsWindow self.now }
     {
         u64::from(self.applied)
     }

@@ -7,9 +7,12 @@ use Rattle.press_wire.specs.declared.message.Body.TheVariants.{Prepare, Accept, 
 use Rattle.press_wire.specs.declared.message.Message.{Message}
 use Rattle.press_acceptor.specs.Answers.{acceptor_answer}
 use Rattle.press_acceptor.specs.StoreMap.{StoreMap, saved_if}
+use Rattle.press_acceptor.specs.declared.fault.StoreFault.{StoreFault}
 use Rattle.press_node.specs.declared.fault.NodeFault.{NodeFault}
 use Rattle.press_node.specs.declared.up.Up.{Up}
-use Rattle.press_node.specs.Faults.{stops}
+use Rattle.press_node.specs.declared.fault.NodeFault.TheVariants.{Down, TooLong, Full, SlotsUsedUp, RoundsUsedUp, Disk, Damaged, NoMemory}
+use Rattle.press_node.specs.Faults.{MayMeet, stops}
+use Rattle.press_node.specs.Memory.{TakesForBody}
 use Rattle.press_node.specs.NodeEvent.{Running, Answer, by_acceptor, on_body}
 use Rattle.press_node.specs.Views.{IsDone, IsUpAt, Leaves, running_of}
 
@@ -44,3 +47,23 @@ module _ (honest is_open : Type 0) (members id : ℕ) (store after : StoreMap) (
       → IfErr r (λ fault. (stops fault ≡ true) × (honest → is_open → Leaves (on_body members id store (running_of up) message message.body) store after))
   request_failed (Ok out) t f = tt
   request_failed (Err fault) t f = (t, λ h o. subst (λ a. Leaves a store after) (sym answer_is) (f h o))
+
+-- a request may take memory
+request_takes : (node : Running) (message : Message) (body : Body) → IsRequest body → TakesForBody node message body
+request_takes node message body (inl (round, e)) = subst (TakesForBody node message) (sym e) tt
+request_takes node message body (inr (inl (round, value, e))) = subst (TakesForBody node message) (sym e) tt
+request_takes node message body (inr (inr e)) = subst (TakesForBody node message) (sym e) tt
+
+meets_more : (fails_by : StoreFault → Type 0) (takes : Type 0) → takes → (fault : NodeFault) → MayMeet fails_by (Unit {0}) fault → MayMeet fails_by takes fault
+meets_more fails_by takes t NoMemory h = t
+meets_more fails_by takes t Disk h = h
+meets_more fails_by takes t Damaged h = h
+meets_more fails_by takes t Down h = tt
+meets_more fails_by takes t TooLong h = tt
+meets_more fails_by takes t Full h = tt
+meets_more fails_by takes t SlotsUsedUp h = tt
+meets_more fails_by takes t RoundsUsedUp h = tt
+
+pub request_meets : {T : Type 0} (fails_by : StoreFault → Type 0) (r : Result T NodeFault) (node : Running) (message : Message) → IsRequest message.body → IfErr r (MayMeet fails_by (Unit {0})) → IfErr r (MayMeet fails_by (TakesForBody node message message.body))
+request_meets fails_by (Ok out) node message request h = tt
+request_meets fails_by (Err fault) node message request h = meets_more fails_by _ (request_takes node message message.body request) fault h

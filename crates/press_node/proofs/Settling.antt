@@ -1,10 +1,12 @@
 -- Applying one value after another is settling, and the site stays what the applied values make.
-use Rattle.std.proofs.Common.{ℕ, zero, suc, ◌+◌, ◌-◌, ◌<◌, ◌≤◌, ◌≡◌, Bool, true, false, List, [], ◌∷◌, ◌++◌, refl, sym, ap, ◌∙◌, arith, subst}
+use Rattle.std.proofs.Common.{ℕ, zero, suc, ◌+◌, ◌-◌, ◌<◌, ◌≤◌, ◌≡◌, ◌⊎◌, inl, inr, IsSome, Option, Some, None, Bool, true, false, List, [], ◌∷◌, ◌++◌, refl, sym, ap, ◌∙◌, arith, subst}
 use Rattle.press_callbacks.specs.Kits.{KitView}
 use Rattle.press_site.specs.SiteView.{SiteView}
 use Rattle.press_apply.specs.declared.value.Value.{Value}
 use Rattle.press_apply.specs.Apply.{applied, folded, site_after}
 use Rattle.press_site.specs.Effects.{no_site}
+use Rattle.press_learner.specs.Chosen.{chosen_next, if_won, with_chosen_applied}
+use Rattle.press_learner.specs.Kept.{Kept, IsWindow, advanced}
 use Rattle.press_node.specs.NodeEvent.{Running, if_chosen, applies, settled, with_applied}
 use Rattle.press_node.specs.Views.{Applies, IsUpFolded, running_of}
 use Rattle.press_node.specs.declared.up.Up.{Up}
@@ -41,3 +43,22 @@ settles_stop i kit old new first lt h s = sym (applies_end (64 - i) kit old new 
 
 pub settles_out : (i : ℕ) (now first : Running) → 64 ≤ i → i ≤ 64 → SettlesOn i now first → now ≡ settled first
 settles_out i now first a b s = s 0 (omega arith)
+
+-- where a value is chosen after so many turns, one was at the first
+pub was_chosen : (i : ℕ) (old first : Kept) → ((i ≡ 0) × (old ≡ first)) ⊎ IsSome (chosen_next first) → IsSome (chosen_next old) → IsSome (chosen_next first)
+was_chosen i old first (inl (_, e)) some = subst (λ k. IsSome (chosen_next k)) e some
+was_chosen i old first (inr at_first) some = at_first
+
+learner_of_applies : (most : ℕ) (node : Running) → (applies most node).learner ≡ with_chosen_applied most node.learner
+unfolding with_chosen_applied
+learner_of_applies zero node = refl
+learner_of_applies (suc most) node = go (λ value. learner_of_applies most (with_applied node value)) (chosen_next node.learner)
+  where
+    go : ((value : Value) → (applies most (with_applied node value)).learner ≡ with_chosen_applied most (advanced node.learner)) → (o : Option Value) → (if_chosen o (λ value. applies most (with_applied node value)) node).learner ≡ if_won o (with_chosen_applied most (advanced node.learner)) node.learner
+    go later None = refl
+    go later (Some value) = later value
+
+-- then nothing is left to apply
+pub settled_has_none : (dry : (k : Kept) → IsWindow k → chosen_next (with_chosen_applied 64 k) ≡ None) (node : Running) → IsWindow node.learner → chosen_next (settled node).learner ≡ None
+unfolding settled
+settled_has_none dry node window = ap chosen_next (learner_of_applies 64 node) ∙ dry node.learner window

@@ -1,6 +1,7 @@
 pub mod Codes
 pub mod Durable
 pub mod Faults
+pub mod Memory
 pub mod NodeEvent
 pub mod Nodes
 pub mod Refusals

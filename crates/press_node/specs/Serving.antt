@@ -1,7 +1,7 @@
 -- What a connection gets: a reply to what its request asks, or nothing, where it is closed (RFC 9112, 9.6; own: which fault of a node has which status).
-use Rattle.std.specs.Prelude.{◌≡◌, ◌⊎◌, ℕ, List, [], length, ◌≤◌, true, false, Option, None, Some, Result, Ok, Err, IfOk, IfErr, IfSome, OnOk, OnErr, IsErrAnd, MatchResult, codes}
+use Rattle.std.specs.Prelude.{◌≡◌, ◌⊎◌, ℕ, List, [], length, ◌≤◌, ◌<◌, true, false, Option, None, Some, Result, Ok, Err, IfOk, IfErr, IfSome, OnOk, OnErr, IsErrAnd, MatchResult, codes}
 use Rattle.std.specs.Option.{IsSomeAnd}
-use Rattle.std.specs.Io.KnownBytes.{Appends}
+use Rattle.std.specs.Io.KnownBytes.{Appends, Consumes}
 use Rattle.press_callbacks.specs.Kits.{KitView}
 use Rattle.press_text.specs.Streams.{AppendsFront}
 use Rattle.press_http.specs.declared.asked.Asked.{Asked}
@@ -12,7 +12,7 @@ use Rattle.press_http.specs.Faults.{status_of}
 use Rattle.press_http.specs.declared.request.Request.{Request}
 use Rattle.press_http.specs.Gives.{Gives}
 use Rattle.press_http.specs.Replies.{fault_bytes, reply_bytes}
-use Rattle.press_http.specs.Requests.{IsRequest, Refuses}
+use Rattle.press_http.specs.Requests.{IsRequest, Refuses, longest_request}
 use Rattle.press_http.specs.Routes.{asked}
 use Rattle.press_page.specs.declared.reply.ContentKind.TheVariants.{Json, Text}
 use Rattle.press_page.specs.declared.reply.Reply.{Reply}
@@ -21,11 +21,14 @@ use Rattle.press_node.specs.declared.fault.NodeFault.{NodeFault}
 use Rattle.press_node.specs.declared.fault.NodeFault.TheVariants.{Down, TooLong, Full, SlotsUsedUp, RoundsUsedUp, Disk, Damaged, NoMemory}
 use Rattle.press_wire.specs.declared.message.Message.{Message}
 use Rattle.press_acceptor.specs.StoreMap.{StoreMap}
+use Rattle.press_acceptor.specs.declared.fault.StoreFault.{StoreFault}
+use Rattle.press_learner.specs.Chosen.{chosen_next}
 use Rattle.press_node.specs.declared.event.Event.{Event}
 use Rattle.press_node.specs.declared.event.Event.TheVariants.{Submit, Deliver}
 use Rattle.press_node.specs.declared.serve.Served.{Served}
 use Rattle.press_node.specs.Durable.{AreStored}
-use Rattle.press_node.specs.Faults.{stops}
+use Rattle.press_node.specs.Faults.{IsRefusedBy, MayMeet, stops}
+use Rattle.press_node.specs.Memory.{TakesMemoryIn}
 use Rattle.press_node.specs.NodeEvent.{left_by}
 use Rattle.press_node.specs.Nodes.{IsPageAt}
 use Rattle.press_node.specs.Refusals.{refusal, refusal_at_once}
@@ -75,7 +78,7 @@ ShowsFront kit up target old new = ((reply : Reply) × IsPageAt kit up target re
 -- ---- events
 
 -- What an event did to a node and its store, over a store that is honest and open.
-pub record Plays (honest is_open : Type 0) (kept after_kept : StoreMap) (state after_state : NodeState) (event : Event) (outcome : Result (List Message) NodeFault) : Type 0 where
+pub record Plays (fails_by round_fails_by : StoreFault → Type 0) (honest is_open : Type 0) (kept after_kept : StoreMap) (faults after_faults : ℕ) (state after_state : NodeState) (event : Event) (outcome : Result (List Message) NodeFault) : Type 0 where
   pub same_id : after_state.id ≡ state.id
   pub same_members : after_state.members ≡ state.members
   pub messages : honest → IfOk outcome (λ out. IsSomeAnd (answer_in kept state event) (λ a. out ≡ a.out))
@@ -89,7 +92,12 @@ pub record Plays (honest is_open : Type 0) (kept after_kept : StoreMap) (state a
   pub unsaved : honest → is_open → IfErr outcome (λ fault. stops fault ≡ false → after_kept ≡ kept)
   pub at_once : IfSome (refusal_at_once (running_in state) event) (λ fault. outcome ≡ Err fault)
   pub refused : honest → IfErr outcome (λ fault. stops fault ≡ false → refusal kept (running_in state) event ≡ Some fault)
+  pub settled : IfSome (running_in after_state) (λ node. chosen_next node.learner ≡ None)
   pub passes : honest → OnOk outcome (refusal kept (running_in state) event ≡ None)
+  pub fault : IfErr outcome (MayMeet fails_by (TakesMemoryIn state event))
+  pub stays : honest → is_open → IfSome (refusal kept (running_in state) event) (λ _. after_kept ≡ kept)
+  pub tells : honest → IfSome (refusal kept (running_in state) event) (λ fault. IsErrAnd outcome (IsRefusedBy round_fails_by fault))
+  pub disk : IfErr outcome (λ fault. fault ≡ Disk → faults < after_faults)
 
 -- the reply, with the event's messages to be sent; or the fixed body of its fault, with nothing to be sent
 abbrev pub AnswersBy : Result (List Message) NodeFault → Reply → Option (List ℕ) → Option (List ℕ) → ℕ → List Message → Type 0
@@ -133,3 +141,9 @@ IsAnswered unchanged plays kit up old new (Peer message) result = IsPlayed plays
 abbrev pub IsServed : Type 0 → (Event → Result (List Message) NodeFault → Type 0) → KitView → Option Up → Option (List ℕ) → Option (List ℕ) → Result Asked HttpFault → Result Served HttpFault → Type 0
 IsServed unchanged plays kit up old new (Ok asked) result = IsAnswered unchanged plays kit up old new asked result
 IsServed unchanged plays kit up old new (Err fault) result = unchanged × IsClosed fault (status_of fault) old new result
+
+-- so many bytes at most were seen, and what they ask for was served
+abbrev pub Serves : Type 0 → (Event → Result (List Message) NodeFault → Type 0) → KitView → Option Up → Option (List ℕ) → Option (List ℕ) → Option (List ℕ) → Option (List ℕ) → Result Served HttpFault → Type 0
+Serves unchanged plays kit up ahead left old new result =
+    (seen : List ℕ) × Consumes ahead left seen × (length seen ≤ longest_request)
+    × (meant : Result Asked HttpFault) × AsksFor seen left meant × IsServed unchanged plays kit up old new meant result

@@ -19,7 +19,7 @@ view_one up = record { running = running_of up; site = up.site }
 abbrev pub view_up : Option Up → Option states.Up
 view_up up = option_map view_one up
 
--- the parts are of one node, and it has applied as many values as its learner counts
+-- the parts are of one node, it has applied as many values as its learner counts, and none is chosen that it has not
 pub record IsUpAt (id members : ℕ) (up : Up) : Type 0 where
   pub small : members ≤ 7
   pub member : id ≤ members
@@ -27,6 +27,7 @@ pub record IsUpAt (id members : ℕ) (up : Up) : Type 0 where
   pub members_of : up.proposer.members ≡ members
   pub members_too : up.learner.members ≡ members
   pub count : up.learner.applied ≡ length up.values.items
+  pub none : chosen_next up.learner ≡ None
 
 abbrev pub IsUp : ℕ → ℕ → Option Up → Type 0
 IsUp id members None = (members ≤ 7) × (id ≤ members)

@@ -6,7 +6,8 @@ ghost use Rattle.press_callbacks.specs.Kits.{kit_view};
 ghost use Rattle.press_text.specs.Streams.{AppendsFront};
 ghost use Rattle.press_http.specs.Replies.{IsTold, fault_bytes};
 ghost use Rattle.press_http.specs.Requests.{longest_request};
-ghost use Rattle.press_node.specs.Serving.{AsksFor, IsAnswered, IsClosed, IsPlayed, IsServed, Plays, queued, Shows, ShowsFront, taken, Tells, TellsFront, status_of_node};
+ghost use Rattle.press_node.specs.Nodes.{kit_of, state_of, store_of};
+ghost use Rattle.press_node.specs.Serving.{AsksFor, IsAnswered, IsClosed, IsPlayed, Plays, queued, Serves, Shows, ShowsFront, taken, Tells, TellsFront, status_of_node};
 ghost use Rattle.press_http.specs.Faults.{status_of};
 
 use crate::event::Event;
@@ -129,8 +130,8 @@ fn shown<S: PromiseStore, W: Write>(
     target: &Target,
 ) -> Result<Served, HttpFault>
     ensures outbox { IfOk result (λ s. s.outbox.items ≡ []) }
-    ensures ok { IfOk result (λ s. Shows (kit_view node.now.kit) node.now.state.up target.now (W.contents writer.old) (W.contents writer.new) s.status) }
-    ensures err { OnErr result (ShowsFront (kit_view node.now.kit) node.now.state.up target.now (W.contents writer.old) (W.contents writer.new)) }
+    ensures ok { IfOk result (λ s. Shows (kit_of node.now) (state_of node.now).up target.now (W.contents writer.old) (W.contents writer.new) s.status) }
+    ensures err { OnErr result (ShowsFront (kit_of node.now) (state_of node.now).up target.now (W.contents writer.old) (W.contents writer.new)) }
     ensures fault { IfErr result (λ e. e ≡ HttpFault.WriteFault) }
 {
     match node.get(target) {
@@ -146,9 +147,9 @@ fn played<S: PromiseStore, W: Write>(
     event: Event,
     reply: &Reply,
 ) -> Result<Served, HttpFault>
-    ensures kit { kit_view node.new.kit ≡ kit_view node.old.kit }
-    ensures plays { IsPlayed (Plays (S.is_honest node.new.store) (IsTrue (S.is_open node.new.store)) (S.kept node.old.store) (S.kept node.new.store) node.old.state node.new.state) event reply.now (W.contents writer.old) (W.contents writer.new) result }
-    ensures honest { S.is_honest node.new.store → S.is_honest node.old.store }
+    ensures kit { kit_of node.new ≡ kit_of node.old }
+    ensures plays { IsPlayed (Plays S.fails_by S.round_fails_by (S.is_honest (store_of node.new)) (IsTrue (S.is_open (store_of node.new))) (S.kept (store_of node.old)) (S.kept (store_of node.new)) (S.faults (store_of node.old)) (S.faults (store_of node.new)) (state_of node.old) (state_of node.new)) event reply.now (W.contents writer.old) (W.contents writer.new) result }
+    ensures honest { S.is_honest (store_of node.new) → S.is_honest (store_of node.old) }
 {
     let alloc = node.alloc;
     match node.on(event) {
@@ -173,9 +174,9 @@ fn answered<S: PromiseStore, W: Write>(
     writer: &mut W,
     asked: Asked,
 ) -> Result<Served, HttpFault>
-    ensures kit { kit_view node.new.kit ≡ kit_view node.old.kit }
-    ensures honest { S.is_honest node.new.store → S.is_honest node.old.store }
-    ensures answered { IsAnswered (node.new ≡ node.old) (Plays (S.is_honest node.new.store) (IsTrue (S.is_open node.new.store)) (S.kept node.old.store) (S.kept node.new.store) node.old.state node.new.state) (kit_view node.old.kit) node.old.state.up (W.contents writer.old) (W.contents writer.new) asked result }
+    ensures kit { kit_of node.new ≡ kit_of node.old }
+    ensures honest { S.is_honest (store_of node.new) → S.is_honest (store_of node.old) }
+    ensures answered { IsAnswered (node.new ≡ node.old) (Plays S.fails_by S.round_fails_by (S.is_honest (store_of node.new)) (IsTrue (S.is_open (store_of node.new))) (S.kept (store_of node.old)) (S.kept (store_of node.new)) (S.faults (store_of node.old)) (S.faults (store_of node.new)) (state_of node.old) (state_of node.new)) (kit_of node.old) (state_of node.old).up (W.contents writer.old) (W.contents writer.new) asked result }
 {
     let alloc = node.alloc;
     match asked {
@@ -195,9 +196,9 @@ pub fn serve_one<S: PromiseStore, R: Read, W: Write>(
     reader: &mut R,
     writer: &mut W,
 ) -> Result<Served, HttpFault>
-    ensures kit { kit_view node.new.kit ≡ kit_view node.old.kit }
-    ensures honest { S.is_honest node.new.store → S.is_honest node.old.store }
-    ensures served { (seen : List ℕ) × Consumes (R.remaining reader.old) (R.remaining reader.new) seen × (length seen ≤ longest_request) × (meant : Result Asked HttpFault) × AsksFor seen (R.remaining reader.new) meant × IsServed (node.new ≡ node.old) (Plays (S.is_honest node.new.store) (IsTrue (S.is_open node.new.store)) (S.kept node.old.store) (S.kept node.new.store) node.old.state node.new.state) (kit_view node.old.kit) node.old.state.up (W.contents writer.old) (W.contents writer.new) meant result }
+    ensures kit { kit_of node.new ≡ kit_of node.old }
+    ensures honest { S.is_honest (store_of node.new) → S.is_honest (store_of node.old) }
+    ensures served { Serves (node.new ≡ node.old) (Plays S.fails_by S.round_fails_by (S.is_honest (store_of node.new)) (IsTrue (S.is_open (store_of node.new))) (S.kept (store_of node.old)) (S.kept (store_of node.new)) (S.faults (store_of node.old)) (S.faults (store_of node.new)) (state_of node.old) (state_of node.new)) (kit_of node.old) (state_of node.old).up (R.remaining reader.old) (R.remaining reader.new) (W.contents writer.old) (W.contents writer.new) result }
 {
     match asked(node.alloc, reader) {
         Ok(asked) => answered(node, writer, asked),

@@ -1,10 +1,12 @@
 //! A node without its kit and its store.
 
-ghost use Rattle.std.specs.Prelude.{◌≡◌, ◌⊎◌, ◌≤◌, length, IsTrue, IfOk, IfErr, IfSome, OnOk, OnErr, None, Some, true, false, Err, option_map, option_copied};
+ghost use Rattle.std.specs.Prelude.{◌≡◌, ◌⊎◌, ◌≤◌, ◌<◌, length, IsTrue, IsErrAnd, IfOk, IfErr, IfSome, OnOk, OnErr, None, Some, true, false, Err, option_map, option_copied};
 ghost use Rattle.std.specs.Option.{IsSomeAnd};
 ghost use Rattle.press_callbacks.specs.Kits.{kit_view};
+ghost use Rattle.press_learner.specs.Chosen.{chosen_next};
 ghost use Rattle.press_node.specs.Durable.{AreStored};
-ghost use Rattle.press_node.specs.Faults.{stops};
+ghost use Rattle.press_node.specs.Faults.{IsRefusedBy, MayMeet, stops};
+ghost use Rattle.press_node.specs.Memory.{TakesMemoryIn};
 ghost use Rattle.press_node.specs.NodeEvent.{left_by};
 ghost use Rattle.press_node.specs.Refusals.{refusal, refusal_at_once};
 ghost use Rattle.press_node.specs.States.{answer_in, applied_count, is_down, IsFolded, running_in, started_at, stopped};
@@ -108,10 +110,15 @@ impl State {
         ensures unchanged { IfErr result (λ fault. stops fault ≡ false → self.new ≡ self.old) }
         ensures failed { S.is_honest store.new → IsTrue (S.is_open store.new) → OnErr result ((S.kept store.new ≡ S.kept store.old) ⊎ IsSomeAnd (answer_in (S.kept store.old) self.old event) (λ a. S.kept store.new ≡ left_by (S.kept store.old) a)) }
         ensures unsaved { S.is_honest store.new → IsTrue (S.is_open store.new) → IfErr result (λ fault. stops fault ≡ false → S.kept store.new ≡ S.kept store.old) }
+        ensures settled { IfSome (running_in self.new) (λ node. chosen_next node.learner ≡ None) }
         ensures at_once { IfSome (refusal_at_once (running_in self.old) event) (λ fault. result ≡ Err fault) }
         ensures refused { S.is_honest store.new → IfErr result (λ fault. stops fault ≡ false → refusal (S.kept store.old) (running_in self.old) event ≡ Some fault) }
         ensures passes { S.is_honest store.new → OnOk result (refusal (S.kept store.old) (running_in self.old) event ≡ None) }
         ensures honest { S.is_honest store.new → S.is_honest store.old }
+        ensures fault { IfErr result (MayMeet S.fails_by (TakesMemoryIn self.old event)) }
+        ensures stays { S.is_honest store.new → IsTrue (S.is_open store.new) → IfSome (refusal (S.kept store.old) (running_in self.old) event) (λ _. S.kept store.new ≡ S.kept store.old) }
+        ensures tells { S.is_honest store.new → IfSome (refusal (S.kept store.old) (running_in self.old) event) (λ fault. IsErrAnd result (IsRefusedBy S.round_fails_by fault)) }
+        ensures disk { IfErr result (λ fault. fault ≡ NodeFault.Disk → S.faults store.old < S.faults store.new) }
         ensures folded { IsFolded (kit_view kit.now) self.old → IsFolded (kit_view kit.now) self.new }
     {
         let (alloc, id, members) = (self.alloc, self.id, self.members);

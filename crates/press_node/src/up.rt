@@ -1,17 +1,19 @@
 //! What a running node has in memory, and what each event does to it.
 
-ghost use Rattle.std.specs.Prelude.{◌≡◌, ◌⊎◌, ◌≤◌, ◌+◌, ◌<◌, length, IsTrue, IfOk, IfErr, IfSome, OnOk, OnErr, None, Some, true, false, Err};
+ghost use Rattle.std.specs.Prelude.{◌≡◌, ◌⊎◌, ◌≤◌, ◌+◌, ◌<◌, length, IsTrue, IsSome, IsErrAnd, IfOk, IfErr, IfSome, OnOk, OnErr, None, Some, true, false, Err};
 ghost use Rattle.press_callbacks.specs.Kits.{kit_view};
 ghost use Rattle.press_acceptor.specs.Answers.{acceptor_answer};
 ghost use Rattle.press_acceptor.specs.StoreMap.{saved_if};
 ghost use Rattle.press_apply.specs.declared.value.Value.TheVariants.{Cmd};
-ghost use Rattle.press_learner.specs.Chosen.{has_gap};
+ghost use Rattle.press_learner.specs.Chosen.{chosen_next, has_gap};
 ghost use Rattle.press_learner.specs.Kept.{new_learner, with_vote};
+ghost use Rattle.press_proposer.specs.Phases.{awaits};
 ghost use Rattle.press_proposer.specs.Proposing.{started};
 ghost use Rattle.press_proposer.specs.Turns.{queued_by, wake_turn, promise_turn, nacked_by};
 ghost use Rattle.press_site.specs.Effects.{no_site};
 ghost use Rattle.press_wire.specs.Spelling as spell;
-ghost use Rattle.press_node.specs.Faults.{stops};
+ghost use Rattle.press_node.specs.Faults.{IsRefusedBy, MayMeet, stops};
+ghost use Rattle.press_node.specs.Memory.{TakesForBody, TakesForVote, TakesMemory};
 ghost use Rattle.press_node.specs.NodeEvent.{by_acceptor, by_proposer, fresh, is_for, on_body, on_event, on_message, quiet, settled, with_learner, with_proposer};
 ghost use Rattle.press_node.specs.Refusals.{is_at_end, refusal_up, refusal};
 ghost use Rattle.press_node.specs.Views.{Applies, IsBeside, IsDone, IsFailed, IsUpAt, IsUpFolded, Leaves, running_of, view_one};
@@ -21,7 +23,7 @@ use crate::fault::NodeFault;
 use press_acceptor::{Acceptor, PromiseStore};
 use press_apply::{Stamped, Value, apply};
 use press_callbacks::Kit;
-use press_learner::Learner;
+use press_learner::{Learner, none_is_chosen_after_64};
 use press_proposer::Proposer;
 use press_site::Site;
 use press_wire::{Ballot, Body, Message, Node as Member, Slot, Vote, WireFault, encode_cmd};
@@ -91,6 +93,8 @@ fn answered<S: PromiseStore>(
     ensures failed { S.is_honest store.new → IsTrue (S.is_open store.new) → OnErr result ((S.kept store.new ≡ S.kept store.old) ⊎ (S.kept store.new ≡ saved_if (S.kept store.old) (acceptor_answer members id (S.kept store.old) message.now).save)) }
     ensures honest { S.is_honest store.new → S.is_honest store.old }
     ensures stops { IfErr result (λ fault. stops fault ≡ true) }
+    ensures fault { IfErr result (MayMeet S.fails_by (Unit {0})) }
+    ensures disk { IfErr result (λ fault. fault ≡ NodeFault.Disk → S.faults store.old < S.faults store.new) }
 {
     match Acceptor::answer(alloc, store, members, id, message) {
         Ok(out) => Ok(out),
@@ -109,6 +113,7 @@ impl Up {
     pub(crate) fn new(alloc: Global, id: Member, members: u8, last_round: u64) -> Up
         requires { members ≤ 7 }
         ensures running { running_of result ≡ fresh members id last_round }
+        ensures none { chosen_next result.learner ≡ None }
         ensures site { result.site ≡ no_site }
     {
         Up {
@@ -127,6 +132,7 @@ impl Up {
         ensures learner_members { self.new.learner.members ≡ self.old.learner.members }
         ensures count { OnOk result (self.new.learner.applied ≡ length self.new.values.items) }
         ensures stops { IfErr result (λ fault. stops fault ≡ true) }
+        ensures memory { IfErr result (λ fault. (fault ≡ NodeFault.NoMemory) × IsSome (chosen_next self.old.learner)) }
         ensures applies { IfOk result (λ more. Applies (kit_view kit.now) self.old more self.new) }
     {
         let value = match self.learner.next_chosen() {
@@ -153,14 +159,18 @@ impl Up {
     /// Applies chosen values as long as the next slot has one.
     fn settle(&mut self, alloc: Global, kit: &Kit) -> Result<(), NodeFault>
         requires count { self.old.learner.applied ≡ length self.old.values.items }
+        ensures none { OnOk result (chosen_next self.new.learner ≡ None) }
         ensures id { self.new.proposer.id ≡ self.old.proposer.id }
         ensures members { self.new.proposer.members ≡ self.old.proposer.members }
         ensures learner_members { self.new.learner.members ≡ self.old.learner.members }
         ensures count { OnOk result (self.new.learner.applied ≡ length self.new.values.items) }
         ensures stops { IfErr result (λ fault. stops fault ≡ true) }
+        ensures memory { IfErr result (λ fault. (fault ≡ NodeFault.NoMemory) × IsSome (chosen_next self.old.learner)) }
         ensures settled { OnOk result (running_of self.new ≡ settled (running_of self.old)) }
         ensures folded { OnOk result (IsUpFolded (kit_view kit.now) self.old → IsUpFolded (kit_view kit.now) self.new) }
     {
+        none_is_chosen_after_64();
+        let _ = self.learner.applied();
         for i in 0..WINDOW {
             match self.apply_next(alloc, kit) {
                 Ok(true) => {}
@@ -182,11 +192,13 @@ impl Up {
     ) -> Result<(), NodeFault>
         requires count { self.old.learner.applied ≡ length self.old.values.items }
         requires member { from ≤ self.old.learner.members }
+        ensures none { OnOk result (chosen_next self.new.learner ≡ None) }
         ensures id { self.new.proposer.id ≡ self.old.proposer.id }
         ensures members { self.new.proposer.members ≡ self.old.proposer.members }
         ensures learner_members { self.new.learner.members ≡ self.old.learner.members }
         ensures count { OnOk result (self.new.learner.applied ≡ length self.new.values.items) }
         ensures stops { IfErr result (λ fault. stops fault ≡ true) }
+        ensures memory { IfErr result (λ fault. (fault ≡ NodeFault.NoMemory) × TakesForVote self.old.learner from slot vote) }
         ensures voted { OnOk result (running_of self.new ≡ settled (with_learner (running_of self.old) (with_vote self.old.learner from slot vote))) }
         ensures folded { OnOk result (IsUpFolded (kit_view kit.now) self.old → IsUpFolded (kit_view kit.now) self.new) }
     {
@@ -203,6 +215,7 @@ impl Up {
         ensures refused { IfSome (refusal_up (running_of self.old) (Event.Submit command)) (λ fault. result ≡ Err fault) }
         ensures fault { IfErr result (λ fault. stops fault ≡ false → refusal_up (running_of self.old) (Event.Submit command) ≡ Some fault) }
         ensures passes { OnOk result (refusal_up (running_of self.old) (Event.Submit command) ≡ None) }
+        ensures memory { IfErr result (λ fault. stops fault ≡ true → fault ≡ NodeFault.NoMemory) }
         ensures err { OnErr result (self.new ≡ self.old) }
     {
         let command = match short(alloc, command) {
@@ -237,6 +250,10 @@ impl Up {
         ensures fault { S.is_honest store.new → IfErr result (λ fault. stops fault ≡ false → refusal (S.kept store.old) (Some (running_of self.old)) Event.Wake ≡ Some fault) }
         ensures passes { S.is_honest store.new → OnOk result (refusal (S.kept store.old) (Some (running_of self.old)) Event.Wake ≡ None) }
         ensures honest { S.is_honest store.new → S.is_honest store.old }
+        ensures meets { IfErr result (MayMeet S.fails_by (Unit {0})) }
+        ensures stays { S.is_honest store.new → IsTrue (S.is_open store.new) → IfSome (refusal (S.kept store.old) (Some (running_of self.old)) Event.Wake) (λ _. S.kept store.new ≡ S.kept store.old) }
+        ensures tells { S.is_honest store.new → IfSome (refusal (S.kept store.old) (Some (running_of self.old)) Event.Wake) (λ fault. IsErrAnd result (IsRefusedBy S.round_fails_by fault)) }
+        ensures disk { IfErr result (λ fault. fault ≡ NodeFault.Disk → S.faults store.old < S.faults store.new) }
     {
         if self.is_at_end() {
             return Err(NodeFault::SlotsUsedUp);
@@ -261,6 +278,7 @@ impl Up {
         ensures out { IfOk result (λ out. out.items ≡ (promise_turn self.old.proposer from slot ballot vote).out) }
         ensures after { OnOk result (self.new.proposer ≡ (promise_turn self.old.proposer from slot ballot vote).after) }
         ensures stops { IfErr result (λ fault. stops fault ≡ true) }
+        ensures memory { IfErr result (λ fault. (fault ≡ NodeFault.NoMemory) × IsTrue (awaits self.old.proposer.phase from slot ballot)) }
     {
         match self.proposer.on_promise(from, slot, ballot, vote) {
             Ok(out) => Ok(out),
@@ -291,6 +309,8 @@ impl Up {
         ensures ok { IfOk result (λ out. IsDone (S.is_honest store.new) (IsTrue (S.is_open store.new)) (kit_view kit.now) id members (on_body members id (S.kept store.old) (running_of self.old) message message.body) out.items (S.kept store.old) (S.kept store.new) self.old self.new) }
         ensures err { IfErr result (λ fault. (stops fault ≡ true) × (S.is_honest store.new → IsTrue (S.is_open store.new) → Leaves (on_body members id (S.kept store.old) (running_of self.old) message message.body) (S.kept store.old) (S.kept store.new))) }
         ensures honest { S.is_honest store.new → S.is_honest store.old }
+        ensures fault { IfErr result (MayMeet S.fails_by (TakesForBody (running_of self.old) message message.body)) }
+        ensures disk { IfErr result (λ fault. fault ≡ NodeFault.Disk → S.faults store.old < S.faults store.new) }
     {
         let Message {
             from,
@@ -334,6 +354,8 @@ impl Up {
         ensures ok { IfOk result (λ out. IsDone (S.is_honest store.new) (IsTrue (S.is_open store.new)) (kit_view kit.now) id members (on_message members id (S.kept store.old) (running_of self.old) message) out.items (S.kept store.old) (S.kept store.new) self.old self.new) }
         ensures err { IfErr result (λ fault. (stops fault ≡ true) × (S.is_honest store.new → IsTrue (S.is_open store.new) → Leaves (on_message members id (S.kept store.old) (running_of self.old) message) (S.kept store.old) (S.kept store.new))) }
         ensures honest { S.is_honest store.new → S.is_honest store.old }
+        ensures fault { IfErr result (MayMeet S.fails_by (TakesMemory members id (running_of self.old) (Event.Deliver message))) }
+        ensures disk { IfErr result (λ fault. fault ≡ NodeFault.Disk → S.faults store.old < S.faults store.new) }
     {
         if !is_for(members, id, &message) {
             return Ok(Vec::new(alloc));
@@ -358,6 +380,10 @@ impl Up {
         ensures refused { S.is_honest store.new → IfErr result (λ fault. stops fault ≡ false → refusal (S.kept store.old) (Some (running_of self.old)) event ≡ Some fault) }
         ensures passes { S.is_honest store.new → OnOk result (refusal (S.kept store.old) (Some (running_of self.old)) event ≡ None) }
         ensures honest { S.is_honest store.new → S.is_honest store.old }
+        ensures fault { IfErr result (MayMeet S.fails_by (TakesMemory members id (running_of self.old) event)) }
+        ensures stays { S.is_honest store.new → IsTrue (S.is_open store.new) → IfSome (refusal (S.kept store.old) (Some (running_of self.old)) event) (λ _. S.kept store.new ≡ S.kept store.old) }
+        ensures tells { S.is_honest store.new → IfSome (refusal (S.kept store.old) (Some (running_of self.old)) event) (λ fault. IsErrAnd result (IsRefusedBy S.round_fails_by fault)) }
+        ensures disk { IfErr result (λ fault. fault ≡ NodeFault.Disk → S.faults store.old < S.faults store.new) }
     {
         match event {
             Event::Submit(command) => match self.submit(alloc, command) {

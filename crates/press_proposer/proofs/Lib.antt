@@ -1,1 +1,2 @@
 pub mod Best
+pub mod Greatest

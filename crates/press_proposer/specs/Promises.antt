@@ -1,5 +1,5 @@
 -- The promises that came for a ballot, in the order in which they came, and what they leave to propose (Paxos Made Simple, 2.2, phase 2a).
-use Rattle.std.specs.Prelude.{ℕ, ◌==◌, ◌*◌, nat_lt, Bool, Option, None, Some, List, [], ◌∷◌, length, if◌then◌else◌}
+use Rattle.std.specs.Prelude.{ℕ, ◌≡◌, ◌⊎◌, ◌==◌, ◌*◌, nat_lt, Bool, Option, None, Some, List, [], ◌∷◌, length, if◌then◌else◌}
 use Rattle.std.specs.List.{list_any}
 use Rattle.press_apply.specs.declared.command.Stamped.{Stamped}
 use Rattle.press_apply.specs.declared.value.Value.{Value}
@@ -30,6 +30,11 @@ best_after best (promise ∷ later) = best_after (better best promise.vote) late
 -- the reported vote of the greatest ballot, of equal ones the first that came
 abbrev pub best_of : List Promise → Option Vote
 best_of promises = best_after None promises
+
+-- one of them reports the vote
+abbrev pub IsReported : List Promise → Vote → Type 0
+IsReported [] vote = ⊥
+IsReported (promise ∷ later) vote = (promise.vote ≡ Some vote) ⊎ IsReported later vote
 
 -- its value, or the first command that waits, or the value that does nothing
 abbrev pub choice : Option Vote → List Stamped → Value

@@ -2,10 +2,12 @@
 #![tactic(auto)]
 
 mod fault;
+mod laws;
 mod phase;
 mod promises;
 mod proposer;
 mod queue;
 
 pub use fault::ProposerFault;
+pub use laws::best_is_the_greatest_reported;
 pub use proposer::Proposer;

@@ -99,7 +99,7 @@ impl Proposer {
         ensures used_up { S.is_honest store.new → IsTrue (is_used_up (S.kept store.old) self.old gap) → IsErrAnd result (IsWakeFault S.round_fails_by) }
         ensures disk { result ≡ Err (ProposerFault.Store Disk) → S.faults store.old < S.faults store.new }
         ensures rounds { S.is_honest store.new → result ≡ Err ProposerFault.RoundsUsedUp → IsTrue (is_used_up (S.kept store.old) self.old gap) }
-        ensures refused { S.is_honest store.new → IsTrue (S.is_open store.new) → result ≡ Err ProposerFault.RoundsUsedUp → S.kept store.new ≡ S.kept store.old }
+        ensures refused { S.is_honest store.new → IsTrue (S.is_open store.new) → IsTrue (is_used_up (S.kept store.old) self.old gap) → S.kept store.new ≡ S.kept store.old }
     {
         let slot = slot_after(applied);
         if self.is_content(gap) {
@@ -184,6 +184,7 @@ impl Proposer {
         ensures honest { S.is_honest store.new → S.is_honest store.old }
         ensures fault { IfErr result (IsWakeFault S.fails_by) }
         ensures round_fault { IfErr result (IsWakeFault S.round_fails_by) }
+        ensures counts { S.faults store.old ≤ S.faults store.new }
         ensures disk { result ≡ Err (ProposerFault.Store Disk) → S.faults store.old < S.faults store.new }
     {
         let last = store.last_round()?.max(self.nacked);

@@ -1,5 +1,4 @@
 mod acceptor;
 mod common;
 mod learner;
-mod node;
 mod proposer;

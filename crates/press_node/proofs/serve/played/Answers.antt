@@ -22,7 +22,12 @@ returns-in-Ok-clause-plays g c =
         unsaved = λ h o. tt;
         at_once = refused_too (λ v. v.items) (Ok c.in-Ok.outbox) (refusal_at_once (running_in c.args.node.now.state) c.args.event) e.at_once;
         refused = λ h. tt;
+        settled = e.settled;
         passes = e.passes;
+        fault = tt;
+        stays = e.stays;
+        tells = e.tells;
+        disk = tt;
       },
       told_answers (λ s. s.status) (λ s. s.outbox.items) c.args.reply.now (g.W.Write.contents c.args.writer.now) (g.W.Write.contents c.told.new.writer) c.told.result c.in-Ok.outbox.items c.told.ensures.outbox c.told.ensures.ok c.told.ensures.err c.told.ensures.fault,
     )
@@ -45,7 +50,12 @@ returns-in-Err-clause-plays g c =
         unsaved = e.unsaved;
         at_once = refused_too (λ v. v.items) (Err c.in-Err.fault) (refusal_at_once (running_in c.args.node.now.state) c.args.event) e.at_once;
         refused = e.refused;
+        settled = e.settled;
         passes = λ h. tt;
+        fault = e.fault;
+        stays = e.stays;
+        tells = e.tells;
+        disk = e.disk;
       },
       refused_answers (λ s. s.status) (λ s. s.outbox.items) c.args.reply.now (g.W.Write.contents c.args.writer.now) (g.W.Write.contents c.refused.new.writer) c.refused.result c.in-Err.fault c.status.result c.status.ensures.value c.refused.ensures.ok c.refused.ensures.err c.refused.ensures.fault,
     )

@@ -1,6 +1,7 @@
 use Rattle.std.proofs.Common.{IsTrue}
 use Rattle.press_callbacks.specs.Kits.{kit_view}
-use Rattle.press_node.proofs.Answering.{request_done, request_failed}
+use Rattle.press_node.proofs.Answering.{request_done, request_failed, request_meets}
+use Rattle.press_node.specs.Views.{running_of}
 use Rattle.press_node.proofs.up.Up.on_body.Goals as goal
 
 pub returns-in-Prepare-clause-ok : goal.returns-in-Prepare-clause-ok
@@ -16,3 +17,7 @@ returns-in-Prepare-clause-err g c =
     let t = c.answered.new.store in
     request_failed (g.S.PromiseStore.is_honest t) (IsTrue (g.S.PromiseStore.is_open t)) c.args.members c.args.id (g.S.PromiseStore.kept s) (g.S.PromiseStore.kept t) c.args.self.now c.args.message c.in-Prepare.is
     c.answered.result c.answered.ensures.stops c.answered.ensures.failed
+
+pub returns-in-Prepare-clause-fault : goal.returns-in-Prepare-clause-fault
+returns-in-Prepare-clause-fault g c =
+    request_meets g.S.PromiseStore.fails_by c.answered.result (running_of c.args.self.now) c.args.message c.in-Prepare.is c.answered.ensures.fault

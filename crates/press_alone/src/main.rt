@@ -1,0 +1,34 @@
+//! Plays a node by itself over memory: `press_alone WORD ..`. `new`, `kit=FILE`, `fails-before=N` and `fails-after=N` begin with new nodes; any other FILE is a
+//! connection that is served; `wake`, `deliver`, `settle`, `stop` and `fill=N` are what happens beside connections; `commands=N`, `applies=N` and, before a FILE, `serves=N` are for whoever measures it.
+#![tactic(auto)]
+
+mod played;
+mod words;
+
+use crate::played::play;
+use crate::words::{Scene, Start};
+use std::{env, io};
+
+fn words_of(rt: &HostRuntime) -> io::Result<Vec<String>> {
+    let mut words = Vec::new(rt.alloc());
+    for word in env::args(rt)?.skip(1) {
+        words.push(word)?;
+    }
+    Ok(words)
+}
+
+fn main(rt: HostRuntime) -> anyhow::Result<()> {
+    let words = words_of(&rt)?;
+    let mut scene = Scene::new(rt.alloc(), Start::New);
+    for word in words.iter() {
+        match Start::from_word(word.as_str()) {
+            None => scene.push(word.as_str())?,
+            Some(start) => {
+                play(&rt, &scene)?;
+                println!(rt; "{word}")?;
+                scene = Scene::new(rt.alloc(), start);
+            }
+        }
+    }
+    play(&rt, &scene)
+}

@@ -1,0 +1,62 @@
+//! A scene, played.
+
+use crate::words::{Scene, Start};
+use press_callbacks::{BoxedTurns, CallIn, Kit, Stored, script_turn};
+use press_kit::{KitParts, read_kit_file};
+use press_seats::{Seats, Word};
+use press_text::Copied;
+use std::fs;
+use std::io::Write;
+
+const SIZES: [usize; 3] = [1, 7, 4096];
+
+const EMPTY_KIT: &[u8] = b"{\"callbacks\":[],\"plugins\":[]}";
+
+fn kit_file(rt: &HostRuntime, start: Start<'_>) -> anyhow::Result<Vec<u8>> {
+    match start {
+        Start::Kit(name) => Ok(fs::read(rt, name)?),
+        Start::New | Start::FailsBefore(_) | Start::FailsAfter(_) => {
+            let mut file = Vec::new(rt.alloc());
+            file.extend_from_slice(EMPTY_KIT)?;
+            Ok(file)
+        }
+    }
+}
+
+// The bytes of the file that a word names.
+fn request(rt: &HostRuntime, word: Word<'_>) -> anyhow::Result<Vec<u8>> {
+    match word {
+        Word::File(name) => Ok(fs::read(rt, name)?),
+        _ => Ok(Vec::new(rt.alloc())),
+    }
+}
+
+/// Starts three nodes and plays the words on them. The kit's closures are boxed here, and nodes stay here: a box may not be handed out.
+pub fn play(rt: &HostRuntime, scene: &Scene<'_>) -> anyhow::Result<()> {
+    let alloc = rt.alloc();
+    let file = kit_file(rt, scene.start)?;
+    let mut seats = Seats::new(alloc);
+    for size in SIZES {
+        let KitParts {
+            callbacks: parts,
+            plugins,
+        } = read_kit_file(alloc, &file)?;
+        let mut callbacks: Vec<Stored> = Vec::new(alloc);
+        for scripted in parts.into_vec() {
+            let own = scripted.script.copied(alloc)?;
+            let call: BoxedTurns = Box::new(
+                alloc,
+                move |input: &CallIn| script_turn(alloc, &own, input),
+            )?;
+            callbacks.push(Stored::new(scripted.id, scripted.script, call))?;
+        }
+        let kit = Kit::build(alloc, callbacks, plugins.into_vec())?;
+        seats.start(kit, scene.start.plan(), size)?;
+    }
+    for word in scene.words.iter() {
+        let request = request(rt, *word)?;
+        let said = seats.play(*word, &request)?;
+        rt.stdout().write_all(&said)?;
+    }
+    Ok(())
+}

@@ -1,0 +1,191 @@
+//! A node, and the messages that wait for it.
+
+ghost use Rattle.std.specs.Prelude.{◌≡◌};
+
+use crate::lines::{done_line, kind_of, sent_line, store_line};
+use crate::pieces::Pieces;
+use crate::posts::post;
+use crate::store::Failing;
+use crate::word::Turn;
+use press_callbacks::Kit;
+use press_node::{Event, Node, NodeFault, Served, StartFault, serve_one};
+use press_wire::{Message, Node as Member};
+use std::alloc::{AllocError, Global};
+use std::collections::VecDeque;
+use std::io;
+
+/// A node by itself, the messages that it sent to itself, and in what pieces its connections come.
+#[derive(Drop)]
+pub struct Seat {
+    node: Node<Failing>,
+    waiting: VecDeque<Message>,
+    size: usize,
+    alloc: Global,
+}
+
+// The only member.
+fn member() -> Member
+    ensures { result ≡ 1 }
+{
+    let Some(member) = Member::new(1) else {
+        unreachable!()
+    };
+    member
+}
+
+fn refused(fault: StartFault<Failing>) -> anyhow::Error {
+    anyhow::anyhow!("no start: {}", fault.fault)
+}
+
+impl Seat {
+    pub fn start(alloc: Global, kit: Kit, store: Failing, size: usize) -> anyhow::Result<Seat> {
+        match Node::start(alloc, member(), 1, kit, store) {
+            Ok(node) => Ok(Seat {
+                node,
+                waiting: VecDeque::new(alloc),
+                size,
+                alloc,
+            }),
+            Err(fault) => Err(refused(fault)),
+        }
+    }
+
+    pub fn size(&self) -> usize {
+        self.size
+    }
+
+    pub fn applied(&self) -> u64 {
+        self.node.applied()
+    }
+
+    // Messages wait behind those that do so already; how many.
+    fn wait(&mut self, outbox: Vec<Message>) -> Result<usize, AllocError> {
+        let count = outbox.len();
+        for message in outbox {
+            self.waiting.push_back(message)?;
+        }
+        Ok(count)
+    }
+
+    // An event; how many messages it sent.
+    fn on(&mut self, event: Event) -> Result<usize, NodeFault> {
+        let outbox = self.node.on(event)?;
+        match self.wait(outbox) {
+            Ok(count) => Ok(count),
+            Err(AllocError) => Err(NodeFault::NoMemory),
+        }
+    }
+
+    /// One turn, and the line of what came of it.
+    pub fn play(&mut self, turn: Turn) -> anyhow::Result<String> {
+        match turn {
+            Turn::Wake => Ok(self.wake()?),
+            Turn::Deliver => Ok(self.deliver()?),
+            Turn::Settle => Ok(self.settle()?),
+            Turn::Fill(count) => self.fill(count),
+        }
+    }
+
+    fn wake(&mut self) -> Result<String, AllocError> {
+        let done = self.on(Event::Wake);
+        sent_line(self.alloc, "wake", self.applied(), done)
+    }
+
+    // The oldest message is delivered.
+    fn deliver(&mut self) -> Result<String, AllocError> {
+        let Some(message) = self.waiting.pop_front() else {
+            return format!(in self.alloc; "deliver: nothing waits\n");
+        };
+        let what = format!(in self.alloc; "deliver {}", kind_of(&message.body))?;
+        let done = self.on(Event::Deliver(message));
+        sent_line(self.alloc, what.as_str(), self.applied(), done)
+    }
+
+    // Messages are delivered, as long as any waits; how many were.
+    fn deliver_all(&mut self, delivered: &mut u64) -> Result<(), NodeFault> {
+        for _ in 0..u64::MAX {
+            let Some(message) = self.waiting.pop_front() else {
+                return Ok(());
+            };
+            self.on(Event::Deliver(message))?;
+            *delivered = delivered.saturating_add(1);
+        }
+        Ok(())
+    }
+
+    // Messages are delivered until none waits, or one meets a fault.
+    fn settle(&mut self) -> Result<String, AllocError> {
+        let mut delivered = 0;
+        let fault = self.deliver_all(&mut delivered).err();
+        let what = format!(in self.alloc; "settle: {delivered} delivered")?;
+        done_line(self.alloc, what.as_str(), self.applied(), fault)
+    }
+
+    // So many commands come, until one meets a fault.
+    fn fill(&mut self, count: u32) -> anyhow::Result<String> {
+        let (mut queued, mut fault) = (0, None);
+        for seq in 0..count {
+            let command = post(self.alloc, seq)?;
+            fault = self.on(Event::Submit(command)).err();
+            if fault.is_some() {
+                break;
+            }
+            queued = seq + 1;
+        }
+        let what = format!(in self.alloc; "fill={count}: {queued} queued")?;
+        let line = done_line(self.alloc, what.as_str(), self.applied(), fault)?;
+        Ok(line)
+    }
+
+    /// The bytes of one connection are served.
+    pub fn serve(&mut self, name: &str, bytes: &[u8]) -> anyhow::Result<Vec<u8>> {
+        let mut reader = Pieces::new(bytes, self.size);
+        let mut reply = Vec::new(self.alloc);
+        match serve_one(&mut self.node, &mut reader, &mut reply) {
+            Ok(Served { status, outbox }) => {
+                let count = self.wait(outbox)?;
+                let applied = self.applied();
+                let line = format!(in self.alloc;
+                    "{name}: {status}, {count} to send, k={applied}\n"
+                )?;
+                let mut said = line.into_bytes();
+                said.extend_from_slice(&reply)?;
+                said.extend_from_slice(b"|\n")?;
+                Ok(said)
+            }
+            Err(fault) => {
+                let line = format!(in self.alloc; "{name}: closed, {fault}\n")?;
+                Ok(line.into_bytes())
+            }
+        }
+    }
+
+    /// A command comes, and is chosen.
+    pub fn choose(&mut self, seq: u32) -> anyhow::Result<()> {
+        let command = post(self.alloc, seq)?;
+        self.on(Event::Submit(command))?;
+        self.on(Event::Wake)?;
+        self.deliver_all(&mut 0)?;
+        Ok(())
+    }
+
+    /// The bytes of one connection are served in one piece, and its reply goes nowhere.
+    pub fn serve_away(&mut self, bytes: &[u8]) {
+        let mut reader = Pieces::new(bytes, bytes.len());
+        let _ = serve_one(&mut self.node, &mut reader, &mut io::sink());
+    }
+
+    /// The node ends, what waits is lost, and a node starts over what the store keeps.
+    pub fn stop(self) -> anyhow::Result<(Seat, String)> {
+        let Seat {
+            node,
+            size,
+            alloc,
+            ..
+        } = self;
+        let (kit, store) = node.down();
+        let line = store_line(alloc, store.memory())?;
+        let seat = Seat::start(alloc, kit, store.mended(), size)?;
+        Ok((seat, line))
+    }
+}

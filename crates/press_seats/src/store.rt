@@ -1,0 +1,160 @@
+//! A store in memory whose device fails once, where that is planned.
+
+ghost use Rattle.std.specs.Prelude.{◌≡◌, ◌⊎◌, ◌<◌, ◌≤◌, true, false, OnOk, OnErr, IfErr};
+ghost use Rattle.press_acceptor.specs.declared.fault.StoreFault.TheVariants.{Disk, NoMemory};
+ghost use Rattle.press_acceptor.specs.StoreMap.{new_store};
+
+use press_acceptor::{MemoryStore, PromiseStore, Row, StoreFault};
+use press_wire::{Round, Slot};
+use std::alloc::Global;
+
+/// When the device fails: at the save of that number, counted from 1, before or after it took.
+#[derive(Clone, Copy, Debug, PartialEq, Eq)]
+pub enum Plan {
+    Never,
+    Before(u32),
+    After(u32),
+}
+
+/// What becomes of a save.
+#[derive(Clone, Copy, Debug, PartialEq, Eq)]
+enum Fate {
+    Takes,
+    FailsBefore,
+    FailsAfter,
+}
+
+/// A store in memory over a device that fails as planned, and is shut from then on.
+#[derive(Debug, Drop)]
+pub struct Failing {
+    memory: MemoryStore,
+    plan: Plan,
+    saves: u32,
+    works: bool,
+    faults: u64,
+}
+
+impl Failing {
+    pub fn new(alloc: Global, plan: Plan) -> Failing {
+        Failing {
+            memory: MemoryStore::new(alloc),
+            plan,
+            saves: 0,
+            works: true,
+            faults: 0,
+        }
+    }
+
+    /// What is kept, over a device that doesn't fail.
+    pub fn mended(self) -> Failing {
+        let Failing { memory, .. } = self;
+        Failing {
+            memory,
+            plan: Plan::Never,
+            saves: 0,
+            works: true,
+            faults: 0,
+        }
+    }
+
+    pub fn memory(&self) -> &MemoryStore {
+        &self.memory
+    }
+
+    // The device fails, and is shut. Past the greatest count it is memory that is told.
+    fn fails(&mut self) -> StoreFault
+        ensures memory { self.new.memory ≡ self.old.memory }
+        ensures shut { self.new.works ≡ false }
+        ensures fault { (result ≡ Disk) ⊎ (result ≡ NoMemory) }
+        ensures disk { result ≡ Disk → self.old.faults < self.new.faults }
+        ensures counts { self.old.faults ≤ self.new.faults }
+    {
+        self.works = false;
+        match self.faults.checked_add(1) {
+            Some(faults) => {
+                self.faults = faults;
+                StoreFault::Disk
+            }
+            None => StoreFault::NoMemory,
+        }
+    }
+
+    // The next save begins.
+    fn begins(&mut self) -> Fate
+        ensures memory { self.new.memory ≡ self.old.memory }
+        ensures open { self.new.works ≡ self.old.works }
+        ensures faults { self.new.faults ≡ self.old.faults }
+    {
+        self.saves = self.saves.saturating_add(1);
+        match self.plan {
+            Plan::Before(number) if number == self.saves => Fate::FailsBefore,
+            Plan::After(number) if number == self.saves => Fate::FailsAfter,
+            Plan::Never | Plan::Before(_) | Plan::After(_) => Fate::Takes,
+        }
+    }
+}
+
+impl PromiseStore for Failing {
+    ghost use Rattle.std.specs.Prelude.{◌≡◌, ◌⊎◌};
+    ghost use Rattle.press_acceptor.specs.declared.fault.StoreFault.TheVariants.{Disk, NoMemory};
+
+    ghost kept = { λ s. s.memory };
+
+    ghost may_leave = { λ s left. left ≡ s.memory };
+
+    ghost is_honest = { λ _. Unit {0} };
+
+    ghost is_open = { λ s. s.works };
+
+    ghost faults = { λ s. s.faults };
+
+    ghost fails_by = { λ f. (f ≡ Disk) ⊎ (f ≡ NoMemory) };
+
+    ghost round_fails_by = { λ f. (f ≡ Disk) ⊎ (f ≡ NoMemory) };
+
+    fn faults(&self) -> u64 {
+        self.faults
+    }
+
+    fn load(&mut self, slot: Slot) -> Result<Row, StoreFault> {
+        if !self.works {
+            return Err(self.fails());
+        }
+        self.memory.load(slot)
+    }
+
+    fn save(&mut self, slot: Slot, row: &Row) -> Result<(), StoreFault> {
+        if !self.works {
+            return Err(self.fails());
+        }
+        match self.begins() {
+            Fate::Takes => self.memory.save(slot, row),
+            Fate::FailsBefore => Err(self.fails()),
+            Fate::FailsAfter => {
+                self.memory.save(slot, row)?;
+                Err(self.fails())
+            }
+        }
+    }
+
+    fn last_round(&mut self) -> Result<u64, StoreFault> {
+        if !self.works {
+            return Err(self.fails());
+        }
+        self.memory.last_round()
+    }
+
+    fn save_round(&mut self, round: Round) -> Result<(), StoreFault> {
+        if !self.works {
+            return Err(self.fails());
+        }
+        match self.begins() {
+            Fate::Takes => self.memory.save_round(round),
+            Fate::FailsBefore => Err(self.fails()),
+            Fate::FailsAfter => {
+                self.memory.save_round(round)?;
+                Err(self.fails())
+            }
+        }
+    }
+}
