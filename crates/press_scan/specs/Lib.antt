@@ -10,6 +10,3 @@ pub mod Attributes
 pub mod Seeking
 pub mod FirstShortcode
 pub mod AttributesOf
-pub mod Keys
-pub mod Entries
-pub mod Kept
