@@ -14,7 +14,9 @@ mod store;
 
 pub use acceptor::Acceptor;
 pub use fault::StoreFault;
-pub use laws::{acceptor_saves_legal_facts, at_most_one_value_chosen, ballots_are_ordered, some_value_chosen};
+pub use laws::{
+    acceptor_saves_legal_facts, at_most_one_value_chosen, ballots_are_ordered, some_value_chosen,
+};
 pub use memory::MemoryStore;
 pub use messages::{to_all, to_one};
 pub use row::Row;

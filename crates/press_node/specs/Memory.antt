@@ -1,6 +1,6 @@
 -- Which events may take memory (own): a message that is ignored takes none, nor does a refusal, a promise that doesn't count, or a vote that isn't kept where nothing
 -- is chosen.
-use Rattle.std.specs.Prelude.{ℕ, ◌≡◌, ◌⊎◌, IsTrue, IsSome, Option, None}
+use Rattle.std.specs.Prelude.{ℕ, ◌≡◌, ◌⊎◌, IsTrue, IsSome, None}
 use Rattle.std.specs.Option.{IsSomeAnd}
 use Rattle.press_wire.specs.declared.message.Body.{Body}
 use Rattle.press_wire.specs.declared.message.Body.TheVariants.{Prepare, Promise, Nack, Accept, Accepted, Query}

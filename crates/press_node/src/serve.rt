@@ -1,8 +1,7 @@
 //! One request of a connection, from its bytes to the bytes of its reply.
 
-ghost use Rattle.std.specs.Prelude.{◌≡◌, ◌⊎◌, ◌≤◌, ℕ, List, [], length, IfOk, IfErr, OnOk, OnErr, IsTrue, true, Result, MatchResult};
+ghost use Rattle.std.specs.Prelude.{◌≡◌, ◌≤◌, ℕ, List, [], length, IfOk, IfErr, OnErr, IsTrue, true, Result};
 ghost use Rattle.std.specs.Io.KnownBytes.{Appends, Consumes};
-ghost use Rattle.press_callbacks.specs.Kits.{kit_view};
 ghost use Rattle.press_text.specs.Streams.{AppendsFront};
 ghost use Rattle.press_http.specs.Replies.{IsTold, fault_bytes};
 ghost use Rattle.press_http.specs.Requests.{longest_request};

@@ -1,8 +1,7 @@
 //! A store in memory whose device fails once, where that is planned.
 
-ghost use Rattle.std.specs.Prelude.{◌≡◌, ◌⊎◌, ◌<◌, ◌≤◌, true, false, OnOk, OnErr, IfErr};
+ghost use Rattle.std.specs.Prelude.{◌≡◌, ◌⊎◌, ◌<◌, ◌≤◌, true, false};
 ghost use Rattle.press_acceptor.specs.declared.fault.StoreFault.TheVariants.{Disk, NoMemory};
-ghost use Rattle.press_acceptor.specs.StoreMap.{new_store};
 
 use press_acceptor::{MemoryStore, PromiseStore, Row, StoreFault};
 use press_wire::{Round, Slot};
