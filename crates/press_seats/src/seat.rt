@@ -68,7 +68,9 @@ impl Seat {
     }
 
     // An event; how many messages it sent.
-    fn on(&mut self, event: Event) -> Result<usize, NodeFault> {
+    fn on(&mut self, event: Event) -> Result<usize, NodeFault>
+        requires always { Unit {0} }
+    {
         let outbox = self.node.on(event)?;
         match self.wait(outbox) {
             Ok(count) => Ok(count),
@@ -77,7 +79,9 @@ impl Seat {
     }
 
     /// One turn, and the line of what came of it.
-    pub fn play(&mut self, turn: Turn) -> anyhow::Result<String> {
+    pub fn play(&mut self, turn: Turn) -> anyhow::Result<String>
+        requires always { Unit {0} }
+    {
         match turn {
             Turn::Wake => Ok(self.wake()?),
             Turn::Deliver => Ok(self.deliver()?),
@@ -86,13 +90,17 @@ impl Seat {
         }
     }
 
-    fn wake(&mut self) -> Result<String, AllocError> {
+    fn wake(&mut self) -> Result<String, AllocError>
+        requires always { Unit {0} }
+    {
         let done = self.on(Event::Wake);
         sent_line(self.alloc, "wake", self.applied(), done)
     }
 
     // The oldest message is delivered.
-    fn deliver(&mut self) -> Result<String, AllocError> {
+    fn deliver(&mut self) -> Result<String, AllocError>
+        requires always { Unit {0} }
+    {
         let Some(message) = self.waiting.pop_front() else {
             return format!(in self.alloc; "deliver: nothing waits\n");
         };
@@ -102,7 +110,9 @@ impl Seat {
     }
 
     // Messages are delivered, as long as any waits; how many were.
-    fn deliver_all(&mut self, delivered: &mut u64) -> Result<(), NodeFault> {
+    fn deliver_all(&mut self, delivered: &mut u64) -> Result<(), NodeFault>
+        requires always { Unit {0} }
+    {
         for _ in 0..u64::MAX {
             let Some(message) = self.waiting.pop_front() else {
                 return Ok(());
@@ -114,7 +124,9 @@ impl Seat {
     }
 
     // Messages are delivered until none waits, or one meets a fault.
-    fn settle(&mut self) -> Result<String, AllocError> {
+    fn settle(&mut self) -> Result<String, AllocError>
+        requires always { Unit {0} }
+    {
         let mut delivered = 0;
         let fault = self.deliver_all(&mut delivered).err();
         let what = format!(in self.alloc; "settle: {delivered} delivered")?;
@@ -122,7 +134,9 @@ impl Seat {
     }
 
     // So many commands come, until one meets a fault.
-    fn fill(&mut self, count: u32) -> anyhow::Result<String> {
+    fn fill(&mut self, count: u32) -> anyhow::Result<String>
+        requires always { Unit {0} }
+    {
         let (mut queued, mut fault) = (0, None);
         for seq in 0..count {
             let command = post(self.alloc, seq)?;
@@ -138,7 +152,9 @@ impl Seat {
     }
 
     /// The bytes of one connection are served.
-    pub fn serve(&mut self, name: &str, bytes: &[u8]) -> anyhow::Result<Vec<u8>> {
+    pub fn serve(&mut self, name: &str, bytes: &[u8]) -> anyhow::Result<Vec<u8>>
+        requires always { Unit {0} }
+    {
         let mut reader = Pieces::new(bytes, self.size);
         let mut reply = Vec::new(self.alloc);
         match serve_one(&mut self.node, &mut reader, &mut reply) {
@@ -161,7 +177,9 @@ impl Seat {
     }
 
     /// A command comes, and is chosen.
-    pub fn choose(&mut self, seq: u32) -> anyhow::Result<()> {
+    pub fn choose(&mut self, seq: u32) -> anyhow::Result<()>
+        requires always { Unit {0} }
+    {
         let command = post(self.alloc, seq)?;
         self.on(Event::Submit(command))?;
         self.on(Event::Wake)?;
@@ -170,13 +188,17 @@ impl Seat {
     }
 
     /// The bytes of one connection are served in one piece, and its reply goes nowhere.
-    pub fn serve_away(&mut self, bytes: &[u8]) {
+    pub fn serve_away(&mut self, bytes: &[u8])
+        requires always { Unit {0} }
+    {
         let mut reader = Pieces::new(bytes, bytes.len());
         let _ = serve_one(&mut self.node, &mut reader, &mut io::sink());
     }
 
     /// The node ends, what waits is lost, and a node starts over what the store keeps.
-    pub fn stop(self) -> anyhow::Result<(Seat, String)> {
+    pub fn stop(self) -> anyhow::Result<(Seat, String)>
+        requires always { Unit {0} }
+    {
         let Seat {
             node,
             size,

@@ -57,7 +57,9 @@ impl Seats {
         Ok(())
     }
 
-    fn turn(&mut self, turn: Turn) -> anyhow::Result<Vec<u8>> {
+    fn turn(&mut self, turn: Turn) -> anyhow::Result<Vec<u8>>
+        requires always { Unit {0} }
+    {
         let mut says = Vec::new(self.alloc);
         for seat in self.seats.iter_mut() {
             let bytes = seat.play(turn)?.into_bytes();
@@ -67,7 +69,9 @@ impl Seats {
         told(self.alloc, &says)
     }
 
-    fn stop(&mut self) -> anyhow::Result<Vec<u8>> {
+    fn stop(&mut self) -> anyhow::Result<Vec<u8>>
+        requires always { Unit {0} }
+    {
         let mut says = Vec::new(self.alloc);
         for seat in mem::replace(&mut self.seats, Vec::new(self.alloc)) {
             let (seat, line) = seat.stop()?;
@@ -78,7 +82,9 @@ impl Seats {
         told(self.alloc, &says)
     }
 
-    fn serve(&mut self, name: &str, request: &[u8]) -> anyhow::Result<Vec<u8>> {
+    fn serve(&mut self, name: &str, request: &[u8]) -> anyhow::Result<Vec<u8>>
+        requires always { Unit {0} }
+    {
         let mut says = Vec::new(self.alloc);
         for seat in self.seats.iter_mut() {
             let bytes = seat.serve(name, request)?;
@@ -94,7 +100,9 @@ impl Seats {
         self.seats.first_mut()
     }
 
-    fn commands(&mut self, count: u32) -> anyhow::Result<Vec<u8>> {
+    fn commands(&mut self, count: u32) -> anyhow::Result<Vec<u8>>
+        requires always { Unit {0} }
+    {
         let mut k = 0;
         if let Some(seat) = self.alone() {
             for seq in 0..count {
@@ -105,7 +113,9 @@ impl Seats {
         Ok(format!(in self.alloc; "commands={count}: k={k}\n")?.into_bytes())
     }
 
-    fn serves(&mut self, request: &[u8], times: u32) -> anyhow::Result<Vec<u8>> {
+    fn serves(&mut self, request: &[u8], times: u32) -> anyhow::Result<Vec<u8>>
+        requires always { Unit {0} }
+    {
         let mut k = 0;
         if let Some(seat) = self.alone() {
             for _ in 0..times {
@@ -117,7 +127,9 @@ impl Seats {
     }
 
     /// What is printed for a word; a file's bytes come with it.
-    pub fn play(&mut self, word: Word<'_>, request: &[u8]) -> anyhow::Result<Vec<u8>> {
+    pub fn play(&mut self, word: Word<'_>, request: &[u8]) -> anyhow::Result<Vec<u8>>
+        requires always { Unit {0} }
+    {
         match word {
             Word::Turn(turn) => self.turn(turn),
             Word::Stop => self.stop(),
