@@ -1,3 +1,5 @@
+//! The type of a node; its calls stand in `node.rt`.
+
 ghost use Rattle.std.specs.Prelude.{◌≡◌};
 ghost use Rattle.std.proofs.Props.{props};
 ghost use Rattle.press_callbacks.specs.Kits.{kit_view};

@@ -39,6 +39,7 @@ impl<S> Node<S> {
         self.state.applied()
     }
 
+    /// Its store.
     pub fn store(&self) -> &S
         ensures { result.now ≡ store_of self.now }
     {
@@ -104,8 +105,8 @@ impl<S: PromiseStore> Node<S> {
         }
     }
 
-    /// An event: the messages that it sends, after what they say was saved. TooLong, Full, SlotsUsedUp and RoundsUsedUp leave the node and its store
-    /// as they were; after Disk, Damaged or NoMemory the node is down, and the store is that before or that after the event's save.
+    /// An event: the messages that it sends, after what they say was saved: at most 7, those to the node itself among them, which the caller delivers too.
+    /// Down, TooLong, Full, SlotsUsedUp and RoundsUsedUp leave the node and its store as they were; after Disk, Damaged or NoMemory the node is down, and the store is that before or that after the event's save.
     pub fn on(&mut self, event: Event) -> Result<Vec<Message>, NodeFault>
         ensures kit { kit_of self.new ≡ kit_of self.old }
         ensures id { (state_of self.new).id ≡ (state_of self.old).id }

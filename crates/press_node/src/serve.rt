@@ -23,7 +23,9 @@ use std::io::{Read, Write};
 /// What a connection got, and what is to be sent because of it.
 #[derive(Drop)]
 pub struct Served {
+    /// The status of the reply that was written.
     pub status: u16,
+    /// In the order of sending; empty but for an event that sends.
     pub outbox: Vec<Message>,
 }
 
@@ -188,8 +190,9 @@ fn answered<S: PromiseStore, W: Write>(
     }
 }
 
-/// One request of a connection: it is read, what it asks is done, and the reply is written. The caller sends the outbox. After a failed write the
-/// event stands and its messages are lost.
+/// One request of a connection: it is read, what it asks is done, and the reply is written; a refusal is a reply too. The caller sends the outbox, and
+/// delivers what is for this node itself by `Node::on`. Err closes the connection: after ReadFault or Ended nothing was done or written; after WriteFault
+/// a front of the reply may be out, the event stands, and its messages are lost.
 pub fn serve_one<S: PromiseStore, R: Read, W: Write>(
     node: &mut Node<S>,
     reader: &mut R,

@@ -63,6 +63,7 @@ impl State {
         }
     }
 
+    /// Whether a fault has stopped it.
     pub fn is_down(&self) -> bool
         ensures { result ≡ is_down self.now }
     {

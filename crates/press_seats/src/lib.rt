@@ -1,7 +1,7 @@
 //! Nodes side by side, each by itself over memory, on a device that fails where that is planned.
 //!
-//! A node holds boxed closures. A function that is handed one to change it, and plays an event on it, has a condition that always holds: the checker takes one without
-//! any condition for a maker of closures whose kind its caller can't know.
+//! Functions here that change a node and play an event on it carry `requires always { Unit {0} }`, which always holds: `docs/DECISIONS.md` says why the
+//! checker wants it.
 #![tactic(auto)]
 
 mod lines;
