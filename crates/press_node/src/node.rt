@@ -117,7 +117,7 @@ impl<S: PromiseStore> Node<S> {
         ensures durable { S.is_honest (store_of self.new) → IsTrue (S.is_open (store_of self.new)) → IfOk result (λ out. AreStored (S.kept (store_of self.new)) out.items) }
         ensures few { S.is_honest (store_of self.new) → IfOk result (λ out. length out.items ≤ 7) }
         ensures stopped { IfErr result (λ fault. stops fault ≡ true → state_of self.new ≡ stopped (state_of self.old)) }
-        ensures unchanged { IfErr result (λ fault. stops fault ≡ false → (state_of self.new) ≡ (state_of self.old)) }
+        ensures unchanged { IfErr result (λ fault. stops fault ≡ false → state_of self.new ≡ state_of self.old) }
         ensures failed { S.is_honest (store_of self.new) → IsTrue (S.is_open (store_of self.new)) → OnErr result ((S.kept (store_of self.new) ≡ S.kept (store_of self.old)) ⊎ IsSomeAnd (answer_in (S.kept (store_of self.old)) (state_of self.old) event) (λ a. S.kept (store_of self.new) ≡ left_by (S.kept (store_of self.old)) a)) }
         ensures unsaved { S.is_honest (store_of self.new) → IsTrue (S.is_open (store_of self.new)) → IfErr result (λ fault. stops fault ≡ false → S.kept (store_of self.new) ≡ S.kept (store_of self.old)) }
         ensures settled { IfSome (running_in (state_of self.new)) (λ node. chosen_next node.learner ≡ None) }

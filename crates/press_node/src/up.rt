@@ -170,6 +170,7 @@ impl Up {
         ensures folded { OnOk result (IsUpFolded (kit_view kit.now) self.old → IsUpFolded (kit_view kit.now) self.new) }
     {
         none_is_chosen_after_64();
+        // Its contract tells that each kept vote is in the window.
         let _ = self.learner.applied();
         for i in 0..WINDOW {
             match self.apply_next(alloc, kit) {
