@@ -10,7 +10,7 @@ use Rattle.press_kit.specs.declared.fault.KitFileFault.{KitFileFault}
 use Rattle.press_kit.specs.declared.fault.KitFileFault.TheVariants as file
 use Rattle.press_kit.specs.declared.place.Place.{Place}
 use Rattle.press_kit.specs.declared.place.Place.TheVariants as place
-use Rattle.press_kit.specs.Gives.{Misses}
+use Rattle.press_kit.specs.Refusals as kit_file
 use Rattle.press_kit.specs.KitFile.{file_in, file_limit}
 use Rattle.press_kit.specs.SiteFile.{site_in}
 use Rattle.press_page.specs.declared.reply.Target.{Target}
@@ -22,7 +22,8 @@ use Rattle.press.specs.declared.fault.ReplayFault.{ReplayFault}
 use Rattle.press.specs.declared.fault.ReplayFault.TheVariants.{NoMemory, ReadFault, WriteFault, BadSchedule}
 use Rattle.press.specs.Endings.{page_ending, EndsOn, IsOutside}
 use Rattle.press.specs.Faults.{fault_of_file, fault_of_reading}
-use Rattle.press.specs.Streams.{Has, ReadGives, ReadMisses, ReadsAs}
+use Rattle.press_text.specs.Gives.{Gives}
+use Rattle.press.specs.Streams.{Has, ReadsAs, Refuses}
 
 -- ---- endings
 
@@ -72,7 +73,7 @@ pub too_long : (remaining : Option (List ℕ)) → IfSome remaining (λ input. f
 too_long None over = let long = long_one file_limit in of_long long.0 None tt long.1
 too_long (Some told) over = of_long told (Some told) refl over
 
-pub unread : (remaining : Option (List ℕ)) (fault : ReplayFault) → ((found : Result (List Stamped) Place) → ReadMisses fault found) → ReadsAs site_in remaining (Err fault)
+pub unread : (remaining : Option (List ℕ)) (fault : ReplayFault) → ((found : Result (List Stamped) Place) → Refuses fault found) → ReadsAs site_in remaining (Err fault)
 unfolding ReadsAs
 unread None fault misses = ([], tt, misses _)
 unread (Some told) fault misses = (told, refl, misses _)
@@ -86,7 +87,7 @@ has_read : (remaining : Option (List ℕ)) (bytes : List ℕ) → IfSome remaini
 has_read None bytes is = tt
 has_read (Some told) bytes is = is
 
-was_read : (remaining : Option (List ℕ)) (bytes : List ℕ) (result : Result (List Stamped) ReplayFault) → IfSome remaining (λ input. bytes ≡ input) → ReadGives result (site_in bytes) → ReadsAs site_in remaining result
+was_read : (remaining : Option (List ℕ)) (bytes : List ℕ) (result : Result (List Stamped) ReplayFault) → IfSome remaining (λ input. bytes ≡ input) → Gives Refuses Ok result (site_in bytes) → ReadsAs site_in remaining result
 unfolding ReadsAs
 was_read remaining bytes result is gives = (bytes, has_read remaining bytes is, gives)
 
@@ -95,7 +96,7 @@ pub found : (remaining : Option (List ℕ)) (bytes given : List ℕ) (commands :
 found remaining bytes given commands same is gives = was_read remaining bytes (Ok commands) is (subst (λ (b : List ℕ). site_in b ≡ Ok commands) same gives)
 
 pub file_missed : (remaining : Option (List ℕ)) (bytes given : List ℕ) (fault : KitFileFault) → given ≡ bytes → IfSome remaining (λ input. bytes ≡ input)
-    → Misses fault (site_in given) → ReadsAs site_in remaining (Err (fault_of_file fault))
+    → kit_file.Refuses fault (site_in given) → ReadsAs site_in remaining (Err (fault_of_file fault))
 file_missed remaining bytes given file.NoMemory same is misses = was_read remaining bytes (Err NoMemory) is tt
 file_missed remaining bytes given (file.BadKitFile place) same is misses =
     was_read remaining bytes (Err BadSchedule) is (place, subst (λ (b : List ℕ). site_in b ≡ Err place) same misses)

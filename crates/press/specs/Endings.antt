@@ -79,13 +79,13 @@ Finishes (Printed status body) result out out' err err' =
 Finishes (Fault fault) result out out' err err' = (result ≡ 2) × Keeps out out' × AppendsFront err err' (fault_line fault)
 
 -- Refused words: the usage, or want of memory to read them.
-abbrev pub Refuses : ℕ → Option (List ℕ) → Option (List ℕ) → Option (List ℕ) → Option (List ℕ) → Type 0
-Refuses result out out' err err' = (result ≡ 2) × Keeps out out' × (AppendsFront err err' usage_line ⊎ AppendsFront err err' (fault_line NoMemory))
+abbrev pub TellsUsage : ℕ → Option (List ℕ) → Option (List ℕ) → Option (List ℕ) → Option (List ℕ) → Type 0
+TellsUsage result out out' err err' = (result ≡ 2) × Keeps out out' × (AppendsFront err err' usage_line ⊎ AppendsFront err err' (fault_line NoMemory))
 
 -- What refused words come to, whatever there is to read: nothing is read.
 abbrev pub RefusesWords : Option Asked → ℕ → Option (List ℕ) → Option (List ℕ) → Option (List ℕ) → Option (List ℕ) → Option (List ℕ) → Option (List ℕ) → Type 0
 RefusesWords (Some asked) result input input' out out' err err' = Unit {0}
-RefusesWords None result input input' out out' err err' = Keeps input input' × Refuses result out out' err err'
+RefusesWords None result input input' out out' err err' = Keeps input input' × TellsUsage result out out' err err'
 
 -- The standard input is read only where it is asked for.
 abbrev pub ReadsAsked : Option Asked → Option (List ℕ) → Option (List ℕ) → Type 0
@@ -94,5 +94,5 @@ ReadsAsked (Some asked) input input' = is_input asked.0 ≡ false → Keeps inpu
 
 -- A run for what is asked.
 abbrev pub Runs : KitView → Option Asked → Option (List ℕ) → ℕ → Option (List ℕ) → Option (List ℕ) → Option (List ℕ) → Option (List ℕ) → Type 0
-Runs kit None remaining result out out' err err' = Refuses result out out' err err'
+Runs kit None remaining result out out' err err' = TellsUsage result out out' err err'
 Runs kit (Some asked) remaining result out out' err err' = (end : Ending) × EndsOn kit asked.1 (known_of asked.0 remaining) end × Finishes end result out out' err err'

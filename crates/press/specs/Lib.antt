@@ -1,4 +1,3 @@
-pub mod Demonstration
 pub mod Endings
 pub mod Faults
 pub mod Streams

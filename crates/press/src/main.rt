@@ -2,12 +2,10 @@
 #![tactic(auto)]
 
 mod commands;
-mod demonstration;
 mod ending;
 mod fault;
 mod input;
 mod run;
-mod scripted;
 #[cfg(test)]
 mod tests;
 mod words;

@@ -6,13 +6,13 @@ ghost use Rattle.press_kit.specs.KitFile.{file_limit};
 ghost use Rattle.press_text.specs.Streams.{AppendsFront, TakesAtMost};
 ghost use Rattle.press.specs.Endings.{fault_line, usage_line, known_of, Answers, EndsOn, Finishes, ReadsAsked, RefusesWords, Runs};
 ghost use Rattle.press.specs.Words.{asked_by, is_input};
-ghost use Rattle.press.specs.Demonstration.{demonstration};
+ghost use Rattle.press_demonstration.specs.Demonstration.{demonstration};
 
-use crate::demonstration::{grow, grow_turn, parts};
 use crate::ending::{Ending, page_end};
 use crate::fault::ReplayFault;
 use crate::words::{Wanted, read_words};
 use press_callbacks::{BoxedTurns, CallIn, Kit, Stored, script_turn};
+use press_demonstration::{grow, grow_turn, parts};
 use press_page::Target;
 use press_text::write_once;
 use std::alloc::Global;

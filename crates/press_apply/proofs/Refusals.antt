@@ -3,7 +3,8 @@ use Rattle.std.proofs.Common.{◌≡◌, refl, ap, ◌∙◌, ℕ, Option, Some,
 use Rattle.press_run.specs.Links.{kept}
 use Rattle.press_run.specs.Run.{State}
 use Rattle.press_run.proofs.Kept.{becomes_kept}
-use Rattle.press_site.specs.Becomes.{Becomes, IsRefused}
+use Rattle.press_site.specs.Becomes as change
+use Rattle.press_site.specs.Becomes.{Becomes}
 use Rattle.press_site.specs.declared.changed.Changed.{Changed}
 use Rattle.press_site.specs.declared.effect.Effect.{Effect}
 use Rattle.press_site.specs.declared.fault.SiteFault.{SiteFault}
@@ -32,7 +33,7 @@ no_id_refused Limit m h = ap no_id h
 no_id_refused NoSuchPlugin m h = ap no_id h
 no_id_refused (Site f) m h = ap no_id h
 
-pub site_refused : (f : SiteFault) (s : State) (m : Result (SiteView × Changed) SiteFault) → IsRefused f m → Refuses (of_site f) (effected s m)
+pub site_refused : (f : SiteFault) (s : State) (m : Result (SiteView × Changed) SiteFault) → change.Refuses f m → Refuses (of_site f) (effected s m)
 site_refused site.NoMemory s m h = tt
 site_refused site.TooLong s m h = ap (effected s) h
 site_refused site.NoSuchPost s m h = ap (effected s) h
@@ -47,7 +48,7 @@ site_refused site.TooManyOptions s m h = ap (effected s) h
 pub site_keeps : (result : Result Changed SiteFault) (e : Effect) (old new : SiteView) → Becomes result (effect_on old e) old new → kept new ≡ kept old
 site_keeps result e old new h = ap (or_kept (kept old)) (becomes_kept result e old new h)
 
-pub alone_refused : (f : SiteFault) (m : Result (SiteView × Changed) SiteFault) → IsRefused f m → Refuses (of_site f) (alone m)
+pub alone_refused : (f : SiteFault) (m : Result (SiteView × Changed) SiteFault) → change.Refuses f m → Refuses (of_site f) (alone m)
 alone_refused site.NoMemory m h = tt
 alone_refused site.TooLong m h = ap alone h
 alone_refused site.NoSuchPost m h = ap alone h

@@ -20,6 +20,7 @@ pub enum CommandKind {
 }
 
 impl CommandKind {
+    /// The kind of a command, whatever it carries.
     pub fn of(command: &Command) -> CommandKind
         ensures { result ≡ kind_of_command command.now }
     {

@@ -9,7 +9,7 @@ ghost use Rattle.press_run.specs.Boot.{booted_with};
 ghost use Rattle.press_run.specs.Links.{kept};
 ghost use Rattle.press_run.specs.Outcome.{GivesJob, around, job_meaning, stage, started};
 ghost use Rattle.press_apply.specs.Apply.{boots, callbacks_on, changes, does, fires, filtered, inserts, saves, updates, between, trashes, untrashes, deletes, takes, takes_all, ticks, passes};
-ghost use Rattle.press_apply.specs.Works.{Boots, Checks, Does, Filters, Makes, Steps, state_in};
+ghost use Rattle.press_apply.specs.Works.{Boots, Steps, state_in};
 
 use crate::actions::{about, event_fires};
 use crate::checks::{delete_fault, move_fault, update_fault, wanted_fault};
@@ -32,7 +32,7 @@ pub struct Work {
 }
 
 fn passes(fault: Option<SiteFault>) -> Result<(), ApplyFault>
-    ensures { Checks (passes fault) result }
+    ensures { passes fault ≡ result }
 {
     match fault {
         None => Ok(()),
@@ -73,7 +73,7 @@ impl Work {
     }
 
     fn fires(&mut self, kit: &Kit, actions: Items<Fire>) -> Result<(), ApplyFault>
-        ensures { Steps (fires (callbacks_on (kit_view kit.now)) actions (state_in self.old)) self.old self.new result }
+        ensures { Steps (λ s _. s) (fires (callbacks_on (kit_view kit.now)) actions (state_in self.old)) self.old self.new result }
     {
         match self.run(kit, Job::Fires(actions)) {
             Ok(_) => Ok(()),
@@ -91,7 +91,7 @@ impl Work {
         text: &Text,
     ) -> Result<Text, ApplyFault>
         requires { name_fault 64 hook.now ≡ None }
-        ensures { Filters (filtered (callbacks_on (kit_view kit.now)) hook.now text.now (state_in self.old)) self.old self.new result }
+        ensures { Steps (λ s text. record { text = text; state = s }) (filtered (callbacks_on (kit_view kit.now)) hook.now text.now (state_in self.old)) self.old self.new result }
     {
         let hook = HookName::from_valid(alloc, hook)?;
         let text = text.copy(alloc)?;
@@ -105,7 +105,7 @@ impl Work {
 
     #[tactic(auto, using(crate::proofs::Refusals::site_refused, crate::proofs::Refusals::site_keeps))]
     fn change(&mut self, effect: Effect) -> Result<Changed, ApplyFault>
-        ensures { Makes (changes effect (state_in self.old)) self.old self.new result }
+        ensures { Steps (λ s changed. (s, changed)) (changes effect (state_in self.old)) self.old self.new result }
     {
         Ok(self.site.effect(effect)?)
     }
@@ -113,7 +113,7 @@ impl Work {
     /// A change, and what it fires; the id of the post that it is about, or 0.
     #[tactic(auto, unfolding(crate::specs::Apply::does), using(crate::proofs::Refusals::handed_on))]
     pub fn does(&mut self, kit: &Kit, effect: Effect) -> Result<u64, ApplyFault>
-        ensures { Does (does (callbacks_on (kit_view kit.now)) effect (state_in self.old)) self.old self.new result }
+        ensures { Steps (λ s id. (s, id)) (does (callbacks_on (kit_view kit.now)) effect (state_in self.old)) self.old self.new result }
     {
         let Changed { id, fires, .. } = self.change(effect)?;
         self.fires(kit, fires)?;
@@ -131,7 +131,7 @@ impl Work {
         status: Status,
         date: Moment,
     ) -> Result<u64, ApplyFault>
-        ensures { Does (inserts (callbacks_on (kit_view kit.now)) title.now content.now status date (state_in self.old)) self.old self.new result }
+        ensures { Steps (λ s id. (s, id)) (inserts (callbacks_on (kit_view kit.now)) title.now content.now status date (state_in self.old)) self.old self.new result }
     {
         passes(wanted_fault(status))?;
         self.insert_filtered(alloc, kit, title, content, status, date)
@@ -147,7 +147,7 @@ impl Work {
         status: Status,
         date: Moment,
     ) -> Result<u64, ApplyFault>
-        ensures { Does (saves (callbacks_on (kit_view kit.now)) (λ t c. Effect.Insert t c status date) title.now content.now (state_in self.old)) self.old self.new result }
+        ensures { Steps (λ s id. (s, id)) (saves (callbacks_on (kit_view kit.now)) (λ t c. Effect.Insert t c status date) title.now content.now (state_in self.old)) self.old self.new result }
     {
         let title = self.filtered(alloc, kit, "title_save_pre", title)?;
         let content = self.filtered(alloc, kit, "content_save_pre", content)?;
@@ -172,7 +172,7 @@ impl Work {
         status: Status,
         date: Moment,
     ) -> Result<u64, ApplyFault>
-        ensures { Does (updates (callbacks_on (kit_view kit.now)) id title.now content.now status date (state_in self.old)) self.old self.new result }
+        ensures { Steps (λ s id. (s, id)) (updates (callbacks_on (kit_view kit.now)) id title.now content.now status date (state_in self.old)) self.old self.new result }
     {
         passes(update_fault(status, self.site.post(id)))?;
         let title = self.filtered(alloc, kit, "title_save_pre", title)?;
@@ -200,7 +200,7 @@ impl Work {
     ) -> Result<u64, ApplyFault>
         requires begins { name_fault 64 before.now ≡ None }
         requires ends { name_fault 64 after.now ≡ None }
-        ensures { Does (between (callbacks_on (kit_view kit.now)) before.now effect after.now id (state_in self.old)) self.old self.new result }
+        ensures { Steps (λ s id. (s, id)) (between (callbacks_on (kit_view kit.now)) before.now effect after.now id (state_in self.old)) self.old self.new result }
     {
         self.fires(kit, about(alloc, before, id)?)?;
         let done = self.does(kit, effect)?;
@@ -210,7 +210,7 @@ impl Work {
 
     #[tactic(auto, unfolding(crate::specs::Apply::trashes), using(crate::proofs::Refusals::handed_on))]
     pub fn trash(&mut self, alloc: Global, kit: &Kit, id: u64) -> Result<u64, ApplyFault>
-        ensures { Does (trashes (callbacks_on (kit_view kit.now)) id (state_in self.old)) self.old self.new result }
+        ensures { Steps (λ s id. (s, id)) (trashes (callbacks_on (kit_view kit.now)) id (state_in self.old)) self.old self.new result }
     {
         passes(move_fault(Move::Trash, self.site.post(id)))?;
         let effect = Effect::Move {
@@ -222,7 +222,7 @@ impl Work {
 
     #[tactic(auto, unfolding(crate::specs::Apply::untrashes), using(crate::proofs::Refusals::handed_on))]
     pub fn untrash(&mut self, alloc: Global, kit: &Kit, id: u64) -> Result<u64, ApplyFault>
-        ensures { Does (untrashes (callbacks_on (kit_view kit.now)) id (state_in self.old)) self.old self.new result }
+        ensures { Steps (λ s id. (s, id)) (untrashes (callbacks_on (kit_view kit.now)) id (state_in self.old)) self.old self.new result }
     {
         passes(move_fault(Move::Untrash, self.site.post(id)))?;
         let effect = Effect::Move {
@@ -234,7 +234,7 @@ impl Work {
 
     #[tactic(auto, unfolding(crate::specs::Apply::deletes), using(crate::proofs::Refusals::handed_on))]
     pub fn delete(&mut self, alloc: Global, kit: &Kit, id: u64) -> Result<u64, ApplyFault>
-        ensures { Does (deletes (callbacks_on (kit_view kit.now)) id (state_in self.old)) self.old self.new result }
+        ensures { Steps (λ s id. (s, id)) (deletes (callbacks_on (kit_view kit.now)) id (state_in self.old)) self.old self.new result }
     {
         passes(delete_fault(self.site.post(id)))?;
         let effect = Effect::Delete { id };
@@ -242,7 +242,7 @@ impl Work {
     }
 
     fn taken(&mut self, alloc: Global, event: &Event) -> Result<Changed, ApplyFault>
-        ensures { Makes (changes (Effect.Take event.now) (state_in self.old)) self.old self.new result }
+        ensures { Steps (λ s changed. (s, changed)) (changes (Effect.Take event.now) (state_in self.old)) self.old self.new result }
     {
         let own = event.copied(alloc)?;
         Ok(self.change(Effect::Take(own))?)
@@ -251,7 +251,7 @@ impl Work {
     // Takes an event and does it; one that was cancelled since isn't done.
     #[tactic(auto, unfolding(crate::specs::Apply::takes), using(crate::proofs::Refusals::handed_on))]
     fn take(&mut self, alloc: Global, kit: &Kit, event: &Event) -> Result<(), ApplyFault>
-        ensures { Steps (takes (callbacks_on (kit_view kit.now)) event.now (state_in self.old)) self.old self.new result }
+        ensures { Steps (λ s _. s) (takes (callbacks_on (kit_view kit.now)) event.now (state_in self.old)) self.old self.new result }
     {
         let taken = self.taken(alloc, event)?;
         let actions = event_fires(alloc, taken.did, event)?;
@@ -260,7 +260,7 @@ impl Work {
     }
 
     fn take_all(&mut self, alloc: Global, kit: &Kit, events: &[Event]) -> Result<(), ApplyFault>
-        ensures { Steps (takes_all (callbacks_on (kit_view kit.now)) events.now (state_in self.old)) self.old self.new result }
+        ensures { Steps (λ s _. s) (takes_all (callbacks_on (kit_view kit.now)) events.now (state_in self.old)) self.old self.new result }
     {
         for event in events {
             self.take(alloc, kit, event)?;
@@ -272,7 +272,7 @@ impl Work {
     #[tactic(auto, unfolding(crate::specs::Apply::ticks), using(crate::proofs::Refusals::no_id_refused))]
     pub fn tick(&mut self, alloc: Global, kit: &Kit, events: &[Event]) -> Result<u64, ApplyFault>
         requires { events.now ≡ due self.old.site.moment self.old.site.events }
-        ensures { Does (ticks (callbacks_on (kit_view kit.now)) (state_in self.old)) self.old self.new result }
+        ensures { Steps (λ s id. (s, id)) (ticks (callbacks_on (kit_view kit.now)) (state_in self.old)) self.old self.new result }
     {
         self.take_all(alloc, kit, events)?;
         Ok(0)

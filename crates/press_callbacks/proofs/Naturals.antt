@@ -6,7 +6,7 @@ use Rattle.std.proofs.lemmas.List.{map-append, length-map, take-map, drop-map}
 use Rattle.press_callbacks.specs.declared.script.Op.{Op}
 use Rattle.press_callbacks.specs.declared.plugin.Plugin.{Plugin}
 use Rattle.press_callbacks.specs.declared.plugin.Load.{Load}
-use Rattle.press_callbacks.specs.Kits.{has_two, is_known, is_known_where, knows_script, knows_plugin, knows_all, has_two_names, kit_fault_by, callback_named, callback_loaded, IsFault}
+use Rattle.press_callbacks.specs.Kits.{has_two, is_known, is_known_where, knows_script, knows_plugin, knows_all, has_two_names, kit_fault_by, callback_named, callback_loaded, Refuses}
 use Rattle.press_callbacks.specs.Order.{by_name, put_by_name, place_by_name, is_before}
 use Rattle.press_callbacks.specs.BuiltIns.{is_built_in}
 use Rattle.press_callbacks.specs.declared.kit_fault.KitFault.{KitFault}
@@ -76,7 +76,7 @@ by_name-map f name [] = refl
 by_name-map f name (x ∷ xs) = put-map f name x (by_name (λ y. name (f y)) xs) ∙ ap (put_by_name name (f x)) (by_name-map f name xs)
 
 -- a fault that was found is the one that is answered
-pub refused : (o : Option KitFault) (fault : KitFault) → (fault ≡ NoMemory → ⊥) → o ≡ Some fault → IsFault fault o
+pub refused : (o : Option KitFault) (fault : KitFault) → (fault ≡ NoMemory → ⊥) → o ≡ Some fault → Refuses fault o
 refused o NoMemory own e = absurd (own refl)
 refused o TwoNames own e = e
 refused o UnknownCallback own e = e

@@ -1,7 +1,7 @@
 -- A kit as plain data, by name: each callback's script and each plugin's loads, in the order of the names.
 -- A kit is refused where a name stands twice or is that of a built-in callback, where a load or a script names
 -- a callback that is neither there nor built in, or for too many loads (own).
-use Rattle.std.specs.Prelude.{ℕ, List, [], ◌∷◌, Bool, true, false, not, ◌||◌, ◌&&◌, cond, if◌then◌else◌, nat_lt, bytes_eq, map, sum_by, count_by, Option, Some, None, option_map, slice_get, ◌≡◌, Result, Ok, Err}
+use Rattle.std.specs.Prelude.{ℕ, List, [], ◌∷◌, Bool, true, false, not, ◌||◌, ◌&&◌, cond, if◌then◌else◌, nat_lt, bytes_eq, map, sum_by, count_by, Option, Some, None, option_map, slice_get, ◌≡◌, Result, MatchResult}
 use Rattle.std.specs.List.{list_any, list_all}
 use Rattle.press_callbacks.specs.declared.script.Op.{Op}
 use Rattle.press_callbacks.specs.declared.script.Op.TheVariants.{Set, AddHook, RemoveHook, RemoveAll, AddTag, RemoveTag, SkipIf, Apply, Do, Shortcodes, Ask, SetOption, Schedule, Publish, Echo, Return}
@@ -159,17 +159,16 @@ kit_fault_by id script callbacks plugins =
 abbrev pub kit_fault : Scripts → List Plugin → Option KitFault
 kit_fault scripts plugins = kit_fault_by (λ c. c.0) (λ c. c.1) scripts plugins
 
--- the first fault; want of memory stands only where there is no fault
-abbrev pub IsFault : KitFault → Option KitFault → Type 0
-IsFault NoMemory fault = fault ≡ None
-IsFault TwoNames fault = fault ≡ Some TwoNames
-IsFault UnknownCallback fault = fault ≡ Some UnknownCallback
-IsFault BadLoad fault = fault ≡ Some BadLoad
+-- what a fault says of the first one: it is that, and want of memory stands only where there is none
+abbrev pub Refuses : KitFault → Option KitFault → Type 0
+Refuses NoMemory first = first ≡ None
+Refuses TwoNames first = first ≡ Some TwoNames
+Refuses UnknownCallback first = first ≡ Some UnknownCallback
+Refuses BadLoad first = first ≡ Some BadLoad
 
 -- what `build` answers: a kit where there is no fault, else the first
 abbrev pub Builds : {K : Type 0} → (K → KitView) → Result K KitFault → Option KitFault → KitView → Type 0
-Builds show (Ok kit) fault view = (fault ≡ None) × (show kit ≡ view)
-Builds show (Err f) fault view = IsFault f fault
+Builds show result first view = MatchResult result (λ kit. (first ≡ None) × (show kit ≡ view)) (λ fault. Refuses fault first)
 
 -- ---- places in a kit
 

@@ -1,6 +1,7 @@
 -- Scheduled events (Plugin Handbook, Cron: `wp_schedule_event`, `wp_clear_scheduled_hook`, `wp_reschedule_event`, `wp_get_schedules`; that nearness in time
 -- refuses nothing, limits and what a taken event becomes are own).
 -- Events stand by time, then in the order in which they were scheduled. The identity of one is its time, hook and argument.
+use Rattle.press_text.specs.Gives.{GivesOrStays}
 use Rattle.std.specs.Prelude.{◌≡◌, ℕ, ◌<◌, ◌≤◌, ◌+◌, ◌-◌, ◌*◌, ◌/◌, List, [], ◌∷◌, length, filter, insert, remove, position, unwrap_or, slice_index_or, Bool, true, false, not, ◌&&◌, nat_eq, nat_lt, nat_le, bytes_eq, if◌then◌else◌, Option, Some, None, Result, Ok, Err}
 use Rattle.std.specs.List.{list_any}
 use Rattle.press_text.specs.Moments.{moment_of}
@@ -119,11 +120,10 @@ abbrev pub IsPutIn : Result (List Event × Bool) EventFault → Type 0
 IsPutIn (Ok after) = after.1 ≡ true
 IsPutIn (Err f) = ⊥
 
-abbrev pub IsRefused : EventFault → Result (List Event × Bool) EventFault → Type 0
-IsRefused NoMemory meant = IsPutIn meant
-IsRefused TooLong meant = meant ≡ Err TooLong
-IsRefused TooManyEvents meant = meant ≡ Err TooManyEvents
+abbrev pub Refuses : EventFault → Result (List Event × Bool) EventFault → Type 0
+Refuses NoMemory meant = IsPutIn meant
+Refuses TooLong meant = meant ≡ Err TooLong
+Refuses TooManyEvents meant = meant ≡ Err TooManyEvents
 
 abbrev pub Adds : Result Bool EventFault → Result (List Event × Bool) EventFault → List Event → List Event → Type 0
-Adds (Ok added) meant old new = meant ≡ Ok (new, added)
-Adds (Err f) meant old new = IsRefused f meant × (new ≡ old)
+Adds result meant old new = GivesOrStays Refuses (λ added. Ok (new, added)) result meant old new

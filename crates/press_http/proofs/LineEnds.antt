@@ -1,10 +1,15 @@
 -- A head has more line ends than fields.
-use Rattle.std.proofs.Common.{◌≡◌, ℕ, ◌+◌, ◌<◌, ◌≤◌, List, [], ◌∷◌, ◌++◌, length, refl, ap, ◌∙◌, arith, append-nil, subst}
+use Rattle.std.proofs.Common.{◌≡◌, ℕ, ◌+◌, ◌<◌, ◌≤◌, List, [], ◌∷◌, ◌++◌, length, ◌==◌, if◌then◌else◌, refl, ap, ◌∙◌, arith, append-nil, subst}
 use Rattle.std.specs.List.{flat_map}
 use Rattle.std.proofs.lemmas.List.Concat.{flat_map-cons}
-use Rattle.httparse.specs.Grammar.{LineEnd, crlf, lf, print_end, Field, print_field, print_section, RequestHead, print_request, HasNoRequest}
+use Rattle.httparse.specs.Grammar.{LineEnd, crlf, lf, print_end, Field, print_field, print_section, RequestHead, print_request}
 use Rattle.httparse.specs.Spans.{RequestOverflows, RequestExceeds}
-use Rattle.press_http.specs.Heads.{most_fields, HasNoHead, line_ends}
+use Rattle.press_http.specs.Heads.{most_fields, HasNoHead, HasTooManyFields}
+
+-- how many LF bytes
+abbrev pub line_ends : List ℕ → ℕ
+line_ends [] = 0
+line_ends (b ∷ bytes) = (if b == 10 then 1 else 0) + line_ends bytes
 
 ends-append : (xs ys : List ℕ) → line_ends (xs ++ ys) ≡ line_ends xs + line_ends ys
 ends-append [] ys = omega arith
@@ -30,25 +35,11 @@ head_has h =
     let section : line_ends (print_section h.fields h.last) ≤ line_ends (print_request h) = last_part _ (print_section h.fields h.last) in
     omega (arith, section, ends-append (flat_map print_field h.fields) (print_end h.last), end_has_one h.last, fields_have h.fields)
 
-pub exceeds : (buf : List ℕ) → RequestExceeds most_fields buf → most_fields < line_ends buf
-exceeds buf e =
-    let front = e.0 in
-    let h = e.3 in
-    let same : line_ends (front ++ print_end lf) ≡ line_ends (print_request h) = ap line_ends e.4.1 ∙ ap line_ends (append-nil (print_request h)) in
-    omega (arith, same, ends-append front (print_end lf), end_has_one lf, head_has h, e.5, ap line_ends e.2, ends-append front e.1)
-
 pub overflows : (buf : List ℕ) → RequestOverflows most_fields buf → HasNoHead buf
 overflows buf over h rest reads =
     let more : most_fields < length h.fields = over [] h rest (reads.0.0, append-nil buf ∙ reads.0.1) in
     omega (arith, more, reads.1)
 
--- no head at all
-pub no_head : (buf : List ℕ) → HasNoRequest buf → HasNoHead buf
-no_head buf none h rest reads = none h rest reads.0
-
--- the same for a room of that size
-pub exceeds_room : (k : ℕ) (buf : List ℕ) → k ≡ most_fields → RequestExceeds k buf → most_fields < line_ends buf
-exceeds_room k buf e h = exceeds buf (subst (λ (n : ℕ). RequestExceeds n buf) e h)
-
-pub overflows_room : (k : ℕ) (buf : List ℕ) → k ≡ most_fields → RequestOverflows k buf → HasNoHead buf
-overflows_room k buf e h = overflows buf (subst (λ (n : ℕ). RequestOverflows n buf) e h)
+-- what the parser says of a room of that size, where it is too small
+pub too_many : (k : ℕ) (buf : List ℕ) → k ≡ most_fields → RequestOverflows k buf → RequestExceeds k buf → HasTooManyFields buf
+too_many k buf e over more = (overflows buf (subst (λ (n : ℕ). RequestOverflows n buf) e over), subst (λ (n : ℕ). RequestExceeds n buf) e more)

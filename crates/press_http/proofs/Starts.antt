@@ -11,8 +11,8 @@ use Rattle.httparse.specs.Spans.{header_bytes, span_bytes, name_and_value}
 use Rattle.press_http.specs.declared.fault.HttpFault.{HttpFault}
 use Rattle.press_http.specs.declared.fault.HttpFault.TheVariants as fault
 use Rattle.press_http.specs.declared.start.Start.{Start}
-use Rattle.press_http.specs.Heads.{IsHead, ReadsHead, RefusesHead, line_ends, longest_head, most_fields}
-use Rattle.press_http.proofs.LineEnds.{head_has}
+use Rattle.press_http.specs.Heads.{IsHead, ReadsHead, RefusesHead, longest_head, most_fields}
+use Rattle.press_http.proofs.LineEnds.{head_has, line_ends}
 use Rattle.press_http.specs.Bodies.{are_digits, body_length, is_empty, length_by, length_for, length_in, length_of, longest_body, starts_with_slash, values_of}
 use Rattle.press_http.specs.Requests.{IsJudged, IsStart, Refuses}
 

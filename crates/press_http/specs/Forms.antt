@@ -19,7 +19,7 @@ use Rattle.press_apply.specs.Kinds.{kind_named}
 use Rattle.press_http.specs.declared.fault.HttpFault.{HttpFault}
 use Rattle.press_http.specs.declared.fault.HttpFault.TheVariants.{BadForm}
 use Rattle.press_http.specs.declared.command.Written.{Written}
-use Rattle.press_http.specs.Gives.{◌>>=◌, or_fault, made}
+use Rattle.press_http.specs.Meanings.{◌>>=◌, or_fault, made}
 
 -- ---- fields
 

@@ -1,11 +1,11 @@
 -- Head: the request line and the fields of a request (RFC 9112, 2 to 5), of at most 8,192 bytes and 32 fields (own limits), and what a reading of one says
 -- of the bytes that it saw.
-use Rattle.std.specs.Prelude.{◌≡◌, ◌⊎◌, ℕ, ◌<◌, ◌≤◌, ◌==◌, ◌+◌, List, [], ◌∷◌, length, Option, Some, None, Result, Ok, Err, if◌then◌else◌}
+use Rattle.std.specs.Prelude.{◌≡◌, ◌⊎◌, ℕ, ◌<◌, ◌≤◌, List, [], length, Option, Some, None, Result, Ok, Err}
 use Rattle.std.specs.Io.KnownBytes.{IsAtEnd}
 use Rattle.httparse.specs.declared.spans.HeaderSpan.{HeaderSpan}
 use Rattle.httparse.specs.declared.spans.RequestSpans.{RequestSpans}
-use Rattle.httparse.specs.Grammar.{RequestHead, print_request, ReadsRequest, HasNoRequest, NeverHasRequest}
-use Rattle.httparse.specs.Spans.{IsRequestAt, IsRequestWithin}
+use Rattle.httparse.specs.Grammar.{RequestHead, print_request, ReadsRequest, HasNoRequest, NeverHasRequest, MayBecomeRequest}
+use Rattle.httparse.specs.Spans.{IsRequestAt, IsRequestWithin, RequestExceeds}
 use Rattle.press_http.specs.declared.fault.HttpFault.{HttpFault}
 use Rattle.press_http.specs.declared.fault.HttpFault.TheVariants as fault
 
@@ -23,18 +23,21 @@ ReadsHead seen h rest = ReadsRequest seen h rest × (length h.fields ≤ most_fi
 abbrev pub HasNoHead : List ℕ → Type 0
 HasNoHead seen = (h : RequestHead) (rest : List ℕ) → ¬ (ReadsHead seen h rest)
 
--- how many LF bytes
-abbrev pub line_ends : List ℕ → ℕ
-line_ends [] = 0
-line_ends (b ∷ bytes) = (if b == 10 then 1 else 0) + line_ends bytes
+-- no head stands there yet, and more bytes may make it one, of any number of fields, or it ends in a target, whose UTF-8 is looked at only at its end
+abbrev pub IsUnfinished : List ℕ → Type 0
+IsUnfinished seen = HasNoRequest seen × MayBecomeRequest seen
+
+-- no head within the limits stands there, and a front of it with an empty line is a head of more fields than there may be
+abbrev pub HasTooManyFields : List ℕ → Type 0
+HasTooManyFields seen = HasNoHead seen × RequestExceeds most_fields seen
 
 -- Why no head was read, of what was seen and whether that was all. A head with two faults may get either.
 abbrev pub RefusesHead : HttpFault → List ℕ → Option (List ℕ) → Type 0
 RefusesHead fault.NoMemory seen left = 0 < length seen
-RefusesHead fault.ReadFault seen left = HasNoHead seen
-RefusesHead fault.Ended seen left = HasNoRequest seen × IsAtEnd left
+RefusesHead fault.ReadFault seen left = IsUnfinished seen × (length seen < longest_head)
+RefusesHead fault.Ended seen left = IsUnfinished seen × (length seen < longest_head) × IsAtEnd left
 RefusesHead fault.BadHead seen left = NeverHasRequest seen
-RefusesHead fault.FieldsTooLarge seen left = HasNoHead seen × ((longest_head ≤ length seen) ⊎ (most_fields < line_ends seen))
+RefusesHead fault.FieldsTooLarge seen left = (IsUnfinished seen × (longest_head ≤ length seen)) ⊎ HasTooManyFields seen
 RefusesHead fault.WriteFault seen left = ⊥
 RefusesHead fault.BadForm seen left = ⊥
 RefusesHead fault.BadPeer seen left = ⊥
@@ -52,7 +55,7 @@ IsHead seen headers spans = (h : RequestHead) × IsRequestAt seen headers spans 
 
 abbrev pub LooksBad : HttpFault → List ℕ → Type 0
 LooksBad fault.BadHead seen = NeverHasRequest seen
-LooksBad fault.FieldsTooLarge seen = HasNoHead seen × (most_fields < line_ends seen)
+LooksBad fault.FieldsTooLarge seen = HasTooManyFields seen
 LooksBad fault.NoMemory seen = ⊥
 LooksBad fault.ReadFault seen = ⊥
 LooksBad fault.Ended seen = ⊥
@@ -68,7 +71,7 @@ LooksBad fault.NotDone seen = ⊥
 -- one look at what was seen so far
 abbrev pub Looks : List ℕ → List HeaderSpan → Result (Option RequestSpans) HttpFault → Type 0
 Looks seen headers (Ok (Some spans)) = IsHead seen headers spans
-Looks seen headers (Ok None) = HasNoRequest seen
+Looks seen headers (Ok None) = IsUnfinished seen
 Looks seen headers (Err e) = LooksBad e seen
 
 -- why one read gave no bytes to keep: there was no memory for those that came, or the read failed and took none

@@ -1,8 +1,8 @@
 pub mod Bodies
 pub mod Faults
 pub mod Forms
-pub mod Gives
 pub mod Heads
+pub mod Meanings
 pub mod Replies
 pub mod Requests
 pub mod Routes

@@ -22,7 +22,7 @@ use Rattle.press_http.specs.declared.asked.Asked.TheVariants.{Page, Command, Pee
 use Rattle.press_http.specs.declared.place.Place.{Place}
 use Rattle.press_http.specs.declared.place.Place.TheVariants as place
 use Rattle.press_http.specs.Forms.{first_named, name_in, command_in}
-use Rattle.press_http.specs.Gives.{◌>>=◌, or_fault, made}
+use Rattle.press_http.specs.Meanings.{◌>>=◌, or_fault, made}
 
 -- ---- the target
 

@@ -2,7 +2,8 @@
 
 ghost use Rattle.std.specs.Prelude.{◌≡◌, Err, codes};
 ghost use Rattle.press_http.specs.Forms as spec;
-ghost use Rattle.press_http.specs.Gives.{Gives};
+ghost use Rattle.press_text.specs.Gives.{Gives};
+ghost use Rattle.press_http.specs.Meanings.{Refuses};
 
 use crate::fault::HttpFault;
 use crate::form::{Form, moment_in};
@@ -24,7 +25,7 @@ pub(crate) struct Written {
 impl<'f> Form<'f> {
     // Draft, where nothing is told.
     fn status(&self) -> Result<Status, HttpFault>
-        ensures { Gives result (spec.status_at self.now.bytes.now) }
+        ensures { Gives Refuses Ok result (spec.status_at self.now.bytes.now) }
     {
         match self.found("status")? {
             None => Ok(Status::Draft),
@@ -37,7 +38,7 @@ impl<'f> Form<'f> {
 
     // The command's own moment, where nothing is told.
     fn date(&self, now: Moment) -> Result<Moment, HttpFault>
-        ensures { Gives result (spec.date_at now self.now.bytes.now) }
+        ensures { Gives Refuses Ok result (spec.date_at now self.now.bytes.now) }
     {
         match self.found("date")? {
             None => Ok(now),
@@ -49,7 +50,7 @@ impl<'f> Form<'f> {
     }
 
     fn kind(&self) -> Result<CommandKind, HttpFault>
-        ensures { Gives result (spec.kind_at self.now.bytes.now) }
+        ensures { Gives Refuses Ok result (spec.kind_at self.now.bytes.now) }
     {
         let name = self.text("kind")?;
         match CommandKind::named(name.as_str()) {
@@ -60,7 +61,7 @@ impl<'f> Form<'f> {
 
     #[tactic(auto, unfolding(crate::specs::Forms::written))]
     fn written(&self, now: Moment) -> Result<Written, HttpFault>
-        ensures { Gives result (spec.written now self.now.bytes.now) }
+        ensures { Gives Refuses Ok result (spec.written now self.now.bytes.now) }
     {
         Ok(Written {
             title: self.text("title")?,
@@ -72,7 +73,7 @@ impl<'f> Form<'f> {
 
     #[tactic(auto, unfolding(crate::specs::Forms::updated))]
     fn update(&self, now: Moment) -> Result<Command, HttpFault>
-        ensures { Gives result (spec.updated now self.now.bytes.now) }
+        ensures { Gives Refuses Ok result (spec.updated now self.now.bytes.now) }
     {
         let id = self.number("id")?;
         let Written {
@@ -92,7 +93,7 @@ impl<'f> Form<'f> {
 
     #[tactic(auto, unfolding(crate::specs::Forms::option_set))]
     fn option_command(&self) -> Result<Command, HttpFault>
-        ensures { Gives result (spec.option_set self.now.bytes.now) }
+        ensures { Gives Refuses Ok result (spec.option_set self.now.bytes.now) }
     {
         Ok(Command::SetOption {
             name: self.option("name")?,
@@ -102,7 +103,7 @@ impl<'f> Form<'f> {
 
     #[tactic(auto, unfolding(crate::specs::Forms::command_by))]
     fn command(&self, kind: CommandKind, now: Moment) -> Result<Command, HttpFault>
-        ensures { Gives result (spec.command_by kind now self.now.bytes.now) }
+        ensures { Gives Refuses Ok result (spec.command_by kind now self.now.bytes.now) }
     {
         match kind {
             CommandKind::Insert => {
@@ -142,7 +143,7 @@ impl<'f> Form<'f> {
 
     #[tactic(auto, unfolding(crate::specs::Forms::token_at))]
     fn token(&self) -> Result<Token, HttpFault>
-        ensures value { Gives result (spec.token_at self.now.bytes.now) }
+        ensures value { Gives Refuses Ok result (spec.token_at self.now.bytes.now) }
         ensures memory { spec.LacksPlainly (codes "editor") self.now.bytes.now → result ≡ Err HttpFault.BadForm }
     {
         Ok(Token {
@@ -156,7 +157,7 @@ impl<'f> Form<'f> {
 /// what a command may not do to a site is no matter of the form. Memory is first wanted for a name with `+` or `%`, or for the editor.
 #[tactic(auto, unfolding(crate::specs::Forms::command_in))]
 pub fn form_command(alloc: Global, form: &[u8]) -> Result<Stamped, HttpFault>
-    ensures value { Gives result (spec.command_in form.now) }
+    ensures value { Gives Refuses Ok result (spec.command_in form.now) }
     ensures memory { spec.LacksPlainly (codes "editor") form.now → result ≡ Err HttpFault.BadForm }
 {
     let form = Form { alloc, bytes: form };

@@ -2,7 +2,8 @@
 
 ghost use Rattle.std.specs.Prelude.{◌≡◌, IfOk, Ok, Err, None};
 ghost use Rattle.press_http.specs.Forms as spec;
-ghost use Rattle.press_http.specs.Gives.{Gives};
+ghost use Rattle.press_text.specs.Gives.{Gives};
+ghost use Rattle.press_http.specs.Meanings.{Refuses};
 
 use crate::fault::HttpFault;
 use press_text::{Moment, Name, NameFault, OptName, Text, dec_u64};
@@ -45,7 +46,7 @@ pub struct Form<'f> {
 impl<'f> Form<'f> {
     /// The text of a field, where it is there.
     pub fn found(&self, name: &str) -> Result<Option<Text>, HttpFault>
-        ensures value { Gives result (Ok (spec.first_named name.now self.now.bytes.now)) }
+        ensures value { Gives Refuses Ok result (Ok (spec.first_named name.now self.now.bytes.now)) }
         ensures memory { spec.LacksPlainly name.now self.now.bytes.now → result ≡ Ok None }
     {
         let found = first_value(self.alloc, self.bytes, name)?;
@@ -54,7 +55,7 @@ impl<'f> Form<'f> {
 
     /// A text.
     pub fn text(&self, name: &str) -> Result<Text, HttpFault>
-        ensures value { Gives result (spec.text_at name.now self.now.bytes.now) }
+        ensures value { Gives Refuses Ok result (spec.text_at name.now self.now.bytes.now) }
         ensures memory { spec.LacksPlainly name.now self.now.bytes.now → result ≡ Err HttpFault.BadForm }
     {
         match self.found(name)? {
@@ -65,7 +66,7 @@ impl<'f> Form<'f> {
 
     /// The name of an editor or a plugin.
     pub fn name(&self, name: &str) -> Result<Name, HttpFault>
-        ensures value { Gives result (spec.name_at name.now self.now.bytes.now) }
+        ensures value { Gives Refuses Ok result (spec.name_at name.now self.now.bytes.now) }
         ensures memory { spec.LacksPlainly name.now self.now.bytes.now → result ≡ Err HttpFault.BadForm }
     {
         let text = self.text(name)?;
@@ -78,7 +79,7 @@ impl<'f> Form<'f> {
 
     /// The name of an option.
     pub fn option(&self, name: &str) -> Result<OptName, HttpFault>
-        ensures { Gives result (spec.name_at name.now self.now.bytes.now) }
+        ensures { Gives Refuses Ok result (spec.name_at name.now self.now.bytes.now) }
     {
         let text = self.text(name)?;
         match OptName::new(self.alloc, text.as_str()) {
@@ -90,7 +91,7 @@ impl<'f> Form<'f> {
 
     /// A whole number.
     pub fn number(&self, name: &str) -> Result<u64, HttpFault>
-        ensures { Gives result (spec.number_at name.now self.now.bytes.now) }
+        ensures { Gives Refuses Ok result (spec.number_at name.now self.now.bytes.now) }
     {
         let text = self.text(name)?;
         match dec_u64(text.as_str()) {
@@ -101,7 +102,7 @@ impl<'f> Form<'f> {
 
     /// A moment.
     pub fn moment(&self, name: &str) -> Result<Moment, HttpFault>
-        ensures { Gives result (spec.moment_at name.now self.now.bytes.now) }
+        ensures { Gives Refuses Ok result (spec.moment_at name.now self.now.bytes.now) }
     {
         let text = self.text(name)?;
         match moment_in(text.as_str()) {

@@ -1,7 +1,8 @@
 //! The paths that are served, and what stands at each.
 
 ghost use Rattle.std.specs.Prelude.{◌≡◌, [], IfOk, IfErr, OnOk};
-ghost use Rattle.press_http.specs.Gives.{Gives};
+ghost use Rattle.press_text.specs.Gives.{Gives};
+ghost use Rattle.press_http.specs.Meanings.{Refuses};
 ghost use Rattle.press_http.specs.Routes.{method_at, pages, place_at, table, with_route};
 
 use crate::fault::HttpFault;
@@ -22,7 +23,7 @@ impl Place {
     /// What stands at that path. The router takes memory.
     #[tactic(auto, unfolding(crate::specs::Routes::place_at))]
     pub fn at(alloc: Global, path: &str) -> Result<Place, HttpFault>
-        ensures { Gives result (place_at path.now) }
+        ensures { Gives Refuses Ok result (place_at path.now) }
     {
         let routes = routes(alloc)?;
         match routes.at(path) {

@@ -2,7 +2,8 @@
 
 ghost use Rattle.std.specs.Prelude.{◌≡◌, ◌==◌};
 ghost use Rattle.std.specs.List.{before_first, after_first};
-ghost use Rattle.press_http.specs.Gives.{Gives};
+ghost use Rattle.press_text.specs.Gives.{Gives};
+ghost use Rattle.press_http.specs.Meanings.{Refuses};
 ghost use Rattle.press_http.specs.Routes as spec;
 
 use crate::asked::Asked;
@@ -66,7 +67,7 @@ fn behind(path: &str, slashes: usize) -> &str
 }
 
 fn front(alloc: Global, query: &str) -> Result<Target, HttpFault>
-    ensures { Gives result (spec.front_of query.now) }
+    ensures { Gives Refuses Ok result (spec.front_of query.now) }
 {
     let form = Form {
         alloc,
@@ -82,7 +83,7 @@ fn front(alloc: Global, query: &str) -> Result<Target, HttpFault>
 }
 
 fn post(path: &str) -> Result<Target, HttpFault>
-    ensures { Gives result (spec.post_of path.now) }
+    ensures { Gives Refuses Ok result (spec.post_of path.now) }
 {
     match dec_u64(behind(path, 5)) {
         Some(id) => Ok(Target::Json(id)),
@@ -91,7 +92,7 @@ fn post(path: &str) -> Result<Target, HttpFault>
 }
 
 fn editor(alloc: Global, text: &str) -> Result<Name, HttpFault>
-    ensures { Gives result (spec.editor_in text.now) }
+    ensures { Gives Refuses Ok result (spec.editor_in text.now) }
 {
     match Name::new(alloc, text) {
         Ok(name) => Ok(name),
@@ -102,7 +103,7 @@ fn editor(alloc: Global, text: &str) -> Result<Name, HttpFault>
 
 #[tactic(auto, unfolding(crate::specs::Routes::token_in))]
 fn token(alloc: Global, text: &str) -> Result<Token, HttpFault>
-    ensures { Gives result (spec.token_in text.now) }
+    ensures { Gives Refuses Ok result (spec.token_in text.now) }
 {
     let editor = editor(alloc, before_slash(text))?;
     match dec_u64(after_slash(text)) {
@@ -112,14 +113,14 @@ fn token(alloc: Global, text: &str) -> Result<Token, HttpFault>
 }
 
 fn outcome(alloc: Global, path: &str) -> Result<Target, HttpFault>
-    ensures { Gives result (spec.outcome_of path.now) }
+    ensures { Gives Refuses Ok result (spec.outcome_of path.now) }
 {
     let token = token(alloc, behind(path, 2))?;
     Ok(Target::Result(token))
 }
 
 fn message(alloc: Global, body: &[u8]) -> Result<Message, HttpFault>
-    ensures { Gives result (spec.message_in body.now) }
+    ensures { Gives Refuses Ok result (spec.message_in body.now) }
 {
     match decode_msg(alloc, body) {
         Ok(message) => Ok(message),
@@ -130,7 +131,7 @@ fn message(alloc: Global, body: &[u8]) -> Result<Message, HttpFault>
 
 #[tactic(auto, unfolding(crate::specs::Routes::asked_at))]
 fn asked_at(alloc: Global, place: Place, target: &str, body: &[u8]) -> Result<Asked, HttpFault>
-    ensures { Gives result (spec.asked_at place target.now body.now) }
+    ensures { Gives Refuses Ok result (spec.asked_at place target.now body.now) }
 {
     match place {
         Place::Front => Ok(Asked::Page(front(alloc, query(target))?)),
@@ -142,7 +143,7 @@ fn asked_at(alloc: Global, place: Place, target: &str, body: &[u8]) -> Result<As
 }
 
 fn allowed(method: &str, place: Place) -> Result<Place, HttpFault>
-    ensures { Gives result (spec.allowed method.now place) }
+    ensures { Gives Refuses Ok result (spec.allowed method.now place) }
 {
     if method == place.method() {
         Ok(place)
@@ -155,7 +156,7 @@ fn allowed(method: &str, place: Place) -> Result<Place, HttpFault>
 /// doesn't read; NotAllowed for another method; BadForm and BadPeer for what a command or a message can't be read from.
 #[tactic(auto, unfolding(crate::specs::Routes::asked))]
 pub fn route(alloc: Global, request: &Request) -> Result<Asked, HttpFault>
-    ensures { Gives result (spec.asked request.now.method request.now.target request.now.body) }
+    ensures { Gives Refuses Ok result (spec.asked request.now.method request.now.target request.now.body) }
 {
     let target = request.target.as_str();
     let place = Place::at(alloc, path(target))?;

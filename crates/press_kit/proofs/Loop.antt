@@ -7,7 +7,7 @@ use Rattle.serde_json.specs.View.{items_of}
 use Rattle.press_kit.specs.declared.place.Place.{Place}
 use Rattle.press_kit.specs.declared.fault.KitFileFault.{KitFileFault}
 use Rattle.press_kit.specs.declared.fault.KitFileFault.TheVariants.{NoMemory, BadKitFile}
-use Rattle.press_kit.specs.Gives.{Misses}
+use Rattle.press_kit.specs.Refusals.{Refuses}
 use Rattle.press_kit.specs.Places.{item_of}
 use Rattle.press_kit.specs.Fields.{◌>>=◌, each, list_of, list_in}
 
@@ -32,8 +32,8 @@ module _ {A V : Type 0} (read : Place → Data → Result A Place) (at : Place) 
       let one : with_front front (rest i) ≡ with_front (front ++ x ∷ []) (rest (i + 1)) = rw (cut, h) (regroup front x (rest (i + 1))) in
       sym one ∙ so_far
 
-  pub ends : (e : KitFileFault) (front : List A) (i : ℕ) (v : V) (total : Result (List A) Place) → i < length vs → v ≡ get_or vs i v → Misses e (read (item_of at i) (view v))
-      → with_front front (rest i) ≡ total → Misses e total
+  pub ends : (e : KitFileFault) (front : List A) (i : ℕ) (v : V) (total : Result (List A) Place) → i < length vs → v ≡ get_or vs i v → Refuses e (read (item_of at i) (view v))
+      → with_front front (rest i) ≡ total → Refuses e total
   unfolding each
   ends NoMemory front i v total lt here h so_far = tt
   ends (BadKitFile place) front i v total lt here h so_far =

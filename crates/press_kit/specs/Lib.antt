@@ -1,7 +1,7 @@
 pub mod Fields
-pub mod Gives
 pub mod KitFile
 pub mod Ops
 pub mod Places
 pub mod PlayFile
+pub mod Refusals
 pub mod SiteFile

@@ -4,7 +4,8 @@ ghost use Rattle.std.specs.Prelude.{◌≡◌, option_and_then, codes};
 ghost use Rattle.serde_json.specs.Find.{get, as_str};
 ghost use Rattle.serde_json.specs.View.{view};
 ghost use Rattle.press_apply.specs.Kinds.{kind_named};
-ghost use Rattle.press_kit.specs.Gives.{Gives};
+ghost use Rattle.press_text.specs.Gives.{Gives};
+ghost use Rattle.press_kit.specs.Refusals.{Refuses};
 ghost use Rattle.press_kit.specs.SiteFile as spec;
 
 use crate::fault::KitFileFault;
@@ -48,7 +49,7 @@ fn moment(value: &Value) -> Option<Moment>
 impl<'v> Fields<'v> {
     // Draft, where nothing is told.
     fn status(&self) -> Result<Status, KitFileFault>
-        ensures { Gives (λ s. s) result (spec.status_at self.now.at (view self.now.value.now)) }
+        ensures { Gives Refuses Ok result (spec.status_at self.now.at (view self.now.value.now)) }
     {
         match self.value.get("status") {
             None => Ok(Status::Draft),
@@ -57,7 +58,7 @@ impl<'v> Fields<'v> {
     }
 
     fn moment(&self, key: &str) -> Result<Moment, KitFileFault>
-        ensures { Gives (λ m. m) result (spec.moment_at self.now.at key.now (view self.now.value.now)) }
+        ensures { Gives Refuses Ok result (spec.moment_at self.now.at key.now (view self.now.value.now)) }
     {
         let told = self.value.get(key).ok_or(self.at)?;
         Ok(moment(told).ok_or(self.at)?)
@@ -65,7 +66,7 @@ impl<'v> Fields<'v> {
 
     // The command's own moment, where nothing is told.
     fn date(&self, now: Moment) -> Result<Moment, KitFileFault>
-        ensures { Gives (λ m. m) result (spec.date_at now self.now.at (view self.now.value.now)) }
+        ensures { Gives Refuses Ok result (spec.date_at now self.now.at (view self.now.value.now)) }
     {
         match self.value.get("date") {
             None => Ok(now),
@@ -75,7 +76,7 @@ impl<'v> Fields<'v> {
 
     #[tactic(auto, unfolding(crate::specs::SiteFile::written))]
     fn written(&self, now: Moment) -> Result<Written, KitFileFault>
-        ensures { Gives (λ w. w) result (spec.written now self.now.at (view self.now.value.now)) }
+        ensures { Gives Refuses Ok result (spec.written now self.now.at (view self.now.value.now)) }
     {
         Ok(Written {
             title: self.text("title")?,
@@ -87,7 +88,7 @@ impl<'v> Fields<'v> {
 
     #[tactic(auto, unfolding(crate::specs::SiteFile::updated))]
     fn update(&self, now: Moment) -> Result<Command, KitFileFault>
-        ensures { Gives (λ c. c) result (spec.updated now self.now.at (view self.now.value.now)) }
+        ensures { Gives Refuses Ok result (spec.updated now self.now.at (view self.now.value.now)) }
     {
         let id = self.number("id")?;
         let Written {
@@ -107,7 +108,7 @@ impl<'v> Fields<'v> {
 
     #[tactic(auto, unfolding(crate::specs::SiteFile::option_set))]
     fn option_command(&self) -> Result<Command, KitFileFault>
-        ensures { Gives (λ c. c) result (spec.option_set self.now.at (view self.now.value.now)) }
+        ensures { Gives Refuses Ok result (spec.option_set self.now.at (view self.now.value.now)) }
     {
         Ok(Command::SetOption {
             name: self.option("name")?,
@@ -117,7 +118,7 @@ impl<'v> Fields<'v> {
 
     #[tactic(auto, unfolding(crate::specs::SiteFile::command_by))]
     fn command(&self, kind: CommandKind, now: Moment) -> Result<Command, KitFileFault>
-        ensures { Gives (λ c. c) result (spec.command_by kind now self.now.at (view self.now.value.now)) }
+        ensures { Gives Refuses Ok result (spec.command_by kind now self.now.at (view self.now.value.now)) }
     {
         match kind {
             CommandKind::Insert => {
@@ -157,7 +158,7 @@ impl<'v> Fields<'v> {
 
     #[tactic(auto, unfolding(crate::specs::SiteFile::token_of))]
     fn token(&self) -> Result<Token, KitFileFault>
-        ensures { Gives (λ t. t) result (spec.token_of self.now.at (view self.now.value.now)) }
+        ensures { Gives Refuses Ok result (spec.token_of self.now.at (view self.now.value.now)) }
     {
         Ok(Token {
             editor: self.name("editor")?,

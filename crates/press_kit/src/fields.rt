@@ -4,7 +4,8 @@ ghost use Rattle.std.specs.Prelude.{◌≡◌, ◌^◌, ℕ, Option, option_map,
 ghost use Rattle.std.specs.List.{list_all};
 ghost use Rattle.serde_json.specs.Find.{get, as_str};
 ghost use Rattle.serde_json.specs.View.{view, members_view};
-ghost use Rattle.press_kit.specs.Gives.{Gives};
+ghost use Rattle.press_text.specs.Gives.{Gives};
+ghost use Rattle.press_kit.specs.Refusals.{Refuses};
 ghost use Rattle.press_kit.specs.Fields as spec;
 
 use crate::fault::KitFileFault;
@@ -47,7 +48,7 @@ pub struct Fields<'v> {
 impl<'v> Fields<'v> {
     /// Bad where there are other keys than these.
     pub fn has_only(&self, keys: &[&str]) -> Result<(), KitFileFault>
-        ensures { Gives (λ u. view self.now.value.now) result (spec.only self.now.at (map (λ k. k.now) keys.now) (view self.now.value.now)) }
+        ensures { Gives Refuses (λ _. Ok (view self.now.value.now)) result (spec.only self.now.at (map (λ k. k.now) keys.now) (view self.now.value.now)) }
     {
         if has_only(self.value, keys) {
             Ok(())
@@ -64,7 +65,7 @@ impl<'v> Fields<'v> {
 
     /// A text.
     pub fn text(&self, key: &str) -> Result<Text, KitFileFault>
-        ensures { Gives (λ t. t) result (spec.text_at self.now.at key.now (view self.now.value.now)) }
+        ensures { Gives Refuses Ok result (spec.text_at self.now.at key.now (view self.now.value.now)) }
     {
         let text = self.str(key).ok_or(self.at)?;
         Ok(Text::from_str(self.alloc, text)?)
@@ -72,7 +73,7 @@ impl<'v> Fields<'v> {
 
     /// The name of a hook.
     pub fn hook(&self, key: &str) -> Result<HookName, KitFileFault>
-        ensures { Gives (λ n. n) result (spec.name_at 64 self.now.at key.now (view self.now.value.now)) }
+        ensures { Gives Refuses Ok result (spec.name_at 64 self.now.at key.now (view self.now.value.now)) }
     {
         let text = self.str(key).ok_or(self.at)?;
         match HookName::new(self.alloc, text) {
@@ -84,7 +85,7 @@ impl<'v> Fields<'v> {
 
     /// The name of a callback.
     pub fn callback(&self, key: &str) -> Result<CallbackId, KitFileFault>
-        ensures { Gives (λ n. n) result (spec.name_at 32 self.now.at key.now (view self.now.value.now)) }
+        ensures { Gives Refuses Ok result (spec.name_at 32 self.now.at key.now (view self.now.value.now)) }
     {
         let text = self.str(key).ok_or(self.at)?;
         match CallbackId::new(text) {
@@ -95,7 +96,7 @@ impl<'v> Fields<'v> {
 
     /// The name of a plugin.
     pub fn name(&self, key: &str) -> Result<Name, KitFileFault>
-        ensures { Gives (λ n. n) result (spec.name_at 32 self.now.at key.now (view self.now.value.now)) }
+        ensures { Gives Refuses Ok result (spec.name_at 32 self.now.at key.now (view self.now.value.now)) }
     {
         let text = self.str(key).ok_or(self.at)?;
         match Name::new(self.alloc, text) {
@@ -107,7 +108,7 @@ impl<'v> Fields<'v> {
 
     /// The name of an option.
     pub fn option(&self, key: &str) -> Result<OptName, KitFileFault>
-        ensures { Gives (λ n. n) result (spec.name_at 32 self.now.at key.now (view self.now.value.now)) }
+        ensures { Gives Refuses Ok result (spec.name_at 32 self.now.at key.now (view self.now.value.now)) }
     {
         let text = self.str(key).ok_or(self.at)?;
         match OptName::new(self.alloc, text) {
@@ -119,7 +120,7 @@ impl<'v> Fields<'v> {
 
     /// A whole number.
     pub fn number(&self, key: &str) -> Result<u64, KitFileFault>
-        ensures { Gives (λ n. n) result (spec.number_at self.now.at key.now (view self.now.value.now)) }
+        ensures { Gives Refuses Ok result (spec.number_at self.now.at key.now (view self.now.value.now)) }
     {
         let told = self.value.get(key).and_then(Value::as_u64);
         Ok(told.ok_or(self.at)?)
@@ -127,7 +128,7 @@ impl<'v> Fields<'v> {
 
     /// The name of a shortcode.
     pub fn tag(&self, key: &str) -> Result<Tag, KitFileFault>
-        ensures { Gives (λ n. n) result (spec.name_at 32 self.now.at key.now (view self.now.value.now)) }
+        ensures { Gives Refuses Ok result (spec.name_at 32 self.now.at key.now (view self.now.value.now)) }
     {
         let text = self.str(key).ok_or(self.at)?;
         match Tag::new(self.alloc, text) {
@@ -139,7 +140,7 @@ impl<'v> Fields<'v> {
 
     /// WordPress's priority, 10, where none is told.
     pub fn priority(&self) -> Result<i64, KitFileFault>
-        ensures { Gives (λ p. p) result (spec.priority_at self.now.at (view self.now.value.now)) }
+        ensures { Gives Refuses Ok result (spec.priority_at self.now.at (view self.now.value.now)) }
     {
         match self.value.get("priority") {
             None => Ok(10),
@@ -149,7 +150,7 @@ impl<'v> Fields<'v> {
 
     /// One argument, as in WordPress, where nothing is told.
     pub fn accepted(&self) -> Result<u32, KitFileFault>
-        ensures { Gives (λ n. n) result (spec.accepted_at self.now.at (view self.now.value.now)) }
+        ensures { Gives Refuses Ok result (spec.accepted_at self.now.at (view self.now.value.now)) }
     {
         match self.value.get("accepted") {
             None => Ok(1),
@@ -159,7 +160,7 @@ impl<'v> Fields<'v> {
 
     /// The values of a list.
     pub fn list(&self, key: &str) -> Result<&'v [Value], KitFileFault>
-        ensures { Gives (λ vs. map view vs.now) result (spec.list_at self.now.at key.now (view self.now.value.now)) }
+        ensures { Gives Refuses (λ vs. Ok (map view vs.now)) result (spec.list_at self.now.at key.now (view self.now.value.now)) }
     {
         Ok(self.value.get(key).and_then(list).ok_or(self.at)?)
     }

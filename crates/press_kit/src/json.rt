@@ -2,7 +2,8 @@
 
 ghost use Rattle.std.specs.Prelude.{◌≡◌, ◌<◌, length, IsErrOf};
 ghost use Rattle.serde_json.specs.View.{view};
-ghost use Rattle.press_kit.specs.Gives.{Gives};
+ghost use Rattle.press_text.specs.Gives.{Gives};
+ghost use Rattle.press_kit.specs.Refusals.{Refuses};
 ghost use Rattle.press_kit.specs.Fields.{or_bad};
 ghost use Rattle.press_kit.specs.KitFile.{json_in, file_in, file_limit};
 ghost use Rattle.press_kit.specs.declared.place.Place.TheVariants as place;
@@ -16,7 +17,7 @@ use std::alloc::Global;
 pub const FILE_LIMIT: usize = 4_194_304;
 
 fn json(alloc: Global, bytes: &[u8]) -> Result<Value, KitFileFault>
-    ensures { Gives view result (or_bad place.File (json_in bytes.now)) }
+    ensures { Gives Refuses (λ v. Ok (view v)) result (or_bad place.File (json_in bytes.now)) }
 {
     match Value::from_slice(alloc, bytes) {
         Ok(value) => Ok(value),
@@ -33,7 +34,7 @@ fn json(alloc: Global, bytes: &[u8]) -> Result<Value, KitFileFault>
 /// The value of a file that is not too long.
 #[tactic(auto, unfolding(crate::specs::KitFile::file_in))]
 pub fn file(alloc: Global, bytes: &[u8]) -> Result<Value, KitFileFault>
-    ensures gives { Gives view result (file_in bytes.now) }
+    ensures gives { Gives Refuses (λ v. Ok (view v)) result (file_in bytes.now) }
     ensures long { file_limit < length bytes.now → IsErrOf result (KitFileFault.BadKitFile place.File) }
 {
     if bytes.len() > FILE_LIMIT {

@@ -1,6 +1,7 @@
 ghost use Rattle.std.specs.Prelude.{◌≡◌, ◌<◌, length, map, IsErrOf};
 ghost use Rattle.serde_json.specs.View.{view};
-ghost use Rattle.press_kit.specs.Gives.{Gives};
+ghost use Rattle.press_text.specs.Gives.{Gives};
+ghost use Rattle.press_kit.specs.Refusals.{Refuses};
 ghost use Rattle.press_kit.specs.declared.place.Place.TheVariants as place;
 ghost use Rattle.press_kit.specs.KitFile as spec;
 
@@ -31,7 +32,7 @@ pub struct KitParts {
 /// The callbacks and plugins of a kit's value.
 #[tactic(auto, unfolding(crate::specs::KitFile::kit_of))]
 pub(crate) fn kit(alloc: Global, value: &Value) -> Result<KitParts, KitFileFault>
-    ensures { Gives (λ k. k) result (spec.kit_of (view value.now)) }
+    ensures { Gives Refuses Ok result (spec.kit_of (view value.now)) }
 {
     let fields = Fields {
         alloc,
@@ -59,7 +60,7 @@ pub(crate) fn kit(alloc: Global, value: &Value) -> Result<KitParts, KitFileFault
 /// Of a key that is repeated the last one counts; a key that nobody names is bad. A file has at most 4,194,304 bytes.
 #[tactic(auto, unfolding(crate::specs::KitFile::kit_in))]
 pub fn read_kit_file(alloc: Global, bytes: &[u8]) -> Result<KitParts, KitFileFault>
-    ensures gives { Gives (λ k. k) result (spec.kit_in bytes.now) }
+    ensures gives { Gives Refuses Ok result (spec.kit_in bytes.now) }
     ensures long { spec.file_limit < length bytes.now → IsErrOf result (KitFileFault.BadKitFile place.File) }
 {
     let value = file(alloc, bytes)?;

@@ -4,7 +4,8 @@ ghost use Rattle.std.specs.Prelude.{◌≡◌, ◌+◌, map, Result, IfOk};
 ghost use Rattle.serde_json.specs.Data.{Data};
 ghost use Rattle.serde_json.specs.View.{view};
 ghost use Rattle.press_kit.specs.declared.place.Place.{Place as At};
-ghost use Rattle.press_kit.specs.Gives.{Gives};
+ghost use Rattle.press_text.specs.Gives.{Gives};
+ghost use Rattle.press_kit.specs.Refusals.{Refuses};
 ghost use Rattle.press_kit.specs.Fields.{each};
 
 use crate::fault::KitFileFault;
@@ -21,7 +22,7 @@ pub trait Listed {
     fn read(alloc: Global, at: Place, value: &Value) -> Result<Self, KitFileFault>
     where
         Self: Sized,
-        ensures { Gives (λ x. x) result (read at (view value.now)) };
+        ensures { Gives Refuses Ok result (read at (view value.now)) };
 }
 
 /// What the values of a list give, each at its place.
@@ -30,7 +31,7 @@ pub fn each<T: Listed + Drop>(
     at: Place,
     values: &[Value],
 ) -> Result<Items<T>, KitFileFault>
-    ensures { Gives (λ x. x) result (each T.read at 0 (map view values.now)) }
+    ensures { Gives Refuses Ok result (each T.read at 0 (map view values.now)) }
 {
     let mut found = Vec::new(alloc);
     for i in 0..values.len() {

@@ -2,7 +2,8 @@
 
 ghost use Rattle.std.specs.Prelude.{◌≡◌, map};
 ghost use Rattle.serde_json.specs.View.{view};
-ghost use Rattle.press_kit.specs.Gives.{Gives};
+ghost use Rattle.press_text.specs.Gives.{Gives};
+ghost use Rattle.press_kit.specs.Refusals.{Refuses};
 ghost use Rattle.press_kit.specs.KitFile as spec;
 
 use crate::fault::KitFileFault;
@@ -17,7 +18,7 @@ use std::alloc::Global;
 impl<'v> Fields<'v> {
     #[tactic(auto, unfolding(crate::specs::KitFile::hook_loaded))]
     fn hook_load(&self) -> Result<Load, KitFileFault>
-        ensures { Gives (λ l. l) result (spec.hook_loaded self.now.at (view self.now.value.now)) }
+        ensures { Gives Refuses Ok result (spec.hook_loaded self.now.at (view self.now.value.now)) }
     {
         self.has_only(&["hook", "callback", "priority", "accepted"])?;
         let hook = self.hook("hook")?;
@@ -32,7 +33,7 @@ impl<'v> Fields<'v> {
 
     #[tactic(auto, unfolding(crate::specs::KitFile::tag_loaded))]
     fn tag_load(&self) -> Result<Load, KitFileFault>
-        ensures { Gives (λ l. l) result (spec.tag_loaded self.now.at (view self.now.value.now)) }
+        ensures { Gives Refuses Ok result (spec.tag_loaded self.now.at (view self.now.value.now)) }
     {
         self.has_only(&["tag", "callback"])?;
         Ok(Load::Tag {

@@ -3,7 +3,8 @@
 ghost use Rattle.std.specs.Prelude.{◌≡◌, option_map, option_and_then, codes, map};
 ghost use Rattle.serde_json.specs.Find.{get, as_str};
 ghost use Rattle.serde_json.specs.View.{view};
-ghost use Rattle.press_kit.specs.Gives.{Gives};
+ghost use Rattle.press_text.specs.Gives.{Gives};
+ghost use Rattle.press_kit.specs.Refusals.{Refuses};
 ghost use Rattle.press_kit.specs.Ops.{kind_of, keys_of};
 ghost use Rattle.press_kit.specs.Fields.{only};
 ghost use Rattle.press_kit.specs.KitFile as spec;
@@ -47,7 +48,7 @@ fn every(value: &Value) -> Option<Every>
 impl<'v> Fields<'v> {
     // The priority that is told, or all of them.
     fn any_priority(&self) -> Result<Option<i64>, KitFileFault>
-        ensures { Gives (λ p. p) result (spec.any_priority_at self.now.at (view self.now.value.now)) }
+        ensures { Gives Refuses Ok result (spec.any_priority_at self.now.at (view self.now.value.now)) }
     {
         match self.value.get("priority") {
             None => Ok(None),
@@ -57,7 +58,7 @@ impl<'v> Fields<'v> {
 
     // How many steps are passed over.
     fn skip(&self) -> Result<u16, KitFileFault>
-        ensures { Gives (λ n. n) result (spec.skip_at self.now.at (view self.now.value.now)) }
+        ensures { Gives Refuses Ok result (spec.skip_at self.now.at (view self.now.value.now)) }
     {
         let told = self
             .value
@@ -72,7 +73,7 @@ impl<'v> Fields<'v> {
 
     // Once, where nothing is told.
     fn every(&self) -> Result<Every, KitFileFault>
-        ensures { Gives (λ e. e) result (spec.every_at self.now.at (view self.now.value.now)) }
+        ensures { Gives Refuses Ok result (spec.every_at self.now.at (view self.now.value.now)) }
     {
         match self.value.get("every") {
             None => Ok(Every::Once),
@@ -82,7 +83,7 @@ impl<'v> Fields<'v> {
 
     #[tactic(auto, unfolding(crate::specs::KitFile::scheduled))]
     fn schedule(&self) -> Result<Op, KitFileFault>
-        ensures { Gives (λ o. o) result (spec.scheduled self.now.at (view self.now.value.now)) }
+        ensures { Gives Refuses Ok result (spec.scheduled self.now.at (view self.now.value.now)) }
     {
         Ok(Op::Schedule {
             after: self.number("after")?,
@@ -94,7 +95,7 @@ impl<'v> Fields<'v> {
 
     #[tactic(auto, unfolding(crate::specs::KitFile::option_set))]
     fn set_option(&self) -> Result<Op, KitFileFault>
-        ensures { Gives (λ o. o) result (spec.option_set self.now.at (view self.now.value.now)) }
+        ensures { Gives Refuses Ok result (spec.option_set self.now.at (view self.now.value.now)) }
     {
         Ok(Op::SetOption {
             name: self.option("name")?,
@@ -104,7 +105,7 @@ impl<'v> Fields<'v> {
 
     #[tactic(auto, unfolding(crate::specs::KitFile::hook_added))]
     fn add_hook(&self) -> Result<Op, KitFileFault>
-        ensures { Gives (λ o. o) result (spec.hook_added self.now.at (view self.now.value.now)) }
+        ensures { Gives Refuses Ok result (spec.hook_added self.now.at (view self.now.value.now)) }
     {
         Ok(Op::AddHook {
             hook: self.hook("hook")?,
@@ -116,7 +117,7 @@ impl<'v> Fields<'v> {
 
     #[tactic(auto, unfolding(crate::specs::KitFile::hook_removed))]
     fn remove_hook(&self) -> Result<Op, KitFileFault>
-        ensures { Gives (λ o. o) result (spec.hook_removed self.now.at (view self.now.value.now)) }
+        ensures { Gives Refuses Ok result (spec.hook_removed self.now.at (view self.now.value.now)) }
     {
         Ok(Op::RemoveHook {
             hook: self.hook("hook")?,
@@ -127,7 +128,7 @@ impl<'v> Fields<'v> {
 
     #[tactic(auto, unfolding(crate::specs::KitFile::hooks_removed))]
     fn remove_all(&self) -> Result<Op, KitFileFault>
-        ensures { Gives (λ o. o) result (spec.hooks_removed self.now.at (view self.now.value.now)) }
+        ensures { Gives Refuses Ok result (spec.hooks_removed self.now.at (view self.now.value.now)) }
     {
         Ok(Op::RemoveAll {
             hook: self.hook("hook")?,
@@ -137,7 +138,7 @@ impl<'v> Fields<'v> {
 
     #[tactic(auto, unfolding(crate::specs::KitFile::tag_added))]
     fn add_tag(&self) -> Result<Op, KitFileFault>
-        ensures { Gives (λ o. o) result (spec.tag_added self.now.at (view self.now.value.now)) }
+        ensures { Gives Refuses Ok result (spec.tag_added self.now.at (view self.now.value.now)) }
     {
         Ok(Op::AddTag {
             tag: self.text("tag")?,
@@ -147,7 +148,7 @@ impl<'v> Fields<'v> {
 
     #[tactic(auto, unfolding(crate::specs::KitFile::skipped))]
     fn skip_if(&self) -> Result<Op, KitFileFault>
-        ensures { Gives (λ o. o) result (spec.skipped self.now.at (view self.now.value.now)) }
+        ensures { Gives Refuses Ok result (spec.skipped self.now.at (view self.now.value.now)) }
     {
         Ok(Op::SkipIf {
             left: self.parts("left")?,
@@ -158,7 +159,7 @@ impl<'v> Fields<'v> {
 
     #[tactic(auto, unfolding(crate::specs::KitFile::filtered))]
     fn apply(&self) -> Result<Op, KitFileFault>
-        ensures { Gives (λ o. o) result (spec.filtered self.now.at (view self.now.value.now)) }
+        ensures { Gives Refuses Ok result (spec.filtered self.now.at (view self.now.value.now)) }
     {
         Ok(Op::Apply {
             hook: self.hook("hook")?,
@@ -169,7 +170,7 @@ impl<'v> Fields<'v> {
 
     #[tactic(auto, unfolding(crate::specs::KitFile::done))]
     fn start(&self) -> Result<Op, KitFileFault>
-        ensures { Gives (λ o. o) result (spec.done self.now.at (view self.now.value.now)) }
+        ensures { Gives Refuses Ok result (spec.done self.now.at (view self.now.value.now)) }
     {
         Ok(Op::Do {
             hook: self.hook("hook")?,
@@ -179,7 +180,7 @@ impl<'v> Fields<'v> {
 
     #[tactic(auto, unfolding(crate::specs::KitFile::hook_asked))]
     fn has_hook(&self) -> Result<Op, KitFileFault>
-        ensures { Gives (λ o. o) result (spec.hook_asked self.now.at (view self.now.value.now)) }
+        ensures { Gives Refuses Ok result (spec.hook_asked self.now.at (view self.now.value.now)) }
     {
         let hook = self.hook("hook")?;
         let callback = self.callback("callback")?;
@@ -188,7 +189,7 @@ impl<'v> Fields<'v> {
 
     #[tactic(auto, unfolding(crate::specs::KitFile::op_by))]
     fn op(&self, kind: OpKind) -> Result<Op, KitFileFault>
-        ensures { Gives (λ o. o) result (spec.op_by kind self.now.at (view self.now.value.now)) }
+        ensures { Gives Refuses Ok result (spec.op_by kind self.now.at (view self.now.value.now)) }
     {
         match kind {
             OpKind::Set => Ok(Op::Set(self.parts("text")?)),
@@ -226,7 +227,7 @@ impl<'v> Fields<'v> {
     }
 
     fn has_keys_of(&self, kind: OpKind) -> Result<(), KitFileFault>
-        ensures { Gives (λ u. view self.now.value.now) result (only self.now.at (keys_of kind) (view self.now.value.now)) }
+        ensures { Gives Refuses (λ _. Ok (view self.now.value.now)) result (only self.now.at (keys_of kind) (view self.now.value.now)) }
     {
         match kind {
             OpKind::AddHook => {

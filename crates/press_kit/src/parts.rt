@@ -3,7 +3,8 @@
 ghost use Rattle.std.specs.Prelude.{◌≡◌, option_map, option_and_then, codes};
 ghost use Rattle.serde_json.specs.Find.{get};
 ghost use Rattle.serde_json.specs.View.{view};
-ghost use Rattle.press_kit.specs.Gives.{Gives};
+ghost use Rattle.press_text.specs.Gives.{Gives};
+ghost use Rattle.press_kit.specs.Refusals.{Refuses};
 ghost use Rattle.press_kit.specs.Fields.{or_bad};
 ghost use Rattle.press_kit.specs.KitFile as spec;
 
@@ -53,7 +54,7 @@ fn arg_part(value: &Value) -> Option<Part>
 }
 
 fn att_key(alloc: Global, at: Place, value: &Value) -> Result<AttKey, KitFileFault>
-    ensures { Gives (λ k. k) result (or_bad at (spec.att_key_of (view value.now))) }
+    ensures { Gives Refuses Ok result (or_bad at (spec.att_key_of (view value.now))) }
 {
     match value.as_str() {
         Some(name) => Ok(AttKey::Name(Text::from_str(alloc, name)?)),
@@ -62,7 +63,7 @@ fn att_key(alloc: Global, at: Place, value: &Value) -> Result<AttKey, KitFileFau
 }
 
 fn att_part(alloc: Global, at: Place, value: &Value) -> Result<Part, KitFileFault>
-    ensures { Gives (λ p. p) result (or_bad at (spec.att_in (view value.now))) }
+    ensures { Gives Refuses Ok result (or_bad at (spec.att_in (view value.now))) }
 {
     let key = value.get("att").ok_or(at)?;
     Ok(Part::Att(att_key(alloc, at, key)?))
@@ -70,7 +71,7 @@ fn att_part(alloc: Global, at: Place, value: &Value) -> Result<Part, KitFileFaul
 
 // The part of an object with one key.
 fn keyed_part(alloc: Global, at: Place, value: &Value) -> Result<Part, KitFileFault>
-    ensures { Gives (λ p. p) result (or_bad at (spec.keyed_part (view value.now))) }
+    ensures { Gives Refuses Ok result (or_bad at (spec.keyed_part (view value.now))) }
 {
     if has_only(value, &["arg"]) {
         Ok(arg_part(value).ok_or(at)?)
@@ -106,7 +107,7 @@ impl Listed for Parts {
 impl<'v> Fields<'v> {
     /// A text by its parts.
     pub fn parts(&self, key: &str) -> Result<Parts, KitFileFault>
-        ensures { Gives (λ t. t) result (spec.parts_at self.now.at key.now (view self.now.value.now)) }
+        ensures { Gives Refuses Ok result (spec.parts_at self.now.at key.now (view self.now.value.now)) }
     {
         let value = self.value.get(key).ok_or(self.at)?;
         Parts::read(self.alloc, self.at, value)
@@ -114,7 +115,7 @@ impl<'v> Fields<'v> {
 
     /// Texts by their parts, none where nothing is told.
     pub fn texts(&self, key: &str) -> Result<Items<Parts>, KitFileFault>
-        ensures { Gives (λ ts. ts) result (spec.texts_at self.now.at key.now (view self.now.value.now)) }
+        ensures { Gives Refuses Ok result (spec.texts_at self.now.at key.now (view self.now.value.now)) }
     {
         match self.value.get(key) {
             None => Ok(Items::new(self.alloc)),

@@ -1,6 +1,7 @@
 ghost use Rattle.std.specs.Prelude.{◌≡◌, ◌<◌, length, option_and_then, codes, map, IsErrOf};
 ghost use Rattle.serde_json.specs.View.{view};
-ghost use Rattle.press_kit.specs.Gives.{Gives};
+ghost use Rattle.press_text.specs.Gives.{Gives};
+ghost use Rattle.press_kit.specs.Refusals.{Refuses};
 ghost use Rattle.press_kit.specs.KitFile.{file_limit};
 ghost use Rattle.press_kit.specs.declared.place.Place.TheVariants as place;
 ghost use Rattle.press_kit.specs.Fields.{only, number_in};
@@ -89,7 +90,7 @@ fn count(value: &Value) -> Option<u32>
 
 impl<'v> Fields<'v> {
     fn args(&self) -> Result<Texts, KitFileFault>
-        ensures { Gives (λ ts. ts) result (spec.args_at self.now.at (view self.now.value.now)) }
+        ensures { Gives Refuses Ok result (spec.args_at self.now.at (view self.now.value.now)) }
     {
         match self.value.get("args") {
             None => Ok(Texts::new(self.alloc)),
@@ -102,7 +103,7 @@ impl<'v> Fields<'v> {
     }
 
     fn times(&self) -> Result<u32, KitFileFault>
-        ensures { Gives (λ n. n) result (spec.times_at self.now.at (view self.now.value.now)) }
+        ensures { Gives Refuses Ok result (spec.times_at self.now.at (view self.now.value.now)) }
     {
         match self.value.get("times") {
             None => Ok(1),
@@ -111,7 +112,7 @@ impl<'v> Fields<'v> {
     }
 
     fn has_play_keys(&self, kind: PlayKind) -> Result<(), KitFileFault>
-        ensures { Gives (λ u. view self.now.value.now) result (only self.now.at (spec.keys_of kind) (view self.now.value.now)) }
+        ensures { Gives Refuses (λ _. Ok (view self.now.value.now)) result (only self.now.at (spec.keys_of kind) (view self.now.value.now)) }
     {
         match kind {
             PlayKind::Apply => self.has_only(&["apply", "args", "times"]),
@@ -121,7 +122,7 @@ impl<'v> Fields<'v> {
 
     #[tactic(auto, unfolding(crate::specs::PlayFile::play_by))]
     fn play(&self, kind: PlayKind) -> Result<Play, KitFileFault>
-        ensures { Gives (λ p. p) result (spec.play_by kind self.now.at (view self.now.value.now)) }
+        ensures { Gives Refuses Ok result (spec.play_by kind self.now.at (view self.now.value.now)) }
     {
         self.has_play_keys(kind)?;
         let hook = self.hook(kind.key())?;
@@ -168,7 +169,7 @@ fn has_commands(value: &Value) -> bool
 }
 
 fn has_file_keys(fields: &Fields<'_>, commanded: bool) -> Result<(), KitFileFault>
-    ensures { Gives (λ u. view fields.now.value.now) result (only fields.now.at (spec.file_keys commanded) (view fields.now.value.now)) }
+    ensures { Gives Refuses (λ _. Ok (view fields.now.value.now)) result (only fields.now.at (spec.file_keys commanded) (view fields.now.value.now)) }
 {
     if commanded {
         fields.has_only(&["kit", "commands", "pages", "plays", "shows"])
@@ -179,7 +180,7 @@ fn has_file_keys(fields: &Fields<'_>, commanded: bool) -> Result<(), KitFileFaul
 
 #[tactic(auto, unfolding(crate::specs::PlayFile::active_where))]
 fn active(alloc: Global, value: &Value, commanded: bool) -> Result<Items<Name>, KitFileFault>
-    ensures { Gives (λ ns. ns) result (spec.active_where commanded (view value.now)) }
+    ensures { Gives Refuses Ok result (spec.active_where commanded (view value.now)) }
 {
     if commanded {
         return Ok(Items::new(alloc));
@@ -193,7 +194,7 @@ fn commands_if(
     value: &Value,
     commanded: bool,
 ) -> Result<Items<Stamped>, KitFileFault>
-    ensures { Gives (λ cs. cs) result (spec.commands_where commanded (view value.now)) }
+    ensures { Gives Refuses Ok result (spec.commands_where commanded (view value.now)) }
 {
     if commanded {
         commands(alloc, value)
@@ -203,7 +204,7 @@ fn commands_if(
 }
 
 fn pages(alloc: Global, value: &Value) -> Result<Items<Target>, KitFileFault>
-    ensures { Gives (λ ts. ts) result (spec.pages_of (view value.now)) }
+    ensures { Gives Refuses Ok result (spec.pages_of (view value.now)) }
 {
     match value.get("pages") {
         None => Ok(Items::new(alloc)),
@@ -216,7 +217,7 @@ fn pages(alloc: Global, value: &Value) -> Result<Items<Target>, KitFileFault>
 
 #[tactic(auto, unfolding(crate::specs::PlayFile::plays_of))]
 fn plays(alloc: Global, value: &Value) -> Result<Items<Play>, KitFileFault>
-    ensures { Gives (λ ps. ps) result (spec.plays_of (view value.now)) }
+    ensures { Gives Refuses Ok result (spec.plays_of (view value.now)) }
 {
     let at = Place::Plays;
     each(alloc, at, Fields { alloc, at, value }.list("plays")?)
@@ -224,7 +225,7 @@ fn plays(alloc: Global, value: &Value) -> Result<Items<Play>, KitFileFault>
 
 #[tactic(auto, unfolding(crate::specs::PlayFile::play_file_of))]
 fn play_file(alloc: Global, value: &Value) -> Result<PlayFile, KitFileFault>
-    ensures { Gives (λ f. f) result (spec.play_file_of (view value.now)) }
+    ensures { Gives Refuses Ok result (spec.play_file_of (view value.now)) }
 {
     let at = Place::File;
     let commanded = has_commands(value);
@@ -246,7 +247,7 @@ fn play_file(alloc: Global, value: &Value) -> Result<PlayFile, KitFileFault>
 /// The key `shows` is for whoever reads the file. A file has at most 4,194,304 bytes.
 #[tactic(auto, unfolding(crate::specs::PlayFile::play_file_in))]
 pub fn read_play_file(alloc: Global, bytes: &[u8]) -> Result<PlayFile, KitFileFault>
-    ensures gives { Gives (λ f. f) result (spec.play_file_in bytes.now) }
+    ensures gives { Gives Refuses Ok result (spec.play_file_in bytes.now) }
     ensures long { file_limit < length bytes.now → IsErrOf result (KitFileFault.BadKitFile place.File) }
 {
     let value = file(alloc, bytes)?;

@@ -2,7 +2,8 @@
 
 ghost use Rattle.std.specs.Prelude.{◌≡◌, ◌<◌, length, map, option_map, IsErrOf};
 ghost use Rattle.serde_json.specs.View.{view};
-ghost use Rattle.press_kit.specs.Gives.{Gives};
+ghost use Rattle.press_text.specs.Gives.{Gives};
+ghost use Rattle.press_kit.specs.Refusals.{Refuses};
 ghost use Rattle.press_kit.specs.KitFile.{file_limit};
 ghost use Rattle.press_kit.specs.declared.place.Place.TheVariants as place;
 ghost use Rattle.press_kit.specs.SiteFile as spec;
@@ -34,7 +35,7 @@ fn few(values: &[Value]) -> Option<&[Value]>
 /// The commands that stand at `commands`.
 #[tactic(auto, unfolding(crate::specs::SiteFile::commands_of))]
 pub(crate) fn commands(alloc: Global, value: &Value) -> Result<Items<Stamped>, KitFileFault>
-    ensures { Gives (λ cs. cs) result (spec.commands_of (view value.now)) }
+    ensures { Gives Refuses Ok result (spec.commands_of (view value.now)) }
 {
     let at = Place::Commands;
     let all = Fields { alloc, at, value }.list("commands")?;
@@ -47,7 +48,7 @@ pub(crate) fn commands(alloc: Global, value: &Value) -> Result<Items<Stamped>, K
 /// Keys that nobody names are passed over; of a key that is repeated the last one counts. A file has at most 4,194,304 bytes and 100,000 commands.
 #[tactic(auto, unfolding(crate::specs::SiteFile::site_in))]
 pub fn read_site_file(alloc: Global, bytes: &[u8]) -> Result<Items<Stamped>, KitFileFault>
-    ensures gives { Gives (λ cs. cs) result (spec.site_in bytes.now) }
+    ensures gives { Gives Refuses Ok result (spec.site_in bytes.now) }
     ensures long { file_limit < length bytes.now → IsErrOf result (KitFileFault.BadKitFile place.File) }
 {
     let value = file(alloc, bytes)?;

@@ -10,7 +10,8 @@ use Rattle.press_http.specs.declared.fault.HttpFault.{HttpFault}
 use Rattle.press_http.specs.declared.fault.HttpFault.TheVariants.{WriteFault}
 use Rattle.press_http.specs.Faults.{status_of}
 use Rattle.press_http.specs.declared.request.Request.{Request}
-use Rattle.press_http.specs.Gives.{Gives}
+use Rattle.press_text.specs.Gives.{Gives}
+use Rattle.press_http.specs.Meanings as meaning
 use Rattle.press_http.specs.Replies.{fault_bytes, reply_bytes}
 use Rattle.press_http.specs.Requests.{IsRequest, Refuses, longest_request}
 use Rattle.press_http.specs.Routes.{asked}
@@ -56,7 +57,7 @@ taken = record { status = 200; kind = Text; body = [] }
 -- what the bytes that were seen ask for, or why they ask for nothing: they are no request, or its route tells
 abbrev pub AsksFor : List ℕ → Option (List ℕ) → Result Asked HttpFault → Type 0
 AsksFor seen left result =
-    IsErrAnd result (λ e. Refuses e seen left) ⊎ ((r : Request) × IsRequest seen r × Gives result (asked r.method r.target r.body))
+    IsErrAnd result (λ e. Refuses e seen left) ⊎ ((r : Request) × IsRequest seen r × Gives meaning.Refuses Ok result (asked r.method r.target r.body))
 
 -- ---- replies
 
@@ -122,19 +123,19 @@ IsShown kit up target old new result =
     MatchResult result (λ s. (s.outbox.items ≡ []) × Shows kit up target old new s.status) (λ e. (e ≡ WriteFault) × ShowsFront kit up target old new)
 
 -- the fixed body of a status was told, with nothing to be sent
-abbrev pub IsRefused : ℕ → Option (List ℕ) → Option (List ℕ) → Result Served HttpFault → Type 0
-IsRefused status old new result =
+abbrev pub TellsStatus : ℕ → Option (List ℕ) → Option (List ℕ) → Result Served HttpFault → Type 0
+TellsStatus status old new result =
     MatchResult result (λ s. (s.status ≡ status) × (s.outbox.items ≡ []) × Appends old new (fault_bytes status)) (λ e. (e ≡ WriteFault) × AppendsFront old new (fault_bytes status))
 
 -- where a fault has no status the connection is closed without a word
 abbrev pub IsClosed : HttpFault → Option ℕ → Option (List ℕ) → Option (List ℕ) → Result Served HttpFault → Type 0
 IsClosed fault None old new result = (result ≡ Err fault) × (new ≡ old)
-IsClosed fault (Some status) old new result = IsRefused status old new result
+IsClosed fault (Some status) old new result = TellsStatus status old new result
 
 -- What is asked is done and told. A page leaves the node unchanged, and so does a command whose reply has no memory before it is played.
 abbrev pub IsAnswered : Type 0 → (Event → Result (List Message) NodeFault → Type 0) → KitView → Option Up → Option (List ℕ) → Option (List ℕ) → Asked → Result Served HttpFault → Type 0
 IsAnswered unchanged plays kit up old new (Page target) result = unchanged × IsShown kit up target old new result
-IsAnswered unchanged plays kit up old new (Command stamped) result = IsPlayed plays (Submit stamped) queued old new result ⊎ (unchanged × IsRefused 503 old new result)
+IsAnswered unchanged plays kit up old new (Command stamped) result = IsPlayed plays (Submit stamped) queued old new result ⊎ (unchanged × TellsStatus 503 old new result)
 IsAnswered unchanged plays kit up old new (Peer message) result = IsPlayed plays (Deliver message) taken old new result
 
 -- and bytes that ask for nothing leave it unchanged

@@ -26,7 +26,7 @@ use press_callbacks::Kit;
 use press_learner::{Learner, none_is_chosen_after_64};
 use press_proposer::Proposer;
 use press_site::Site;
-use press_wire::{Ballot, Body, Message, Node as Member, Slot, Vote, WireFault, encode_cmd};
+use press_wire::{Ballot, Body, Message, Node as Member, Slot, Vote, is_too_long};
 use std::alloc::Global;
 
 /// How many slots there are.
@@ -54,23 +54,13 @@ fn slot_behind(applied: u64) -> Slot
     slot
 }
 
-/// Whether more bytes spell the value than a command may have. (Want of memory is told only of a value that isn't too long.)
-fn is_too_long(alloc: Global, value: &Value) -> bool
-    ensures { result ≡ spell.is_too_long value.now }
-{
-    match encode_cmd(alloc, value) {
-        Err(WireFault::TooLong) => true,
-        Ok(_) | Err(_) => false,
-    }
-}
-
 /// The command, where it isn't too long.
-fn short(alloc: Global, command: Stamped) -> Result<Stamped, NodeFault>
+fn short(command: Stamped) -> Result<Stamped, NodeFault>
     ensures ok { IfOk result (λ c. (c ≡ command) × (spell.is_too_long (Cmd command) ≡ false)) }
     ensures err { IfErr result (λ fault. (fault ≡ NodeFault.TooLong) × (spell.is_too_long (Cmd command) ≡ true)) }
 {
     let value = Value::Cmd(command);
-    if is_too_long(alloc, &value) {
+    if is_too_long(&value) {
         return Err(NodeFault::TooLong);
     }
     let Value::Cmd(command) = value else {
@@ -219,7 +209,7 @@ impl Up {
         ensures memory { IfErr result (λ fault. stops fault ≡ true → fault ≡ NodeFault.NoMemory) }
         ensures err { OnErr result (self.new ≡ self.old) }
     {
-        let command = match short(alloc, command) {
+        let command = match short(command) {
             Ok(command) => command,
             Err(fault) => return Err(fault),
         };

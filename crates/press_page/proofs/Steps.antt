@@ -9,9 +9,10 @@ use Rattle.press_run.specs.Run.{◌>>=◌, Answer, answer, State, Meaning, apply
 use Rattle.press_page.specs.declared.filtered.Filtered.{Filtered}
 use Rattle.press_page.specs.Json.{texts_of}
 use Rattle.press_page.specs.Page.{article, articles}
-use Rattle.press_page.specs.Steps.{Stops, Steps}
+use Rattle.press_run.specs.Outcome.{Refuses}
+use Rattle.press_page.specs.Steps.{Steps}
 
-pub stops_after : {A B : Type 0} (f : RunFault) (o : Option A) (rest : A → Option B) → Stops f o → Stops f (o >>= rest)
+pub stops_after : {A B : Type 0} (f : RunFault) (o : Option A) (rest : A → Option B) → Refuses f o → Refuses f (o >>= rest)
 stops_after Limit o rest e = ap (λ x. x >>= rest) e
 stops_after NoMemory o rest e = tt
 
@@ -30,7 +31,7 @@ pub articles_more : (m : Meaning) (posts : List (Option Post)) (ids : List ℕ) 
 articles_more m posts ids i d post s t lt found e = one_article m posts ids i d post s lt found ∙ ap (λ o. o >>= λ b. articles m posts (drop (i + 1) ids) b) e
 
 -- what stops an article stops the rest, and so the whole
-pub articles_stop : (f : RunFault) (m : Meaning) (posts : List (Option Post)) (ids : List ℕ) (i : ℕ) (d : ℕ) (post : Option Post) (s : State) (whole : Option State) → i < length ids → post ≡ post_at posts (get_or ids i d) → articles m posts (drop i ids) s ≡ whole → Stops f (article m post s) → Stops f whole
+pub articles_stop : (f : RunFault) (m : Meaning) (posts : List (Option Post)) (ids : List ℕ) (i : ℕ) (d : ℕ) (post : Option Post) (s : State) (whole : Option State) → i < length ids → post ≡ post_at posts (get_or ids i d) → articles m posts (drop i ids) s ≡ whole → Refuses f (article m post s) → Refuses f whole
 articles_stop Limit m posts ids i d post s whole lt found same e = sym same ∙ one_article m posts ids i d post s lt found ∙ ap (λ o. o >>= λ b. articles m posts (drop (i + 1) ids) b) e
 articles_stop NoMemory m posts ids i d post s whole lt found same e = tt
 
@@ -49,7 +50,7 @@ texts_found m post s s' s'' title content t c =
     ap (λ (o : Option Answer). o >>= λ a. apply_hook m (codes "the_content") (post.content ∷ []) a.state >>= λ b. the_texts a.text b.text) t
     ∙ ap (λ (o : Option Answer). o >>= λ b. the_texts title b.text) c
 
-pub texts_stop : (f : RunFault) (m : Meaning) (post : Post) (s s' : State) (title : List ℕ) → apply_hook m (codes "the_title") (post.title ∷ decimal post.id ∷ []) s ≡ answer title s' → Stops f (apply_hook m (codes "the_content") (post.content ∷ []) s') → Stops f (texts_of m post s)
+pub texts_stop : (f : RunFault) (m : Meaning) (post : Post) (s s' : State) (title : List ℕ) → apply_hook m (codes "the_title") (post.title ∷ decimal post.id ∷ []) s ≡ answer title s' → Refuses f (apply_hook m (codes "the_content") (post.content ∷ []) s') → Refuses f (texts_of m post s)
 unfolding texts_of
 texts_stop Limit m post s s' title t c =
     ap (λ (o : Option Answer). o >>= λ a. apply_hook m (codes "the_content") (post.content ∷ []) a.state >>= λ b. the_texts a.text b.text) t

@@ -1,6 +1,6 @@
 -- A page of a site: a fresh boot with its three actions, the template, and the filters of each post's title and content, over a site that is only read
 -- (Plugin Handbook, Hooks: `wp_head`, `the_title`, `the_content`, `wp_footer`; Options API, `blogname`; the template is own).
-use Rattle.std.specs.Prelude.{◌≡◌, ℕ, List, [], ◌∷◌, take, Option, Some, None, is_some, unwrap_or, Result, Ok, Err, codes, decimal, if◌then◌else◌}
+use Rattle.std.specs.Prelude.{◌≡◌, ℕ, List, [], ◌∷◌, take, Option, Some, None, is_some, unwrap_or, Result, MatchResult, codes, decimal, if◌then◌else◌}
 use Rattle.press_text.specs.Escapes.{escaped}
 use Rattle.press_posts.specs.declared.post.Post.{Post}
 use Rattle.press_posts.specs.PostChange.{post_at, is_publish}
@@ -18,7 +18,8 @@ use Rattle.press_page.specs.declared.reply.Target.TheVariants as target
 use Rattle.press_page.specs.declared.reply.Reply.{Reply}
 use Rattle.press_page.specs.declared.reply.ContentKind.TheVariants.{Html}
 use Rattle.press_page.specs.Json.{post_reply, result_reply}
-use Rattle.press_page.specs.Steps.{Stops, booted, fires, puts}
+use Rattle.press_run.specs.Outcome.{Refuses}
+use Rattle.press_page.specs.Steps.{booted, fires, puts}
 use Rattle.press_page.specs.Template.{title_part, heading_part, article_part, after_title, after_content, end_part, fixed_body}
 
 -- up to the articles
@@ -104,8 +105,7 @@ page_of kit site (target.Post id) = if is_some (public_post (post_at site.posts 
 page_of kit site (target.Json id) = post_reply kit site (public_post (post_at site.posts id))
 page_of kit site (target.Result token) = result_reply (outcome_of token site.outcomes)
 
--- ---- what building a page shows: its output, Limit exactly where there is none, or want of memory
+-- ---- what building a page shows: its output
 
 abbrev pub Shows : Option State → Result (List ℕ) RunFault → Type 0
-Shows found (Ok body) = (s : State) × (found ≡ Some s) × (s.output ≡ body)
-Shows found (Err f) = Stops f found
+Shows found result = MatchResult result (λ body. (s : State) × (found ≡ Some s) × (s.output ≡ body)) (λ fault. Refuses fault found)

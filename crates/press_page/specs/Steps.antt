@@ -1,13 +1,13 @@
 -- The steps that a reply is built by, from a fresh boot (Plugin Handbook, Hooks: `plugins_loaded`, `init`, `wp_loaded`; their order is own).
-use Rattle.std.specs.Prelude.{◌≡◌, ℕ, List, [], ◌∷◌, ◌++◌, Option, Some, None, Result, Ok, Err, codes}
+use Rattle.std.specs.Prelude.{ℕ, List, ◌++◌, Option, Some, Result}
 use Rattle.press_posts.specs.declared.fire.Fire.{Fire}
 use Rattle.press_site.specs.SiteView.{SiteView}
 use Rattle.press_callbacks.specs.Kits.{KitView}
 use Rattle.press_run.specs.declared.run_fault.RunFault.{RunFault}
-use Rattle.press_run.specs.declared.run_fault.RunFault.TheVariants.{Limit, NoMemory}
 use Rattle.press_run.specs.Run.{◌>>=◌, Answer, answer, State, Meaning, within, do_fires}
 use Rattle.press_run.specs.Boot.{booted_with}
-use Rattle.press_run.specs.Outcome.{started}
+use Rattle.press_run.specs.Outcome.{Refuses, started}
+use Rattle.press_text.specs.Gives.{Gives}
 
 -- a text goes to the output, where that stays within the bytes
 abbrev pub puts : List ℕ → State → Option State
@@ -25,21 +25,10 @@ fires callback fs s = do
 abbrev pub booted : KitView → SiteView → State
 booted kit site = started (booted_with kit.plugins site.active) site
 
--- ---- what a step answers: the state after it, Limit exactly where there is none, or want of memory
-
-abbrev pub Stops : {A : Type 0} → RunFault → Option A → Type 0
-Stops Limit found = found ≡ None
-Stops NoMemory found = Unit {0}
+-- ---- what a step answers, beside the state after it
 
 abbrev pub Steps : Option State → State → Result Unit RunFault → Type 0
-Steps found after (Ok u) = found ≡ Some after
-Steps found after (Err f) = Stops f found
-
--- what is found on the way, likewise
-abbrev pub Finds : {A : Type 0} → Option A → Result A RunFault → Type 0
-Finds found (Ok x) = found ≡ Some x
-Finds found (Err f) = Stops f found
+Steps found after result = Gives Refuses (λ _. Some after) result found
 
 abbrev pub Answers : Option Answer → State → Result (List ℕ) RunFault → Type 0
-Answers found after (Ok text) = found ≡ answer text after
-Answers found after (Err f) = Stops f found
+Answers found after result = Gives Refuses (λ text. answer text after) result found

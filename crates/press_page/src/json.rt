@@ -7,7 +7,9 @@ ghost use Rattle.press_callbacks.specs.Kits.{kit_view, scripts_in};
 ghost use Rattle.press_run.specs.Links.{read_only};
 ghost use Rattle.press_run.specs.Run.{callbacks_of, within};
 ghost use Rattle.press_page.specs.Json.{json_reply, outcome_data, post_body, post_data, post_reply, result_reply, status_data, status_reply};
-ghost use Rattle.press_page.specs.Steps.{Finds, booted};
+ghost use Rattle.press_run.specs.Outcome.{Refuses};
+ghost use Rattle.press_text.specs.Gives.{Gives};
+ghost use Rattle.press_page.specs.Steps.{booted};
 
 use crate::filtered::Filtered;
 use crate::rendering::Rendering;
@@ -54,7 +56,7 @@ fn shown(alloc: Global, site: &Site, kit: &Kit, post: &Post) -> Result<Reply, Al
 
 #[tactic(auto, unfolding(crate::specs::Json::post_body))]
 fn post_body(alloc: Global, site: &Site, kit: &Kit, post: &Post) -> Result<Text, RunFault>
-    ensures { Finds (post_body (callbacks_of read_only (scripts_in kit.now)) post.now (booted (kit_view kit.now) site.now)) result }
+    ensures { Gives Refuses Some result (post_body (callbacks_of read_only (scripts_in kit.now)) post.now (booted (kit_view kit.now) site.now)) }
 {
     let mut rendering = Rendering::new(alloc, site, kit)?;
     let texts = rendering.filtered(alloc, site, kit, post)?;
@@ -137,7 +139,7 @@ fn text_of(alloc: Global, value: &Value) -> Result<Text, AllocError>
 
 // A body within the bytes.
 fn within(body: Text) -> Result<Text, RunFault>
-    ensures { Finds (within body) result }
+    ensures { Gives Refuses Some result (within body) }
 {
     if body.len() > MOST_BYTES {
         return Err(RunFault::Limit);

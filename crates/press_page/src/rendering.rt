@@ -8,7 +8,9 @@ ghost use Rattle.press_run.specs.Run.{apply_hook, callbacks_of};
 ghost use Rattle.press_page.specs.Json.{filtered, texts_of};
 ghost use Rattle.press_page.specs.Page.{article, article_body, article_head, articles, closing, opening, puts_filtered, whole_page};
 ghost use Rattle.press_page.specs.Rendering.{stage_in, state_in};
-ghost use Rattle.press_page.specs.Steps.{Answers, Finds, Steps, booted, fires, puts};
+ghost use Rattle.press_run.specs.Outcome.{Refuses};
+ghost use Rattle.press_text.specs.Gives.{Gives};
+ghost use Rattle.press_page.specs.Steps.{Answers, Steps, booted, fires, puts};
 
 use crate::filtered::Filtered;
 use crate::{hooks, template};
@@ -65,7 +67,7 @@ impl Rendering {
         kit: &Kit,
         post: &Post,
     ) -> Result<Filtered, RunFault>
-        ensures { Finds (filtered (callbacks_of read_only (scripts_in kit.now)) post.now (state_in site.now self.old)) result }
+        ensures { Gives Refuses Some result (filtered (callbacks_of read_only (scripts_in kit.now)) post.now (state_in site.now self.old)) }
     {
         self.fires(site, kit, boot_actions(alloc)?)?;
         self.texts(alloc, site, kit, post)
@@ -79,7 +81,7 @@ impl Rendering {
         kit: &Kit,
         post: &Post,
     ) -> Result<Filtered, RunFault>
-        ensures { Finds (texts_of (callbacks_of read_only (scripts_in kit.now)) post.now (state_in site.now self.old)) result }
+        ensures { Gives Refuses Some result (texts_of (callbacks_of read_only (scripts_in kit.now)) post.now (state_in site.now self.old)) }
     {
         let title = self.title_of(alloc, site, kit, post)?;
         let content = self.content_of(alloc, site, kit, post)?;

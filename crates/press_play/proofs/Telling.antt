@@ -10,7 +10,8 @@ use Rattle.press_play.specs.declared.answered.Answered.{Answered}
 use Rattle.press_play.specs.declared.fault.PlayFault.{PlayFault}
 use Rattle.press_play.specs.declared.fault.PlayFault.TheVariants.{NoMemory, ReadFault, TwoNames, UnknownCallback, BadLoad, BadKitFile}
 use Rattle.press_play.specs.Lines.{line}
-use Rattle.press_play.specs.Played.{Gives, played_in}
+use Rattle.press_text.specs.Gives.{Gives}
+use Rattle.press_play.specs.Played.{Refuses, played_in}
 use Rattle.press_play.specs.Answers.{fault_data, answered, bytes_in, or_no_memory, Answers, Tells, Writes}
 
 -- the line of want of memory, which is written without taking any
@@ -20,7 +21,7 @@ no_memory_line =
     let zero : decimal 0 ≡ 48 ∷ [] = decimal_digit 0 (omega arith) in
     rw zero refl
 
-pub said : {A : Type 0} (lines : Result (String A) PlayFault) (told : Result Answered AllocError) (input : List ℕ) → Gives (λ t. string_bytes t) lines (played_in input)
+pub said : {A : Type 0} (lines : Result (String A) PlayFault) (told : Result Answered AllocError) (input : List ℕ) → Gives Refuses (λ t. Ok (string_bytes t)) lines (played_in input)
     → IfOk told (λ a. a ≡ answered (bytes_in lines)) → Answers input (or_no_memory told)
 said lines (Err e) input gives h = inr (inl refl)
 said (Ok text) (Ok a) input gives h = inl (h ∙ ap answered (sym gives))
@@ -32,7 +33,7 @@ said (Err BadLoad) (Ok a) input gives h = inl (h ∙ ap answered (sym gives))
 said (Err (BadKitFile place)) (Ok a) input gives h = inl (h ∙ ap answered (sym gives))
 
 pub written : {A : Type 0} (known : Option (List ℕ)) (lines : Result (String A) PlayFault) (told : Result Answered AllocError) (out out' : Option (List ℕ)) (result : Result (Option PlayFault) WriteFault)
-    → IfSome known (λ input. Gives (λ t. string_bytes t) lines (played_in input)) → IfOk told (λ a. a ≡ answered (bytes_in lines)) → Writes (or_no_memory told) out out' result
+    → IfSome known (λ input. Gives Refuses (λ t. Ok (string_bytes t)) lines (played_in input)) → IfOk told (λ a. a ≡ answered (bytes_in lines)) → Writes (or_no_memory told) out out' result
     → IfSome known (λ input. (a : Answered) × Answers input a × Writes a out out' result)
 written None lines told out out' result gives h w = tt
 written (Some input) lines told out out' result gives h w = (or_no_memory told, said lines told input gives h, w)

@@ -49,20 +49,16 @@ played_where (Ok f) = played f
 abbrev pub played_in : List ℕ → Result (List ℕ) PlayFault
 played_in bytes = played_where (play_file_in bytes)
 
--- ---- what a reader of play files answers
+-- ---- what a fault of a reader of play files says
 
 -- a fault stands exactly where it is met; a read may fail and memory run out at any time
-abbrev pub Misses : {Y : Type 0} → PlayFault → Result Y PlayFault → Type 0
-Misses NoMemory found = Unit {0}
-Misses ReadFault found = Unit {0}
-Misses TwoNames found = found ≡ Err TwoNames
-Misses UnknownCallback found = found ≡ Err UnknownCallback
-Misses BadLoad found = found ≡ Err BadLoad
-Misses (BadKitFile place) found = found ≡ Err (BadKitFile place)
-
-abbrev pub Gives : {X Y : Type 0} → (X → Y) → Result X PlayFault → Result Y PlayFault → Type 0
-Gives view (Ok x) found = found ≡ Ok (view x)
-Gives view (Err e) found = Misses e found
+abbrev pub Refuses : {Y : Type 0} → PlayFault → Result Y PlayFault → Type 0
+Refuses NoMemory found = Unit {0}
+Refuses ReadFault found = Unit {0}
+Refuses TwoNames found = found ≡ Err TwoNames
+Refuses UnknownCallback found = found ≡ Err UnknownCallback
+Refuses BadLoad found = found ≡ Err BadLoad
+Refuses (BadKitFile place) found = found ≡ Err (BadKitFile place)
 
 -- a play file, seen with the faults of a play
 abbrev pub file_where : Result PlayFile Place → Result PlayFile PlayFault

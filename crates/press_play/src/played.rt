@@ -5,7 +5,8 @@ ghost use Rattle.press_callbacks.specs.Kits.{kit_view};
 ghost use Rattle.press_text.specs.Streams.{TakesAtMost};
 ghost use Rattle.press_kit.specs.KitFile.{file_limit};
 ghost use Rattle.press_kit.specs.PlayFile.{play_file_in};
-ghost use Rattle.press_play.specs.Played.{Gives, all_lines, file_where, played, played_in, shown_lines};
+ghost use Rattle.press_text.specs.Gives.{Gives};
+ghost use Rattle.press_play.specs.Played.{Refuses, all_lines, file_where, played, played_in, shown_lines};
 
 use crate::commands::commands_on;
 use crate::fault::PlayFault;
@@ -24,7 +25,7 @@ use std::io::Read;
 #[tactic(auto, unfolding(press_kit::specs::PlayFile::play_file_in, press_kit::specs::KitFile::file_in))]
 fn file<R: Read>(alloc: Global, reader: &mut R) -> Result<PlayFile, PlayFault>
     ensures took { TakesAtMost (R.remaining reader.old) (R.remaining reader.new) (file_limit + 1) }
-    ensures gives { IfSome (R.remaining reader.old) (λ input. Gives (λ f. f) result (file_where (play_file_in input))) }
+    ensures gives { IfSome (R.remaining reader.old) (λ input. Gives Refuses Ok result (file_where (play_file_in input))) }
 {
     let bytes = match read_limited(alloc, reader, FILE_LIMIT) {
         Ok(bytes) => bytes,
@@ -74,7 +75,7 @@ fn all_lines(
 
 // The lines of a play file. The kit's closures are boxed here: a box may not be handed out.
 fn lines(alloc: Global, file: PlayFile) -> Result<String, PlayFault>
-    ensures { Gives (λ t. string_bytes t) result (played file) }
+    ensures { Gives Refuses (λ t. Ok (string_bytes t)) result (played file) }
 {
     let PlayFile {
         kit,
@@ -105,7 +106,7 @@ fn lines(alloc: Global, file: PlayFile) -> Result<String, PlayFault>
 /// The lines of the play file that a reader has left.
 pub fn read_lines<R: Read>(alloc: Global, reader: &mut R) -> Result<String, PlayFault>
     ensures took { TakesAtMost (R.remaining reader.old) (R.remaining reader.new) (file_limit + 1) }
-    ensures gives { IfSome (R.remaining reader.old) (λ input. Gives (λ t. string_bytes t) result (played_in input)) }
+    ensures gives { IfSome (R.remaining reader.old) (λ input. Gives Refuses (λ t. Ok (string_bytes t)) result (played_in input)) }
 {
     let file = file(alloc, reader)?;
     lines(alloc, file)

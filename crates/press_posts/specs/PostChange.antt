@@ -1,7 +1,7 @@
 -- What a change of posts comes to: the posts after it, what it fires, and which events of `publish_future_post` go and come; or the first refusal
 -- (Plugin Handbook, Post Status Transitions; ids, limits, the trash and the order of refusals are own).
 -- A post stands at a place for good: ids are 1, 2, .. by place, and the place of a deleted post stays empty.
-use Rattle.std.specs.Prelude.{◌≡◌, ℕ, zero, suc, ◌+◌, ◌-◌, ◌^◌, List, [], ◌∷◌, ◌++◌, length, filter, set, slice_index_or, Bool, true, false, ◌&&◌, ◌||◌, nat_lt, nat_le, if◌then◌else◌, Option, Some, None, is_some, Result, Ok, Err}
+use Rattle.std.specs.Prelude.{◌≡◌, ℕ, zero, suc, ◌+◌, ◌-◌, ◌^◌, List, [], ◌∷◌, ◌++◌, length, filter, set, slice_index_or, Bool, true, false, ◌&&◌, ◌||◌, nat_lt, nat_le, if◌then◌else◌, Option, Some, None, is_some, Result, Ok, Err, MatchResult}
 use Rattle.press_posts.specs.declared.fault.PostFault.{PostFault}
 use Rattle.press_posts.specs.declared.fault.PostFault.TheVariants.{NoMemory, TooLong, NoSuchPost, NotTrashed, IsTrashed, TooManyPosts}
 use Rattle.press_posts.specs.declared.fire.Fire.{Fire}
@@ -168,14 +168,13 @@ abbrev pub Fires : Result Changed PostFault → Type 0
 Fires (Ok c) = is_fired c.fires ≡ true
 Fires (Err f) = ⊥
 
-abbrev pub IsRefused : PostFault → Result Changed PostFault → Type 0
-IsRefused NoMemory meant = Fires meant
-IsRefused TooLong meant = meant ≡ Err TooLong
-IsRefused NoSuchPost meant = meant ≡ Err NoSuchPost
-IsRefused NotTrashed meant = meant ≡ Err NotTrashed
-IsRefused IsTrashed meant = meant ≡ Err IsTrashed
-IsRefused TooManyPosts meant = meant ≡ Err TooManyPosts
+abbrev pub Refuses : PostFault → Result Changed PostFault → Type 0
+Refuses NoMemory meant = Fires meant
+Refuses TooLong meant = meant ≡ Err TooLong
+Refuses NoSuchPost meant = meant ≡ Err NoSuchPost
+Refuses NotTrashed meant = meant ≡ Err NotTrashed
+Refuses IsTrashed meant = meant ≡ Err IsTrashed
+Refuses TooManyPosts meant = meant ≡ Err TooManyPosts
 
 abbrev pub Changes : {A : Type 0} → (Changed → A) → Result A PostFault → Result Changed PostFault → List (Option Post) → List (Option Post) → Type 0
-Changes part (Ok answer) meant old new = Done part answer new meant
-Changes part (Err f) meant old new = IsRefused f meant × (new ≡ old)
+Changes part result meant old new = MatchResult result (λ answer. Done part answer new meant) (λ fault. Refuses fault meant × (new ≡ old))

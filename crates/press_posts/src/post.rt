@@ -10,6 +10,7 @@ const MOST_TITLE: usize = 1024;
 
 const MOST_CONTENT: usize = 65_536;
 
+/// A post as it stands: no trace of what it was before.
 #[derive(Debug, Drop)]
 pub struct Post {
     pub id: u64,

@@ -11,7 +11,7 @@ use Rattle.press_scan.specs.FirstShortcode.{shortcode_from}
 use Rattle.press_scan.specs.Scans.{PutGives, Progress, TakesText, TakesFront, TakesEscape, IsEscape, before as opens, behind}
 use Rattle.press_scan.specs.Tags.{names_of, callback_of}
 use Rattle.press_run.specs.Run.{◌>>=◌, only_if, within, is_short, State, Answer, answer, Meaning, scan, scan_from, scan_rest, shortcode_result, shortcode_call, tag_answer, is_escape}
-use Rattle.press_run.specs.Outcome.{Stage, Around, state_of, around, Gives}
+use Rattle.press_run.specs.Outcome.{Stage, Around, state_of, around, GivesText}
 use Rattle.press_run.specs.Scanning.{Means, MeansLeft, Takes, StopsScan}
 use Rattle.press_run.specs.declared.run_fault.RunFault.{RunFault}
 use Rattle.press_run.specs.declared.run_fault.RunFault.TheVariants.{Limit, NoMemory}
@@ -230,7 +230,7 @@ put_stands c u text old new waits (s, also, e) =
 
 -- ---- faults are handed on
 
-pub answer_err : (p : Option Answer) (a : Around) (w : Stage) (callback : Meaning) (before : Stage) (old : Progress) (f : RunFault) → (p ≡ None → (whole : Option Answer) → MeansLeft whole callback old before → whole ≡ None) → Gives p a w (Err f) → StopsScan f callback before old
+pub answer_err : (p : Option Answer) (a : Around) (w : Stage) (callback : Meaning) (before : Stage) (old : Progress) (f : RunFault) → (p ≡ None → (whole : Option Answer) → MeansLeft whole callback old before → whole ≡ None) → GivesText p a w (Err f) → StopsScan f callback before old
 answer_err p a w callback before old Limit h e = h e
 answer_err p a w callback before old NoMemory h e = tt
 
@@ -238,6 +238,6 @@ pub still_stops : (callback : Meaning) (before : Stage) (old : Progress) (o : Op
 still_stops callback before old o Limit h = h
 still_stops callback before old o NoMemory h = tt
 
-pub scan_err : (whole : Option Answer) (callback : Meaning) (before : Stage) (old : Progress) (a : Around) (w : Stage) (f : RunFault) → MeansLeft whole callback old before → StopsScan f callback before old → Gives whole a w (Err f)
+pub scan_err : (whole : Option Answer) (callback : Meaning) (before : Stage) (old : Progress) (a : Around) (w : Stage) (f : RunFault) → MeansLeft whole callback old before → StopsScan f callback before old → GivesText whole a w (Err f)
 scan_err whole callback before old a w Limit m h = h whole m
 scan_err whole callback before old a w NoMemory m h = tt

@@ -1,5 +1,6 @@
 -- What the machine's calls say of the meaning: an Ok is its answer, Limit stands exactly where there is none, and want of memory may come at any time.
-use Rattle.std.specs.Prelude.{◌≡◌, ℕ, ◌+◌, List, [], ◌∷◌, ◌++◌, Option, Some, None, IsSome, Result, Ok, Err, Bool, true, false, ltb}
+use Rattle.std.specs.Prelude.{◌≡◌, ℕ, ◌+◌, List, [], ◌∷◌, ◌++◌, Option, Some, None, IsSome, Result, MatchResult, Bool, true, false, ltb}
+use Rattle.press_text.specs.Gives.{GivesOrStays}
 use Rattle.press_hooks.specs.declared.open_run.OpenRun.{OpenRun}
 use Rattle.press_hooks.specs.NextEntry.{Table, begun, without_innermost}
 use Rattle.press_scan.specs.declared.tag_row.TagRow.{TagRow}
@@ -47,16 +48,17 @@ around w = record { open_runs = w.hooks.open_runs; doing = w.counts.doing; fixed
 abbrev pub around_innermost : Stage → Around
 around_innermost w = record { open_runs = without_innermost w.hooks.open_runs; doing = w.counts.doing; fixed = w.fixed }
 
--- the result is that of the meaning, and what stood round it stands as before
-abbrev pub Gives : Option Answer → Around → Stage → Result (List ℕ) RunFault → Type 0
-Gives meaning before after (Ok text) = (meaning ≡ answer text (state_of after)) × (around after ≡ before)
-Gives meaning before after (Err Limit) = meaning ≡ None
-Gives meaning before after (Err NoMemory) = Unit {0}
+-- what a fault says of a meaning: Limit stands exactly where there is none, and want of memory says nothing
+abbrev pub Refuses : {A : Type 0} → RunFault → Option A → Type 0
+Refuses Limit meaning = meaning ≡ None
+Refuses NoMemory meaning = Unit {0}
+
+-- the text is that of the meaning, and what stood round it stands as before
+abbrev pub GivesText : Option Answer → Around → Stage → Result (List ℕ) RunFault → Type 0
+GivesText meaning before after result = MatchResult result (λ text. (meaning ≡ answer text (state_of after)) × (around after ≡ before)) (λ fault. Refuses fault meaning)
 
 abbrev pub GivesWithin : Option Answer → Around → Stage → Result (List ℕ) RunFault → Type 0
-GivesWithin meaning before after (Ok text) = (meaning ≡ answer text (state_of after)) × (around_innermost after ≡ before)
-GivesWithin meaning before after (Err Limit) = meaning ≡ None
-GivesWithin meaning before after (Err NoMemory) = Unit {0}
+GivesWithin meaning before after result = MatchResult result (λ text. (meaning ≡ answer text (state_of after)) × (around_innermost after ≡ before)) (λ fault. Refuses fault meaning)
 
 -- the innermost open run
 abbrev pub innermost : List OpenRun → OpenRun
@@ -64,28 +66,30 @@ innermost [] = begun []
 innermost (r ∷ rs) = r
 
 -- one that goes on leaves the next turn's call
+abbrev pub stepped : Step → CallIn → State → Stepped
+stepped step.Goes call s = Goes call s
+stepped (step.Ends text) call s = Ends text s
+
 abbrev pub GivesStep : Option Stepped → Around → Stage → CallIn → Result Step RunFault → Type 0
-GivesStep meaning before after call (Ok step.Goes) = (meaning ≡ Some (Goes call (state_of after))) × (around after ≡ before)
-GivesStep meaning before after call (Ok (step.Ends text)) = (meaning ≡ Some (Ends text (state_of after))) × (around after ≡ before)
-GivesStep meaning before after call (Err Limit) = meaning ≡ None
-GivesStep meaning before after call (Err NoMemory) = Unit {0}
+GivesStep meaning before after call result = MatchResult result (λ s. (meaning ≡ Some (stepped s call (state_of after))) × (around after ≡ before)) (λ fault. Refuses fault meaning)
 
 -- a text is put at the end of an output where that stays within the bytes; want of memory stands only there
+abbrev pub RefusesText : RunFault → Option (List ℕ) → Type 0
+RefusesText Limit put = put ≡ None
+RefusesText NoMemory put = IsSome put
+
 abbrev pub Pushes : List ℕ → List ℕ → List ℕ → Result Unit RunFault → Type 0
-Pushes old text new (Ok u) = within (old ++ text) ≡ Some new
-Pushes old text new (Err Limit) = (within (old ++ text) ≡ None) × (new ≡ old)
-Pushes old text new (Err NoMemory) = IsSome (within (old ++ text)) × (new ≡ old)
+Pushes old text new result = GivesOrStays RefusesText (λ _. Some new) result (within (old ++ text)) old new
 
 -- what a job comes to
 abbrev pub job_meaning : Changes → Scripts → Job → State → Option Answer
 job_meaning changes scripts (Fires fires) s = do_fires (callbacks_of changes scripts) fires s
 job_meaning changes scripts (Apply hook args) s = apply_hook (callbacks_of changes scripts) hook args s
 
--- `Gives` at a string
+-- `GivesText` at a string
 abbrev pub GivesJob : {A : Type 0} → Option Answer → Around → Stage → Result (String A) RunFault → Type 0
-GivesJob meaning before after (Ok text) = (meaning ≡ answer (string_bytes text) (state_of after)) × (around after ≡ before)
-GivesJob meaning before after (Err Limit) = meaning ≡ None
-GivesJob meaning before after (Err NoMemory) = Unit {0}
+GivesJob meaning before after result =
+    MatchResult result (λ text. (meaning ≡ answer (string_bytes text) (state_of after)) × (around after ≡ before)) (λ fault. Refuses fault meaning)
 
 -- whether one more turn is within the turns, which is then counted
 abbrev pub CountsTurn : Counts → Counts → Bool → Type 0

@@ -7,6 +7,7 @@ pub mod Fronts
 pub mod Gathers
 pub mod Heads
 pub mod Lists
+pub mod MapAtts
 pub mod Missings
 pub mod Names
 pub mod OneReading

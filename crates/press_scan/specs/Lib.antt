@@ -10,3 +10,6 @@ pub mod Attributes
 pub mod Seeking
 pub mod FirstShortcode
 pub mod AttributesOf
+pub mod Keys
+pub mod Entries
+pub mod Kept

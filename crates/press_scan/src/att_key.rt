@@ -1,8 +1,11 @@
 ghost use Rattle.std.specs.Prelude.{◌≡◌};
+ghost use Rattle.std.specs.Cmp.{partial_equiv_from_equiv};
 ghost use Rattle.press_scan.specs.Attributes.{has_name, has_place, is_key};
+ghost use Rattle.press_scan.specs.Keys.{writes, key_equiv, writes_alike};
 
 use press_text::{Copied, Text};
 use std::alloc::{AllocError, Global};
+use std::hash::{Hash, Hasher};
 
 /// What an attribute goes by: its name, or its number among the values without a name.
 #[derive(Debug, Drop)]
@@ -46,6 +49,39 @@ impl Copied for AttKey {
         match self {
             AttKey::Name(name) => Ok(AttKey::Name(name.copy(alloc)?)),
             AttKey::Place(place) => Ok(AttKey::Place(*place)),
+        }
+    }
+}
+
+impl PartialEq for AttKey {
+    ghost eq = { is_key };
+
+    ghost laws = { partial_equiv_from_equiv key_equiv };
+
+    fn eq(&self, other: &AttKey) -> bool {
+        self.is(other)
+    }
+}
+
+impl Eq for AttKey {
+    ghost laws = { key_equiv };
+}
+
+impl Hash for AttKey {
+    ghost hash_input = { writes };
+
+    ghost respects_eq = { writes_alike };
+
+    fn hash<H: Hasher>(&self, state: &mut H) {
+        match self {
+            AttKey::Name(name) => {
+                state.write_u8(0);
+                name.as_str().hash(state);
+            }
+            AttKey::Place(place) => {
+                state.write_u8(1);
+                state.write_u32(*place);
+            }
         }
     }
 }

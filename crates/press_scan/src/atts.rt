@@ -1,14 +1,24 @@
 ghost use Rattle.std.specs.Prelude.{◌≡◌, ◌<◌, length, option_map, slice_index_or};
+ghost use Rattle.indexmap.specs.IndexMap.{values};
 ghost use Rattle.press_scan.specs.Attributes.{value_of};
+ghost use Rattle.press_scan.specs.Entries.{HaveOwnKeys};
 
 use crate::att::Att;
 use crate::att_key::AttKey;
+use indexmap::IndexMap;
 use std::marker::Model;
 
-/// The attributes of a text in order, each name once.
+// As they were listed, where a key may stand twice, or each under its key.
+#[derive(Debug, Drop)]
+enum Kept {
+    Listed(Vec<Att>),
+    Keyed(IndexMap<AttKey, Att>),
+}
+
+/// Attributes in order: those of a text, each name once, or a list as it was given.
 #[derive(Debug, Drop)]
 pub struct Atts {
-    entries: Vec<Att>,
+    kept: Kept,
 }
 
 impl Model for Atts {
@@ -17,7 +27,11 @@ impl Model for Atts {
 
     ghost Value = { List Att };
 
-    ghost view = { λ a. a.entries.items };
+    ghost use Rattle.press_scan.specs.Kept.{kept_atts, IsKept};
+
+    ghost view = { λ a. kept_atts a.kept };
+
+    ghost invariant = { λ a. IsKept a.kept };
 }
 
 impl Atts {
@@ -25,25 +39,38 @@ impl Atts {
     pub fn from_vec(entries: Vec<Att>) -> Atts
         ensures { result ≡ entries.items }
     {
-        Atts { entries }
+        Atts {
+            kept: Kept::Listed(entries),
+        }
+    }
+
+    // Takes no memory.
+    pub(crate) fn from_map(entries: IndexMap<AttKey, Att>) -> Atts
+        requires { HaveOwnKeys entries.entries }
+        ensures { result ≡ values entries }
+    {
+        Atts {
+            kept: Kept::Keyed(entries),
+        }
     }
 
     pub fn len(&self) -> usize
         ensures { result ≡ length self.now }
     {
-        self.entries.len()
+        match &self.kept {
+            Kept::Listed(atts) => atts.len(),
+            Kept::Keyed(atts) => atts.len(),
+        }
     }
 
     /// The value of that key.
     pub fn get(&self, key: &AttKey) -> Option<&str>
         ensures { option_map (λ v. v.now) result ≡ value_of key.now self.now }
     {
-        for att in self.entries.as_slice() {
-            if att.key.is(key) {
-                return Some(att.value.as_str());
-            }
+        match &self.kept {
+            Kept::Listed(atts) => listed_value(atts.as_slice(), key),
+            Kept::Keyed(atts) => keyed_value(atts, key),
         }
-        None
     }
 
     /// The attribute at a place of the list, which must be within it.
@@ -51,6 +78,31 @@ impl Atts {
         requires { place < length self.now }
         ensures { result.now ≡ slice_index_or self.now place result.now }
     {
-        &self.entries[place]
+        match &self.kept {
+            Kept::Listed(atts) => &atts[place],
+            Kept::Keyed(atts) => &atts[place],
+        }
+    }
+}
+
+fn listed_value<'a>(atts: &'a [Att], key: &AttKey) -> Option<&'a str>
+    ensures { option_map (λ v. v.now) result ≡ value_of key.now atts.now }
+{
+    for att in atts {
+        if att.key.is(key) {
+            return Some(att.value.as_str());
+        }
+    }
+    None
+}
+
+#[tactic(auto, using(crate::proofs::MapAtts::looked_up))]
+fn keyed_value<'a>(atts: &'a IndexMap<AttKey, Att>, key: &AttKey) -> Option<&'a str>
+    requires { HaveOwnKeys atts.now.entries }
+    ensures { option_map (λ v. v.now) result ≡ value_of key.now (values atts.now) }
+{
+    match atts.get(key) {
+        Some(att) => Some(att.value.as_str()),
+        None => None,
     }
 }

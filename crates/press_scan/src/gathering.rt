@@ -1,11 +1,12 @@
 //! The attributes of an attribute text.
 //!
 //! Splitting reads each byte a bounded number of times: a quote is looked for from an opening quote to the next one of its kind, and an opening quote is tried
-//! at most twice, behind a name and where a token begins. A token with a name is compared with the names so far.
+//! at most twice, behind a name and where a token begins. A name is looked up among those so far by its hash.
 
-ghost use Rattle.std.specs.Prelude.{◌≡◌, ◌-◌, ◌^◌, ◌+◌, ◌<◌, ◌≤◌, ◌++◌, ◌∷◌, [], IfOk, OnOk, OnErr, IsTrue, ◌↔◌, length, string_bytes, slice_range, position, slice_index_or};
+ghost use Rattle.std.specs.Prelude.{◌≡◌, ◌-◌, ◌^◌, ◌+◌, ◌<◌, ◌≤◌, ◌++◌, ◌∷◌, [], IfOk, OnOk, OnErr, IsTrue, ◌↔◌, length, string_bytes, slice_range};
 ghost use Rattle.std.specs.Str.{str_to_ascii_lowercase};
-ghost use Rattle.press_scan.specs.Attributes.{has_name, with_name, IsAttributes, Gathers, IsCutAt};
+ghost use Rattle.press_scan.specs.Attributes.{with_name, IsAttributes, Gathers, IsCutAt};
+ghost use Rattle.press_scan.specs.declared.att_key.AttKey.TheVariants.{Place};
 ghost use Rattle.std.specs.Str.{IsCharBoundary};
 ghost use Rattle.press_scan.specs.AttributesOf.{attributes_of};
 ghost use Rattle.press_scan.specs.Shortcodes.{cut};
@@ -17,41 +18,76 @@ use crate::att_key::AttKey;
 use crate::atts::Atts;
 use crate::span::Span;
 use crate::token::{Token, skip_spaces, token_at};
+use indexmap::IndexMap;
 use press_text::Text;
 use std::alloc::{AllocError, Global};
-
-fn place_of(atts: &[Att], name: &str) -> Option<usize>
-    ensures { result ≡ position (λ a. has_name a.key name.now) atts.now }
-{
-    atts.iter().position(|a| a.key.is_name(name))
-}
+use std::marker::Model;
 
 // What was found so far, and the number of the next nameless attribute.
 #[derive(Drop)]
 struct Gathering {
-    atts: Vec<Att>,
+    atts: IndexMap<AttKey, Att>,
     next: u32,
 }
 
-// Puts a value under a name.
-fn put_name(atts: &mut Vec<Att>, name: Text, value: Text) -> Result<(), AllocError>
-    ensures { OnOk result (atts.new.items ≡ with_name atts.old.items name value) }
-{
-    match place_of(atts.as_slice(), name.as_str()) {
-        Some(place) => {
-            atts[place] = Att {
-                key: AttKey::Name(name),
-                value,
-            };
-            Ok(())
+impl Model for Gathering {
+    ghost use Rattle.indexmap.specs.IndexMap.{values};
+    ghost use Rattle.press_scan.specs.Attributes.{Found};
+    ghost use Rattle.press_scan.specs.Entries.{HaveOwnKeys, AreBefore};
+
+    ghost Value = { Found };
+
+    ghost view = { λ g. record { atts = values g.atts; next = g.next } };
+
+    ghost invariant = { λ g. HaveOwnKeys g.atts.entries × AreBefore g.next g.atts.entries };
+}
+
+impl Gathering {
+    fn new(alloc: Global) -> Gathering
+        ensures atts { result.atts ≡ [] }
+        ensures next { result.next ≡ 0 }
+    {
+        Gathering {
+            atts: IndexMap::new(alloc),
+            next: 0,
         }
-        None => {
-            atts.push(Att {
-                key: AttKey::Name(name),
-                value,
-            })?;
-            Ok(())
-        }
+    }
+
+    fn into_atts(self) -> Atts
+        ensures { result ≡ self.atts }
+    {
+        Atts::from_map(self.atts)
+    }
+
+    // Puts a value under a name.
+    #[tactic(auto, using(crate::proofs::MapAtts::own_inserted, crate::proofs::MapAtts::before_inserted, crate::proofs::MapAtts::name_inserted))]
+    fn put_name(&mut self, alloc: Global, name: Text, value: Text) -> Result<(), AllocError>
+        ensures atts { OnOk result (self.new.atts ≡ with_name self.old.atts name value) }
+        ensures next { OnOk result (self.new.next ≡ self.old.next) }
+    {
+        let key = AttKey::Name(name.copy(alloc)?);
+        let att = Att {
+            key: AttKey::Name(name),
+            value,
+        };
+        self.atts.insert(key, att)?;
+        Ok(())
+    }
+
+    // Puts a value without a name last, with its number.
+    #[tactic(auto, using(crate::proofs::MapAtts::own_inserted, crate::proofs::MapAtts::before_numbered, crate::proofs::MapAtts::number_inserted))]
+    fn put_number(&mut self, value: Text) -> Result<(), AllocError>
+        requires { self.old.next < 2 ^ 32 - 1 }
+        ensures atts { OnOk result (self.new.atts ≡ self.old.atts ++ record { key = Place self.old.next; value = value } ∷ []) }
+        ensures next { OnOk result (self.new.next ≡ self.old.next + 1) }
+    {
+        let att = Att {
+            key: AttKey::Place(self.next),
+            value,
+        };
+        self.atts.insert(AttKey::Place(self.next), att)?;
+        self.next += 1;
+        Ok(())
     }
 }
 
@@ -80,22 +116,18 @@ fn lower(alloc: Global, text: &str, span: Span) -> Result<Text, AllocError>
 fn take(alloc: Global, text: &str, found: &mut Gathering, token: Token) -> Result<(), AllocError>
     requires token { IsCutAt text.now token }
     requires room { found.old.next < 2 ^ 32 - 1 }
-    ensures { OnOk result (Gathers found.old.atts.items found.old.next found.new.atts.items found.new.next text.now token) }
+    ensures { OnOk result (Gathers found.old.atts found.old.next found.new.atts found.new.next text.now token) }
 {
     match token.name {
         Some(name) => {
             let name = lower(alloc, text, name)?;
             let value = part(alloc, text, token.value)?;
-            put_name(&mut found.atts, name, value)
+            found.put_name(alloc, name, value)
         }
         None => {
             let value = part(alloc, text, token.value)?;
             if value.len() > 0 {
-                found.atts.push(Att {
-                    key: AttKey::Place(found.next),
-                    value,
-                })?;
-                found.next += 1;
+                found.put_number(value)?;
             }
             Ok(())
         }
@@ -151,15 +183,12 @@ pub fn attributes(alloc: Global, text: &str) -> Result<Atts, AllocError>
     ensures computed { IfOk result (λ atts. atts ≡ attributes_of text.now) }
     ensures list { IfOk result (λ atts. IsAttributes text.now atts) }
 {
-    let mut found = Gathering {
-        atts: Vec::new(alloc),
-        next: 0,
-    };
+    let mut found = Gathering::new(alloc);
     let mut at = 0;
     'tokens: loop {
         let place = next_place(text, at);
         if place == text.len() {
-            return Ok(Atts::from_vec(found.atts));
+            return Ok(found.into_atts());
         }
         let token = token_of(text, place);
         take(alloc, text, &mut found, token)?;

@@ -9,7 +9,7 @@ use Rattle.press_events.specs.declared.fault.EventFault.TheVariants as event
 use Rattle.press_events.specs.DueEvents as events
 use Rattle.press_events.specs.DueEvents.{is_of, is_same, stands, cancelled, add_event, scheduled}
 use Rattle.press_site.specs.declared.fault.SiteFault.TheVariants.{TooManyEvents}
-use Rattle.press_site.specs.Becomes.{IsRefused}
+use Rattle.press_site.specs.Becomes.{Refuses}
 use Rattle.press_site.specs.Contents.{publish_event, events_without, events_of}
 use Rattle.press_site.specs.Faults.{of_events}
 
@@ -49,7 +49,7 @@ pub put_in : (id date : ℕ) (es after : List Event) (b : Bool) → id < 2 ^ 64 
 put_in id date es after b small e =
     put_of (nat_le 4096 (length (events_without id es))) (scheduled (publish_event id date) (events_without id es)) after b (sym (added id date es small) ∙ e)
 
-refused_of : (f : EventFault) (full : Bool) (new : List Event) → full ≡ false → events.IsRefused f (if full then Err event.TooManyEvents else put_new new) → IsRefused (of_events f) (if full then Err TooManyEvents else Ok new)
+refused_of : (f : EventFault) (full : Bool) (new : List Event) → full ≡ false → events.Refuses f (if full then Err event.TooManyEvents else put_new new) → Refuses (of_events f) (if full then Err TooManyEvents else Ok new)
 refused_of event.NoMemory true new e h = absurd (cc)
 refused_of event.NoMemory false new e h = tt
 refused_of event.TooLong true new e h = absurd (cc)
@@ -58,6 +58,6 @@ refused_of event.TooManyEvents true new e h = absurd (cc)
 refused_of event.TooManyEvents false new e h = cc
 
 -- a refusal, where there is room
-pub refused : (id date : ℕ) (es : List Event) (f : EventFault) → id < 2 ^ 64 → nat_le 4096 (length (events_without id es)) ≡ false → events.IsRefused f (add_event (publish_event id date) (events_without id es)) → IsRefused (of_events f) (events_of (Some date) id es)
+pub refused : (id date : ℕ) (es : List Event) (f : EventFault) → id < 2 ^ 64 → nat_le 4096 (length (events_without id es)) ≡ false → events.Refuses f (add_event (publish_event id date) (events_without id es)) → Refuses (of_events f) (events_of (Some date) id es)
 refused id date es f small room h =
     refused_of f (nat_le 4096 (length (events_without id es))) (scheduled (publish_event id date) (events_without id es)) room (rw (sym (added id date es small)) h)

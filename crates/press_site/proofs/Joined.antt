@@ -9,7 +9,7 @@ use Rattle.press_posts.specs.PostChange as post
 use Rattle.press_site.specs.declared.changed.Changed.{Changed}
 use Rattle.press_site.specs.declared.fault.SiteFault.{SiteFault}
 use Rattle.press_site.specs.declared.fault.SiteFault.TheVariants.{NoMemory, TooLong, NoSuchPost, NotTrashed, IsTrashed, TooManyPosts, TooManyEvents, AlreadyActive, NotActive, TooManyOptions}
-use Rattle.press_site.specs.Becomes.{IsRefused, MayGrow}
+use Rattle.press_site.specs.Becomes.{Refuses, MayGrow}
 use Rattle.press_site.specs.ContentView.{ContentView}
 use Rattle.press_posts.specs.declared.fire.Fire.{Fire}
 use Rattle.press_posts.specs.declared.post.Move.{Move}
@@ -27,7 +27,7 @@ grown : (x : post.Changed) (r : Result (List Event) SiteFault) → MayGrow r →
 grown x (Ok es) h = tt
 grown x (Err f) h = absurd h
 
-passed : (f : SiteFault) (x : post.Changed) (r : Result (List Event) SiteFault) → IsRefused f r → IsRefused f (beside x r)
+passed : (f : SiteFault) (x : post.Changed) (r : Result (List Event) SiteFault) → Refuses f r → Refuses f (beside x r)
 passed NoMemory x r h = grown x r h
 passed TooLong x r h = ap (beside x) h
 passed NoSuchPost x r h = ap (beside x) h
@@ -40,11 +40,11 @@ passed NotActive x r h = ap (beside x) h
 passed TooManyOptions x r h = ap (beside x) h
 
 -- a refusal of the events, after the posts' own
-pub events_refused : (f : SiteFault) (meant : Result post.Changed PostFault) (x : post.Changed) (old : List Event) → meant ≡ Ok x → IsRefused f (events_where x.goes x.comes x.id old) → IsRefused f (with_events meant old)
+pub events_refused : (f : SiteFault) (meant : Result post.Changed PostFault) (x : post.Changed) (old : List Event) → meant ≡ Ok x → Refuses f (events_where x.goes x.comes x.id old) → Refuses f (with_events meant old)
 events_refused f meant x old m h = rw m (passed f x (events_where x.goes x.comes x.id old) h)
 
 -- want of memory once the events are found
-pub posts_refused : (f : PostFault) (meant : Result post.Changed PostFault) (x : post.Changed) (old es : List Event) → meant ≡ Ok x → events_where x.goes x.comes x.id old ≡ Ok es → post.IsRefused f meant → IsRefused (of_posts f) (with_events meant old)
+pub posts_refused : (f : PostFault) (meant : Result post.Changed PostFault) (x : post.Changed) (old es : List Event) → meant ≡ Ok x → events_where x.goes x.comes x.id old ≡ Ok es → post.Refuses f meant → Refuses (of_posts f) (with_events meant old)
 posts_refused fault.NoMemory meant x old es m e h = rw (joined meant x old es m e) tt
 posts_refused fault.TooLong meant x old es m e h = ap (λ r. with_events r old) h
 posts_refused fault.NoSuchPost meant x old es m e h = ap (λ r. with_events r old) h

@@ -1,6 +1,6 @@
 -- Changes of posts and events. Each change of a post takes out the events of `publish_future_post` with its id as argument, and where its new status is
 -- future, one at its date comes (`_future_post_hook`, `check_and_publish_future_post`; limits and the order of refusals are own).
-use Rattle.std.specs.Prelude.{◌≡◌, ℕ, List, [], length, Bool, true, false, nat_le, if◌then◌else◌, codes, decimal, Option, Some, None, is_some, Result, Ok, Err}
+use Rattle.std.specs.Prelude.{ℕ, List, [], length, Bool, true, false, nat_le, if◌then◌else◌, codes, decimal, Option, Some, None, is_some, Result, Ok, Err}
 use Rattle.press_text.specs.declared.every.Every.TheVariants.{Once}
 use Rattle.press_events.specs.declared.event.Event.{Event}
 use Rattle.press_events.specs.declared.fault.EventFault.{EventFault}
@@ -13,7 +13,6 @@ use Rattle.press_posts.specs.PostChange as post
 use Rattle.press_site.specs.declared.changed.Changed.{Changed}
 use Rattle.press_site.specs.declared.fault.SiteFault.{SiteFault}
 use Rattle.press_site.specs.declared.fault.SiteFault.TheVariants.{NoSuchPost, TooManyEvents}
-use Rattle.press_site.specs.Becomes.{IsRefused}
 use Rattle.press_site.specs.ContentView.{ContentView}
 use Rattle.press_site.specs.Faults.{of_posts, of_events}
 
@@ -73,8 +72,3 @@ scheduling v event = put_in (add_event event v.events) v
 
 abbrev pub taking : ContentView → Event → ℕ → ContentView × Changed
 taking v event now = (record v { events = take_event event now v.events }, no_post (is_some (place_of event v.events)))
-
--- what a part of a change answers
-abbrev pub Gives : {A : Type 0} → Result A SiteFault → Result A SiteFault → Type 0
-Gives (Ok x) meant = meant ≡ Ok x
-Gives (Err fault) meant = IsRefused fault meant

@@ -5,8 +5,9 @@ ghost use Rattle.press_events.specs.DueEvents.{due};
 ghost use Rattle.press_posts.specs.PostChange.{comes, post_at};
 ghost use Rattle.press_posts.specs.PostChange.Change.{Insert, Edit, Moves, Delete};
 ghost use Rattle.press_posts.specs.Published.{published};
-ghost use Rattle.press_site.specs.Becomes.{Becomes};
-ghost use Rattle.press_site.specs.Contents.{Gives, beside_move, events_of, events_without, post_effect, publish_event, scheduling, taking};
+ghost use Rattle.press_site.specs.Becomes.{Becomes, Refuses};
+ghost use Rattle.press_text.specs.Gives.{Gives};
+ghost use Rattle.press_site.specs.Contents.{beside_move, events_of, events_without, post_effect, publish_event, scheduling, taking};
 
 use crate::changed::Changed;
 use crate::fault::SiteFault;
@@ -189,7 +190,7 @@ impl Content {
 
     // The events beside a post that is moved; None where the move leaves the post as it is.
     fn beside_move(&self, id: u64, to: Move) -> Result<Option<Events>, SiteFault>
-        ensures { Gives result (beside_move (post_at self.now.posts id) to id self.now.events) }
+        ensures { Gives Refuses Ok result (beside_move (post_at self.now.posts id) to id self.now.events) }
     {
         let Some(post) = self.posts.get(id) else {
             return Err(SiteFault::NoSuchPost);
@@ -202,7 +203,7 @@ impl Content {
 
     // The events beside a post that gets that status.
     fn events_beside(&self, id: u64, status: Status, date: Moment) -> Result<Events, SiteFault>
-        ensures { Gives result (events_of (comes status date) id self.now.events) }
+        ensures { Gives Refuses Ok result (events_of (comes status date) id self.now.events) }
     {
         if status.is_future() {
             self.events_with(id, date)
@@ -212,7 +213,7 @@ impl Content {
     }
 
     fn events_with(&self, id: u64, date: Moment) -> Result<Events, SiteFault>
-        ensures { Gives result (events_of (Some date) id self.now.events) }
+        ensures { Gives Refuses Ok result (events_of (Some date) id self.now.events) }
     {
         if self.is_full_beside(id) {
             return Err(SiteFault::TooManyEvents);

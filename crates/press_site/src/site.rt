@@ -88,12 +88,14 @@ impl Site {
         self.moment
     }
 
+    /// Sets the site's moment as it is given: that time doesn't go back is up to who plays the commands.
     pub fn set_now(&mut self, moment: Moment)
         ensures { self.new ≡ record self.old { moment = moment } }
     {
         self.moment = moment;
     }
 
+    /// The value of an option, where it is set.
     pub fn option(&self, name: &OptName) -> Option<&str>
         ensures { option_map (λ v. v.now) result ≡ option_of name.now self.now.options }
     {

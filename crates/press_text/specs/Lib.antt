@@ -1,6 +1,7 @@
 pub mod Decimals
 pub mod Escapes
 pub mod Faults
+pub mod Gives
 pub mod Lists
 pub mod Moments
 pub mod Names

@@ -1,6 +1,6 @@
 -- Which texts are names: letters, digits, `_` and `-`, at least one and at most so many
 -- (the profile of hook, shortcode and option names; Plugin Handbook, Hooks and Shortcodes).
-use Rattle.std.specs.Prelude.{◌≡◌, ℕ, ◌&&◌, ◌||◌, ◌==◌, List, length, Bool, true, nat_lt, nat_le, Option, Some, None, Result, Ok, Err, if◌then◌else◌}
+use Rattle.std.specs.Prelude.{◌≡◌, ℕ, ◌&&◌, ◌||◌, ◌==◌, List, length, Bool, true, nat_lt, nat_le, Option, Some, None, Result, MatchResult, if◌then◌else◌}
 use Rattle.std.specs.List.{list_all}
 use Rattle.std.specs.Char.{is_ascii_alphanumeric}
 use Rattle.press_text.specs.declared.name_fault.NameFault.{NameFault}
@@ -22,14 +22,16 @@ name_fault most bytes =
     (if nat_lt most (length bytes) then Some TooLong else
     (if list_all is_name_byte bytes then None else Some BadName))
 
--- what a constructor answers: the name of these bytes, or their first fault; want of memory stands only where there is no fault
+-- what a fault says of the first one: it is that, and want of memory stands only where there is none
+abbrev pub Refuses : NameFault → Option NameFault → Type 0
+Refuses NoMemory first = first ≡ None
+Refuses BadName first = first ≡ Some BadName
+Refuses TooLong first = first ≡ Some TooLong
+
+-- what a constructor answers: the name of these bytes, or their first fault
 abbrev pub NameGives : ℕ → Result (List ℕ) NameFault → List ℕ → Type 0
-NameGives most (Ok name) bytes = (name ≡ bytes) × (name_fault most bytes ≡ None)
-NameGives most (Err NoMemory) bytes = name_fault most bytes ≡ None
-NameGives most (Err BadName) bytes = name_fault most bytes ≡ Some BadName
-NameGives most (Err TooLong) bytes = name_fault most bytes ≡ Some TooLong
+NameGives most result bytes = MatchResult result (λ name. (name ≡ bytes) × (name_fault most bytes ≡ None)) (λ fault. Refuses fault (name_fault most bytes))
 
 -- the same where no memory is taken
 abbrev pub CallbackGives : Result (List ℕ) NameFault → List ℕ → Type 0
-CallbackGives (Ok name) bytes = (name ≡ bytes) × (name_fault 32 bytes ≡ None)
-CallbackGives (Err fault) bytes = name_fault 32 bytes ≡ Some fault
+CallbackGives result bytes = MatchResult result (λ name. (name ≡ bytes) × (name_fault 32 bytes ≡ None)) (λ fault. name_fault 32 bytes ≡ Some fault)

@@ -42,6 +42,7 @@ impl Moment {
         }
     }
 
+    /// From 0 to 2^40.
     pub fn seconds(self) -> u64
         ensures value { result ≡ self }
         ensures range { result ≤ 2 ^ 40 }

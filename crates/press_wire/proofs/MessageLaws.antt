@@ -14,7 +14,8 @@ use Rattle.press_wire.specs.declared.message.Message.{Message}
 use Rattle.press_wire.specs.declared.vote.Vote.{Vote}
 use Rattle.press_wire.specs.Fields.{◌>>=◌, byte_at, checked}
 use Rattle.std.specs.Prelude.{IfOk}
-use Rattle.press_wire.specs.Gives.{Gives}
+use Rattle.press_text.specs.Gives.{Gives}
+use Rattle.press_wire.specs.Refusals.{Refuses}
 use Rattle.press_wire.specs.Held.{IsBytes, IsRound, IsNode, IsSlot, IsBallot, IsValue, IsPerhapsVote, IsBody, IsMessage}
 use Rattle.press_wire.specs.Kinds.{message_number, message_kind_of, kind_of_body}
 use Rattle.press_wire.specs.Reading.{ended, inside, read_value, value_at, vote_at, flag_of, if_flagged, perhaps_vote_at, promise_at, nack_at, accept_at, body_at, message_at, read_message}
@@ -277,6 +278,6 @@ is_read bytes m fits e =
     let w = message_takes_all bytes m fits e in
     ((w.0.0, w.0.1, w.0.2, is_body m.body w.0.3), w.1)
 
-pub is_given : (bytes : List ℕ) (r : Result Message WireFault) → IsBytes bytes → Gives r (read_message bytes) → IfOk r (λ m. bytes ≡ spelled_message m)
+pub is_given : (bytes : List ℕ) (r : Result Message WireFault) → IsBytes bytes → Gives Refuses Ok r (read_message bytes) → IfOk r (λ m. bytes ≡ spelled_message m)
 is_given bytes (Ok m) fits given = (is_read bytes m fits given).1
 is_given bytes (Err fault) fits given = tt

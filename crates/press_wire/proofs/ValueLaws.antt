@@ -18,7 +18,8 @@ use Rattle.press_wire.specs.declared.kind.ValueKind.TheVariants as value
 use Rattle.press_wire.specs.declared.post.PostFields.{PostFields}
 use Rattle.press_wire.specs.Fields.{◌>>=◌, byte_at, checked}
 use Rattle.std.specs.Prelude.{IfOk}
-use Rattle.press_wire.specs.Gives.{Gives}
+use Rattle.press_text.specs.Gives.{Gives}
+use Rattle.press_wire.specs.Refusals.{Refuses}
 use Rattle.press_wire.specs.Measures.{Measures}
 use Rattle.press_wire.specs.Held.{IsBytes, IsMoment, IsCommand, IsValue, HasShortTexts, IsShort}
 use Rattle.press_apply.specs.Kinds.{command_number, command_kind_of, kind_of_command}
@@ -342,6 +343,6 @@ reads_written v bytes len is measured same =
     let within : length (spelled_command v) ≤ longest = omega arith in
     ap read_command same ∙ reads_back v is (le-ltb _ _ within)
 
-pub is_given : (bytes : List ℕ) (r : Result Value WireFault) → IsBytes bytes → Gives r (read_command bytes) → IfOk r (λ v. bytes ≡ spelled_command v)
+pub is_given : (bytes : List ℕ) (r : Result Value WireFault) → IsBytes bytes → Gives Refuses Ok r (read_command bytes) → IfOk r (λ v. bytes ≡ spelled_command v)
 is_given bytes (Ok v) fits given = (is_read bytes v fits given).1
 is_given bytes (Err fault) fits given = tt

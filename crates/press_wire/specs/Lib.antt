@@ -1,10 +1,10 @@
 pub mod Ballots
 pub mod Faults
 pub mod Fields
-pub mod Gives
 pub mod Held
 pub mod Kinds
 pub mod Measures
 pub mod Ranges
 pub mod Reading
+pub mod Refusals
 pub mod Spelling

@@ -1,7 +1,8 @@
 //! From bytes to values and messages.
 
 ghost use Rattle.std.specs.Prelude.{◌≡◌, ◌<◌, length, IfOk, IsErrOf};
-ghost use Rattle.press_wire.specs.Gives.{Gives};
+ghost use Rattle.press_text.specs.Gives.{Gives};
+ghost use Rattle.press_wire.specs.Refusals.{Refuses};
 ghost use Rattle.press_wire.specs.Reading.{read_command, read_message};
 ghost use Rattle.press_wire.specs.Spelling.{longest, spelled_command, spelled_message};
 
@@ -15,7 +16,7 @@ use std::alloc::Global;
 /// The value that all of the bytes spell; else TooLong for more than 16,384 bytes, and then the fault of the first field that fails.
 /// Memory is taken for names and for texts past 22 bytes alone.
 pub fn decode_cmd(alloc: Global, bytes: &[u8]) -> Result<Value, WireFault>
-    ensures read { Gives result (read_command bytes.now) }
+    ensures read { Gives Refuses Ok result (read_command bytes.now) }
     ensures long { longest < length bytes.now → IsErrOf result WireFault.TooLong }
     // No other bytes are read as this value.
     ensures spelled { IfOk result (λ v. bytes.now ≡ spelled_command v) }
@@ -26,7 +27,7 @@ pub fn decode_cmd(alloc: Global, bytes: &[u8]) -> Result<Value, WireFault>
 /// The message that all of the bytes spell; else the fault of the first field that fails. A fault inside a value is one of the field.
 /// Memory is taken for names and for texts past 22 bytes alone.
 pub fn decode_msg(alloc: Global, bytes: &[u8]) -> Result<Message, WireFault>
-    ensures read { Gives result (read_message bytes.now) }
+    ensures read { Gives Refuses Ok result (read_message bytes.now) }
     // No other bytes are read as this message.
     ensures spelled { IfOk result (λ m. bytes.now ≡ spelled_message m) }
 {

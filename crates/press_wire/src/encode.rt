@@ -3,6 +3,7 @@
 ghost use Rattle.std.specs.Prelude.{◌≡◌, ◌≤◌, true, false, Ok, IfOk, IfErr, MatchOption, if◌then◌else◌};
 ghost use Rattle.press_wire.specs.Held.{IsShort};
 ghost use Rattle.press_wire.specs.Reading.{read_command, read_message};
+ghost use Rattle.press_wire.specs.Spelling as spell;
 ghost use Rattle.press_wire.specs.Spelling.{longest, spelled_command, spelled_message, is_too_long, is_too_long_message};
 
 use crate::fault::WireFault;
@@ -15,6 +16,13 @@ use std::alloc::{AllocError, Global};
 
 /// The most bytes of a message beside those of the value in it.
 const BESIDE: usize = 30;
+
+/// Whether more than 16,384 bytes spell the value, which `encode_cmd` refuses. It takes no memory.
+pub fn is_too_long(value: &Value) -> bool
+    ensures { result ≡ spell.is_too_long value.now }
+{
+    spelled_len(value).is_none()
+}
 
 /// The bytes that spell the value. TooLong where they are more than 16,384, which is seen before any memory is taken.
 #[tactic(auto, using(crate::proofs::Lengths::is_short))]

@@ -35,6 +35,7 @@ impl Node {
         }
     }
 
+    /// From 1 to 7.
     pub fn number(self) -> u8
         ensures value { result ≡ self }
         ensures range { (1 ≤ result) × (result ≤ 7) }

@@ -1,7 +1,8 @@
 //! Messages, read off the front of bytes.
 
 ghost use Rattle.std.specs.Prelude.{◌≡◌};
-ghost use Rattle.press_wire.specs.Gives.{Gives, GivesFront};
+ghost use Rattle.press_text.specs.Gives.{Gives};
+ghost use Rattle.press_wire.specs.Refusals.{Refuses};
 ghost use Rattle.press_wire.specs.Reading.{value_at, vote_at, if_flagged, perhaps_vote_at, promise_at, nack_at, accept_at, body_at, message_at, read_message};
 
 use crate::fault::WireFault;
@@ -17,7 +18,7 @@ use std::alloc::Global;
 impl<'a> Reader<'a> {
     #[tactic(auto, unfolding(crate::specs::Reading::value_at))]
     fn value(&mut self, alloc: Global) -> Result<Value, WireFault>
-        ensures { GivesFront result self.new (value_at self.old) }
+        ensures { Gives Refuses (λ x. Ok (x, self.new)) result (value_at self.old) }
     {
         let len = self.number4()?;
         if len as usize > LONGEST {
@@ -32,7 +33,7 @@ impl<'a> Reader<'a> {
 
     #[tactic(auto, unfolding(crate::specs::Reading::vote_at))]
     fn vote(&mut self, alloc: Global) -> Result<Vote, WireFault>
-        ensures { GivesFront result self.new (vote_at self.old) }
+        ensures { Gives Refuses (λ x. Ok (x, self.new)) result (vote_at self.old) }
     {
         let ballot = self.ballot()?;
         let value = self.value(alloc)?;
@@ -41,7 +42,7 @@ impl<'a> Reader<'a> {
 
     #[tactic(auto, unfolding(crate::specs::Reading::perhaps_vote_at, crate::specs::Reading::if_flagged))]
     fn perhaps_vote(&mut self, alloc: Global) -> Result<Option<Vote>, WireFault>
-        ensures { GivesFront result self.new (perhaps_vote_at self.old) }
+        ensures { Gives Refuses (λ x. Ok (x, self.new)) result (perhaps_vote_at self.old) }
     {
         match self.byte()? {
             0 => Ok(None),
@@ -52,7 +53,7 @@ impl<'a> Reader<'a> {
 
     #[tactic(auto, unfolding(crate::specs::Reading::promise_at))]
     fn promise(&mut self, alloc: Global) -> Result<Body, WireFault>
-        ensures { GivesFront result self.new (promise_at self.old) }
+        ensures { Gives Refuses (λ x. Ok (x, self.new)) result (promise_at self.old) }
     {
         let ballot = self.ballot()?;
         let vote = self.perhaps_vote(alloc)?;
@@ -61,7 +62,7 @@ impl<'a> Reader<'a> {
 
     #[tactic(auto, unfolding(crate::specs::Reading::nack_at))]
     fn nack(&mut self) -> Result<Body, WireFault>
-        ensures { GivesFront result self.new (nack_at self.old) }
+        ensures { Gives Refuses (λ x. Ok (x, self.new)) result (nack_at self.old) }
     {
         let refused = self.ballot()?;
         let promised = self.ballot()?;
@@ -70,7 +71,7 @@ impl<'a> Reader<'a> {
 
     #[tactic(auto, unfolding(crate::specs::Reading::accept_at))]
     fn accept(&mut self, alloc: Global) -> Result<Body, WireFault>
-        ensures { GivesFront result self.new (accept_at self.old) }
+        ensures { Gives Refuses (λ x. Ok (x, self.new)) result (accept_at self.old) }
     {
         let round = self.round()?;
         let value = self.value(alloc)?;
@@ -79,7 +80,7 @@ impl<'a> Reader<'a> {
 
     #[tactic(auto, unfolding(crate::specs::Reading::body_at))]
     fn body(&mut self, alloc: Global, kind: MessageKind) -> Result<Body, WireFault>
-        ensures { GivesFront result self.new (body_at kind self.old) }
+        ensures { Gives Refuses (λ x. Ok (x, self.new)) result (body_at kind self.old) }
     {
         match kind {
             MessageKind::Prepare => Ok(Body::Prepare {
@@ -97,7 +98,7 @@ impl<'a> Reader<'a> {
 
     #[tactic(auto, unfolding(crate::specs::Reading::message_at))]
     fn message(&mut self, alloc: Global) -> Result<Message, WireFault>
-        ensures { GivesFront result self.new (message_at self.old) }
+        ensures { Gives Refuses (λ x. Ok (x, self.new)) result (message_at self.old) }
     {
         let Some(kind) = MessageKind::from_number(self.byte()?) else {
             return Err(WireFault::BadKind);
@@ -118,7 +119,7 @@ impl<'a> Reader<'a> {
 /// The message that all of the bytes are.
 #[tactic(auto, unfolding(crate::specs::Reading::read_message))]
 pub fn whole_message(alloc: Global, bytes: &[u8]) -> Result<Message, WireFault>
-    ensures { Gives result (read_message bytes.now) }
+    ensures { Gives Refuses Ok result (read_message bytes.now) }
 {
     let mut reader = Reader::new(bytes);
     let message = reader.message(alloc)?;

@@ -1,7 +1,8 @@
 //! Commands, read off the front of bytes.
 
 ghost use Rattle.std.specs.Prelude.{◌≡◌, ◌<◌, length, IsErrOf};
-ghost use Rattle.press_wire.specs.Gives.{Gives, GivesFront};
+ghost use Rattle.press_text.specs.Gives.{Gives};
+ghost use Rattle.press_wire.specs.Refusals.{Refuses};
 ghost use Rattle.press_wire.specs.Spelling.{longest};
 ghost use Rattle.press_wire.specs.Reading.{post_at, insert_at, update_at, option_at, fields_at, stamped_at, behind_kind, command_at, read_value, read_command};
 
@@ -17,7 +18,7 @@ use std::alloc::Global;
 impl<'a> Reader<'a> {
     #[tactic(auto, unfolding(crate::specs::Reading::post_at))]
     fn post(&mut self, alloc: Global) -> Result<PostFields, WireFault>
-        ensures { GivesFront result self.new (post_at self.old) }
+        ensures { Gives Refuses (λ x. Ok (x, self.new)) result (post_at self.old) }
     {
         let title = self.text(alloc)?;
         let content = self.text(alloc)?;
@@ -33,7 +34,7 @@ impl<'a> Reader<'a> {
 
     #[tactic(auto, unfolding(crate::specs::Reading::insert_at))]
     fn insert(&mut self, alloc: Global) -> Result<Command, WireFault>
-        ensures { GivesFront result self.new (insert_at self.old) }
+        ensures { Gives Refuses (λ x. Ok (x, self.new)) result (insert_at self.old) }
     {
         let post = self.post(alloc)?;
         Ok(Command::Insert {
@@ -46,7 +47,7 @@ impl<'a> Reader<'a> {
 
     #[tactic(auto, unfolding(crate::specs::Reading::update_at))]
     fn update(&mut self, alloc: Global) -> Result<Command, WireFault>
-        ensures { GivesFront result self.new (update_at self.old) }
+        ensures { Gives Refuses (λ x. Ok (x, self.new)) result (update_at self.old) }
     {
         let id = self.number8()?;
         let post = self.post(alloc)?;
@@ -61,7 +62,7 @@ impl<'a> Reader<'a> {
 
     #[tactic(auto, unfolding(crate::specs::Reading::option_at))]
     fn option(&mut self, alloc: Global) -> Result<Command, WireFault>
-        ensures { GivesFront result self.new (option_at self.old) }
+        ensures { Gives Refuses (λ x. Ok (x, self.new)) result (option_at self.old) }
     {
         let name = self.option_name(alloc)?;
         let value = self.text(alloc)?;
@@ -70,7 +71,7 @@ impl<'a> Reader<'a> {
 
     #[tactic(auto, unfolding(crate::specs::Reading::fields_at))]
     fn fields(&mut self, alloc: Global, kind: CommandKind) -> Result<Command, WireFault>
-        ensures { GivesFront result self.new (fields_at kind self.old) }
+        ensures { Gives Refuses (λ x. Ok (x, self.new)) result (fields_at kind self.old) }
     {
         match kind {
             CommandKind::Insert => self.insert(alloc),
@@ -97,7 +98,7 @@ impl<'a> Reader<'a> {
 
     #[tactic(auto, unfolding(crate::specs::Reading::stamped_at))]
     fn stamped(&mut self, alloc: Global, kind: CommandKind) -> Result<Stamped, WireFault>
-        ensures { GivesFront result self.new (stamped_at kind self.old) }
+        ensures { Gives Refuses (λ x. Ok (x, self.new)) result (stamped_at kind self.old) }
     {
         let editor = self.name(alloc)?;
         let seq = self.number8()?;
@@ -112,7 +113,7 @@ impl<'a> Reader<'a> {
 
     #[tactic(auto, unfolding(crate::specs::Reading::behind_kind))]
     fn behind_kind(&mut self, alloc: Global, kind: ValueKind) -> Result<Value, WireFault>
-        ensures { GivesFront result self.new (behind_kind kind self.old) }
+        ensures { Gives Refuses (λ x. Ok (x, self.new)) result (behind_kind kind self.old) }
     {
         match kind {
             ValueKind::Noop => Ok(Value::Noop { at: self.moment()? }),
@@ -122,7 +123,7 @@ impl<'a> Reader<'a> {
 
     #[tactic(auto, unfolding(crate::specs::Reading::command_at))]
     fn command(&mut self, alloc: Global) -> Result<Value, WireFault>
-        ensures { GivesFront result self.new (command_at self.old) }
+        ensures { Gives Refuses (λ x. Ok (x, self.new)) result (command_at self.old) }
     {
         match ValueKind::from_number(self.byte()?) {
             Some(kind) => self.behind_kind(alloc, kind),
@@ -134,7 +135,7 @@ impl<'a> Reader<'a> {
 /// The value that all of the bytes are.
 #[tactic(auto, unfolding(crate::specs::Reading::read_value))]
 pub fn whole_value(alloc: Global, bytes: &[u8]) -> Result<Value, WireFault>
-    ensures { Gives result (read_value bytes.now) }
+    ensures { Gives Refuses Ok result (read_value bytes.now) }
 {
     let mut reader = Reader::new(bytes);
     let value = reader.command(alloc)?;
@@ -147,7 +148,7 @@ pub fn whole_value(alloc: Global, bytes: &[u8]) -> Result<Value, WireFault>
 /// The same, of at most 16,384 bytes.
 #[tactic(auto, unfolding(crate::specs::Reading::read_command))]
 pub fn short_value(alloc: Global, bytes: &[u8]) -> Result<Value, WireFault>
-    ensures read { Gives result (read_command bytes.now) }
+    ensures read { Gives Refuses Ok result (read_command bytes.now) }
     ensures long { longest < length bytes.now → IsErrOf result WireFault.TooLong }
 {
     if bytes.len() > LONGEST {

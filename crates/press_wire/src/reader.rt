@@ -2,7 +2,8 @@
 
 ghost use Rattle.std.specs.Prelude.{◌≡◌, ◌==◌, length, option_map};
 ghost use Rattle.std.specs.Str.{is_utf8};
-ghost use Rattle.press_wire.specs.Gives.{GivesFront, GivesFrontAs};
+ghost use Rattle.press_text.specs.Gives.{Gives};
+ghost use Rattle.press_wire.specs.Refusals.{Refuses};
 ghost use Rattle.press_wire.specs.Fields.{byte_at, bytes_at, number4_at, number8_at, short_at, name_at, text_at, moment_at, round_at, node_at, status_at, slot_at, ballot_at};
 ghost use Rattle.press_wire.specs.Ranges.{only};
 
@@ -50,7 +51,7 @@ impl<'a> Reader<'a> {
     }
 
     pub fn byte(&mut self) -> Result<u8, WireFault>
-        ensures { GivesFront result self.new (byte_at self.old) }
+        ensures { Gives Refuses (λ x. Ok (x, self.new)) result (byte_at self.old) }
     {
         match self.rest {
             [] => Err(WireFault::Short),
@@ -62,7 +63,7 @@ impl<'a> Reader<'a> {
     }
 
     pub fn cut(&mut self, len: usize) -> Result<&'a [u8], WireFault>
-        ensures { GivesFrontAs (λ front. front.now) result self.new (bytes_at len self.old) }
+        ensures { Gives Refuses (λ front. Ok (front.now, self.new)) result (bytes_at len self.old) }
     {
         if self.rest.len() < len {
             return Err(WireFault::Short);
@@ -74,7 +75,7 @@ impl<'a> Reader<'a> {
 
     #[tactic(auto, unfolding(crate::specs::Fields::number4_at))]
     pub fn number4(&mut self) -> Result<u32, WireFault>
-        ensures { GivesFront result self.new (number4_at self.old) }
+        ensures { Gives Refuses (λ x. Ok (x, self.new)) result (number4_at self.old) }
     {
         let front = self.cut(4)?;
         Ok(u32::from_be_bytes([front[0], front[1], front[2], front[3]]))
@@ -82,7 +83,7 @@ impl<'a> Reader<'a> {
 
     #[tactic(auto, unfolding(crate::specs::Fields::number8_at))]
     pub fn number8(&mut self) -> Result<u64, WireFault>
-        ensures { GivesFront result self.new (number8_at self.old) }
+        ensures { Gives Refuses (λ x. Ok (x, self.new)) result (number8_at self.old) }
     {
         let front = self.cut(8)?;
         Ok(u64::from_be_bytes([
@@ -93,7 +94,7 @@ impl<'a> Reader<'a> {
     // A length, and that many bytes of a name.
     #[tactic(auto, unfolding(crate::specs::Fields::short_at))]
     fn short(&mut self) -> Result<&'a [u8], WireFault>
-        ensures { GivesFrontAs (λ front. front.now) result self.new (short_at self.old) }
+        ensures { Gives Refuses (λ front. Ok (front.now, self.new)) result (short_at self.old) }
     {
         let len = self.byte()?;
         if len < 1 || MOST_NAME < len {
@@ -104,7 +105,7 @@ impl<'a> Reader<'a> {
 
     #[tactic(auto, using(crate::proofs::Names::is_named, crate::proofs::Names::has_no_name, crate::proofs::Names::names_are_texts), unfolding(crate::specs::Fields::name_at))]
     pub fn name(&mut self, alloc: Global) -> Result<Name, WireFault>
-        ensures { GivesFront result self.new (name_at self.old) }
+        ensures { Gives Refuses (λ x. Ok (x, self.new)) result (name_at self.old) }
     {
         let Some(text) = as_text(self.short()?) else {
             return Err(WireFault::BadField);
@@ -118,7 +119,7 @@ impl<'a> Reader<'a> {
 
     #[tactic(auto, using(crate::proofs::Names::is_named, crate::proofs::Names::has_no_name, crate::proofs::Names::names_are_texts), unfolding(crate::specs::Fields::name_at))]
     pub fn option_name(&mut self, alloc: Global) -> Result<OptName, WireFault>
-        ensures { GivesFront result self.new (name_at self.old) }
+        ensures { Gives Refuses (λ x. Ok (x, self.new)) result (name_at self.old) }
     {
         let Some(text) = as_text(self.short()?) else {
             return Err(WireFault::BadField);
@@ -132,7 +133,7 @@ impl<'a> Reader<'a> {
 
     #[tactic(auto, unfolding(crate::specs::Fields::text_at))]
     pub fn text(&mut self, alloc: Global) -> Result<Text, WireFault>
-        ensures { GivesFront result self.new (text_at self.old) }
+        ensures { Gives Refuses (λ x. Ok (x, self.new)) result (text_at self.old) }
     {
         let len = self.number4()?;
         if len > MOST_TEXT {
@@ -146,7 +147,7 @@ impl<'a> Reader<'a> {
 
     #[tactic(auto, unfolding(crate::specs::Fields::moment_at))]
     pub fn moment(&mut self) -> Result<Moment, WireFault>
-        ensures { GivesFront result self.new (moment_at self.old) }
+        ensures { Gives Refuses (λ x. Ok (x, self.new)) result (moment_at self.old) }
     {
         match Moment::new(self.number8()?) {
             Some(moment) => Ok(moment),
@@ -156,7 +157,7 @@ impl<'a> Reader<'a> {
 
     #[tactic(auto, unfolding(crate::specs::Fields::status_at))]
     pub fn status(&mut self) -> Result<Status, WireFault>
-        ensures { GivesFront result self.new (status_at self.old) }
+        ensures { Gives Refuses (λ x. Ok (x, self.new)) result (status_at self.old) }
     {
         match status_from_number(self.byte()?) {
             Some(status) => Ok(status),
@@ -166,7 +167,7 @@ impl<'a> Reader<'a> {
 
     #[tactic(auto, unfolding(crate::specs::Fields::node_at))]
     pub fn node(&mut self) -> Result<Node, WireFault>
-        ensures { GivesFront result self.new (node_at self.old) }
+        ensures { Gives Refuses (λ x. Ok (x, self.new)) result (node_at self.old) }
     {
         match Node::new(self.byte()?) {
             Some(node) => Ok(node),
@@ -176,7 +177,7 @@ impl<'a> Reader<'a> {
 
     #[tactic(auto, unfolding(crate::specs::Fields::slot_at))]
     pub fn slot(&mut self) -> Result<Slot, WireFault>
-        ensures { GivesFront result self.new (slot_at self.old) }
+        ensures { Gives Refuses (λ x. Ok (x, self.new)) result (slot_at self.old) }
     {
         match Slot::new(self.number4()?) {
             Some(slot) => Ok(slot),
@@ -186,7 +187,7 @@ impl<'a> Reader<'a> {
 
     #[tactic(auto, unfolding(crate::specs::Fields::round_at))]
     pub fn round(&mut self) -> Result<Round, WireFault>
-        ensures { GivesFront result self.new (round_at self.old) }
+        ensures { Gives Refuses (λ x. Ok (x, self.new)) result (round_at self.old) }
     {
         match Round::new(self.number8()?) {
             Some(round) => Ok(round),
@@ -196,7 +197,7 @@ impl<'a> Reader<'a> {
 
     #[tactic(auto, unfolding(crate::specs::Fields::ballot_at))]
     pub fn ballot(&mut self) -> Result<Ballot, WireFault>
-        ensures { GivesFront result self.new (ballot_at self.old) }
+        ensures { Gives Refuses (λ x. Ok (x, self.new)) result (ballot_at self.old) }
     {
         let round = self.round()?;
         let node = self.node()?;

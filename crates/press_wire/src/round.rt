@@ -35,6 +35,7 @@ impl Round {
         }
     }
 
+    /// From 1 to 2^40.
     pub fn number(self) -> u64
         ensures value { result ≡ self }
         ensures range { (1 ≤ result) × (result ≤ 2 ^ 40) }

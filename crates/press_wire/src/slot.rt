@@ -35,6 +35,7 @@ impl Slot {
         }
     }
 
+    /// From 1 to 1,000,000.
     pub fn number(self) -> u32
         ensures value { result ≡ self }
         ensures range { (1 ≤ result) × (result ≤ 1000000) }

@@ -1,5 +1,5 @@
-use crate::demonstration::{grow, grow_turn, parts};
 use press_callbacks::{BoxedTurns, CallIn, Kit, Stored, script_turn};
+use press_demonstration::{grow, grow_turn, parts};
 use std::test::Fail;
 
 // The demonstration kit, made twice, is the same kit.

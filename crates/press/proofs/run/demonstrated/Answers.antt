@@ -2,7 +2,7 @@ use Rattle.std.proofs.Common.{ap₂, subst, sym, ◌≡◌, ◌∙◌, []}
 use Rattle.std.proofs.lemmas.List.{nil_from_length}
 use Rattle.std.specs.Vec.Iter.{into_iter_items}
 use Rattle.press_callbacks.specs.Kits.{KitView, kit_view, scripts_given, view_of}
-use Rattle.press.specs.Demonstration.{demonstration, scripts}
+use Rattle.press_demonstration.specs.Demonstration.{demonstration, scripts}
 use Rattle.press.specs.Endings.{EndsOn}
 use Rattle.press.proofs.Pushes.{is_done}
 use Rattle.press.proofs.run.demonstrated.Goals as goal

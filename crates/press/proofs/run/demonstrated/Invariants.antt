@@ -1,7 +1,7 @@
 use Rattle.std.proofs.Common.{◌≡◌, ◌++◌, map}
 use Rattle.std.specs.Vec.Iter.{into_iter_items}
 use Rattle.press_callbacks.specs.Kits.{scripts_given}
-use Rattle.press.specs.Demonstration.{scripts}
+use Rattle.press_demonstration.specs.Demonstration.{scripts}
 use Rattle.press.proofs.run.demonstrated.Given as goal
 
 abbrev pub invariant-loop-scripted : goal.invariant-loop-scripted

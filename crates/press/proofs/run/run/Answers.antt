@@ -1,5 +1,5 @@
 use Rattle.std.proofs.Common.{rules, map, string_bytes}
-use Rattle.press.specs.Demonstration.{demonstration}
+use Rattle.press_demonstration.specs.Demonstration.{demonstration}
 use Rattle.press.specs.Words.{asked_by}
 use Rattle.press.proofs.Wanting.{no_memory}
 use Rattle.press.proofs.run.run.Goals as goal

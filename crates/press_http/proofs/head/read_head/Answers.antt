@@ -1,5 +1,5 @@
 use Rattle.std.proofs.Common.{ℕ, List, arith, ◌++◌, length-append, subst}
-use Rattle.httparse.specs.Grammar.{HasNoRequest}
+use Rattle.press_http.specs.Heads.{IsUnfinished}
 use Rattle.std.proofs.lemmas.Result.{err_from_is_err_and}
 use Rattle.press_text.proofs.Taken.{Consumes-trans}
 use Rattle.press_http.proofs.HeadReads.{looked_none, missed}
@@ -13,5 +13,5 @@ returns-in_err-read_some g c =
       c.loop-buf.buf.items ++ t.0,
       Consumes-trans _ _ _ c.loop-buf.buf.items t.0 c.loop-buf.invariant.took t.1,
       omega (arith, t.2, c.loop-buf.invariant.room, length-append c.loop-buf.buf.items t.0),
-      rw (p.1, p.2) (missed _ c.loop-buf.buf.items t.0 _ (subst (λ (seen : List ℕ). HasNoRequest seen) c.deref.ensures.value none) t.3),
+      rw (p.1, p.2) (missed _ c.loop-buf.buf.items t.0 _ (omega (arith, c.loop-buf-test.true)) (subst (λ (seen : List ℕ). IsUnfinished seen) c.deref.ensures.value none) t.3),
     )

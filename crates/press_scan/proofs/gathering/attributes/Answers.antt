@@ -1,4 +1,4 @@
-use Rattle.std.proofs.Common.{arith, List, ◌≤◌, ◌+◌, subst, sym, ◌∙◌}
+use Rattle.std.proofs.Common.{arith, ℕ, List, ◌≤◌, ◌+◌, subst, sym, ◌∙◌}
 use Rattle.std.proofs.lemmas.Str.{IsCharBoundary-start}
 use Rattle.press_scan.specs.Attributes.{IsAttributes}
 use Rattle.press_scan.proofs.OneToken.{attributes_computed}
@@ -7,18 +7,20 @@ use Rattle.press_scan.specs.declared.att.Att.{Att}
 use Rattle.press_scan.proofs.gathering.attributes.Goals as goal
 
 pub tokens-init : goal.tokens-init
-tokens-init c = (IsCharBoundary-start _ c.utf8.text, omega arith, subst (λ (xs : List Att). Leads c.args.text.now 0 xs 0) (sym c.new.ensures.items) (leads_at_first c.args.text.now))
+tokens-init c =
+    let empty = subst (λ (xs : List Att). Leads c.args.text.now 0 xs 0) (sym c.new-found.ensures.atts) (leads_at_first c.args.text.now) in
+    (IsCharBoundary-start _ c.utf8.text, omega (arith, c.new-found.ensures.next), subst (λ (n : ℕ). Leads c.args.text.now 0 c.new-found.result.atts n) (sym c.new-found.ensures.next) empty)
 
 pub returns-then-place-text-clause-list : goal.returns-then-place-text-clause-list
-returns-then-place-text-clause-list c = subst (IsAttributes c.args.text.now) (sym c.from_vec.ensures) (leads_to_all c.args.text.now c.tokens.at c.next_place-place.result c.tokens.found.atts.items c.tokens.found.next c.tokens.invariant.2 c.if-place-text.true c.next_place-place.ensures.first)
+returns-then-place-text-clause-list c = subst (IsAttributes c.args.text.now) (sym c.into_atts.ensures) (leads_to_all c.args.text.now c.tokens.at c.next_place-place.result c.tokens.found.atts c.tokens.found.next c.tokens.invariant.2 c.if-place-text.true c.next_place-place.ensures.first)
 
 pub returns-then-place-text-clause-computed : goal.returns-then-place-text-clause-computed
-returns-then-place-text-clause-computed c = c.from_vec.ensures ∙ attributes_computed c.args.text.now c.tokens.found.atts.items (leads_to_all c.args.text.now c.tokens.at c.next_place-place.result c.tokens.found.atts.items c.tokens.found.next c.tokens.invariant.2 c.if-place-text.true c.next_place-place.ensures.first)
+returns-then-place-text-clause-computed c = c.into_atts.ensures ∙ attributes_computed c.args.text.now c.tokens.found.atts (leads_to_all c.args.text.now c.tokens.at c.next_place-place.result c.tokens.found.atts c.tokens.found.next c.tokens.invariant.2 c.if-place-text.true c.next_place-place.ensures.first)
 
 pub tokens-preserved : goal.tokens-preserved
 tokens-preserved c =
     let step : c.take.new.found.next ≤ c.tokens.found.next + 1 = next_more _ _ c.tokens.found.next c.take.new.found.next c.args.text.now c.token_of-token.result c.in_ok-take.ensures in (
       c.token_of-token.ensures.edge,
       omega (arith, c.tokens.invariant.1, c.next_place-place.ensures.first.after, c.token_of-token.ensures.end.0),
-      leads_more c.args.text.now c.tokens.at c.next_place-place.result c.token_of-token.result c.tokens.found.atts.items c.take.new.found.atts.items c.tokens.found.next c.take.new.found.next c.tokens.invariant.2 c.next_place-place.ensures.first (omega (arith, c.token_of-token.ensures.end)) c.token_of-token.ensures.token c.in_ok-take.ensures,
+      leads_more c.args.text.now c.tokens.at c.next_place-place.result c.token_of-token.result c.tokens.found.atts c.take.new.found.atts c.tokens.found.next c.take.new.found.next c.tokens.invariant.2 c.next_place-place.ensures.first (omega (arith, c.token_of-token.ensures.end)) c.token_of-token.ensures.token c.in_ok-take.ensures,
     )

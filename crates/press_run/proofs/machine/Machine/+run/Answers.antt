@@ -10,7 +10,7 @@ use Rattle.press_callbacks.specs.BuiltIns.{is_built_in}
 use Rattle.press_callbacks.specs.Kits.{script_at}
 use Rattle.press_run.specs.Run.{Answer, answer, at_depth, play, fuel, hook_call, or_empty, built_in, tag_answer, shortcode_call}
 use Rattle.press_run.specs.Scanning.{StopsScan}
-use Rattle.press_run.specs.Outcome.{Stage, Gives, Around, around, around_innermost, stage, state_of}
+use Rattle.press_run.specs.Outcome.{Stage, GivesText, Around, around, around_innermost, stage, state_of}
 use Rattle.press_run.proofs.Scans.{means_all, answer_limit, text_takes, text_stops, answer_takes, answer_stops, put_stands, answer_err, still_stops, scan_err}
 use Rattle.press_run.proofs.Steps.{no_depth, some_depth, built_in_depth, no_entries, no_turns, at_table, entries_end, entries_limit, entries_more, around_kept, open_kept, turns_end, turns_more, turns_limit, within_err, step_err, gives_err, fires_more, fires_limit, fires_end}
 use Rattle.press_run.proofs.machine.Machine.+run.Goals as goal
@@ -26,7 +26,7 @@ callback-returns-clause-given g t c =
     let opened : at_depth g.L.SiteLink.changes c.args.depth (g.K.Callbacks.scripts c.args.kit.now) c.args.id c.args.call s ≡ play g.L.SiteLink.changes (at_depth g.L.SiteLink.changes (c.args.depth - 1) (g.K.Callbacks.scripts c.args.kit.now)) (or_empty (script_at c.place-place.result (g.K.Callbacks.scripts c.args.kit.now))) fuel c.args.call s
     = ap (λ n. at_depth g.L.SiteLink.changes n (g.K.Callbacks.scripts c.args.kit.now) c.args.id c.args.call s) d ∙ some_depth _ (c.args.depth - 1) _ _ _ _ own
     ∙ ap (λ (o : Option (List Op)). play g.L.SiteLink.changes (at_depth g.L.SiteLink.changes (c.args.depth - 1) (g.K.Callbacks.scripts c.args.kit.now)) (or_empty o) fuel c.args.call s) (sym c.place-place.ensures) in
-    subst (λ (m : Option Answer). Gives m (around (stage c.args.tables.now c.args.self.now (g.L.SiteLink.view c.args.link.now) (g.L.SiteLink.fixed c.args.link.now) c.args.out.now)) (stage c.play.new.tables c.play.new.self (g.L.SiteLink.view c.play.new.link) (g.L.SiteLink.fixed c.play.new.link) c.play.new.out) c.play.result) (sym opened) c.play.ensures
+    subst (λ (m : Option Answer). GivesText m (around (stage c.args.tables.now c.args.self.now (g.L.SiteLink.view c.args.link.now) (g.L.SiteLink.fixed c.args.link.now) c.args.out.now)) (stage c.play.new.tables c.play.new.self (g.L.SiteLink.view c.play.new.link) (g.L.SiteLink.fixed c.play.new.link) c.play.new.out) c.play.result) (sym opened) c.play.ensures
 
 pub entries-returns-in_default-clause-given : goal.entries-returns-in_default-clause-given
 entries-returns-in_default-clause-given g t c =
@@ -99,7 +99,7 @@ callback-returns-then-is_built_in-clause-given g t c =
     let s = state_of (stage c.args.tables.now c.args.self.now (g.L.SiteLink.view c.args.link.now) (g.L.SiteLink.fixed c.args.link.now) c.args.out.now) in
     let opened : at_depth g.L.SiteLink.changes c.args.depth (g.K.Callbacks.scripts c.args.kit.now) c.args.id c.args.call s ≡ built_in g.L.SiteLink.changes (at_depth g.L.SiteLink.changes (c.args.depth - 1) (g.K.Callbacks.scripts c.args.kit.now)) c.args.id c.args.call s
     = ap (λ n. at_depth g.L.SiteLink.changes n (g.K.Callbacks.scripts c.args.kit.now) c.args.id c.args.call s) d ∙ built_in_depth _ (c.args.depth - 1) _ _ _ _ own in
-    subst (λ (m : Option Answer). Gives m (around (stage c.args.tables.now c.args.self.now (g.L.SiteLink.view c.args.link.now) (g.L.SiteLink.fixed c.args.link.now) c.args.out.now)) (stage c.built_in.new.tables c.built_in.new.self (g.L.SiteLink.view c.built_in.new.link) (g.L.SiteLink.fixed c.built_in.new.link) c.built_in.new.out) c.built_in.result) (sym opened) c.built_in.ensures.given
+    subst (λ (m : Option Answer). GivesText m (around (stage c.args.tables.now c.args.self.now (g.L.SiteLink.view c.args.link.now) (g.L.SiteLink.fixed c.args.link.now) c.args.out.now)) (stage c.built_in.new.tables c.built_in.new.self (g.L.SiteLink.view c.built_in.new.link) (g.L.SiteLink.fixed c.built_in.new.link) c.built_in.new.out) c.built_in.result) (sym opened) c.built_in.ensures.given
 
 -- ---- scans
 

@@ -8,7 +8,7 @@ use Rattle.press_callbacks.specs.declared.script.Op.TheVariants.{Set, AddHook, A
 use Rattle.press_callbacks.specs.declared.plugin.Plugin.{Plugin}
 use Rattle.press_callbacks.specs.declared.plugin.Load.{Load}
 use Rattle.press_callbacks.specs.declared.plugin.Load.TheVariants.{Hook, Tag}
-use Rattle.press.specs.declared.scripted.Scripted.{Scripted}
+use Rattle.press_demonstration.specs.declared.scripted.Scripted.{Scripted}
 use Rattle.press_callbacks.specs.Kits.{Scripts, KitView, view_of}
 
 -- the step that appends a text to the value, and the script of that step alone

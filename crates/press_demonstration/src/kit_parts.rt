@@ -1,0 +1,30 @@
+ghost use Rattle.std.specs.Prelude.{◌≡◌, IfOk};
+ghost use Rattle.press_demonstration.specs.Demonstration as spec;
+
+use crate::growing::growing;
+use crate::plugins::plugins;
+use crate::scripted::Scripted;
+use crate::scripts::played;
+use press_callbacks::{Plugin, Script};
+use std::alloc::{AllocError, Global};
+
+/// What the demonstration kit is made of.
+#[derive(Drop)]
+pub struct DemonstrationParts {
+    pub growing: Script,
+    pub played: Vec<Scripted>,
+    pub plugins: Vec<Plugin>,
+}
+
+/// The parts of the kit, made anew: nothing is shared between two calls.
+pub fn parts(alloc: Global) -> Result<DemonstrationParts, AllocError>
+    ensures growing { IfOk result (λ p. p.growing ≡ spec.growing) }
+    ensures played { IfOk result (λ p. spec.told p.played.items ≡ spec.played) }
+    ensures plugins { IfOk result (λ p. p.plugins.items ≡ spec.plugins) }
+{
+    Ok(DemonstrationParts {
+        growing: growing(alloc)?,
+        played: played(alloc)?,
+        plugins: plugins(alloc)?,
+    })
+}
