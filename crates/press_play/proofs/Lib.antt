@@ -1,4 +1,5 @@
 pub mod Applied
 pub mod Onward
+pub mod Refused
 pub mod Shown
 pub mod Telling

@@ -104,6 +104,7 @@ fn lines(alloc: Global, file: PlayFile) -> Result<String, PlayFault>
 }
 
 /// The lines of the play file that a reader has left.
+#[tactic(auto, using(crate::proofs::Refused::file_played))]
 pub fn read_lines<R: Read>(alloc: Global, reader: &mut R) -> Result<String, PlayFault>
     ensures took { TakesAtMost (R.remaining reader.old) (R.remaining reader.new) (file_limit + 1) }
     ensures gives { IfSome (R.remaining reader.old) (λ input. Gives Refuses (λ t. Ok (string_bytes t)) result (played_in input)) }
