@@ -181,12 +181,28 @@ fn answered<S: PromiseStore, W: Write>(
 {
     let alloc = node.alloc;
     match asked {
-        Asked::Page(target) => shown(node, writer, &target),
+        Asked::Page(target) => {
+            let served = shown(node, writer, &target);
+            drop(target);
+            served
+        }
         Asked::Command(stamped) => match queued(alloc) {
-            Ok(reply) => played(node, writer, Event::Submit(stamped), &reply),
-            Err(_) => refused(alloc, writer, 503),
+            Ok(reply) => {
+                let served = played(node, writer, Event::Submit(stamped), &reply);
+                drop(reply);
+                served
+            }
+            Err(_) => {
+                drop(stamped);
+                refused(alloc, writer, 503)
+            }
         },
-        Asked::Peer(message) => played(node, writer, Event::Deliver(message), &taken(alloc)),
+        Asked::Peer(message) => {
+            let reply = taken(alloc);
+            let served = played(node, writer, Event::Deliver(message), &reply);
+            drop(reply);
+            served
+        }
     }
 }
 

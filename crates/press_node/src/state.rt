@@ -124,14 +124,17 @@ impl State {
     {
         let (alloc, id, members) = (self.alloc, self.id, self.members);
         let done = match &mut self.up {
-            None => return Err(NodeFault::Down),
+            None => {
+                drop(event);
+                return Err(NodeFault::Down);
+            }
             Some(up) => up.on(alloc, kit, store, id, members, event),
         };
         match done {
             Ok(out) => Ok(out),
             Err(fault) => {
                 if fault.stops() {
-                    self.up = None;
+                    drop(self.up.take());
                 }
                 Err(fault)
             }

@@ -134,7 +134,10 @@ impl Up {
         };
         match apply(alloc, &mut self.site, kit, &value) {
             Ok(_) => {}
-            Err(_) => return Err(NodeFault::NoMemory),
+            Err(_) => {
+                drop(value);
+                return Err(NodeFault::NoMemory);
+            }
         }
         let slot = slot_behind(self.learner.applied());
         self.proposer.on_applied(slot, &value);
@@ -326,7 +329,9 @@ impl Up {
                     slot,
                     body,
                 };
-                answered(alloc, store, members, id, &request)
+                let answer = answered(alloc, store, members, id, &request);
+                drop(request);
+                answer
             }
         }
     }
@@ -349,6 +354,7 @@ impl Up {
         ensures disk { IfErr result (λ fault. fault ≡ NodeFault.Disk → S.faults store.old < S.faults store.new) }
     {
         if !is_for(members, id, &message) {
+            drop(message);
             return Ok(Vec::new(alloc));
         }
         self.on_body(alloc, kit, store, id, members, message)

@@ -28,20 +28,25 @@ impl Machine {
         out: &mut Out,
         depth: u32,
         id: CallbackId,
-        call: CallIn,
+        mut call: CallIn,
     ) -> Result<Text, RunFault>
         requires { call.turn ≡ 0 }
         ensures given { GivesText (at_depth L.changes depth (K.scripts kit.now) id call (state_of (stage tables.old self.old (L.view link.old) (L.fixed link.old) out.old))) (around (stage tables.old self.old (L.view link.old) (L.fixed link.old) out.old)) (stage tables.new self.new (L.view link.new) (L.fixed link.new) out.new) result }
         ensures shut { depth ≡ 0 → IsErrOf result RunFault.Limit }
     {
         if depth == 0 {
+            drop(call);
             return Err(RunFault::Limit);
         }
         if is_built_in(id.as_bytes()) {
-            return self.built_in(alloc, kit, tables, link, out, depth - 1, id, call);
+            let answered = self.built_in(alloc, kit, tables, link, out, depth - 1, id, &call);
+            drop(call);
+            return answered;
         }
         let place = kit.place(id);
-        self.play(alloc, kit, tables, link, out, depth - 1, place, call)
+        let answered = self.play(alloc, kit, tables, link, out, depth - 1, place, &mut call);
+        drop(call);
+        answered
     }
 
     // One of the built-in callbacks on its first argument: one turn.
@@ -55,9 +60,9 @@ impl Machine {
         out: &mut Out,
         depth: u32,
         id: CallbackId,
-        call: CallIn,
+        call: &CallIn,
     ) -> Result<Text, RunFault>
-        ensures given { GivesText (built_in L.changes (at_depth L.changes depth (K.scripts kit.now)) id call (state_of (stage tables.old self.old (L.view link.old) (L.fixed link.old) out.old))) (around (stage tables.old self.old (L.view link.old) (L.fixed link.old) out.old)) (stage tables.new self.new (L.view link.new) (L.fixed link.new) out.new) result }
+        ensures given { GivesText (built_in L.changes (at_depth L.changes depth (K.scripts kit.now)) id call.now (state_of (stage tables.old self.old (L.view link.old) (L.fixed link.old) out.old))) (around (stage tables.old self.old (L.view link.old) (L.fixed link.old) out.old)) (stage tables.new self.new (L.view link.new) (L.fixed link.new) out.new) result }
         ensures late { one_turn (state_of (stage tables.old self.old (L.view link.old) (L.fixed link.old) out.old)) ≡ None → IsErrOf result RunFault.Limit }
     {
         if !self.counts_turn() {

@@ -30,14 +30,14 @@ impl Machine {
         out: &mut Out,
         depth: u32,
         place: Option<usize>,
-        mut call: CallIn,
+        call: &mut CallIn,
     ) -> Result<Text, RunFault>
-        requires { call.turn ≡ 0 }
-        ensures { GivesText (play L.changes (at_depth L.changes depth (K.scripts kit.now)) (or_empty (script_at place (K.scripts kit.now))) fuel call (state_of (stage tables.old self.old (L.view link.old) (L.fixed link.old) out.old))) (around (stage tables.old self.old (L.view link.old) (L.fixed link.old) out.old)) (stage tables.new self.new (L.view link.new) (L.fixed link.new) out.new) result }
+        requires { call.old.turn ≡ 0 }
+        ensures { GivesText (play L.changes (at_depth L.changes depth (K.scripts kit.now)) (or_empty (script_at place (K.scripts kit.now))) fuel call.old (state_of (stage tables.old self.old (L.view link.old) (L.fixed link.old) out.old))) (around (stage tables.old self.old (L.view link.old) (L.fixed link.old) out.old)) (stage tables.new self.new (L.view link.new) (L.fixed link.new) out.new) result }
     {
         for _turn in 0..FUEL {
-            let turn = kit.turn(alloc, place, &call)?;
-            match self.step(alloc, kit, tables, link, out, depth, turn, &mut call)? {
+            let turn = kit.turn(alloc, place, call)?;
+            match self.step(alloc, kit, tables, link, out, depth, turn, call)? {
                 Step::Ends(text) => return Ok(text),
                 Step::Goes => {}
             }
@@ -65,6 +65,7 @@ impl Machine {
         ensures few { OnOk result (call.new.turn ≤ call.old.turn + 65536) }
     {
         if !self.counts_turn() || !texts::fits(&turn) {
+            drop(turn);
             return Err(RunFault::Limit);
         }
         self.turn_step(alloc, kit, tables, link, out, depth, turn, call)
@@ -102,30 +103,38 @@ impl Machine {
                     callback,
                     priority,
                     accepted,
-                )?;
-                Ok(with_last(call, last))
+                );
+                drop(hook);
+                Ok(with_last(call, last?))
             }
             Turn::RemoveHook {
                 hook,
                 callback,
                 priority,
             } => {
-                let last = edits::remove_hook(alloc, &mut tables.hooks, &hook, callback, priority)?;
-                Ok(with_last(call, last))
+                let last = edits::remove_hook(alloc, &mut tables.hooks, &hook, callback, priority);
+                drop(hook);
+                Ok(with_last(call, last?))
             }
             Turn::RemoveAll { hook, priority } => {
-                let last = edits::remove_all(alloc, &mut tables.hooks, &hook, priority)?;
-                Ok(with_last(call, last))
+                let last = edits::remove_all(alloc, &mut tables.hooks, &hook, priority);
+                drop(hook);
+                Ok(with_last(call, last?))
             }
             Turn::AddTag { tag, callback } => {
-                let last = edits::add_tag(alloc, &mut tables.tags, &tag, callback)?;
-                Ok(with_last(call, last))
+                let last = edits::add_tag(alloc, &mut tables.tags, &tag, callback);
+                drop(tag);
+                Ok(with_last(call, last?))
             }
             Turn::RemoveTag { tag } => {
-                let last = edits::remove_tag(alloc, &mut tables.tags, &tag)?;
-                Ok(with_last(call, last))
+                let last = edits::remove_tag(alloc, &mut tables.tags, &tag);
+                drop(tag);
+                Ok(with_last(call, last?))
             }
-            Turn::Skip(n) => Ok(further(call, n)),
+            Turn::Skip(n) => {
+                drop(turn);
+                Ok(further(call, n))
+            }
             Turn::Apply { hook, texts } => {
                 let last = self.run_hook(
                     alloc,
@@ -137,20 +146,23 @@ impl Machine {
                     Kind::Filter,
                     &hook,
                     texts,
-                )?;
-                Ok(with_last(call, last))
+                );
+                drop(hook);
+                Ok(with_last(call, last?))
             }
             Turn::Do { hook, texts } => {
-                let last = self.do_hook(alloc, kit, tables, link, out, depth, &hook, texts)?;
-                Ok(with_last(call, last))
+                let last = self.do_hook(alloc, kit, tables, link, out, depth, &hook, texts);
+                drop(hook);
+                Ok(with_last(call, last?))
             }
             Turn::Shortcodes(text) => {
                 let last = self.scan(alloc, kit, tables, link, out, depth, text)?;
                 Ok(with_last(call, last))
             }
             Turn::Ask(ask) => {
-                let last = self.answer(alloc, tables, link.site(), &ask)?;
-                Ok(with_last(call, last))
+                let last = self.answer(alloc, tables, link.site(), &ask);
+                drop(ask);
+                Ok(with_last(call, last?))
             }
             Turn::SetOption { name, value } => {
                 let effect = Some(Effect::SetOption { name, value });
@@ -169,11 +181,14 @@ impl Machine {
             }
             Turn::Publish(id) => {
                 let effect = links::publishes(&id, link.site().now());
+                drop(id);
                 let last = self.change_site(alloc, kit, tables, link, out, depth, effect)?;
                 Ok(with_last(call, last))
             }
             Turn::Echo(text) => {
-                out.push(text.as_str())?;
+                let pushed = out.push(text.as_str());
+                drop(text);
+                pushed?;
                 Ok(further(call, 0))
             }
             Turn::Return(text) => Ok(Step::Ends(text)),

@@ -26,7 +26,7 @@ callback-returns-clause-given g t c =
     let opened : at_depth g.L.SiteLink.changes c.args.depth (g.K.Callbacks.scripts c.args.kit.now) c.args.id c.args.call s ≡ play g.L.SiteLink.changes (at_depth g.L.SiteLink.changes (c.args.depth - 1) (g.K.Callbacks.scripts c.args.kit.now)) (or_empty (script_at c.place-place.result (g.K.Callbacks.scripts c.args.kit.now))) fuel c.args.call s
     = ap (λ n. at_depth g.L.SiteLink.changes n (g.K.Callbacks.scripts c.args.kit.now) c.args.id c.args.call s) d ∙ some_depth _ (c.args.depth - 1) _ _ _ _ own
     ∙ ap (λ (o : Option (List Op)). play g.L.SiteLink.changes (at_depth g.L.SiteLink.changes (c.args.depth - 1) (g.K.Callbacks.scripts c.args.kit.now)) (or_empty o) fuel c.args.call s) (sym c.place-place.ensures) in
-    subst (λ (m : Option Answer). GivesText m (around (stage c.args.tables.now c.args.self.now (g.L.SiteLink.view c.args.link.now) (g.L.SiteLink.fixed c.args.link.now) c.args.out.now)) (stage c.play.new.tables c.play.new.self (g.L.SiteLink.view c.play.new.link) (g.L.SiteLink.fixed c.play.new.link) c.play.new.out) c.play.result) (sym opened) c.play.ensures
+    subst (λ (m : Option Answer). GivesText m (around (stage c.args.tables.now c.args.self.now (g.L.SiteLink.view c.args.link.now) (g.L.SiteLink.fixed c.args.link.now) c.args.out.now)) (stage c.play-answered.new.tables c.play-answered.new.self (g.L.SiteLink.view c.play-answered.new.link) (g.L.SiteLink.fixed c.play-answered.new.link) c.play-answered.new.out) c.play-answered.result) (sym opened) c.play-answered.ensures
 
 pub entries-returns-in_default-clause-given : goal.entries-returns-in_default-clause-given
 entries-returns-in_default-clause-given g t c =
@@ -99,7 +99,7 @@ callback-returns-then-is_built_in-clause-given g t c =
     let s = state_of (stage c.args.tables.now c.args.self.now (g.L.SiteLink.view c.args.link.now) (g.L.SiteLink.fixed c.args.link.now) c.args.out.now) in
     let opened : at_depth g.L.SiteLink.changes c.args.depth (g.K.Callbacks.scripts c.args.kit.now) c.args.id c.args.call s ≡ built_in g.L.SiteLink.changes (at_depth g.L.SiteLink.changes (c.args.depth - 1) (g.K.Callbacks.scripts c.args.kit.now)) c.args.id c.args.call s
     = ap (λ n. at_depth g.L.SiteLink.changes n (g.K.Callbacks.scripts c.args.kit.now) c.args.id c.args.call s) d ∙ built_in_depth _ (c.args.depth - 1) _ _ _ _ own in
-    subst (λ (m : Option Answer). GivesText m (around (stage c.args.tables.now c.args.self.now (g.L.SiteLink.view c.args.link.now) (g.L.SiteLink.fixed c.args.link.now) c.args.out.now)) (stage c.built_in.new.tables c.built_in.new.self (g.L.SiteLink.view c.built_in.new.link) (g.L.SiteLink.fixed c.built_in.new.link) c.built_in.new.out) c.built_in.result) (sym opened) c.built_in.ensures.given
+    subst (λ (m : Option Answer). GivesText m (around (stage c.args.tables.now c.args.self.now (g.L.SiteLink.view c.args.link.now) (g.L.SiteLink.fixed c.args.link.now) c.args.out.now)) (stage c.built_in-answered.new.tables c.built_in-answered.new.self (g.L.SiteLink.view c.built_in-answered.new.link) (g.L.SiteLink.fixed c.built_in-answered.new.link) c.built_in-answered.new.out) c.built_in-answered.result) (sym opened) c.built_in-answered.ensures.given
 
 -- ---- scans
 
