@@ -1,5 +1,6 @@
 -- A step's refusal is that of all the work.
-use Rattle.std.proofs.Common.{◌≡◌, refl, ap, ◌∙◌, ℕ, Option, Some, None, Result, Ok, Err}
+use Rattle.std.proofs.Common.{◌≡◌, refl, sym, ap, ◌∙◌, subst, ℕ, Option, Some, None, Result, Ok, Err}
+use Rattle.std.specs.Prelude.{MatchResult}
 use Rattle.press_run.specs.Links.{kept}
 use Rattle.press_run.specs.Run.{State}
 use Rattle.press_run.proofs.Kept.{becomes_kept}
@@ -15,7 +16,8 @@ use Rattle.press_apply.specs.declared.fault.ApplyFault.{ApplyFault}
 use Rattle.press_apply.specs.declared.fault.ApplyFault.TheVariants.{NoMemory, Limit, NoSuchPlugin, Site}
 use Rattle.press_apply.specs.Apply.{◌>>=◌, alone, effected, no_id, site_of}
 use Rattle.press_apply.specs.Faults.{of_site}
-use Rattle.press_apply.specs.Works.{Refuses}
+use Rattle.press_apply.specs.declared.work.Work.{Work}
+use Rattle.press_apply.specs.Works.{Refuses, Steps, Works, state_in}
 
 abbrev or_kept : SiteView → Option SiteView → SiteView
 or_kept s None = s
@@ -76,6 +78,10 @@ work_refused (Site f) m rest s e h = ap (λ x. site_of (x >>= rest)) e ∙ ap si
 
 pub work_done : (m : Result State ApplyFault) (rest : State → Result (State × ℕ) ApplyFault) (s s' : State) (id : ℕ) → m ≡ Ok s → rest s ≡ Ok (s', id) → site_of (m >>= rest) ≡ Ok (s'.site, id)
 work_done m rest s s' id e h = ap (λ x. site_of (x >>= rest)) e ∙ ap site_of h
+
+pub work_ended : (m : Result State ApplyFault) (rest : State → Result (State × ℕ) ApplyFault) (site : SiteView) (old new : Work) (id : Result ℕ ApplyFault) (result : Result (SiteView × ℕ) ApplyFault) → m ≡ Ok (state_in old) → kept old.site ≡ kept site → Steps (λ s n. (s, n)) (rest (state_in old)) old new id → MatchResult id (λ n. result ≡ Ok (new.site, n)) (λ fault. result ≡ Err fault) → Works (site_of (m >>= rest)) site result
+work_ended m rest site old new (Ok n) result b k h e = subst (λ r. Works (site_of (m >>= rest)) site r) (sym e) (work_done m rest (state_in old) (state_in new) n b h.0, h.1 ∙ k)
+work_ended m rest site old new (Err fault) result b k h e = subst (λ r. Works (site_of (m >>= rest)) site r) (sym e) (work_refused fault m rest (state_in old) b h)
 
 pub refused_is : {A : Type 0} (f : ApplyFault) (m : Result A ApplyFault) → (f ≡ NoMemory → ⊥) → Refuses f m → m ≡ Err f
 refused_is NoMemory m own h = absurd (own refl)

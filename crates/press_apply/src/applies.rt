@@ -150,10 +150,7 @@ fn work(alloc: Global, kit: &Kit, site: Site, command: &Command) -> Result<(Site
         Command::Trash { id } => trash(alloc, kit, site, *id),
         Command::Untrash { id } => untrash(alloc, kit, site, *id),
         Command::Delete { id } => delete(alloc, kit, site, *id),
-        Command::SetOption { name, value } => {
-            let (name, value) = (name.copy(alloc)?, value.copy(alloc)?);
-            set_option(alloc, kit, site, name, value)
-        }
+        Command::SetOption { name, value } => set_option(alloc, kit, site, name, value),
         Command::Activate { plugin } => activate(alloc, kit, site, plugin),
         Command::Deactivate { plugin } => {
             let plugin = plugin.copy(alloc)?;
@@ -163,7 +160,7 @@ fn work(alloc: Global, kit: &Kit, site: Site, command: &Command) -> Result<(Site
     }
 }
 
-#[tactic(auto, using(crate::proofs::Refusals::boot_refused, crate::proofs::Refusals::work_refused, crate::proofs::Refusals::work_done))]
+#[tactic(auto, using(crate::proofs::Refusals::boot_refused, crate::proofs::Refusals::work_ended))]
 fn insert(
     alloc: Global,
     kit: &Kit,
@@ -176,11 +173,11 @@ fn insert(
     ensures { Works (booted (kit_view kit.now) site (inserts (callbacks_on (kit_view kit.now)) title.now content.now status date)) site result }
 {
     let mut work = Work::booted(alloc, kit, site)?;
-    let id = work.insert(alloc, kit, title, content, status, date)?;
-    Ok((work.site, id))
+    let id = work.insert(alloc, kit, title, content, status, date);
+    work.ended(id)
 }
 
-#[tactic(auto, using(crate::proofs::Refusals::boot_refused, crate::proofs::Refusals::work_refused, crate::proofs::Refusals::work_done))]
+#[tactic(auto, using(crate::proofs::Refusals::boot_refused, crate::proofs::Refusals::work_ended))]
 fn update(
     alloc: Global,
     kit: &Kit,
@@ -194,50 +191,50 @@ fn update(
     ensures { Works (booted (kit_view kit.now) site (updates (callbacks_on (kit_view kit.now)) id title.now content.now status date)) site result }
 {
     let mut work = Work::booted(alloc, kit, site)?;
-    let id = work.update(alloc, kit, id, title, content, status, date)?;
-    Ok((work.site, id))
+    let id = work.update(alloc, kit, id, title, content, status, date);
+    work.ended(id)
 }
 
-#[tactic(auto, using(crate::proofs::Refusals::boot_refused, crate::proofs::Refusals::work_refused, crate::proofs::Refusals::work_done))]
+#[tactic(auto, using(crate::proofs::Refusals::boot_refused, crate::proofs::Refusals::work_ended))]
 fn trash(alloc: Global, kit: &Kit, site: Site, id: u64) -> Result<(Site, u64), ApplyFault>
     ensures { Works (booted (kit_view kit.now) site (trashes (callbacks_on (kit_view kit.now)) id)) site result }
 {
     let mut work = Work::booted(alloc, kit, site)?;
-    let id = work.trash(alloc, kit, id)?;
-    Ok((work.site, id))
+    let id = work.trash(alloc, kit, id);
+    work.ended(id)
 }
 
-#[tactic(auto, using(crate::proofs::Refusals::boot_refused, crate::proofs::Refusals::work_refused, crate::proofs::Refusals::work_done))]
+#[tactic(auto, using(crate::proofs::Refusals::boot_refused, crate::proofs::Refusals::work_ended))]
 fn untrash(alloc: Global, kit: &Kit, site: Site, id: u64) -> Result<(Site, u64), ApplyFault>
     ensures { Works (booted (kit_view kit.now) site (untrashes (callbacks_on (kit_view kit.now)) id)) site result }
 {
     let mut work = Work::booted(alloc, kit, site)?;
-    let id = work.untrash(alloc, kit, id)?;
-    Ok((work.site, id))
+    let id = work.untrash(alloc, kit, id);
+    work.ended(id)
 }
 
-#[tactic(auto, using(crate::proofs::Refusals::boot_refused, crate::proofs::Refusals::work_refused, crate::proofs::Refusals::work_done))]
+#[tactic(auto, using(crate::proofs::Refusals::boot_refused, crate::proofs::Refusals::work_ended))]
 fn delete(alloc: Global, kit: &Kit, site: Site, id: u64) -> Result<(Site, u64), ApplyFault>
     ensures { Works (booted (kit_view kit.now) site (deletes (callbacks_on (kit_view kit.now)) id)) site result }
 {
     let mut work = Work::booted(alloc, kit, site)?;
-    let id = work.delete(alloc, kit, id)?;
-    Ok((work.site, id))
+    let id = work.delete(alloc, kit, id);
+    work.ended(id)
 }
 
-#[tactic(auto, using(crate::proofs::Refusals::boot_refused, crate::proofs::Refusals::work_refused, crate::proofs::Refusals::work_done))]
+#[tactic(auto, using(crate::proofs::Refusals::boot_refused, crate::proofs::Refusals::work_ended))]
 fn set_option(
     alloc: Global,
     kit: &Kit,
     site: Site,
-    name: OptName,
-    value: Text,
+    name: &OptName,
+    value: &Text,
 ) -> Result<(Site, u64), ApplyFault>
-    ensures { Works (booted (kit_view kit.now) site (does (callbacks_on (kit_view kit.now)) (Effect.SetOption name value))) site result }
+    ensures { Works (booted (kit_view kit.now) site (does (callbacks_on (kit_view kit.now)) (Effect.SetOption name.now value.now))) site result }
 {
     let mut work = Work::booted(alloc, kit, site)?;
-    let id = work.does(kit, Effect::SetOption { name, value })?;
-    Ok((work.site, id))
+    let id = work.set_option(alloc, kit, name, value);
+    work.ended(id)
 }
 
 // What is due is listed after the boot.
@@ -255,6 +252,7 @@ fn activate(alloc: Global, kit: &Kit, site: Site, plugin: &Name) -> Result<(Site
     ensures { Works (work_of (kit_view kit.now) site (Command.Activate plugin.now)) site result }
 {
     if !has_plugin(kit, plugin) {
+        drop(site);
         return Err(ApplyFault::NoSuchPlugin);
     }
     let plugin = plugin.copy(alloc)?;

@@ -1,6 +1,6 @@
 //! The work of a command, after a boot of its own.
 
-ghost use Rattle.std.specs.Prelude.{◌≡◌, None, Some, IfOk, codes};
+ghost use Rattle.std.specs.Prelude.{◌≡◌, None, Some, Ok, Err, IfOk, MatchResult, codes};
 ghost use Rattle.press_text.specs.Names.{name_fault};
 ghost use Rattle.press_callbacks.specs.Kits.{kit_view, scripts_in, plugins_in};
 ghost use Rattle.press_events.specs.DueEvents.{due};
@@ -19,7 +19,7 @@ use press_events::Event;
 use press_posts::{Fire, Move, Status};
 use press_run::{Job, Machine, Out, RunFault, boot, boot_actions};
 use press_site::{Changed, Effect, Site, SiteFault};
-use press_text::{Copied, HookName, Items, Moment, Text, Texts};
+use press_text::{Copied, HookName, Items, Moment, OptName, Text, Texts};
 use std::alloc::{AllocError, Global};
 
 /// A command at work on a site of its own.
@@ -266,6 +266,27 @@ impl Work {
             self.take(alloc, kit, event)?;
         }
         Ok(())
+    }
+
+    pub fn set_option(
+        &mut self,
+        alloc: Global,
+        kit: &Kit,
+        name: &OptName,
+        value: &Text,
+    ) -> Result<u64, ApplyFault>
+        ensures { Steps (λ s id. (s, id)) (does (callbacks_on (kit_view kit.now)) (Effect.SetOption name.now value.now) (state_in self.old)) self.old self.new result }
+    {
+        let (name, value) = (name.copy(alloc)?, value.copy(alloc)?);
+        Ok(self.does(kit, Effect::SetOption { name, value })?)
+    }
+
+    /// The site after the work, with the id that it gave.
+    pub fn ended(self, id: Result<u64, ApplyFault>) -> Result<(Site, u64), ApplyFault>
+        ensures { MatchResult id (λ n. result ≡ Ok (self.site, n)) (λ fault. result ≡ Err fault) }
+    {
+        let id = id?;
+        Ok((self.site, id))
     }
 
     /// Takes what is due.
