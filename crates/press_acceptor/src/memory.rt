@@ -14,9 +14,15 @@ use std::collections::BTreeMap;
 use std::marker::Model;
 
 /// A row in a store.
-#[derive(Debug, Drop)]
+#[derive(Debug)]
 struct Kept {
     row: Row,
+}
+
+impl Drop for Kept {
+    fn drop(self) {
+        let Kept { row: _ } = self;
+    }
 }
 
 impl Model for Kept {
@@ -36,11 +42,21 @@ impl Kept {
 }
 
 /// A store in memory. Its device never fails; a save is one growth, and nothing is lost but by dropping it.
-#[derive(Debug, Drop)]
+#[derive(Debug)]
 pub struct MemoryStore {
     rows: BTreeMap<u32, Kept>,
     last_round: u64,
     alloc: Global,
+}
+
+impl Drop for MemoryStore {
+    fn drop(self) {
+        let MemoryStore {
+            rows: _,
+            last_round: _,
+            alloc: _,
+        } = self;
+    }
 }
 
 impl Model for MemoryStore {

@@ -47,11 +47,21 @@ pub enum Command {
 }
 
 /// A command with its token and its moment.
-#[derive(Debug, Drop)]
+#[derive(Debug)]
 pub struct Stamped {
     pub token: Token,
     pub at: Moment,
     pub command: Command,
+}
+
+impl Drop for Stamped {
+    fn drop(self) {
+        let Stamped {
+            token: _,
+            at: _,
+            command: _,
+        } = self;
+    }
 }
 
 impl Command {

@@ -1,7 +1,10 @@
 //! Scripts once more: one for the kit, one for the closure that plays it.
 
-use crate::script::{Ask, Op, Part};
-use press_text::Copied;
+ghost use Rattle.std.specs.Prelude.{◌≡◌, IfOk};
+ghost use Rattle.press_callbacks.specs.declared.script.Op.{Op};
+
+use crate::script::{Ask, Op, Part, Parts};
+use press_text::{Copied, Every, HookName, Items, OptName};
 use std::alloc::{AllocError, Global};
 
 impl Copied for Part {
@@ -65,40 +68,78 @@ impl Copied for Op {
             Op::RemoveTag { tag } => Ok(Op::RemoveTag {
                 tag: tag.copy(alloc)?,
             }),
-            Op::SkipIf { left, right, n } => Ok(Op::SkipIf {
-                left: left.copied(alloc)?,
-                right: right.copied(alloc)?,
-                n: *n,
-            }),
-            Op::Apply { hook, value, more } => Ok(Op::Apply {
-                hook: hook.copy(alloc)?,
-                value: value.copied(alloc)?,
-                more: more.copied(alloc)?,
-            }),
-            Op::Do { hook, args } => Ok(Op::Do {
-                hook: hook.copy(alloc)?,
-                args: args.copied(alloc)?,
-            }),
+            Op::SkipIf { left, right, n } => skip_if(alloc, left, right, *n),
+            Op::Apply { hook, value, more } => apply(alloc, hook, value, more),
+            Op::Do { hook, args } => start(alloc, hook, args),
             Op::Shortcodes(parts) => Ok(Op::Shortcodes(parts.copied(alloc)?)),
             Op::Ask(ask) => Ok(Op::Ask(ask.copied(alloc)?)),
-            Op::SetOption { name, value } => Ok(Op::SetOption {
-                name: name.copy(alloc)?,
-                value: value.copied(alloc)?,
-            }),
+            Op::SetOption { name, value } => set_option(alloc, name, value),
             Op::Schedule {
                 after,
                 every,
                 hook,
                 arg,
-            } => Ok(Op::Schedule {
-                after: *after,
-                every: *every,
-                hook: hook.copy(alloc)?,
-                arg: arg.copied(alloc)?,
-            }),
+            } => schedule(alloc, *after, *every, hook, arg),
             Op::Publish(parts) => Ok(Op::Publish(parts.copied(alloc)?)),
             Op::Echo(parts) => Ok(Op::Echo(parts.copied(alloc)?)),
             Op::Return(parts) => Ok(Op::Return(parts.copied(alloc)?)),
         }
     }
+}
+
+fn skip_if(alloc: Global, left: &Parts, right: &Parts, n: u16) -> Result<Op, AllocError>
+    ensures { IfOk result (λ op. op ≡ Op.SkipIf left.now right.now n) }
+{
+    let left = left.copied(alloc)?;
+    let right = right.copied(alloc)?;
+    Ok(Op::SkipIf { left, right, n })
+}
+
+fn apply(
+    alloc: Global,
+    hook: &HookName,
+    value: &Parts,
+    more: &Items<Parts>,
+) -> Result<Op, AllocError>
+    ensures { IfOk result (λ op. op ≡ Op.Apply hook.now value.now more.now) }
+{
+    let hook = hook.copy(alloc)?;
+    let value = value.copied(alloc)?;
+    let more = more.copied(alloc)?;
+    Ok(Op::Apply { hook, value, more })
+}
+
+fn start(alloc: Global, hook: &HookName, args: &Items<Parts>) -> Result<Op, AllocError>
+    ensures { IfOk result (λ op. op ≡ Op.Do hook.now args.now) }
+{
+    let hook = hook.copy(alloc)?;
+    let args = args.copied(alloc)?;
+    Ok(Op::Do { hook, args })
+}
+
+fn set_option(alloc: Global, name: &OptName, value: &Parts) -> Result<Op, AllocError>
+    ensures { IfOk result (λ op. op ≡ Op.SetOption name.now value.now) }
+{
+    let name = name.copy(alloc)?;
+    let value = value.copied(alloc)?;
+    Ok(Op::SetOption { name, value })
+}
+
+fn schedule(
+    alloc: Global,
+    after: u64,
+    every: Every,
+    hook: &HookName,
+    arg: &Parts,
+) -> Result<Op, AllocError>
+    ensures { IfOk result (λ op. op ≡ Op.Schedule after every hook.now arg.now) }
+{
+    let hook = hook.copy(alloc)?;
+    let arg = arg.copied(alloc)?;
+    Ok(Op::Schedule {
+        after,
+        every,
+        hook,
+        arg,
+    })
 }

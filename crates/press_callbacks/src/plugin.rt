@@ -25,8 +25,14 @@ pub(crate) enum LoadKind {
 }
 
 /// A plugin: its name and its loads, in order.
-#[derive(Debug, Drop)]
+#[derive(Debug)]
 pub struct Plugin {
     pub name: Name,
     pub load: Items<Load>,
+}
+
+impl Drop for Plugin {
+    fn drop(self) {
+        let Plugin { name: _, load: _ } = self;
+    }
 }

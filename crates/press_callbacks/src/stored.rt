@@ -10,13 +10,22 @@ use std::alloc::AllocError;
 pub type BoxedTurns = Box<dyn Fn(&CallIn) -> Result<Turn, AllocError>>;
 
 /// A callback whose closure stands in a box: it may be called on every input, and what it gives is its script's turn.
-#[derive(Drop)]
 pub struct Stored {
     id: CallbackId,
     script: Script,
     call: BoxedTurns,
     ghost callable: { BoxedTurns.IsAlwaysCallable call },
     ghost plays: { (c : _) (t : Turn) → BoxedTurns.post call c (Ok t) → t ≡ turn_of script c.now },
+}
+
+impl Drop for Stored {
+    fn drop(self) {
+        let Stored {
+            id: _,
+            script: _,
+            call: _,
+        } = self;
+    }
 }
 
 impl Stored {

@@ -6,10 +6,16 @@ use press_scan::TagTable;
 use std::alloc::AllocError;
 
 /// What callbacks edit: the hooks, and the tags of shortcodes.
-#[derive(Debug, Drop)]
+#[derive(Debug)]
 pub struct Tables {
     pub hooks: HookTable,
     pub tags: TagTable,
+}
+
+impl Drop for Tables {
+    fn drop(self) {
+        let Tables { hooks: _, tags: _ } = self;
+    }
 }
 
 impl Tables {

@@ -5,12 +5,23 @@ use press_text::{Copied, Every, HookName, Moment, Text};
 use std::alloc::{AllocError, Global};
 
 /// A hook that is to be done with an argument at a time. Time, hook and argument are its identity.
-#[derive(Debug, Drop)]
+#[derive(Debug)]
 pub struct Event {
     pub time: Moment,
     pub hook: HookName,
     pub arg: Text,
     pub every: Every,
+}
+
+impl Drop for Event {
+    fn drop(self) {
+        let Event {
+            time: _,
+            hook: _,
+            arg: _,
+            every: _,
+        } = self;
+    }
 }
 
 impl Event {

@@ -15,10 +15,19 @@ const MOST_ARG: usize = 256;
 const MOST_EVENTS: usize = 4096;
 
 /// The scheduled events, by time, then in the order in which they were scheduled.
-#[derive(Debug, Drop)]
+#[derive(Debug)]
 pub struct Events {
     alloc: Global,
     events: Vec<Event>,
+}
+
+impl Drop for Events {
+    fn drop(self) {
+        let Events {
+            alloc: _,
+            events: _,
+        } = self;
+    }
 }
 
 impl Model for Events {

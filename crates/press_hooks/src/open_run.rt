@@ -10,9 +10,15 @@ use std::collections::VecDeque;
 use std::marker::Model;
 
 /// Entries that a run has still to hand out.
-#[derive(Debug, Drop)]
+#[derive(Debug)]
 pub struct Rest {
     entries: VecDeque<Entry>,
+}
+
+impl Drop for Rest {
+    fn drop(self) {
+        let Rest { entries: _ } = self;
+    }
 }
 
 impl Model for Rest {
@@ -25,11 +31,21 @@ impl Model for Rest {
 }
 
 /// An open run of a hook: the priority last reached, and what is left of the entries that stood there then.
-#[derive(Debug, Drop)]
+#[derive(Debug)]
 pub struct OpenRun {
     pub hook: HookName,
     pub reached: Option<i64>,
     pub rest: Rest,
+}
+
+impl Drop for OpenRun {
+    fn drop(self) {
+        let OpenRun {
+            hook: _,
+            reached: _,
+            rest: _,
+        } = self;
+    }
 }
 
 // The least priority of the hook's rows above the one reached.

@@ -7,12 +7,23 @@ use std::alloc::{AllocError, Global};
 use std::cmp::Ordering;
 
 /// One entry of a hook, as the table keeps it.
-#[derive(Debug, Drop)]
+#[derive(Debug)]
 pub struct Row {
     pub hook: HookName,
     pub priority: i64,
     pub callback: CallbackId,
     pub accepted: u32,
+}
+
+impl Drop for Row {
+    fn drop(self) {
+        let Row {
+            hook: _,
+            priority: _,
+            callback: _,
+            accepted: _,
+        } = self;
+    }
 }
 
 impl Row {

@@ -16,11 +16,21 @@ const MOST_ROWS: usize = 1024;
 /// The entries of every hook, and the runs that are open (`WP_Hook`).
 ///
 /// Rows stand hook by hook, by priority, then in the order in which they were added.
-#[derive(Debug, Drop)]
+#[derive(Debug)]
 pub struct HookTable {
     alloc: Global,
     rows: Vec<Row>,
     runs: Vec<OpenRun>,
+}
+
+impl Drop for HookTable {
+    fn drop(self) {
+        let HookTable {
+            alloc: _,
+            rows: _,
+            runs: _,
+        } = self;
+    }
 }
 
 impl Model for HookTable {

@@ -13,12 +13,23 @@ use std::marker::Model;
 const WINDOW: u32 = 64;
 
 /// The votes of a cluster's members for the next 64 slots, and how many slots are applied.
-#[derive(Debug, Drop)]
+#[derive(Debug)]
 pub struct Learner {
     members: u8,
     votes: BTreeMap<(u32, u8), Vote>,
     applied: u32,
     alloc: Global,
+}
+
+impl Drop for Learner {
+    fn drop(self) {
+        let Learner {
+            members: _,
+            votes: _,
+            applied: _,
+            alloc: _,
+        } = self;
+    }
 }
 
 impl Model for Learner {

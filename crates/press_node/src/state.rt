@@ -22,12 +22,22 @@ use std::alloc::Global;
 use std::marker::Model;
 
 /// Which member a node is, and what it has in memory while it is up. (No kit stands in it, so it has a model.)
-#[derive(Drop)]
 pub struct State {
     id: Member,
     members: u8,
     up: Option<Up>,
     alloc: Global,
+}
+
+impl Drop for State {
+    fn drop(self) {
+        let State {
+            id: _,
+            members: _,
+            up: _,
+            alloc: _,
+        } = self;
+    }
 }
 
 impl Model for State {

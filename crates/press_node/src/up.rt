@@ -35,12 +35,22 @@ const SLOTS: u64 = 1_000_000;
 /// For how many slots votes are kept.
 const WINDOW: u8 = 64;
 
-#[derive(Drop)]
 pub(crate) struct Up {
     pub(crate) proposer: Proposer,
     pub(crate) learner: Learner,
     pub(crate) values: Vec<Value>,
     pub(crate) site: Site,
+}
+
+impl Drop for Up {
+    fn drop(self) {
+        let Up {
+            proposer: _,
+            learner: _,
+            values: _,
+            site: _,
+        } = self;
+    }
 }
 
 /// The slot behind so many.

@@ -14,10 +14,16 @@ use std::alloc::{AllocError, Global};
 use std::io::{Read, Write};
 
 /// Why a file gave no lines, where it gave none, and what is written for it.
-#[derive(Debug, Drop)]
+#[derive(Debug)]
 pub struct Answered {
     pub fault: Option<PlayFault>,
     pub text: Text,
+}
+
+impl Drop for Answered {
+    fn drop(self) {
+        let Answered { fault: _, text: _ } = self;
+    }
 }
 
 fn told(alloc: Global, fault: PlayFault) -> Result<Answered, AllocError>

@@ -17,12 +17,23 @@ use press_text::Items;
 use std::alloc::{AllocError, Global};
 
 /// What plays go on with: tables, counts, the site and output.
-#[derive(Debug, Drop)]
+#[derive(Debug)]
 pub struct Stage {
     pub tables: Tables,
     pub machine: Machine,
     pub site: Site,
     pub out: Out,
+}
+
+impl Drop for Stage {
+    fn drop(self) {
+        let Stage {
+            tables: _,
+            machine: _,
+            site: _,
+            out: _,
+        } = self;
+    }
 }
 
 impl Stage {

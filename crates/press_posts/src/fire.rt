@@ -9,10 +9,16 @@ use press_text::{HookName, Items, Text, Texts};
 use std::alloc::{AllocError, Global};
 
 /// An action, and the arguments that its callbacks get.
-#[derive(Debug, Drop)]
+#[derive(Debug)]
 pub struct Fire {
     pub hook: HookName,
     pub args: Texts,
+}
+
+impl Drop for Fire {
+    fn drop(self) {
+        let Fire { hook: _, args: _ } = self;
+    }
 }
 
 impl Fire {

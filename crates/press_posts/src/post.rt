@@ -11,13 +11,25 @@ const MOST_TITLE: usize = 1024;
 const MOST_CONTENT: usize = 65_536;
 
 /// A post as it stands: no trace of what it was before.
-#[derive(Debug, Drop)]
+#[derive(Debug)]
 pub struct Post {
     pub id: u64,
     pub title: Text,
     pub content: Text,
     pub status: Status,
     pub date: Moment,
+}
+
+impl Drop for Post {
+    fn drop(self) {
+        let Post {
+            id: _,
+            title: _,
+            content: _,
+            status: _,
+            date: _,
+        } = self;
+    }
 }
 
 /// A change of a post's status alone.

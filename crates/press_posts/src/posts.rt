@@ -17,10 +17,19 @@ use std::marker::Model;
 const MOST_POSTS: usize = 10_000;
 
 /// Posts with ids 1, 2, .., each at the place of its id. The place of a deleted post stays empty, and its id is never given again.
-#[derive(Debug, Drop)]
+#[derive(Debug)]
 pub struct Posts {
     alloc: Global,
     places: Vec<Option<Post>>,
+}
+
+impl Drop for Posts {
+    fn drop(self) {
+        let Posts {
+            alloc: _,
+            places: _,
+        } = self;
+    }
 }
 
 impl Model for Posts {

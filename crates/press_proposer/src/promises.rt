@@ -11,16 +11,28 @@ use std::alloc::{AllocError, Global};
 use std::marker::Model;
 
 /// A member's promise, and the vote that it reports.
-#[derive(Debug, Drop)]
+#[derive(Debug)]
 pub struct Promise {
     pub from: Node,
     pub vote: Option<Vote>,
 }
 
+impl Drop for Promise {
+    fn drop(self) {
+        let Promise { from: _, vote: _ } = self;
+    }
+}
+
 /// The promises that came for a ballot, in the order in which they came.
-#[derive(Debug, Drop)]
+#[derive(Debug)]
 pub struct Promises {
     promises: Vec<Promise>,
+}
+
+impl Drop for Promises {
+    fn drop(self) {
+        let Promises { promises: _ } = self;
+    }
 }
 
 impl Model for Promises {

@@ -23,7 +23,7 @@ use std::alloc::{AllocError, Global};
 use std::marker::Model;
 
 /// The proposer of Paxos Made Simple (2.2 to 2.5): it prepares a ballot for the next slot, and at a majority of promises asks for votes.
-#[derive(Debug, Drop)]
+#[derive(Debug)]
 pub struct Proposer {
     id: Node,
     members: u8,
@@ -31,6 +31,19 @@ pub struct Proposer {
     phase: Phase,
     nacked: u64,
     alloc: Global,
+}
+
+impl Drop for Proposer {
+    fn drop(self) {
+        let Proposer {
+            id: _,
+            members: _,
+            queue: _,
+            phase: _,
+            nacked: _,
+            alloc: _,
+        } = self;
+    }
 }
 
 impl Model for Proposer {

@@ -14,9 +14,15 @@ use std::marker::Model;
 const MOST: usize = 256;
 
 /// Commands that wait to be chosen, in the order in which they came.
-#[derive(Debug, Drop)]
+#[derive(Debug)]
 pub struct Queue {
     commands: Vec<Stamped>,
+}
+
+impl Drop for Queue {
+    fn drop(self) {
+        let Queue { commands: _ } = self;
+    }
 }
 
 impl Model for Queue {

@@ -29,12 +29,23 @@ const MOST_TURNS: u32 = 10_000;
 const FUEL: u32 = 10_001;
 
 /// What one boot counts: the starts of actions, the hooks that are running, and the turns played.
-#[derive(Debug, Drop)]
+#[derive(Debug)]
 pub struct Machine {
     alloc: Global,
     did: Vec<HookName>,
     doing: Vec<HookName>,
     turns: u32,
+}
+
+impl Drop for Machine {
+    fn drop(self) {
+        let Machine {
+            alloc: _,
+            did: _,
+            doing: _,
+            turns: _,
+        } = self;
+    }
 }
 
 impl Model for Machine {

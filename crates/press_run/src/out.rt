@@ -9,9 +9,15 @@ use std::marker::Model;
 pub(crate) const MOST_BYTES: usize = 1_048_576;
 
 /// What a page or a command has written so far: at most 1,048,576 bytes.
-#[derive(Debug, Drop)]
+#[derive(Debug)]
 pub struct Out {
     text: String,
+}
+
+impl Drop for Out {
+    fn drop(self) {
+        let Out { text: _ } = self;
+    }
 }
 
 impl Model for Out {
@@ -64,6 +70,7 @@ impl Out {
     pub fn into_text(self) -> String
         ensures { string_bytes result ≡ self }
     {
-        self.text
+        let Out { text } = self;
+        text
     }
 }

@@ -16,9 +16,15 @@ enum Kept {
 }
 
 /// Attributes in order: those of a text, each name once, or a list as it was given.
-#[derive(Debug, Drop)]
+#[derive(Debug)]
 pub struct Atts {
     kept: Kept,
+}
+
+impl Drop for Atts {
+    fn drop(self) {
+        let Atts { kept: _ } = self;
+    }
 }
 
 impl Model for Atts {

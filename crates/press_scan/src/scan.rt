@@ -22,7 +22,7 @@ use std::alloc::{AllocError, Global};
 use std::marker::Model;
 
 /// A scan of a text: the place up to which it is done, the output so far, and the shortcode whose answer is awaited.
-#[derive(Debug, Drop)]
+#[derive(Debug)]
 pub struct Scan {
     text: String,
     at: usize,
@@ -30,6 +30,19 @@ pub struct Scan {
     waiting: Option<Shortcode>,
     missing: Vec<Missing>,
     alloc: Global,
+}
+
+impl Drop for Scan {
+    fn drop(self) {
+        let Scan {
+            text: _,
+            at: _,
+            output: _,
+            waiting: _,
+            missing: _,
+            alloc: _,
+        } = self;
+    }
 }
 
 impl Model for Scan {
@@ -249,6 +262,14 @@ impl Scan {
         requires { (self.at ≡ length self.text) × (self.waiting ≡ None) }
         ensures { string_bytes result ≡ self.output }
     {
-        self.output
+        let Scan {
+            output,
+            text: _,
+            at: _,
+            waiting: _,
+            missing: _,
+            alloc: _,
+        } = self;
+        output
     }
 }

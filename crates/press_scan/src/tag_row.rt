@@ -5,10 +5,19 @@ use press_text::{CallbackId, Copied, Text};
 use std::alloc::{AllocError, Global};
 
 /// A tag, and the callback that answers its shortcodes.
-#[derive(Debug, Drop)]
+#[derive(Debug)]
 pub struct TagRow {
     pub name: Text,
     pub callback: CallbackId,
+}
+
+impl Drop for TagRow {
+    fn drop(self) {
+        let TagRow {
+            name: _,
+            callback: _,
+        } = self;
+    }
 }
 
 impl TagRow {

@@ -14,10 +14,16 @@ const MOST_TAGS: usize = 128;
 
 /// The registered tags in the order in which they were added, each with its callback (`$shortcode_tags`).
 /// A name is 1 to 32 bytes of `[A-Za-z0-9_-]` in either case; there are at most 128.
-#[derive(Debug, Drop)]
+#[derive(Debug)]
 pub struct TagTable {
     alloc: Global,
     rows: Vec<TagRow>,
+}
+
+impl Drop for TagTable {
+    fn drop(self) {
+        let TagTable { alloc: _, rows: _ } = self;
+    }
 }
 
 impl Model for TagTable {

@@ -22,11 +22,21 @@ use std::marker::Model;
 const PUBLISH_HOOK: &str = "publish_future_post";
 
 /// Posts and events.
-#[derive(Debug, Drop)]
+#[derive(Debug)]
 pub struct Content {
     alloc: Global,
     posts: Posts,
     events: Events,
+}
+
+impl Drop for Content {
+    fn drop(self) {
+        let Content {
+            alloc: _,
+            posts: _,
+            events: _,
+        } = self;
+    }
 }
 
 impl Model for Content {

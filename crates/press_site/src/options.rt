@@ -14,10 +14,19 @@ const MOST_OPTIONS: usize = 1024;
 const MOST_VALUE: usize = 4096;
 
 /// Options by name.
-#[derive(Debug, Drop)]
+#[derive(Debug)]
 pub struct Options {
     alloc: Global,
     values: BTreeMap<String, Text>,
+}
+
+impl Drop for Options {
+    fn drop(self) {
+        let Options {
+            alloc: _,
+            values: _,
+        } = self;
+    }
 }
 
 impl Model for Options {

@@ -7,9 +7,15 @@ use std::collections::BTreeMap;
 use std::marker::Model;
 
 /// What became of each command, by its token.
-#[derive(Debug, Drop)]
+#[derive(Debug)]
 pub struct Outcomes {
     kept: BTreeMap<Token, Outcome>,
+}
+
+impl Drop for Outcomes {
+    fn drop(self) {
+        let Outcomes { kept: _ } = self;
+    }
 }
 
 impl Model for Outcomes {

@@ -9,9 +9,15 @@ use std::cmp::Ordering;
 use std::marker::Model;
 
 /// The active plugins, in the order of their names.
-#[derive(Debug, Drop)]
+#[derive(Debug)]
 pub struct Plugins {
     names: Vec<Name>,
+}
+
+impl Drop for Plugins {
+    fn drop(self) {
+        let Plugins { names: _ } = self;
+    }
 }
 
 impl Model for Plugins {

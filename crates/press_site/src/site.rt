@@ -27,7 +27,7 @@ use std::marker::Model;
 const PROFILE: u8 = 1;
 
 /// Posts, events, options, active plugins, and what became of each command, at a moment.
-#[derive(Debug, Drop)]
+#[derive(Debug)]
 pub struct Site {
     alloc: Global,
     moment: Moment,
@@ -35,6 +35,19 @@ pub struct Site {
     options: Options,
     plugins: Plugins,
     outcomes: Outcomes,
+}
+
+impl Drop for Site {
+    fn drop(self) {
+        let Site {
+            alloc: _,
+            moment: _,
+            content: _,
+            options: _,
+            plugins: _,
+            outcomes: _,
+        } = self;
+    }
 }
 
 impl Model for Site {

@@ -12,10 +12,16 @@ use std::alloc::{AllocError, Global};
 use std::cmp::Ordering;
 
 /// Who sent a command, and the number that the sender gave it.
-#[derive(Debug, Drop)]
+#[derive(Debug)]
 pub struct Token {
     pub editor: Name,
     pub seq: u64,
+}
+
+impl Drop for Token {
+    fn drop(self) {
+        let Token { editor: _, seq: _ } = self;
+    }
 }
 
 /// What became of a command: the id of the post that it is about, or 0; or the number of the fault that refused it.

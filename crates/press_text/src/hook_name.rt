@@ -8,9 +8,15 @@ use std::alloc::{AllocError, Global};
 use std::marker::Model;
 
 /// The name of an action or a filter: 1 to 64 bytes of `[A-Za-z0-9_-]` (Plugin Handbook, Hooks).
-#[derive(Debug, Drop)]
+#[derive(Debug)]
 pub struct HookName {
     inside: Text,
+}
+
+impl Drop for HookName {
+    fn drop(self) {
+        let HookName { inside: _ } = self;
+    }
 }
 
 impl Model for HookName {

@@ -4,9 +4,15 @@ use std::alloc::Global;
 use std::marker::Model;
 
 /// A list of values, which contracts see as that list.
-#[derive(Debug, Drop)]
+#[derive(Debug)]
 pub struct Items<T> {
     inside: Vec<T>,
+}
+
+impl<T: Drop> Drop for Items<T> {
+    fn drop(self) {
+        let Items { inside: _ } = self;
+    }
 }
 
 impl<T> Model for Items<T> {
@@ -38,7 +44,8 @@ impl<T> Items<T> {
     pub fn into_vec(self) -> Vec<T>
         ensures { result.items ≡ self }
     {
-        self.inside
+        let Items { inside } = self;
+        inside
     }
 
     pub fn as_slice(&self) -> &[T]

@@ -7,9 +7,15 @@ use std::alloc::{AllocError, Global};
 use std::marker::Model;
 
 /// The name of a plugin or an editor: 1 to 32 bytes of `[A-Za-z0-9_-]`.
-#[derive(Debug, Drop)]
+#[derive(Debug)]
 pub struct Name {
     inside: String,
+}
+
+impl Drop for Name {
+    fn drop(self) {
+        let Name { inside: _ } = self;
+    }
 }
 
 impl Model for Name {

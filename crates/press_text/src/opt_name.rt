@@ -7,9 +7,15 @@ use std::alloc::{AllocError, Global};
 use std::marker::Model;
 
 /// The name of an option: 1 to 32 bytes of `[A-Za-z0-9_-]` (Options API).
-#[derive(Debug, Drop)]
+#[derive(Debug)]
 pub struct OptName {
     inside: String,
+}
+
+impl Drop for OptName {
+    fn drop(self) {
+        let OptName { inside: _ } = self;
+    }
 }
 
 impl Model for OptName {

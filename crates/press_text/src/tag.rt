@@ -7,9 +7,15 @@ use std::alloc::{AllocError, Global};
 use std::marker::Model;
 
 /// The name of a shortcode: 1 to 32 bytes of `[A-Za-z0-9_-]` (Shortcode API).
-#[derive(Debug, Drop)]
+#[derive(Debug)]
 pub struct Tag {
     inside: String,
+}
+
+impl Drop for Tag {
+    fn drop(self) {
+        let Tag { inside: _ } = self;
+    }
 }
 
 impl Model for Tag {

@@ -18,10 +18,19 @@ enum Held {
 ///
 /// Up to 22 bytes lie in the value itself; a longer text is shared by its copies, so that a copy takes no memory at any length.
 /// An append to a text that is shared makes a text of its own first.
-#[derive(Drop)]
 pub struct Text {
     inside: Held,
     alloc: Global,
+}
+
+// Written out, so that a function that lets a text go calls this, and doesn't take the text apart itself.
+impl Drop for Text {
+    fn drop(self) {
+        let Text {
+            inside: _,
+            alloc: _,
+        } = self;
+    }
 }
 
 impl Model for Text {

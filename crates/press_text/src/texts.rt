@@ -10,10 +10,19 @@ use std::rc::Rc;
 /// A list of texts, which contracts see as that list.
 ///
 /// Its copies share it, so that a copy takes no memory at any length.
-#[derive(Debug, Drop)]
+#[derive(Debug)]
 pub struct Texts {
     inside: Option<Rc<Vec<Text>>>,
     alloc: Global,
+}
+
+impl Drop for Texts {
+    fn drop(self) {
+        let Texts {
+            inside: _,
+            alloc: _,
+        } = self;
+    }
 }
 
 impl Model for Texts {

@@ -6,10 +6,19 @@ use press_text::Copied;
 use std::alloc::{AllocError, Global};
 
 /// A vote for a value in a ballot.
-#[derive(Debug, Drop)]
+#[derive(Debug)]
 pub struct Vote {
     pub ballot: Ballot,
     pub value: Value,
+}
+
+impl Drop for Vote {
+    fn drop(self) {
+        let Vote {
+            ballot: _,
+            value: _,
+        } = self;
+    }
 }
 
 impl Vote {

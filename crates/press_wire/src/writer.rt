@@ -12,9 +12,14 @@ use std::alloc::{AllocError, Global};
 use std::marker::Model;
 
 /// The bytes that are written so far. Nothing is said of them once memory was wanting.
-#[derive(Drop)]
 pub struct Writer {
     bytes: Vec<u8>,
+}
+
+impl Drop for Writer {
+    fn drop(self) {
+        let Writer { bytes: _ } = self;
+    }
 }
 
 impl Model for Writer {
@@ -37,7 +42,8 @@ impl Writer {
     pub fn into_bytes(self) -> Vec<u8>
         ensures { result.items ≡ self }
     {
-        self.bytes
+        let Writer { bytes } = self;
+        bytes
     }
 
     pub fn byte(&mut self, byte: u8) -> Result<(), AllocError>

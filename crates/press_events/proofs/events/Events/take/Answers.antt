@@ -4,8 +4,5 @@ use Rattle.press_events.proofs.events.Events.take.Goals as goal
 pub invariant_of-self : goal.invariant_of-self
 invariant_of-self c = rw (c.put_again.ensures, c.remove-taken.ensures.items) (by_time_again _ _ (by_time_remove c.self.inside.events.items c.in-Some.place c.self.invariant))
 
-pub invariant_of-self-in_default-next : goal.invariant_of-self-in_default-next
-invariant_of-self-in_default-next c = rw c.remove-taken.ensures.items (by_time_remove c.self.inside.events.items c.in-Some.place c.self.invariant)
-
-pub invariant_of-self-in_default-next-2 : goal.invariant_of-self-in_default-next-2
-invariant_of-self-in_default-next-2 c = rw c.remove-taken.ensures.items (by_time_remove c.self.inside.events.items c.in-Some.place c.self.invariant)
+pub invariant_of-self-in-None-next : goal.invariant_of-self-in-None-next
+invariant_of-self-in-None-next c = rw c.remove-taken.ensures.items (by_time_remove c.self.inside.events.items c.in-Some.place c.self.invariant)
