@@ -1,5 +1,5 @@
 -- Which calls of its store each request makes, where it may take memory of its own, and what it saves.
-use Rattle.std.specs.Prelude.{ℕ, Option, None, IsSome, List, [], ◌∷◌}
+use Rattle.std.specs.Prelude.{ℕ, None, IsSome, List, [], ◌∷◌}
 use Rattle.press_wire.specs.declared.ballot.Ballot.{Ballot}
 use Rattle.press_wire.specs.declared.message.Body.{Body}
 use Rattle.press_wire.specs.declared.message.Body.TheVariants.{Prepare, Promise, Nack, Accept, Accepted, Query}
@@ -10,7 +10,7 @@ use Rattle.press_acceptor.specs.Seen.{Call}
 use Rattle.press_acceptor.specs.Seen.Call.{LoadsRow, SavesRow}
 use Rattle.press_acceptor.specs.StoreMap.{StoreMap, vote_of}
 use Rattle.press_acceptor.specs.Turned.{Plan}
-use Rattle.press_acceptor.specs.Turns.{prepare_turn, accept_turn, query_turn}
+use Rattle.press_acceptor.specs.Turns.{prepare_turn, accept_turn}
 
 -- the row is read, and may be saved
 abbrev pub reads_and_saves : ℕ → List Call

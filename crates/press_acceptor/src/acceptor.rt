@@ -27,10 +27,8 @@ impl Acceptor {
         slot: Slot,
         ballot: Ballot,
     ) -> Result<Said, StoreFault>
-        ensures said {
-            Says (reads_and_saves slot) (λ said. said) (λ kept. (prepare_turn kept slot ballot).said)
-                (moved S.seen store.old store.new) result
-        }
+        ensures said { Says (reads_and_saves slot) (λ said. said) (λ kept. (prepare_turn kept slot ballot).said)
+            (moved S.seen store.old store.new) result }
         ensures turned { Turned (prepare_plan slot ballot) (moved S.seen store.old store.new) (fault_in result) }
     {
         let row = store.load(slot)?;
@@ -53,15 +51,11 @@ impl Acceptor {
         ballot: Ballot,
         value: &Value,
     ) -> Result<Said, StoreFault>
-        ensures said {
-            let vote : Vote = record { ballot = ballot; value = value.now } in
+        ensures said { let vote : Vote = record { ballot = ballot; value = value.now } in
             Says (reads_and_saves slot) (λ said. said) (λ kept. (accept_turn kept slot vote).said)
-                (moved S.seen store.old store.new) result
-        }
-        ensures turned {
-            let vote : Vote = record { ballot = ballot; value = value.now } in
-            Turned (accept_plan slot vote) (moved S.seen store.old store.new) (fault_in result)
-        }
+            (moved S.seen store.old store.new) result }
+        ensures turned { let vote : Vote = record { ballot = ballot; value = value.now } in
+            Turned (accept_plan slot vote) (moved S.seen store.old store.new) (fault_in result) }
     {
         let row = store.load(slot)?;
         let refused = row.refuses_accept(&ballot);
@@ -79,10 +73,8 @@ impl Acceptor {
 
     /// Tells the vote for the slot, where there is one.
     pub fn on_query<S: PromiseStore>(store: &mut S, slot: Slot) -> Result<Said, StoreFault>
-        ensures said {
-            Says (reads slot) (λ said. said) (λ kept. (query_turn kept slot).said)
-                (moved S.seen store.old store.new) result
-        }
+        ensures said { Says (reads slot) (λ said. said) (λ kept. (query_turn kept slot).said)
+            (moved S.seen store.old store.new) result }
         ensures turned { Turned (query_plan slot) (moved S.seen store.old store.new) (fault_in result) }
     {
         let row = store.load(slot)?;

@@ -106,16 +106,14 @@ impl PromiseStore for MemoryStore {
     ghost use Rattle.std.specs.Prelude.{◌≡◌, true};
     ghost use Rattle.press_acceptor.specs.InMemory.{EndsInMemory};
 
-    ghost seen = {
-        λ s. record {
-            is_honest = Unit {0};
-            is_open = true;
-            kept = s;
-            may_leave = λ left. left ≡ s;
-            faults = 0;
-            ends = EndsInMemory s;
-        }
-    };
+    ghost seen = { λ s. record {
+      is_honest = Unit {0};
+      is_open = true;
+      kept = s;
+      may_leave = λ left. left ≡ s;
+      faults = 0;
+      ends = EndsInMemory s;
+    } };
 
     fn faults(&self) -> u64 {
         0

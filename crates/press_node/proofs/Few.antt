@@ -1,5 +1,6 @@
 -- An event sends at most one message to each member.
-use Rattle.std.proofs.Common.{ℕ, ◌+◌, ◌≤◌, Bool, true, false, List, [], ◌∷◌, ◌++◌, length, Option, if◌then◌else◌, arith}
+use Rattle.std.proofs.Common.{ℕ, ◌+◌, ◌≤◌, Bool, true, false, List, [], ◌∷◌, ◌++◌, length, Option, None, Some, IfSome, if◌then◌else◌, subst, sym, arith}
+use Rattle.std.specs.Prelude.{option_map}
 use Rattle.std.proofs.lemmas.List.FromFn.{length-map-range_with_len}
 use Rattle.press_wire.specs.declared.ballot.Ballot.{Ballot}
 use Rattle.press_wire.specs.declared.vote.Vote.{Vote}
@@ -20,6 +21,7 @@ use Rattle.press_proposer.specs.declared.promises.Promise as promises
 use Rattle.press_learner.specs.Chosen.{has_gap}
 use Rattle.press_node.specs.declared.event.Event.{Event}
 use Rattle.press_node.specs.declared.event.Event.TheVariants.{Submit, Wake, Deliver}
+use Rattle.press_node.specs.States.{IsWhole, IsWholeWhere, NodeState, Up, answer_in}
 use Rattle.press_node.specs.NodeEvent.{Running, is_for, Answer, quiet as node_quiet, on_body, on_message, on_event}
 
 -- by cases on a test
@@ -93,3 +95,12 @@ pub event_few : (n id : ℕ) (store : StoreMap) (node : Running) (event : Event)
 event_few n id store node (Submit command) h k = omega arith
 event_few n id store node Wake h k = wake_few store node.proposer node.learner.applied (has_gap node.learner) k
 event_few n id store node (Deliver message) h k = message_few n id store node message h k
+
+few_where : (store : StoreMap) (id members : ℕ) (up : Option Up) (event : Event) → IsWholeWhere id members (option_map (λ u. u.running) up)
+    → IfSome (option_map (λ u. on_event members id store u.running event) up) (λ answer. length answer.out ≤ 7)
+few_where store id members None event whole = tt
+few_where store id members (Some up) event whole =
+    event_few members id store up.running event whole.small (subst (λ n. n ≤ 7) (sym whole.members_of) whole.small)
+
+pub whole_few : (store : StoreMap) (state : NodeState) (event : Event) → IsWhole state → IfSome (answer_in store state event) (λ answer. length answer.out ≤ 7)
+whole_few store state event whole = few_where store state.id state.members state.up event whole

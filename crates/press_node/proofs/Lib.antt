@@ -1,5 +1,5 @@
-pub mod Answering
 pub mod Few
+pub mod Playing
 pub mod Serving
 pub mod Settling
 pub mod Storing

@@ -1,5 +1,5 @@
 -- The replies to an event.
-use Rattle.std.proofs.Common.{ℕ, ◌≡◌, List, [], Option, None, Some, Result, Ok, Err, IfOk, IfErr, IfSome, OnErr, MatchResult, subst, ap, ◌∙◌}
+use Rattle.std.proofs.Common.{ℕ, ◌≡◌, List, [], Option, Result, Ok, Err, IfOk, IfErr, OnErr, MatchResult, subst, ◌∙◌}
 use Rattle.std.specs.Io.KnownBytes.{Appends}
 use Rattle.press_text.specs.Streams.{AppendsFront}
 use Rattle.press_http.specs.declared.fault.HttpFault.{HttpFault}
@@ -9,14 +9,6 @@ use Rattle.press_page.specs.declared.reply.Reply.{Reply}
 use Rattle.press_wire.specs.declared.message.Message.{Message}
 use Rattle.press_node.specs.declared.fault.NodeFault.{NodeFault}
 use Rattle.press_node.specs.Serving.{AnswersBy, AnswersFront, Tells, TellsFront, status_of_node}
-
-abbrev pub viewed : {T U : Type 0} → (T → U) → Result T NodeFault → Result U NodeFault
-viewed view (Ok x) = Ok (view x)
-viewed view (Err fault) = Err fault
-
-pub refused_too : {T U : Type 0} (view : T → U) (r : Result T NodeFault) (o : Option NodeFault) → IfSome o (λ fault. r ≡ Err fault) → IfSome o (λ fault. viewed view r ≡ Err fault)
-refused_too view r None h = tt
-refused_too view r (Some fault) h = ap (viewed view) h
 
 module _ {T : Type 0} (status : T → ℕ) (items : T → List Message) (reply : Reply) (old new : Option (List ℕ)) where
   pub told_answers : (r : Result T HttpFault) (out : List Message) → IfOk r (λ s. items s ≡ out) → IfOk r (λ s. Tells old new reply (status s)) → OnErr r (TellsFront old new reply) → IfErr r (λ e. e ≡ WriteFault)

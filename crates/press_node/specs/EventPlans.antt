@@ -1,6 +1,6 @@
 -- Which calls of its store each event makes, where it may take memory of its own, and what it saves (own): a message that is ignored takes no memory, nor does a
 -- refusal, a promise that doesn't count, a vote that isn't kept where nothing is chosen, or a query for a slot without a vote.
-use Rattle.std.specs.Prelude.{ℕ, ◌≡◌, ◌⊎◌, IsTrue, IsSome, Bool, true, false, None, List, [], if◌then◌else◌}
+use Rattle.std.specs.Prelude.{ℕ, ◌≡◌, ◌⊎◌, IsTrue, IsSome, Bool, true, false, None, List, []}
 use Rattle.press_wire.specs.declared.message.Body.{Body}
 use Rattle.press_wire.specs.declared.message.Body.TheVariants.{Prepare, Promise, Nack, Accept, Accepted, Query}
 use Rattle.press_wire.specs.declared.message.Message.{Message}

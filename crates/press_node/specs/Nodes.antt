@@ -9,8 +9,9 @@ use Rattle.press_acceptor.specs.Seen.{Seen}
 use Rattle.press_wire.specs.declared.message.Message.{Message}
 use Rattle.press_node.specs.declared.event.Event.{Event}
 use Rattle.press_node.specs.declared.fault.NodeFault.{NodeFault}
-use Rattle.press_node.specs.Plays.{StatePlays}
-use Rattle.press_node.specs.States.{NodeState, Up}
+use Rattle.press_acceptor.specs.Turned.{moved}
+use Rattle.press_node.specs.Plays.{Plays, StatePlays, state_moved}
+use Rattle.press_node.specs.States.{IsMemberOf, IsWhole, NodeState, Up}
 use Rattle.press_node.specs.declared.kept.Node.{Node}
 
 -- the page of what the applied values make; none where the node is down
@@ -29,8 +30,32 @@ kit_of node = kit_view node.kit
 abbrev pub store_of : {S : _} {t : _} {F : _} {g : _} → Node S t F g → S
 store_of node = node.store
 
--- ---- what an event did to it
+-- ---- what was done to it
 
 abbrev pub NodePlays : {S T : Type 0} {t : _} {F : _} {g : _} → (S → Seen) → Node S t F g → Node S t F g → Event → (T → List Message) → Result T NodeFault → Type 0
 NodePlays seen old new event messages result =
     StatePlays seen (store_of old) (store_of new) (state_of old) (state_of new) event messages result
+
+-- An event, as a connection plays it: the node is the same member and whole, and the event did what it does.
+pub record IsPlayed (state state_after : NodeState) (Does : Type 0) : Type 0 where
+  pub member : IsMemberOf state state_after
+  pub whole : IsWhole state_after
+  pub plays : Does
+
+-- A node before and after a connection.
+pub record NodeMove : Type 1 where
+  pub kit : KitView
+  -- what it had in memory, where it was up
+  pub up : Option Up
+  -- it is the very same
+  pub same : Type 0
+  -- this event was played, with this outcome
+  pub plays : Event → Result (List Message) NodeFault → Type 0
+
+abbrev pub node_moved : {S : Type 0} {t : _} {F : _} {g : _} → (S → Seen) → Node S t F g → Node S t F g → NodeMove
+node_moved seen old new = record {
+  kit = kit_of old;
+  up = (state_of old).up;
+  same = new ≡ old;
+  plays = λ event outcome. IsPlayed (state_of old) (state_of new) (Plays (moved seen (store_of old) (store_of new)) (state_moved (state_of old) (state_of new)) event outcome);
+}

@@ -1,6 +1,5 @@
 -- What a connection gets: a reply to what its request asks, or nothing, where it is closed (RFC 9112, 9.6; own: which fault of a node has which status).
-use Rattle.std.specs.Prelude.{◌≡◌, ◌⊎◌, ℕ, List, [], length, ◌≤◌, ◌<◌, true, false, Option, None, Some, Result, Ok, Err, IfOk, IfErr, IfSome, OnOk, OnErr, IsErrAnd, MatchResult, codes}
-use Rattle.std.specs.Option.{IsSomeAnd}
+use Rattle.std.specs.Prelude.{◌≡◌, ◌⊎◌, ℕ, List, [], length, ◌≤◌, Option, None, Some, Result, Ok, Err, IsErrAnd, MatchResult, codes}
 use Rattle.std.specs.Io.KnownBytes.{Appends, Consumes}
 use Rattle.press_callbacks.specs.Kits.{KitView}
 use Rattle.press_text.specs.Streams.{AppendsFront}
@@ -21,19 +20,11 @@ use Rattle.press_page.specs.declared.reply.Target.{Target}
 use Rattle.press_node.specs.declared.fault.NodeFault.{NodeFault}
 use Rattle.press_node.specs.declared.fault.NodeFault.TheVariants.{Down, TooLong, Full, SlotsUsedUp, RoundsUsedUp, Disk, Damaged, NoMemory}
 use Rattle.press_wire.specs.declared.message.Message.{Message}
-use Rattle.press_acceptor.specs.StoreMap.{StoreMap}
-use Rattle.press_acceptor.specs.declared.fault.StoreFault.{StoreFault}
-use Rattle.press_learner.specs.Chosen.{chosen_next}
 use Rattle.press_node.specs.declared.event.Event.{Event}
 use Rattle.press_node.specs.declared.event.Event.TheVariants.{Submit, Deliver}
 use Rattle.press_node.specs.declared.serve.Served.{Served}
-use Rattle.press_node.specs.Durable.{AreStored}
-use Rattle.press_node.specs.Faults.{IsRefusedBy, MayMeet, stops}
-use Rattle.press_node.specs.Memory.{TakesMemoryIn}
-use Rattle.press_node.specs.NodeEvent.{left_by}
-use Rattle.press_node.specs.Nodes.{IsPageAt}
-use Rattle.press_node.specs.Refusals.{refusal, refusal_at_once}
-use Rattle.press_node.specs.States.{NodeState, Up, answer_in, running_in, stopped}
+use Rattle.press_node.specs.Nodes.{IsPageAt, NodeMove}
+use Rattle.press_node.specs.States.{Up}
 
 -- too long a command is too big a body; for all else the node has no answer now
 abbrev pub status_of_node : NodeFault → ℕ
@@ -78,28 +69,6 @@ ShowsFront kit up target old new = ((reply : Reply) × IsPageAt kit up target re
 
 -- ---- events
 
--- What an event did to a node and its store, over a store that is honest and open.
-pub record Plays (fails_by round_fails_by : StoreFault → Type 0) (honest is_open : Type 0) (kept after_kept : StoreMap) (faults after_faults : ℕ) (state after_state : NodeState) (event : Event) (outcome : Result (List Message) NodeFault) : Type 0 where
-  pub same_id : after_state.id ≡ state.id
-  pub same_members : after_state.members ≡ state.members
-  pub messages : honest → IfOk outcome (λ out. IsSomeAnd (answer_in kept state event) (λ a. out ≡ a.out))
-  pub after : honest → OnOk outcome (IsSomeAnd (answer_in kept state event) (λ a. running_in after_state ≡ Some a.after))
-  pub saved : honest → is_open → OnOk outcome (IsSomeAnd (answer_in kept state event) (λ a. after_kept ≡ left_by kept a))
-  pub durable : honest → is_open → IfOk outcome (λ out. AreStored after_kept out)
-  pub few : honest → IfOk outcome (λ out. length out ≤ 7)
-  pub was_stopped : IfErr outcome (λ fault. stops fault ≡ true → after_state ≡ stopped state)
-  pub unchanged : IfErr outcome (λ fault. stops fault ≡ false → after_state ≡ state)
-  pub failed : honest → is_open → OnErr outcome ((after_kept ≡ kept) ⊎ IsSomeAnd (answer_in kept state event) (λ a. after_kept ≡ left_by kept a))
-  pub unsaved : honest → is_open → IfErr outcome (λ fault. stops fault ≡ false → after_kept ≡ kept)
-  pub at_once : IfSome (refusal_at_once (running_in state) event) (λ fault. outcome ≡ Err fault)
-  pub refused : honest → IfErr outcome (λ fault. stops fault ≡ false → refusal kept (running_in state) event ≡ Some fault)
-  pub settled : IfSome (running_in after_state) (λ node. chosen_next node.learner ≡ None)
-  pub passes : honest → OnOk outcome (refusal kept (running_in state) event ≡ None)
-  pub fault : IfErr outcome (MayMeet fails_by (TakesMemoryIn state event))
-  pub stays : honest → is_open → IfSome (refusal kept (running_in state) event) (λ _. after_kept ≡ kept)
-  pub tells : honest → IfSome (refusal kept (running_in state) event) (λ fault. IsErrAnd outcome (IsRefusedBy round_fails_by fault))
-  pub disk : IfErr outcome (λ fault. fault ≡ Disk → faults < after_faults)
-
 -- the reply, with the event's messages to be sent; or the fixed body of its fault, with nothing to be sent
 abbrev pub AnswersBy : Result (List Message) NodeFault → Reply → Option (List ℕ) → Option (List ℕ) → ℕ → List Message → Type 0
 AnswersBy (Ok out) reply old new status outbox = (outbox ≡ out) × Tells old new reply status
@@ -110,8 +79,8 @@ AnswersFront (Ok out) reply old new = TellsFront old new reply
 AnswersFront (Err fault) reply old new = AppendsFront old new (fault_bytes (status_of_node fault))
 
 -- the event was played and answered
-abbrev pub IsPlayed : (Event → Result (List Message) NodeFault → Type 0) → Event → Reply → Option (List ℕ) → Option (List ℕ) → Result Served HttpFault → Type 0
-IsPlayed plays event reply old new result =
+abbrev pub PlaysAndTells : (Event → Result (List Message) NodeFault → Type 0) → Event → Reply → Option (List ℕ) → Option (List ℕ) → Result Served HttpFault → Type 0
+PlaysAndTells plays event reply old new result =
     (outcome : Result (List Message) NodeFault) × plays event outcome
     × MatchResult result (λ s. AnswersBy outcome reply old new s.status s.outbox.items) (λ e. (e ≡ WriteFault) × AnswersFront outcome reply old new)
 
@@ -133,18 +102,18 @@ IsClosed fault None old new result = (result ≡ Err fault) × (new ≡ old)
 IsClosed fault (Some status) old new result = TellsStatus status old new result
 
 -- What is asked is done and told. A page leaves the node unchanged, and so does a command whose reply has no memory before it is played.
-abbrev pub IsAnswered : Type 0 → (Event → Result (List Message) NodeFault → Type 0) → KitView → Option Up → Option (List ℕ) → Option (List ℕ) → Asked → Result Served HttpFault → Type 0
-IsAnswered unchanged plays kit up old new (Page target) result = unchanged × IsShown kit up target old new result
-IsAnswered unchanged plays kit up old new (Command stamped) result = IsPlayed plays (Submit stamped) queued old new result ⊎ (unchanged × TellsStatus 503 old new result)
-IsAnswered unchanged plays kit up old new (Peer message) result = IsPlayed plays (Deliver message) taken old new result
+abbrev pub IsAnswered : NodeMove → Option (List ℕ) → Option (List ℕ) → Asked → Result Served HttpFault → Type 0
+IsAnswered node old new (Page target) result = node.same × IsShown node.kit node.up target old new result
+IsAnswered node old new (Command stamped) result = PlaysAndTells node.plays (Submit stamped) queued old new result ⊎ (node.same × TellsStatus 503 old new result)
+IsAnswered node old new (Peer message) result = PlaysAndTells node.plays (Deliver message) taken old new result
 
 -- and bytes that ask for nothing leave it unchanged
-abbrev pub IsServed : Type 0 → (Event → Result (List Message) NodeFault → Type 0) → KitView → Option Up → Option (List ℕ) → Option (List ℕ) → Result Asked HttpFault → Result Served HttpFault → Type 0
-IsServed unchanged plays kit up old new (Ok asked) result = IsAnswered unchanged plays kit up old new asked result
-IsServed unchanged plays kit up old new (Err fault) result = unchanged × IsClosed fault (status_of fault) old new result
+abbrev pub IsServed : NodeMove → Option (List ℕ) → Option (List ℕ) → Result Asked HttpFault → Result Served HttpFault → Type 0
+IsServed node old new (Ok asked) result = IsAnswered node old new asked result
+IsServed node old new (Err fault) result = node.same × IsClosed fault (status_of fault) old new result
 
 -- so many bytes at most were seen, and what they ask for was served
-abbrev pub Serves : Type 0 → (Event → Result (List Message) NodeFault → Type 0) → KitView → Option Up → Option (List ℕ) → Option (List ℕ) → Option (List ℕ) → Option (List ℕ) → Result Served HttpFault → Type 0
-Serves unchanged plays kit up ahead left old new result =
+abbrev pub Serves : NodeMove → Option (List ℕ) → Option (List ℕ) → Option (List ℕ) → Option (List ℕ) → Result Served HttpFault → Type 0
+Serves node ahead left old new result =
     (seen : List ℕ) × Consumes ahead left seen × (length seen ≤ longest_request)
-    × (meant : Result Asked HttpFault) × AsksFor seen left meant × IsServed unchanged plays kit up old new meant result
+    × (meant : Result Asked HttpFault) × AsksFor seen left meant × IsServed node old new meant result

@@ -1,11 +1,11 @@
 -- What stands in memory, as the model's, and what its parts leave of it.
-use Rattle.std.specs.Prelude.{◌≡◌, ◌≤◌, ◌⊎◌, ℕ, Bool, true, false, Option, None, Some, option_map, length, List}
+use Rattle.std.specs.Prelude.{◌≡◌, ℕ, Bool, true, false, Option, None, Some, option_map}
 use Rattle.press_apply.specs.Apply.{applied, site_after}
 use Rattle.press_apply.specs.declared.value.Value.{Value}
 use Rattle.press_callbacks.specs.Kits.{KitView}
 use Rattle.press_learner.specs.Chosen.{chosen_next}
 use Rattle.press_node.specs.NodeEvent.{Running, with_applied}
-use Rattle.press_node.specs.Plays.{NodeMove}
+use Rattle.press_node.specs.Plays.{MemoryMove}
 use Rattle.press_node.specs.States as states
 use Rattle.press_node.specs.States.{IsRunningAt, IsWholeWhere}
 use Rattle.press_node.specs.declared.up.Up.{Up}
@@ -26,7 +26,7 @@ abbrev pub IsUp : ℕ → ℕ → Option Up → Type 0
 IsUp id members up = IsWholeWhere id members (option_map running_of up)
 
 -- memory, before and after
-abbrev pub up_moved : ℕ → ℕ → Up → Up → NodeMove
+abbrev pub up_moved : ℕ → ℕ → Up → Up → MemoryMove
 up_moved id members old new = record {
   id = id;
   members = members;

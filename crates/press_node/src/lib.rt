@@ -4,6 +4,7 @@
 mod event;
 mod fault;
 mod kept;
+mod laws;
 mod node;
 mod serve;
 mod start_fault;
@@ -13,6 +14,7 @@ mod up;
 pub use event::Event;
 pub use fault::NodeFault;
 pub use kept::Node;
+pub use laws::{few_messages_go_out, what_is_said_is_stored};
 pub use serve::{Served, serve_one};
 pub use start_fault::StartFault;
 pub use state::State;

@@ -54,10 +54,8 @@ impl<S> Node<S> {
     pub fn get(&self, target: &Target) -> Result<Reply, NodeFault>
         ensures page { IfOk result (λ reply. IsPageAt (kit_of self.now) (state_of self.now).up target.now reply) }
         ensures down { is_down (state_of self.now) ≡ true → result ≡ Err NodeFault.Down }
-        ensures fault {
-            IfErr result (λ fault. ((fault ≡ NodeFault.Down) × (is_down (state_of self.now) ≡ true))
-                ⊎ (fault ≡ NodeFault.NoMemory))
-        }
+        ensures fault { IfErr result (λ fault. ((fault ≡ NodeFault.Down) × (is_down (state_of self.now) ≡ true))
+            ⊎ (fault ≡ NodeFault.NoMemory)) }
     {
         self.state.get(&self.kit, target)
     }
@@ -74,23 +72,15 @@ impl<S: PromiseStore> Node<S> {
     ) -> Result<Node<S>, StartFault<S>>
         requires few { members ≤ 7 }
         requires member { id ≤ members }
-        ensures kit {
-            MatchResult result (λ node. kit_of node ≡ kit_view kit) (λ e. kit_view e.kit ≡ kit_view kit)
-        }
-        ensures state {
-            IfOk result (λ node. (S.seen (store_of node)).is_honest →
-                state_of node ≡ started_at id members (S.seen store).kept.last_round)
-        }
-        ensures calls {
-            MatchResult result
-                (λ node. Calls LoadsRound (S.seen store) (S.seen (store_of node)) None)
-                (λ e. Calls LoadsRound (S.seen store) (S.seen e.store) (Some e.fault))
-        }
-        ensures looks {
-            MatchResult result
-                (λ node. (S.seen (store_of node)).is_honest → Looks (S.seen store) (S.seen (store_of node)))
-                (λ e. (S.seen e.store).is_honest → Looks (S.seen store) (S.seen e.store))
-        }
+        ensures kit { MatchResult result (λ node. kit_of node ≡ kit_view kit) (λ e. kit_view e.kit ≡ kit_view kit) }
+        ensures state { IfOk result (λ node. (S.seen (store_of node)).is_honest →
+            state_of node ≡ started_at id members (S.seen store).kept.last_round) }
+        ensures calls { MatchResult result
+            (λ node. Calls LoadsRound (S.seen store) (S.seen (store_of node)) None)
+            (λ e. Calls LoadsRound (S.seen store) (S.seen e.store) (Some e.fault)) }
+        ensures looks { MatchResult result
+            (λ node. (S.seen (store_of node)).is_honest → Looks (S.seen store) (S.seen (store_of node)))
+            (λ e. (S.seen e.store).is_honest → Looks (S.seen store) (S.seen e.store)) }
     {
         match store.last_round() {
             Ok(last_round) => {

@@ -1,12 +1,25 @@
 //! One request of a connection, from its bytes to the bytes of its reply.
 
-ghost use Rattle.std.specs.Prelude.{◌≡◌, ◌≤◌, ℕ, List, [], length, IfOk, IfErr, OnErr, IsTrue, true, Result};
+ghost use Rattle.std.specs.Prelude.{◌≡◌, ◌≤◌, ℕ, List, [], length, IfOk, IfErr, OnErr};
 ghost use Rattle.std.specs.Io.KnownBytes.{Appends, Consumes};
 ghost use Rattle.press_text.specs.Streams.{AppendsFront};
 ghost use Rattle.press_http.specs.Replies.{IsTold, fault_bytes};
 ghost use Rattle.press_http.specs.Requests.{longest_request};
-ghost use Rattle.press_node.specs.Nodes.{kit_of, state_of, store_of};
-ghost use Rattle.press_node.specs.Serving.{AsksFor, IsAnswered, IsClosed, IsPlayed, Plays, queued, Serves, Shows, ShowsFront, taken, Tells, TellsFront, status_of_node};
+ghost use Rattle.press_node.specs.Nodes.{kit_of, node_moved, state_of};
+ghost use Rattle.press_node.specs.Serving.{
+  AsksFor,
+  IsAnswered,
+  IsClosed,
+  PlaysAndTells,
+  queued,
+  Serves,
+  Shows,
+  ShowsFront,
+  taken,
+  Tells,
+  TellsFront,
+  status_of_node,
+};
 ghost use Rattle.press_http.specs.Faults.{status_of};
 
 use crate::event::Event;
@@ -149,8 +162,8 @@ fn played<S: PromiseStore, W: Write>(
     reply: &Reply,
 ) -> Result<Served, HttpFault>
     ensures kit { kit_of node.new ≡ kit_of node.old }
-    ensures plays { IsPlayed (Plays S.fails_by S.round_fails_by (S.is_honest (store_of node.new)) (IsTrue (S.is_open (store_of node.new))) (S.kept (store_of node.old)) (S.kept (store_of node.new)) (S.faults (store_of node.old)) (S.faults (store_of node.new)) (state_of node.old) (state_of node.new)) event reply.now (W.contents writer.old) (W.contents writer.new) result }
-    ensures honest { S.is_honest (store_of node.new) → S.is_honest (store_of node.old) }
+    ensures plays { PlaysAndTells (node_moved S.seen node.old node.new).plays event reply.now (W.contents writer.old)
+        (W.contents writer.new) result }
 {
     let alloc = node.alloc;
     match node.on(event) {
@@ -176,8 +189,8 @@ fn answered<S: PromiseStore, W: Write>(
     asked: Asked,
 ) -> Result<Served, HttpFault>
     ensures kit { kit_of node.new ≡ kit_of node.old }
-    ensures honest { S.is_honest (store_of node.new) → S.is_honest (store_of node.old) }
-    ensures answered { IsAnswered (node.new ≡ node.old) (Plays S.fails_by S.round_fails_by (S.is_honest (store_of node.new)) (IsTrue (S.is_open (store_of node.new))) (S.kept (store_of node.old)) (S.kept (store_of node.new)) (S.faults (store_of node.old)) (S.faults (store_of node.new)) (state_of node.old) (state_of node.new)) (kit_of node.old) (state_of node.old).up (W.contents writer.old) (W.contents writer.new) asked result }
+    ensures answered { IsAnswered (node_moved S.seen node.old node.new) (W.contents writer.old) (W.contents writer.new)
+        asked result }
 {
     let alloc = node.alloc;
     match asked {
@@ -215,8 +228,8 @@ pub fn serve_one<S: PromiseStore, R: Read, W: Write>(
     writer: &mut W,
 ) -> Result<Served, HttpFault>
     ensures kit { kit_of node.new ≡ kit_of node.old }
-    ensures honest { S.is_honest (store_of node.new) → S.is_honest (store_of node.old) }
-    ensures served { Serves (node.new ≡ node.old) (Plays S.fails_by S.round_fails_by (S.is_honest (store_of node.new)) (IsTrue (S.is_open (store_of node.new))) (S.kept (store_of node.old)) (S.kept (store_of node.new)) (S.faults (store_of node.old)) (S.faults (store_of node.new)) (state_of node.old) (state_of node.new)) (kit_of node.old) (state_of node.old).up (R.remaining reader.old) (R.remaining reader.new) (W.contents writer.old) (W.contents writer.new) result }
+    ensures served { Serves (node_moved S.seen node.old node.new) (R.remaining reader.old) (R.remaining reader.new)
+        (W.contents writer.old) (W.contents writer.new) result }
 {
     match asked(node.alloc, reader) {
         Ok(asked) => answered(node, writer, asked),

@@ -5,7 +5,13 @@ ghost use Rattle.press_callbacks.specs.Kits.{kit_view};
 ghost use Rattle.press_node.specs.Nodes.{IsPageAt};
 ghost use Rattle.press_node.specs.Plays.{StatePlays};
 ghost use Rattle.press_node.specs.States.{
-    applied_count, is_down, IsFolded, IsMemberOf, IsWhole, started_at, stopped
+  applied_count,
+  is_down,
+  IsFolded,
+  IsMemberOf,
+  IsWhole,
+  started_at,
+  stopped,
 };
 
 use crate::event::Event;
@@ -104,15 +110,11 @@ impl State {
 
     /// The reply to a request for a page of what the applied values make.
     pub fn get(&self, kit: &Kit, target: &Target) -> Result<Reply, NodeFault>
-        ensures page {
-            IsFolded (kit_view kit.now) self.now →
-                IfOk result (λ reply. IsPageAt (kit_view kit.now) self.now.up target.now reply)
-        }
+        ensures page { IsFolded (kit_view kit.now) self.now →
+            IfOk result (λ reply. IsPageAt (kit_view kit.now) self.now.up target.now reply) }
         ensures down { is_down self.now ≡ true → result ≡ Err NodeFault.Down }
-        ensures fault {
-            IfErr result (λ fault. ((fault ≡ NodeFault.Down) × (is_down self.now ≡ true))
-                ⊎ (fault ≡ NodeFault.NoMemory))
-        }
+        ensures fault { IfErr result (λ fault. ((fault ≡ NodeFault.Down) × (is_down self.now ≡ true))
+            ⊎ (fault ≡ NodeFault.NoMemory)) }
     {
         let Some(up) = &self.up else {
             return Err(NodeFault::Down);
@@ -139,9 +141,7 @@ impl State {
     ) -> Result<Vec<Message>, NodeFault>
         ensures member { IsMemberOf self.old self.new }
         ensures whole { IsWhole self.new }
-        ensures plays {
-            StatePlays S.seen store.old store.new self.old self.new event (λ out. out.items) result
-        }
+        ensures plays { StatePlays S.seen store.old store.new self.old self.new event (λ out. out.items) result }
         ensures folded { IsFolded (kit_view kit.now) self.old → IsFolded (kit_view kit.now) self.new }
     {
         let (alloc, id, members) = (self.alloc, self.id, self.members);
@@ -155,9 +155,10 @@ impl State {
         match done {
             Ok(out) => Ok(out),
             Err(fault) => {
-                if fault.stops() {
-                    self.stop();
+                if !fault.stops() {
+                    return Err(fault);
                 }
+                drop(self.up.take());
                 Err(fault)
             }
         }

@@ -90,17 +90,13 @@ fn answered<S: PromiseStore>(
     message: &Message,
 ) -> Result<Vec<Message>, NodeFault>
     requires { members ≤ 7 }
-    ensures out {
-        Says (answer_calls message.now.slot message.now.body) (λ out. out.items)
-            (λ kept. (acceptor_answer members id kept message.now).out)
-            (moved S.seen store.old store.new) result
-    }
-    ensures turned {
-        MatchResult result
-            (λ _. Turned (answer_plan members id message.now) (moved S.seen store.old store.new) None)
-            (λ fault. (by : StoreFault) × (fault ≡ of_store by) ×
-                Turned (answer_plan members id message.now) (moved S.seen store.old store.new) (Some by))
-    }
+    ensures out { Says (answer_calls message.now.slot message.now.body) (λ out. out.items)
+        (λ kept. (acceptor_answer members id kept message.now).out)
+        (moved S.seen store.old store.new) result }
+    ensures turned { MatchResult result
+        (λ _. Turned (answer_plan members id message.now) (moved S.seen store.old store.new) None)
+        (λ fault. (by : StoreFault) × (fault ≡ of_store by) ×
+        Turned (answer_plan members id message.now) (moved S.seen store.old store.new) (Some by)) }
 {
     match Acceptor::answer(alloc, store, members, id, message) {
         Ok(out) => Ok(out),
@@ -254,12 +250,9 @@ impl Up {
         id: Member,
         members: u8,
     ) -> Result<Vec<Message>, NodeFault>
-        requires { IsUpAt id members self.old }
         ensures rest { IsBeside self.old self.new }
-        ensures plays {
-            Plays (moved S.seen store.old store.new) (up_moved id members self.old self.new) Event.Wake
-                (sent (λ out. out.items) result)
-        }
+        ensures plays { Plays (moved S.seen store.old store.new) (up_moved id members self.old self.new) Event.Wake
+            (sent (λ out. out.items) result) }
     {
         if self.is_at_end() {
             return Err(NodeFault::SlotsUsedUp);
@@ -313,15 +306,11 @@ impl Up {
         requires up { IsUpAt id members self.old }
         requires member { message.from ≤ members }
         ensures up { OnOk result (IsUpAt id members self.new) }
-        ensures folded {
-            OnOk result (IsUpFolded (kit_view kit.now) self.old → IsUpFolded (kit_view kit.now) self.new)
-        }
-        ensures plays {
-            PlaysBy (body_plan members id (running_of self.old) message message.body)
-                (λ kept. on_body members id kept (running_of self.old) message message.body) (λ _. None)
-                (moved S.seen store.old store.new) (up_moved id members self.old self.new)
-                (sent (λ out. out.items) result)
-        }
+        ensures folded { OnOk result (IsUpFolded (kit_view kit.now) self.old → IsUpFolded (kit_view kit.now) self.new) }
+        ensures plays { PlaysBy (body_plan members id (running_of self.old) message message.body)
+            (λ kept. on_body members id kept (running_of self.old) message message.body) (λ _. None)
+            (moved S.seen store.old store.new) (up_moved id members self.old self.new)
+            (sent (λ out. out.items) result) }
     {
         let Message {
             from,
@@ -365,13 +354,9 @@ impl Up {
     ) -> Result<Vec<Message>, NodeFault>
         requires { IsUpAt id members self.old }
         ensures up { OnOk result (IsUpAt id members self.new) }
-        ensures folded {
-            OnOk result (IsUpFolded (kit_view kit.now) self.old → IsUpFolded (kit_view kit.now) self.new)
-        }
-        ensures plays {
-            Plays (moved S.seen store.old store.new) (up_moved id members self.old self.new)
-                (Event.Deliver message) (sent (λ out. out.items) result)
-        }
+        ensures folded { OnOk result (IsUpFolded (kit_view kit.now) self.old → IsUpFolded (kit_view kit.now) self.new) }
+        ensures plays { Plays (moved S.seen store.old store.new) (up_moved id members self.old self.new)
+            (Event.Deliver message) (sent (λ out. out.items) result) }
     {
         if !is_for(members, id, &message) {
             drop(message);
@@ -393,13 +378,9 @@ impl Up {
         requires { IsUpAt id members self.old }
         ensures up { IfOk result (λ _. IsUpAt id members self.new) }
         ensures unchanged { IfErr result (λ fault. stops fault ≡ false → self.new ≡ self.old) }
-        ensures folded {
-            OnOk result (IsUpFolded (kit_view kit.now) self.old → IsUpFolded (kit_view kit.now) self.new)
-        }
-        ensures plays {
-            Plays (moved S.seen store.old store.new) (up_moved id members self.old self.new) event
-                (sent (λ out. out.items) result)
-        }
+        ensures folded { OnOk result (IsUpFolded (kit_view kit.now) self.old → IsUpFolded (kit_view kit.now) self.new) }
+        ensures plays { Plays (moved S.seen store.old store.new) (up_moved id members self.old self.new) event
+            (sent (λ out. out.items) result) }
     {
         match event {
             Event::Submit(command) => match self.submit(alloc, command) {

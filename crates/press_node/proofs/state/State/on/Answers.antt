@@ -1,19 +1,14 @@
-use Rattle.std.proofs.Common.{◌≤◌, length, sym, subst}
-use Rattle.press_node.specs.Durable.{AreStored}
-use Rattle.press_node.specs.Views.{running_of}
-use Rattle.press_node.proofs.Few.{event_few}
-use Rattle.press_node.proofs.Storing.{event_stored}
+use Rattle.std.proofs.Common.{Option, sym, ap, ◌∙◌}
+use Rattle.press_acceptor.specs.Turned.{moved}
+use Rattle.press_node.specs.States.{NodeState}
+use Rattle.press_node.specs.Views.{view_up}
+use Rattle.press_node.specs.declared.up.Up.{Up}
+use Rattle.press_node.proofs.Playing.{stopped_plays}
 use Rattle.press_node.proofs.state.State.on.Goals as goal
 
-pub returns-in-Ok-clause-few : goal.returns-in-Ok-clause-few
-returns-in-Ok-clause-few g c = λ h.
-    let d = c.in-Ok.ensures.ok in
-    subst (λ xs. length xs ≤ 7) (sym (d.messages h))
-    (event_few c.self.inside.members c.self.inside.id (g.S.PromiseStore.kept c.args.store.now) (running_of c.in-Some.up) c.args.event d.before.small (subst (λ n. n ≤ 7) (sym d.before.members_of) d.before.small))
-
-pub returns-in-Ok-clause-durable : goal.returns-in-Ok-clause-durable
-returns-in-Ok-clause-durable g c = λ h o.
-    let d = c.in-Ok.ensures.ok in
-    let store = g.S.PromiseStore.kept c.args.store.now in
-    subst (λ s. AreStored s c.in-Ok.out.items) (sym (d.saved h o))
-    (subst (AreStored _) (sym (d.messages h)) (event_stored c.self.inside.members c.self.inside.id store (running_of c.in-Some.up) c.args.event))
+pub returns-else-not-stops-clause-plays : goal.returns-else-not-stops-clause-plays
+returns-else-not-stops-clause-plays g c =
+    let at : Option Up → NodeState = λ up. record { id = c.self.inside.id; members = c.self.inside.members; up = view_up up } in
+    stopped_plays (moved g.S.PromiseStore.seen c.args.store.now c.on-done.new.store) c.self.inside.id c.self.inside.members c.in-Some.up c.on-done.new.self
+    c.args.self.now (at c.take.new.self) c.args.event c.in-Err.fault
+    (sym c.self.view_is ∙ ap at c.in-Some.is) (ap at c.take.ensures.after) (sym c.if-not-stops.ensures) c.in-Err.ensures.plays
