@@ -1,6 +1,6 @@
 ghost use Rattle.std.specs.Prelude.{◌≡◌, ◌≤◌};
 
-use crate::tests::common::{node, round, tick};
+use crate::tests::synod::{node, round, tick};
 use press_acceptor::{MemoryStore, PromiseStore};
 use press_proposer::{Proposer, ProposerFault};
 use press_wire::{Body, Message, Node};

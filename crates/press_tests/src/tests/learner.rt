@@ -1,6 +1,6 @@
 ghost use Rattle.std.specs.Prelude.{◌≡◌, ◌≤◌};
 
-use crate::tests::common::{ballot, noop, slot};
+use crate::tests::synod::{ballot, noop, slot};
 use press_learner::Learner;
 use press_wire::{Node, Vote};
 use std::test::Fail;

@@ -1,4 +1,4 @@
-use crate::tests::common::{ballot, node, noop, round, slot};
+use crate::tests::synod::{ballot, node, noop, round, slot};
 use press_acceptor::{Acceptor, MemoryStore, PromiseStore, Row, Said};
 use press_wire::{Body, Message};
 use std::test::Fail;
