@@ -4,6 +4,8 @@ pub mod Example
 pub mod Legal
 pub mod Majorities
 pub mod Maps
+pub mod NewRounds
+pub mod NewStores
 pub mod Sends
 pub mod Stores
 pub mod Turned

@@ -1,10 +1,12 @@
 -- What a turn is once the row of its slot was read, and how the steps of a call join.
-use Rattle.std.proofs.Common.{ℕ, ◌≡◌, ◌⊎◌, inl, inr, None, Some, sym, ap, ◌∙◌}
+use Rattle.std.proofs.Common.{ℕ, ◌≡◌, ◌⊎◌, inl, inr, IsTrue, Option, None, Some, sym, ap, ◌∙◌}
 use Rattle.press_wire.specs.declared.ballot.Ballot.{Ballot}
 use Rattle.press_wire.specs.declared.vote.Vote.{Vote}
 use Rattle.press_acceptor.specs.declared.row.Row.{Row}
 use Rattle.press_acceptor.specs.declared.said.Said.TheVariants.{Promise, Nack, Accepted}
-use Rattle.press_acceptor.specs.StoreMap.{StoreMap, row_at, with_row, saved, Only, NoMore}
+use Rattle.press_acceptor.specs.declared.fault.StoreFault.{StoreFault}
+use Rattle.press_acceptor.specs.Seen.{Seen, Looks, MayBeSaved, Saves, SavesIf}
+use Rattle.press_acceptor.specs.StoreMap.{StoreMap, Save, row_at, with_row, saved, Only}
 use Rattle.press_acceptor.specs.StoreMap.Save.{SavePromise, SaveVote}
 use Rattle.press_acceptor.specs.Turns.{unless_greater, if_less, cast_in, told, prepare_by, prepare_turn, accept_by, accept_turn, query_turn}
 
@@ -39,11 +41,37 @@ module _ (store : StoreMap) (slot : ℕ) (row : Row) (is : row ≡ row_at store 
   pub query_tells : query_turn store slot ≡ record { save = None; said = told row.vote }
   query_tells = ap (λ (r : Row). record { save = None; said = told r.vote }) (sym is)
 
--- reading leaves nothing new to a crash
-pub only_after_load : (old new : StoreMap) (before after : StoreMap → Type 0) → Only old before → NoMore before after → new ≡ old → Only new after
-only_after_load old new before after only no_more same left l = only left (no_more left l) ∙ sym same
+-- a save after a read
+pub looks_then : (old read new : Seen) (f : StoreMap → StoreMap) (fault : Option StoreFault) → Looks old read → Saves read new (f read.kept) fault → Saves old new (f old.kept) fault
+looks_then old read new f None l s = record {
+  was_open = l.was_open s.was_open;
+  is_open = s.is_open;
+  kept = s.kept ∙ ap f (l.same s.was_open);
+  durable = s.durable;
+}
+looks_then old read new f (Some fault) l s = record {
+  was_open = λ o. l.was_open (s.was_open o);
+  kept = λ o. kept o (s.kept o);
+  crash = λ left m. crash left (s.crash left m);
+}
+  where
+    kept : IsTrue new.is_open → (new.kept ≡ read.kept) ⊎ (new.kept ≡ f read.kept) → (new.kept ≡ old.kept) ⊎ (new.kept ≡ f old.kept)
+    kept o (inl e) = inl (e ∙ l.same (s.was_open o))
+    kept o (inr e) = inr (e ∙ ap f (l.same (s.was_open o)))
 
--- a save that failed, after a read
-pub failed_after_load : (old read new : StoreMap) (slot : ℕ) (row : Row) → read ≡ old → (new ≡ read) ⊎ (new ≡ with_row read slot row) → (new ≡ old) ⊎ (new ≡ with_row old slot row)
-failed_after_load old read new slot row same (inl e) = inl (e ∙ same)
-failed_after_load old read new slot row same (inr e) = inr (e ∙ ap (λ s. with_row s slot row) same)
+    crash : (left : StoreMap) → read.may_leave left ⊎ (IsTrue read.is_open × (left ≡ f read.kept)) → old.may_leave left ⊎ (IsTrue old.is_open × (left ≡ f old.kept))
+    crash left (inl m) = inl (l.crash left m)
+    crash left (inr e) = inr (l.was_open e.0, e.1 ∙ ap f (l.same e.0))
+
+-- a read, and then no save
+pub looks_only : (old new : Seen) (after : StoreMap) → Looks old new → MayBeSaved old new after
+looks_only old new after l = record { was_open = l.was_open; kept = λ o. inl (l.same o); crash = λ left m. inl (l.crash left m) }
+
+pub looks_if : (old new : Seen) (save : Option Save) (fault : StoreFault) → Looks old new → SavesIf save old new (Some fault)
+looks_if old new None fault l = l
+looks_if old new (Some save) fault l = looks_only old new (saved old.kept save) l
+
+-- a crash that could leave only what the store shows does so again after a turn that was done
+pub settled_stays : (old new : Seen) (save : Option Save) → SavesIf save old new None → Only old.kept old.may_leave → IsTrue new.is_open → Only new.kept new.may_leave
+settled_stays old new None l only o = λ left m. only left (l.crash left m) ∙ sym (l.same o)
+settled_stays old new (Some save) s only o = s.durable

@@ -1,5 +1,5 @@
 -- When a member's store holds what a trace says of the member, and the fact that enters the trace with each save.
-use Rattle.std.specs.Prelude.{ℕ, ◌≡◌, ◌≤◌, ◌⊎◌, Option, None, Some, List, ◌∷◌}
+use Rattle.std.specs.Prelude.{ℕ, ◌≡◌, ◌<◌, ◌≤◌, ◌⊎◌, Option, None, Some, List, ◌∷◌}
 use Rattle.press_apply.specs.declared.value.Value.{Value}
 use Rattle.press_wire.specs.declared.ballot.Ballot.{Ballot}
 use Rattle.press_wire.specs.declared.vote.Vote.{Vote}
@@ -46,3 +46,8 @@ abbrev pub IsLegalSave : ℕ → ℕ → StoreMap → List Fact → Save → Typ
 IsLegalSave n member store trace save =
     Allowed n block_of trace (fact_of member store save)
     × StoreAgrees member (saved store save) (fact_of member store save ∷ trace)
+
+-- any round after the store's last one can be saved, for any block: it is legal, whatever the number of members
+abbrev pub CanBegin : ℕ → StoreMap → List Fact → Type 0
+CanBegin member store trace =
+    (n round block : ℕ) → store.last_round < round → IsLegalSave n member store trace (SaveRound round block)

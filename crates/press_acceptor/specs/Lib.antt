@@ -4,7 +4,11 @@ pub mod Ballots
 pub mod Blocks
 pub mod Codes
 pub mod Faults
+pub mod InMemory
 pub mod Messages
+pub mod Plans
+pub mod Seen
 pub mod StoreMap
 pub mod Trace
+pub mod Turned
 pub mod Turns

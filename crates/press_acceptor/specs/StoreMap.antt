@@ -1,5 +1,5 @@
 -- What a member keeps across stops: a finite map from slots to rows, and the last round that it used (Paxos Made Simple, 2.5).
-use Rattle.std.specs.Prelude.{ℕ, ◌≡◌, ◌⊎◌, Option, None, Some, unwrap_or}
+use Rattle.std.specs.Prelude.{ℕ, ◌≡◌, ◌⊎◌, Bool, IsTrue, Option, None, Some, unwrap_or}
 use Rattle.std.specs.Ordering.{nat_cmp}
 use Rattle.std.specs.FinMap as map
 use Rattle.std.specs.FinMap.{FinMap}
@@ -57,14 +57,14 @@ saved_if store (Some save) = saved store save
 
 -- ---- what a stop leaves of a store
 
--- this and nothing else
+-- Only: a crash leaves this and nothing else
 abbrev pub Only : StoreMap → (StoreMap → Type 0) → Type 0
 Only store may_leave = (left : StoreMap) → may_leave left → left ≡ store
 
--- what it could leave before, or this
-abbrev pub OldOr : (StoreMap → Type 0) → (StoreMap → Type 0) → StoreMap → Type 0
-OldOr old new after = (left : StoreMap) → new left → old left ⊎ (left ≡ after)
+-- OldOr: what a crash may leave now, it could leave before, or, of a store that was open, it is this
+abbrev pub OldOr : (StoreMap → Type 0) → (StoreMap → Type 0) → Bool → StoreMap → Type 0
+OldOr old new was_open after = (left : StoreMap) → new left → old left ⊎ (IsTrue was_open × (left ≡ after))
 
--- nothing that it could not leave before
+-- NoMore: what a crash may leave now, it could leave before
 abbrev pub NoMore : (StoreMap → Type 0) → (StoreMap → Type 0) → Type 0
 NoMore old new = (left : StoreMap) → new left → old left

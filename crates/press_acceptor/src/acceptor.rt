@@ -1,9 +1,10 @@
 //! What an acceptor does with each request: at most one save, and what it says after it.
 
-ghost use Rattle.std.specs.Prelude.{◌≡◌, ◌⊎◌, ◌<◌, IsTrue, IfOk, IfErr, OnOk, OnErr, Err};
-ghost use Rattle.press_acceptor.specs.StoreMap.{Only};
-ghost use Rattle.press_acceptor.specs.Turns.{prepare_turn, accept_turn, query_turn, left_by};
-ghost use Rattle.press_acceptor.specs.declared.fault.StoreFault.TheVariants.{NoMemory};
+ghost use Rattle.press_wire.specs.declared.vote.Vote.{Vote};
+ghost use Rattle.press_acceptor.specs.Plans.{accept_plan, prepare_plan, query_plan, reads, reads_and_saves};
+ghost use Rattle.press_acceptor.specs.Seen.{fault_in};
+ghost use Rattle.press_acceptor.specs.Turned.{Says, Turned, moved};
+ghost use Rattle.press_acceptor.specs.Turns.{accept_turn, prepare_turn, query_turn};
 
 use crate::fault::StoreFault;
 use crate::row::Row;
@@ -26,13 +27,11 @@ impl Acceptor {
         slot: Slot,
         ballot: Ballot,
     ) -> Result<Said, StoreFault>
-        ensures said { S.is_honest store.new → IfOk result (λ said. said ≡ (prepare_turn (S.kept store.old) slot ballot).said) }
-        ensures saved { S.is_honest store.new → IsTrue (S.is_open store.new) → OnOk result (S.kept store.new ≡ left_by (S.kept store.old) (prepare_turn (S.kept store.old) slot ballot)) }
-        ensures durable { S.is_honest store.new → IsTrue (S.is_open store.new) → Only (S.kept store.old) (S.may_leave store.old) → OnOk result (Only (S.kept store.new) (S.may_leave store.new)) }
-        ensures failed { S.is_honest store.new → IsTrue (S.is_open store.new) → OnErr result ((S.kept store.new ≡ S.kept store.old) ⊎ (S.kept store.new ≡ left_by (S.kept store.old) (prepare_turn (S.kept store.old) slot ballot))) }
-        ensures honest { S.is_honest store.new → S.is_honest store.old }
-        ensures fault { IfErr result S.fails_by }
-        ensures disk { result ≡ Err StoreFault.Disk → S.faults store.old < S.faults store.new }
+        ensures said {
+            Says (reads_and_saves slot) (λ said. said) (λ kept. (prepare_turn kept slot ballot).said)
+                (moved S.seen store.old store.new) result
+        }
+        ensures turned { Turned (prepare_plan slot ballot) (moved S.seen store.old store.new) (fault_in result) }
     {
         let row = store.load(slot)?;
         if let Some(promised) = row.refuses_prepare(&ballot) {
@@ -54,13 +53,15 @@ impl Acceptor {
         ballot: Ballot,
         value: &Value,
     ) -> Result<Said, StoreFault>
-        ensures said { S.is_honest store.new → IfOk result (λ said. said ≡ (accept_turn (S.kept store.old) slot (record { ballot = ballot; value = value.now })).said) }
-        ensures saved { S.is_honest store.new → IsTrue (S.is_open store.new) → OnOk result (S.kept store.new ≡ left_by (S.kept store.old) (accept_turn (S.kept store.old) slot (record { ballot = ballot; value = value.now }))) }
-        ensures durable { S.is_honest store.new → IsTrue (S.is_open store.new) → Only (S.kept store.old) (S.may_leave store.old) → OnOk result (Only (S.kept store.new) (S.may_leave store.new)) }
-        ensures failed { S.is_honest store.new → IsTrue (S.is_open store.new) → OnErr result ((S.kept store.new ≡ S.kept store.old) ⊎ (S.kept store.new ≡ left_by (S.kept store.old) (accept_turn (S.kept store.old) slot (record { ballot = ballot; value = value.now })))) }
-        ensures honest { S.is_honest store.new → S.is_honest store.old }
-        ensures fault { IfErr result (λ f. (f ≡ NoMemory) ⊎ S.fails_by f) }
-        ensures disk { result ≡ Err StoreFault.Disk → S.faults store.old < S.faults store.new }
+        ensures said {
+            let vote : Vote = record { ballot = ballot; value = value.now } in
+            Says (reads_and_saves slot) (λ said. said) (λ kept. (accept_turn kept slot vote).said)
+                (moved S.seen store.old store.new) result
+        }
+        ensures turned {
+            let vote : Vote = record { ballot = ballot; value = value.now } in
+            Turned (accept_plan slot vote) (moved S.seen store.old store.new) (fault_in result)
+        }
     {
         let row = store.load(slot)?;
         let refused = row.refuses_accept(&ballot);
@@ -78,12 +79,11 @@ impl Acceptor {
 
     /// Tells the vote for the slot, where there is one.
     pub fn on_query<S: PromiseStore>(store: &mut S, slot: Slot) -> Result<Said, StoreFault>
-        ensures said { S.is_honest store.new → IfOk result (λ said. said ≡ (query_turn (S.kept store.old) slot).said) }
-        ensures same { S.is_honest store.new → IsTrue (S.is_open store.new) → S.kept store.new ≡ S.kept store.old }
-        ensures durable { S.is_honest store.new → IsTrue (S.is_open store.new) → Only (S.kept store.old) (S.may_leave store.old) → Only (S.kept store.new) (S.may_leave store.new) }
-        ensures honest { S.is_honest store.new → S.is_honest store.old }
-        ensures fault { IfErr result S.fails_by }
-        ensures disk { result ≡ Err StoreFault.Disk → S.faults store.old < S.faults store.new }
+        ensures said {
+            Says (reads slot) (λ said. said) (λ kept. (query_turn kept slot).said)
+                (moved S.seen store.old store.new) result
+        }
+        ensures turned { Turned (query_plan slot) (moved S.seen store.old store.new) (fault_in result) }
     {
         let row = store.load(slot)?;
         Ok(Said::of_vote(row.vote))

@@ -1,8 +1,12 @@
 //! The acceptor's part of a node's event: the messages that answer one message.
 
-ghost use Rattle.std.specs.Prelude.{◌≡◌, ◌⊎◌, ◌<◌, ◌≤◌, IsTrue, IfOk, IfErr, OnOk, OnErr, Err};
-ghost use Rattle.press_acceptor.specs.Answers.{acceptor_answer, left_by_answer, said_out, query_out};
-ghost use Rattle.press_acceptor.specs.declared.fault.StoreFault.TheVariants.{NoMemory};
+ghost use Rattle.std.specs.Prelude.{◌≡◌, ◌≤◌, IfOk, OnErr};
+ghost use Rattle.press_wire.specs.declared.vote.Vote.{Vote};
+ghost use Rattle.press_acceptor.specs.Answers.{acceptor_answer, said_out, query_out};
+ghost use Rattle.press_acceptor.specs.Plans.{answer_calls, answer_plan};
+ghost use Rattle.press_acceptor.specs.Seen.{fault_in};
+ghost use Rattle.press_acceptor.specs.Turned.{Says, Turned, moved};
+ghost use Rattle.press_acceptor.specs.declared.said.Said.TheVariants as says;
 
 use crate::acceptor::Acceptor;
 use crate::fault::StoreFault;
@@ -24,12 +28,14 @@ impl Acceptor {
         message: &Message,
     ) -> Result<Vec<Message>, StoreFault>
         requires { members ≤ 7 }
-        ensures out { S.is_honest store.new → IfOk result (λ out. out.items ≡ (acceptor_answer members id (S.kept store.old) message.now).out) }
-        ensures saved { S.is_honest store.new → IsTrue (S.is_open store.new) → OnOk result (S.kept store.new ≡ left_by_answer (S.kept store.old) (acceptor_answer members id (S.kept store.old) message.now)) }
-        ensures failed { S.is_honest store.new → IsTrue (S.is_open store.new) → OnErr result ((S.kept store.new ≡ S.kept store.old) ⊎ (S.kept store.new ≡ left_by_answer (S.kept store.old) (acceptor_answer members id (S.kept store.old) message.now))) }
-        ensures honest { S.is_honest store.new → S.is_honest store.old }
-        ensures fault { IfErr result (λ f. (f ≡ NoMemory) ⊎ S.fails_by f) }
-        ensures disk { result ≡ Err StoreFault.Disk → S.faults store.old < S.faults store.new }
+        ensures out {
+            Says (answer_calls message.now.slot message.now.body) (λ out. out.items)
+                (λ kept. (acceptor_answer members id kept message.now).out)
+                (moved S.seen store.old store.new) result
+        }
+        ensures turned {
+            Turned (answer_plan members id message.now) (moved S.seen store.old store.new) (fault_in result)
+        }
     {
         let (asker, slot) = (message.from, message.slot);
         match &message.body {
@@ -90,7 +96,8 @@ fn query_messages(
     asker: Node,
     said: Said,
 ) -> Result<Vec<Message>, AllocError>
-    ensures { IfOk result (λ out. out.items ≡ query_out id slot asker said) }
+    ensures out { IfOk result (λ out. out.items ≡ query_out id slot asker said) }
+    ensures memory { OnErr result ((vote : Vote) × (said ≡ says.Accepted vote)) }
 {
     match said {
         Said::Accepted(vote) => to_one(alloc, id, slot, Body::Accepted { vote }, asker),

@@ -1,14 +1,14 @@
 //! Laws of the protocol.
 
-ghost use Rattle.std.specs.Prelude.{◌≡◌, ◌≢◌, ℕ, List, ◌∷◌, ◌++◌, Some, true, false};
+ghost use Rattle.std.specs.Prelude.{◌≡◌, ◌≢◌, ℕ, List, [], ◌∷◌, ◌++◌, Some, true, false};
 ghost use Rattle.press_apply.specs.declared.value.Value.{Value};
 ghost use Rattle.press_wire.specs.Ballots.{is_less};
 ghost use Rattle.press_wire.specs.declared.ballot.Ballot.{Ballot};
 ghost use Rattle.press_wire.specs.declared.vote.Vote.{Vote};
-ghost use Rattle.press_acceptor.specs.Agrees.{StoreAgrees, IsLegalSave, IsOf};
+ghost use Rattle.press_acceptor.specs.Agrees.{StoreAgrees, IsLegalSave, IsOf, CanBegin};
 ghost use Rattle.press_acceptor.specs.Ballots.{AtMost, Less};
 ghost use Rattle.press_acceptor.specs.Blocks.{block_of};
-ghost use Rattle.press_acceptor.specs.StoreMap.{StoreMap, Save};
+ghost use Rattle.press_acceptor.specs.StoreMap.{StoreMap, Save, new_store};
 ghost use Rattle.press_acceptor.specs.Trace.{Fact, Has, Legal, Chosen};
 ghost use Rattle.press_acceptor.specs.Trace.Fact.{Prepared, Proposed};
 ghost use Rattle.press_acceptor.specs.Turns.{prepare_turn, accept_turn};
@@ -31,6 +31,18 @@ pub fn acceptor_saves_legal_facts()
     ensures votes { (n member : ℕ) (store : StoreMap) (slot : ℕ) (vote : Vote) (trace : List Fact) (save : Save) → StoreAgrees member store trace → Has trace (Proposed vote.ballot slot vote.value) → (accept_turn store slot vote).save ≡ Some save → IsLegalSave n member store trace save }
     ensures others { (member other : ℕ) (store : StoreMap) (fact : Fact) (trace : List Fact) → member ≢ other → IsOf other fact → StoreAgrees member store trace → StoreAgrees member store (fact ∷ trace) }
     ensures proposals { (member : ℕ) (store : StoreMap) (ballot : Ballot) (slot : ℕ) (value : Value) (trace : List Fact) → StoreAgrees member store trace → StoreAgrees member store (Proposed ballot slot value ∷ trace) }
+{}
+
+/// Where a member's store holds what the trace says of the member, each round after its last one is saved as a legal fact, and the store
+/// holds it again after both: the member has used no such round, for any block.
+pub fn a_new_round_is_legal()
+    ensures rounds { (m : ℕ) (s : StoreMap) (t : List Fact) → StoreAgrees m s t → CanBegin m s t }
+{}
+
+/// Where nothing has happened yet, a store in which nothing is saved holds what the trace says of any member, and the trace is legal.
+pub fn a_new_store_agrees()
+    ensures agrees { (member : ℕ) → StoreAgrees member new_store [] }
+    ensures legal { (n : ℕ) (block_of : ℕ → ℕ) → Legal n block_of [] }
 {}
 
 /// The computed order of ballots is that of the protocol's definitions.

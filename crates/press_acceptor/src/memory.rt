@@ -104,21 +104,18 @@ impl MemoryStore {
 
 impl PromiseStore for MemoryStore {
     ghost use Rattle.std.specs.Prelude.{◌≡◌, true};
-    ghost use Rattle.press_acceptor.specs.declared.fault.StoreFault.TheVariants.{NoMemory};
+    ghost use Rattle.press_acceptor.specs.InMemory.{EndsInMemory};
 
-    ghost kept = { λ s. s };
-
-    ghost may_leave = { λ s left. left ≡ s };
-
-    ghost is_honest = { λ _. Unit {0} };
-
-    ghost is_open = { λ _. true };
-
-    ghost faults = { λ _. 0 };
-
-    ghost fails_by = { λ f. f ≡ NoMemory };
-
-    ghost round_fails_by = { λ _. ⊥ };
+    ghost seen = {
+        λ s. record {
+            is_honest = Unit {0};
+            is_open = true;
+            kept = s;
+            may_leave = λ left. left ≡ s;
+            faults = 0;
+            ends = EndsInMemory s;
+        }
+    };
 
     fn faults(&self) -> u64 {
         0
@@ -145,4 +142,8 @@ impl PromiseStore for MemoryStore {
         self.last_round = round.number();
         Ok(())
     }
+
+    ghost use Rattle.std.specs.Prelude.{refl};
+
+    ghost shows = { λ store honest is_open. refl };
 }

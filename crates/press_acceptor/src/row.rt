@@ -1,4 +1,4 @@
-ghost use Rattle.std.specs.Prelude.{◌≡◌, IfOk, Some};
+ghost use Rattle.std.specs.Prelude.{◌≡◌, IfOk, IsSome, OnErr, Some};
 ghost use Rattle.press_acceptor.specs.StoreMap.{new_row};
 ghost use Rattle.press_acceptor.specs.Turns.{cast_in, if_less, unless_greater};
 
@@ -35,9 +35,10 @@ impl Row {
         }
     }
 
-    /// The same row once more.
+    /// The same row once more. Only a vote takes memory.
     pub fn copy(&self, alloc: Global) -> Result<Row, AllocError>
-        ensures { IfOk result (λ r. r ≡ self.now) }
+        ensures copied { IfOk result (λ r. r ≡ self.now) }
+        ensures memory { OnErr result (IsSome self.now.vote) }
     {
         let vote = match &self.vote {
             Some(vote) => Some(vote.copy(alloc)?),

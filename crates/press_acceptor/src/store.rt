@@ -1,5 +1,7 @@
-ghost use Rattle.std.specs.Prelude.{◌≡◌, ◌⊎◌, ◌<◌, ◌≤◌, IsTrue, IfOk, IfErr, OnOk, OnErr, Err};
-ghost use Rattle.press_acceptor.specs.StoreMap.{row_at, with_row, with_round, Only, OldOr, NoMore};
+ghost use Rattle.std.specs.Prelude.{◌≡◌, IfOk};
+ghost use Rattle.press_acceptor.specs.Seen.{Calls, Looks, MayLeaveShown, Saves, fault_in};
+ghost use Rattle.press_acceptor.specs.Seen.Call.{LoadsRow, SavesRow, LoadsRound, SavesRound};
+ghost use Rattle.press_acceptor.specs.StoreMap.{row_at, with_row, with_round};
 
 use crate::fault::StoreFault;
 use crate::row::Row;
@@ -7,75 +9,37 @@ use press_wire::{Round, Slot};
 
 /// A map from slots to rows and a last round, on a device that may fail and that a crash may stop.
 pub trait PromiseStore {
-    ghost use Rattle.std.specs.Prelude.{ℕ, Bool};
-    ghost use Rattle.press_acceptor.specs.StoreMap.{StoreMap};
-    ghost use Rattle.press_acceptor.specs.declared.fault.StoreFault.{StoreFault};
+    ghost use Rattle.press_acceptor.specs.Seen.{Seen};
 
-    /// What it keeps, while it is open.
-    ghost kept: { Self → StoreMap };
-
-    /// What a crash at this moment may leave.
-    ghost may_leave: { Self → StoreMap → Type 0 };
-
-    /// Nobody else has written the device, and it has returned what was written. It may fall at any call.
-    ghost is_honest: { Self → Type 0 };
-
-    /// No failure has shut the device.
-    ghost is_open: { Self → Bool };
-
-    /// How often the device has failed.
-    ghost faults: { Self → ℕ };
-
-    /// The faults that it can answer.
-    ghost fails_by: { StoreFault → Type 0 };
-
-    /// Those that it can answer when it is asked for the last round.
-    ghost round_fails_by: { StoreFault → Type 0 };
+    /// What is seen of it.
+    ghost seen: { Self → Seen };
 
     /// How often the device has failed.
     fn faults(&self) -> u64
-        ensures { result ≡ faults self.now };
+        ensures { result ≡ (seen self.now).faults };
 
     /// The row of a slot.
     fn load(&mut self, slot: Slot) -> Result<Row, StoreFault>
-        ensures row { is_honest self.new → IfOk result (λ row. row ≡ row_at (kept self.old) slot) }
-        ensures same { is_honest self.new → IsTrue (is_open self.new) → IsTrue (is_open self.old) × (kept self.new ≡ kept self.old) }
-        ensures crash { is_honest self.new → NoMore (may_leave self.old) (may_leave self.new) }
-        ensures honest { is_honest self.new → is_honest self.old }
-        ensures fault { IfErr result fails_by }
-        ensures disk { result ≡ Err StoreFault.Disk → faults self.old < faults self.new }
-        ensures counts { faults self.old ≤ faults self.new };
+        ensures calls { Calls (LoadsRow slot) (seen self.old) (seen self.new) (fault_in result) }
+        ensures row { (seen self.new).is_honest → IfOk result (λ row. row ≡ row_at (seen self.old).kept slot) }
+        ensures looks { (seen self.new).is_honest → Looks (seen self.old) (seen self.new) };
 
     /// Saves the row of a slot, whole or not at all.
     fn save(&mut self, slot: Slot, row: &Row) -> Result<(), StoreFault>
-        ensures saved { is_honest self.new → OnOk result (IsTrue (is_open self.old) × IsTrue (is_open self.new) × (kept self.new ≡ with_row (kept self.old) slot row.now)) }
-        ensures durable { is_honest self.new → OnOk result (Only (kept self.new) (may_leave self.new)) }
-        ensures failed { is_honest self.new → IsTrue (is_open self.new) → OnErr result (IsTrue (is_open self.old) × ((kept self.new ≡ kept self.old) ⊎ (kept self.new ≡ with_row (kept self.old) slot row.now))) }
-        ensures crash { is_honest self.new → OldOr (may_leave self.old) (may_leave self.new) (with_row (kept self.old) slot row.now) }
-        ensures honest { is_honest self.new → is_honest self.old }
-        ensures fault { IfErr result fails_by }
-        ensures disk { result ≡ Err StoreFault.Disk → faults self.old < faults self.new }
-        ensures counts { faults self.old ≤ faults self.new };
+        ensures calls { Calls (SavesRow slot) (seen self.old) (seen self.new) (fault_in result) }
+        ensures saves { (seen self.new).is_honest → Saves (seen self.old) (seen self.new) (with_row (seen self.old).kept slot row.now) (fault_in result) };
 
     /// The round that was saved last, or 0.
     fn last_round(&mut self) -> Result<u64, StoreFault>
-        ensures round { is_honest self.new → IfOk result (λ round. round ≡ (kept self.old).last_round) }
-        ensures same { is_honest self.new → IsTrue (is_open self.new) → IsTrue (is_open self.old) × (kept self.new ≡ kept self.old) }
-        ensures crash { is_honest self.new → NoMore (may_leave self.old) (may_leave self.new) }
-        ensures honest { is_honest self.new → is_honest self.old }
-        ensures fault { IfErr result fails_by }
-        ensures round_fault { IfErr result round_fails_by }
-        ensures disk { result ≡ Err StoreFault.Disk → faults self.old < faults self.new }
-        ensures counts { faults self.old ≤ faults self.new };
+        ensures calls { Calls LoadsRound (seen self.old) (seen self.new) (fault_in result) }
+        ensures round { (seen self.new).is_honest → IfOk result (λ round. round ≡ (seen self.old).kept.last_round) }
+        ensures looks { (seen self.new).is_honest → Looks (seen self.old) (seen self.new) };
 
     /// Saves the last round, whole or not at all.
     fn save_round(&mut self, round: Round) -> Result<(), StoreFault>
-        ensures saved { is_honest self.new → OnOk result (IsTrue (is_open self.old) × IsTrue (is_open self.new) × (kept self.new ≡ with_round (kept self.old) round)) }
-        ensures durable { is_honest self.new → OnOk result (Only (kept self.new) (may_leave self.new)) }
-        ensures failed { is_honest self.new → IsTrue (is_open self.new) → OnErr result (IsTrue (is_open self.old) × ((kept self.new ≡ kept self.old) ⊎ (kept self.new ≡ with_round (kept self.old) round))) }
-        ensures crash { is_honest self.new → OldOr (may_leave self.old) (may_leave self.new) (with_round (kept self.old) round) }
-        ensures honest { is_honest self.new → is_honest self.old }
-        ensures fault { IfErr result fails_by }
-        ensures disk { result ≡ Err StoreFault.Disk → faults self.old < faults self.new }
-        ensures counts { faults self.old ≤ faults self.new };
+        ensures calls { Calls SavesRound (seen self.old) (seen self.new) (fault_in result) }
+        ensures saves { (seen self.new).is_honest → Saves (seen self.old) (seen self.new) (with_round (seen self.old).kept round) (fault_in result) };
+
+    /// A crash may leave what the store shows.
+    ghost shows: { (store : Self) → MayLeaveShown (seen store) };
 }

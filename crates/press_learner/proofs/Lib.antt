@@ -1,3 +1,4 @@
+mod Came
 mod Majorities
 mod Places
 mod Settled

@@ -1,6 +1,6 @@
 -- What a learner keeps: of each member one vote for each of the next 64 slots, that of the greatest ballot (Paxos Made Simple, 2.3, and
 -- for many slots 3; own: the window, and that of equal ballots the first vote stays).
-use Rattle.std.specs.Prelude.{ℕ, ◌+◌, ◌≤◌, ◌&&◌, nat_lt, nat_le, Bool, true, IsTrue, IsSome, Option, None, Some, if◌then◌else◌}
+use Rattle.std.specs.Prelude.{ℕ, ◌+◌, ◌≡◌, ◌≤◌, ◌⊎◌, ◌&&◌, nat_lt, nat_le, Bool, true, IsTrue, IsSome, Option, None, Some, if◌then◌else◌}
 use Rattle.std.specs.Ordering.{nat_cmp, ordering_then}
 use Rattle.std.specs.declared.cmp.Ordering.{Ordering}
 use Rattle.std.specs.FinMap as map
@@ -59,3 +59,17 @@ IsInPlace k slot member = IsTrue (is_in_window k.applied slot) × (slot ≤ 1000
 -- each kept vote is: so there are at most 64 for each member
 abbrev pub IsWindow : Kept → Type 0
 IsWindow k = (slot member : ℕ) → IsSome (vote_at k slot member) → IsInPlace k slot member
+
+-- ---- what a change adds
+
+-- each vote that is kept after it was kept before it, for the same slot and member
+abbrev pub AddsNone : Kept → Kept → Type 0
+AddsNone before after = (slot member : ℕ) (vote : Vote) → vote_at after slot member ≡ Some vote → vote_at before slot member ≡ Some vote
+
+-- it is the vote that came from the member for the slot
+abbrev pub IsFrom : ℕ → ℕ → Vote → ℕ → ℕ → Vote → Type 0
+IsFrom from slot vote member s v = (member ≡ from) × (s ≡ slot) × (v ≡ vote)
+
+-- each vote that is kept after it was kept before it, or is the one that came from the member for the slot
+abbrev pub AddsOnly : ℕ → ℕ → Vote → Kept → Kept → Type 0
+AddsOnly from slot vote before after = (s m : ℕ) (v : Vote) → vote_at after s m ≡ Some v → (vote_at before s m ≡ Some v) ⊎ IsFrom from slot vote m s v

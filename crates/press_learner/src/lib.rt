@@ -5,5 +5,5 @@
 mod laws;
 mod learner;
 
-pub use laws::{chosen_by_majority, none_is_chosen_after_64};
+pub use laws::{chosen_by_majority, none_is_chosen_after_64, only_votes_that_came_are_kept};
 pub use learner::Learner;

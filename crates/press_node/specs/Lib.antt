@@ -1,9 +1,10 @@
 pub mod Codes
 pub mod Durable
+pub mod EventPlans
 pub mod Faults
-pub mod Memory
 pub mod NodeEvent
 pub mod Nodes
+pub mod Plays
 pub mod Refusals
 pub mod Serving
 pub mod States

@@ -1,10 +1,11 @@
 -- A node without its kit and its store: which member it is, and what it has in memory while it is up.
-use Rattle.std.specs.Prelude.{◌≡◌, ℕ, Bool, true, false, Option, None, Some, option_map, length}
+use Rattle.std.specs.Prelude.{◌≡◌, ◌≤◌, ℕ, Bool, true, false, Option, None, Some, option_map, length}
 use Rattle.press_callbacks.specs.Kits.{KitView}
 use Rattle.press_apply.specs.Apply.{site_after}
 use Rattle.press_site.specs.SiteView.{SiteView}
 use Rattle.press_site.specs.Effects.{no_site}
 use Rattle.press_acceptor.specs.StoreMap.{StoreMap}
+use Rattle.press_learner.specs.Chosen.{chosen_next}
 use Rattle.press_node.specs.declared.event.Event.{Event}
 use Rattle.press_node.specs.NodeEvent.{Running, Answer, fresh, on_event}
 
@@ -51,3 +52,26 @@ applied_count state = count_where state.up
 -- the site is what the kit makes of the applied values
 abbrev pub IsFolded : KitView → NodeState → Type 0
 IsFolded kit state = option_map (λ up. up.site) state.up ≡ option_map (λ up. site_after kit up.running.values) state.up
+
+-- What holds of a running node at every moment: its parts are of one node of at most seven, it has applied as many values as its learner counts, and none is chosen
+-- that it has not applied.
+pub record IsRunningAt (id members : ℕ) (node : Running) : Type 0 where
+  pub small : members ≤ 7
+  pub member : id ≤ members
+  pub id_of : node.proposer.id ≡ id
+  pub members_of : node.proposer.members ≡ members
+  pub members_too : node.learner.members ≡ members
+  pub count : node.learner.applied ≡ length node.values
+  pub none : chosen_next node.learner ≡ None
+
+abbrev pub IsWholeWhere : ℕ → ℕ → Option Running → Type 0
+IsWholeWhere id members None = (members ≤ 7) × (id ≤ members)
+IsWholeWhere id members (Some node) = IsRunningAt id members node
+
+-- and of a node
+abbrev pub IsWhole : NodeState → Type 0
+IsWhole state = IsWholeWhere state.id state.members (running_in state)
+
+-- the same member of as many
+abbrev pub IsMemberOf : NodeState → NodeState → Type 0
+IsMemberOf old new = (new.id ≡ old.id) × (new.members ≡ old.members)

@@ -1,17 +1,11 @@
 //! A node, from its start to its end.
 
-ghost use Rattle.std.specs.Prelude.{◌≡◌, ◌⊎◌, ◌≤◌, ◌<◌, length, IsTrue, IsErrAnd, IfOk, IfErr, IfSome, OnOk, OnErr, None, Some, true, false, Err, MatchResult};
-ghost use Rattle.std.specs.Option.{IsSomeAnd};
+ghost use Rattle.std.specs.Prelude.{◌≡◌, ◌⊎◌, ◌≤◌, IfOk, IfErr, true, Err, None, Some, MatchResult};
 ghost use Rattle.press_callbacks.specs.Kits.{kit_view};
-ghost use Rattle.press_acceptor.specs.StoreMap.{NoMore};
-ghost use Rattle.press_learner.specs.Chosen.{chosen_next};
-ghost use Rattle.press_node.specs.Durable.{AreStored};
-ghost use Rattle.press_node.specs.Faults.{IsRefusedBy, MayMeet, stops};
-ghost use Rattle.press_node.specs.Memory.{TakesMemoryIn};
-ghost use Rattle.press_node.specs.NodeEvent.{left_by};
-ghost use Rattle.press_node.specs.Nodes.{IsPageAt, kit_of, state_of, store_of};
-ghost use Rattle.press_node.specs.Refusals.{refusal, refusal_at_once};
-ghost use Rattle.press_node.specs.States.{answer_in, applied_count, is_down, running_in, started_at, stopped};
+ghost use Rattle.press_acceptor.specs.Seen.{Calls, Looks};
+ghost use Rattle.press_acceptor.specs.Seen.Call.{LoadsRound};
+ghost use Rattle.press_node.specs.Nodes.{IsPageAt, NodePlays, kit_of, state_of, store_of};
+ghost use Rattle.press_node.specs.States.{IsMemberOf, IsWhole, applied_count, is_down, started_at};
 
 use crate::event::Event;
 use crate::fault::NodeFault;
@@ -20,7 +14,7 @@ use crate::start_fault::StartFault;
 use crate::state::State;
 use press_acceptor::PromiseStore;
 use press_callbacks::Kit;
-use press_page::{Reply, Target, page};
+use press_page::{Reply, Target};
 use press_wire::{Message, Node as Member};
 use std::alloc::Global;
 
@@ -34,7 +28,8 @@ impl<S> Node<S> {
 
     /// How many values it has applied since its start; none where it is down.
     pub fn applied(&self) -> u64
-        ensures { result ≡ applied_count (state_of self.now) }
+        ensures value { result ≡ applied_count (state_of self.now) }
+        ensures whole { IsWhole (state_of self.now) }
     {
         self.state.applied()
     }
@@ -59,15 +54,12 @@ impl<S> Node<S> {
     pub fn get(&self, target: &Target) -> Result<Reply, NodeFault>
         ensures page { IfOk result (λ reply. IsPageAt (kit_of self.now) (state_of self.now).up target.now reply) }
         ensures down { is_down (state_of self.now) ≡ true → result ≡ Err NodeFault.Down }
-        ensures fault { IfErr result (λ fault. ((fault ≡ NodeFault.Down) × (is_down (state_of self.now) ≡ true)) ⊎ (fault ≡ NodeFault.NoMemory)) }
-    {
-        let Some(site) = self.state.site() else {
-            return Err(NodeFault::Down);
-        };
-        match page(self.alloc, site, &self.kit, target) {
-            Ok(reply) => Ok(reply),
-            Err(_) => Err(NodeFault::NoMemory),
+        ensures fault {
+            IfErr result (λ fault. ((fault ≡ NodeFault.Down) × (is_down (state_of self.now) ≡ true))
+                ⊎ (fault ≡ NodeFault.NoMemory))
         }
+    {
+        self.state.get(&self.kit, target)
     }
 }
 
@@ -82,14 +74,23 @@ impl<S: PromiseStore> Node<S> {
     ) -> Result<Node<S>, StartFault<S>>
         requires few { members ≤ 7 }
         requires member { id ≤ members }
-        ensures kit { MatchResult result (λ node. kit_of node ≡ kit_view kit) (λ e. kit_view e.kit ≡ kit_view kit) }
-        ensures state { IfOk result (λ node. S.is_honest (store_of node) → state_of node ≡ started_at id members (S.kept store).last_round) }
-        ensures same { IfOk result (λ node. S.is_honest (store_of node) → IsTrue (S.is_open (store_of node)) → S.kept (store_of node) ≡ S.kept store) }
-        ensures failed { IfErr result (λ e. S.is_honest e.store → IsTrue (S.is_open e.store) → S.kept e.store ≡ S.kept store) }
-        ensures crash { IfOk result (λ node. S.is_honest (store_of node) → NoMore (S.may_leave store) (S.may_leave (store_of node))) }
-        ensures honest { IfOk result (λ node. S.is_honest (store_of node) → S.is_honest store) }
-        ensures fault { IfErr result (λ e. S.fails_by e.fault) }
-        ensures round_fault { IfErr result (λ e. S.round_fails_by e.fault) }
+        ensures kit {
+            MatchResult result (λ node. kit_of node ≡ kit_view kit) (λ e. kit_view e.kit ≡ kit_view kit)
+        }
+        ensures state {
+            IfOk result (λ node. (S.seen (store_of node)).is_honest →
+                state_of node ≡ started_at id members (S.seen store).kept.last_round)
+        }
+        ensures calls {
+            MatchResult result
+                (λ node. Calls LoadsRound (S.seen store) (S.seen (store_of node)) None)
+                (λ e. Calls LoadsRound (S.seen store) (S.seen e.store) (Some e.fault))
+        }
+        ensures looks {
+            MatchResult result
+                (λ node. (S.seen (store_of node)).is_honest → Looks (S.seen store) (S.seen (store_of node)))
+                (λ e. (S.seen e.store).is_honest → Looks (S.seen store) (S.seen e.store))
+        }
     {
         match store.last_round() {
             Ok(last_round) => {
@@ -109,26 +110,9 @@ impl<S: PromiseStore> Node<S> {
     /// Down, TooLong, Full, SlotsUsedUp and RoundsUsedUp leave the node and its store as they were; after Disk, Damaged or NoMemory the node is down, and the store is that before or that after the event's save.
     pub fn on(&mut self, event: Event) -> Result<Vec<Message>, NodeFault>
         ensures kit { kit_of self.new ≡ kit_of self.old }
-        ensures id { (state_of self.new).id ≡ (state_of self.old).id }
-        ensures members { (state_of self.new).members ≡ (state_of self.old).members }
-        ensures messages { S.is_honest (store_of self.new) → IfOk result (λ out. IsSomeAnd (answer_in (S.kept (store_of self.old)) (state_of self.old) event) (λ a. out.items ≡ a.out)) }
-        ensures after { S.is_honest (store_of self.new) → OnOk result (IsSomeAnd (answer_in (S.kept (store_of self.old)) (state_of self.old) event) (λ a. running_in (state_of self.new) ≡ Some a.after)) }
-        ensures saved { S.is_honest (store_of self.new) → IsTrue (S.is_open (store_of self.new)) → OnOk result (IsSomeAnd (answer_in (S.kept (store_of self.old)) (state_of self.old) event) (λ a. S.kept (store_of self.new) ≡ left_by (S.kept (store_of self.old)) a)) }
-        ensures durable { S.is_honest (store_of self.new) → IsTrue (S.is_open (store_of self.new)) → IfOk result (λ out. AreStored (S.kept (store_of self.new)) out.items) }
-        ensures few { S.is_honest (store_of self.new) → IfOk result (λ out. length out.items ≤ 7) }
-        ensures stopped { IfErr result (λ fault. stops fault ≡ true → state_of self.new ≡ stopped (state_of self.old)) }
-        ensures unchanged { IfErr result (λ fault. stops fault ≡ false → state_of self.new ≡ state_of self.old) }
-        ensures failed { S.is_honest (store_of self.new) → IsTrue (S.is_open (store_of self.new)) → OnErr result ((S.kept (store_of self.new) ≡ S.kept (store_of self.old)) ⊎ IsSomeAnd (answer_in (S.kept (store_of self.old)) (state_of self.old) event) (λ a. S.kept (store_of self.new) ≡ left_by (S.kept (store_of self.old)) a)) }
-        ensures unsaved { S.is_honest (store_of self.new) → IsTrue (S.is_open (store_of self.new)) → IfErr result (λ fault. stops fault ≡ false → S.kept (store_of self.new) ≡ S.kept (store_of self.old)) }
-        ensures settled { IfSome (running_in (state_of self.new)) (λ node. chosen_next node.learner ≡ None) }
-        ensures at_once { IfSome (refusal_at_once (running_in (state_of self.old)) event) (λ fault. result ≡ Err fault) }
-        ensures refused { S.is_honest (store_of self.new) → IfErr result (λ fault. stops fault ≡ false → refusal (S.kept (store_of self.old)) (running_in (state_of self.old)) event ≡ Some fault) }
-        ensures passes { S.is_honest (store_of self.new) → OnOk result (refusal (S.kept (store_of self.old)) (running_in (state_of self.old)) event ≡ None) }
-        ensures fault { IfErr result (MayMeet S.fails_by (TakesMemoryIn (state_of self.old) event)) }
-        ensures stays { S.is_honest (store_of self.new) → IsTrue (S.is_open (store_of self.new)) → IfSome (refusal (S.kept (store_of self.old)) (running_in (state_of self.old)) event) (λ _. S.kept (store_of self.new) ≡ S.kept (store_of self.old)) }
-        ensures tells { S.is_honest (store_of self.new) → IfSome (refusal (S.kept (store_of self.old)) (running_in (state_of self.old)) event) (λ fault. IsErrAnd result (IsRefusedBy S.round_fails_by fault)) }
-        ensures disk { IfErr result (λ fault. fault ≡ NodeFault.Disk → S.faults (store_of self.old) < S.faults (store_of self.new)) }
-        ensures honest { S.is_honest (store_of self.new) → S.is_honest (store_of self.old) }
+        ensures member { IsMemberOf (state_of self.old) (state_of self.new) }
+        ensures whole { IsWhole (state_of self.new) }
+        ensures plays { NodePlays S.seen self.old self.new event (λ out. out.items) result }
     {
         self.state.on(&self.kit, &mut self.store, event)
     }

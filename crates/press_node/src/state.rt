@@ -1,21 +1,19 @@
 //! A node without its kit and its store.
 
-ghost use Rattle.std.specs.Prelude.{◌≡◌, ◌⊎◌, ◌≤◌, ◌<◌, length, IsTrue, IsErrAnd, IfOk, IfErr, IfSome, OnOk, OnErr, None, Some, true, false, Err, option_map, option_copied};
-ghost use Rattle.std.specs.Option.{IsSomeAnd};
+ghost use Rattle.std.specs.Prelude.{◌≡◌, ◌⊎◌, ◌≤◌, Err, IfOk, IfErr, true, option_map, option_copied};
 ghost use Rattle.press_callbacks.specs.Kits.{kit_view};
-ghost use Rattle.press_learner.specs.Chosen.{chosen_next};
-ghost use Rattle.press_node.specs.Durable.{AreStored};
-ghost use Rattle.press_node.specs.Faults.{IsRefusedBy, MayMeet, stops};
-ghost use Rattle.press_node.specs.Memory.{TakesMemoryIn};
-ghost use Rattle.press_node.specs.NodeEvent.{left_by};
-ghost use Rattle.press_node.specs.Refusals.{refusal, refusal_at_once};
-ghost use Rattle.press_node.specs.States.{answer_in, applied_count, is_down, IsFolded, running_in, started_at, stopped};
+ghost use Rattle.press_node.specs.Nodes.{IsPageAt};
+ghost use Rattle.press_node.specs.Plays.{StatePlays};
+ghost use Rattle.press_node.specs.States.{
+    applied_count, is_down, IsFolded, IsMemberOf, IsWhole, started_at, stopped
+};
 
 use crate::event::Event;
 use crate::fault::NodeFault;
 use crate::up::Up;
 use press_acceptor::PromiseStore;
 use press_callbacks::Kit;
+use press_page::{Reply, Target, page};
 use press_site::Site;
 use press_wire::{Message, Node as Member};
 use std::alloc::Global;
@@ -95,7 +93,8 @@ impl State {
 
     /// How many values were applied; none where the node is down.
     pub fn applied(&self) -> u64
-        ensures { result ≡ applied_count self.now }
+        ensures value { result ≡ applied_count self.now }
+        ensures whole { IsWhole self.now }
     {
         match &self.up {
             Some(up) => up.values.len() as u64,
@@ -103,33 +102,46 @@ impl State {
         }
     }
 
-    /// An event. After a fault that stops it the node is down.
+    /// The reply to a request for a page of what the applied values make.
+    pub fn get(&self, kit: &Kit, target: &Target) -> Result<Reply, NodeFault>
+        ensures page {
+            IsFolded (kit_view kit.now) self.now →
+                IfOk result (λ reply. IsPageAt (kit_view kit.now) self.now.up target.now reply)
+        }
+        ensures down { is_down self.now ≡ true → result ≡ Err NodeFault.Down }
+        ensures fault {
+            IfErr result (λ fault. ((fault ≡ NodeFault.Down) × (is_down self.now ≡ true))
+                ⊎ (fault ≡ NodeFault.NoMemory))
+        }
+    {
+        let Some(up) = &self.up else {
+            return Err(NodeFault::Down);
+        };
+        match page(self.alloc, &up.site, kit, target) {
+            Ok(reply) => Ok(reply),
+            Err(_) => Err(NodeFault::NoMemory),
+        }
+    }
+
+    /// It is down from now on.
+    pub fn stop(&mut self)
+        ensures { self.new ≡ stopped self.old }
+    {
+        drop(self.up.take());
+    }
+
+    /// An event. After a fault of the store or want of memory the node is down.
     pub fn on<S: PromiseStore>(
         &mut self,
         kit: &Kit,
         store: &mut S,
         event: Event,
     ) -> Result<Vec<Message>, NodeFault>
-        ensures id { self.new.id ≡ self.old.id }
-        ensures members { self.new.members ≡ self.old.members }
-        ensures messages { S.is_honest store.new → IfOk result (λ out. IsSomeAnd (answer_in (S.kept store.old) self.old event) (λ a. out.items ≡ a.out)) }
-        ensures after { S.is_honest store.new → OnOk result (IsSomeAnd (answer_in (S.kept store.old) self.old event) (λ a. running_in self.new ≡ Some a.after)) }
-        ensures saved { S.is_honest store.new → IsTrue (S.is_open store.new) → OnOk result (IsSomeAnd (answer_in (S.kept store.old) self.old event) (λ a. S.kept store.new ≡ left_by (S.kept store.old) a)) }
-        ensures durable { S.is_honest store.new → IsTrue (S.is_open store.new) → IfOk result (λ out. AreStored (S.kept store.new) out.items) }
-        ensures few { S.is_honest store.new → IfOk result (λ out. length out.items ≤ 7) }
-        ensures stopped { IfErr result (λ fault. stops fault ≡ true → self.new ≡ stopped self.old) }
-        ensures unchanged { IfErr result (λ fault. stops fault ≡ false → self.new ≡ self.old) }
-        ensures failed { S.is_honest store.new → IsTrue (S.is_open store.new) → OnErr result ((S.kept store.new ≡ S.kept store.old) ⊎ IsSomeAnd (answer_in (S.kept store.old) self.old event) (λ a. S.kept store.new ≡ left_by (S.kept store.old) a)) }
-        ensures unsaved { S.is_honest store.new → IsTrue (S.is_open store.new) → IfErr result (λ fault. stops fault ≡ false → S.kept store.new ≡ S.kept store.old) }
-        ensures settled { IfSome (running_in self.new) (λ node. chosen_next node.learner ≡ None) }
-        ensures at_once { IfSome (refusal_at_once (running_in self.old) event) (λ fault. result ≡ Err fault) }
-        ensures refused { S.is_honest store.new → IfErr result (λ fault. stops fault ≡ false → refusal (S.kept store.old) (running_in self.old) event ≡ Some fault) }
-        ensures passes { S.is_honest store.new → OnOk result (refusal (S.kept store.old) (running_in self.old) event ≡ None) }
-        ensures honest { S.is_honest store.new → S.is_honest store.old }
-        ensures fault { IfErr result (MayMeet S.fails_by (TakesMemoryIn self.old event)) }
-        ensures stays { S.is_honest store.new → IsTrue (S.is_open store.new) → IfSome (refusal (S.kept store.old) (running_in self.old) event) (λ _. S.kept store.new ≡ S.kept store.old) }
-        ensures tells { S.is_honest store.new → IfSome (refusal (S.kept store.old) (running_in self.old) event) (λ fault. IsErrAnd result (IsRefusedBy S.round_fails_by fault)) }
-        ensures disk { IfErr result (λ fault. fault ≡ NodeFault.Disk → S.faults store.old < S.faults store.new) }
+        ensures member { IsMemberOf self.old self.new }
+        ensures whole { IsWhole self.new }
+        ensures plays {
+            StatePlays S.seen store.old store.new self.old self.new event (λ out. out.items) result
+        }
         ensures folded { IsFolded (kit_view kit.now) self.old → IsFolded (kit_view kit.now) self.new }
     {
         let (alloc, id, members) = (self.alloc, self.id, self.members);
@@ -144,7 +156,7 @@ impl State {
             Ok(out) => Ok(out),
             Err(fault) => {
                 if fault.stops() {
-                    drop(self.up.take());
+                    self.stop();
                 }
                 Err(fault)
             }

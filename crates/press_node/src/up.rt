@@ -1,22 +1,24 @@
 //! What a running node has in memory, and what each event does to it.
 
-ghost use Rattle.std.specs.Prelude.{◌≡◌, ◌⊎◌, ◌≤◌, ◌+◌, ◌<◌, length, IsTrue, IsSome, IsErrAnd, IfOk, IfErr, IfSome, OnOk, OnErr, None, Some, true, false, Err};
+ghost use Rattle.std.specs.Prelude.{◌≡◌, ◌⊎◌, ◌≤◌, ◌+◌, ◌<◌, length, IsTrue, IsSome, IfOk, IfErr, IfSome, OnOk, OnErr, None, Some, true, false, Err, MatchResult};
 ghost use Rattle.press_callbacks.specs.Kits.{kit_view};
 ghost use Rattle.press_acceptor.specs.Answers.{acceptor_answer};
-ghost use Rattle.press_acceptor.specs.StoreMap.{saved_if};
+ghost use Rattle.press_acceptor.specs.Plans.{answer_calls, answer_plan};
+ghost use Rattle.press_acceptor.specs.Turned.{Says, Turned, moved};
+ghost use Rattle.press_acceptor.specs.declared.fault.StoreFault.{StoreFault};
 ghost use Rattle.press_apply.specs.declared.value.Value.TheVariants.{Cmd};
 ghost use Rattle.press_learner.specs.Chosen.{chosen_next, has_gap};
-ghost use Rattle.press_learner.specs.Kept.{new_learner, with_vote};
+ghost use Rattle.press_learner.specs.Kept.{with_vote};
 ghost use Rattle.press_proposer.specs.Phases.{awaits};
-ghost use Rattle.press_proposer.specs.Proposing.{started};
-ghost use Rattle.press_proposer.specs.Turns.{queued_by, wake_turn, promise_turn, nacked_by};
+ghost use Rattle.press_proposer.specs.Turns.{queued_by, promise_turn, nacked_by};
 ghost use Rattle.press_site.specs.Effects.{no_site};
 ghost use Rattle.press_wire.specs.Spelling as spell;
-ghost use Rattle.press_node.specs.Faults.{IsRefusedBy, MayMeet, stops};
-ghost use Rattle.press_node.specs.Memory.{TakesForBody, TakesForVote, TakesMemory};
-ghost use Rattle.press_node.specs.NodeEvent.{by_acceptor, by_proposer, fresh, is_for, on_body, on_event, on_message, quiet, settled, with_learner, with_proposer};
-ghost use Rattle.press_node.specs.Refusals.{is_at_end, refusal_up, refusal};
-ghost use Rattle.press_node.specs.Views.{Applies, IsBeside, IsDone, IsFailed, IsUpAt, IsUpFolded, Leaves, running_of, view_one};
+ghost use Rattle.press_node.specs.EventPlans.{TakesForVote, body_plan};
+ghost use Rattle.press_node.specs.Faults.{of_store, stops};
+ghost use Rattle.press_node.specs.NodeEvent.{fresh, is_for, on_body, settled, with_learner};
+ghost use Rattle.press_node.specs.Plays.{Plays, PlaysBy, PlaysUp, sent};
+ghost use Rattle.press_node.specs.Refusals.{is_at_end, refusal_up};
+ghost use Rattle.press_node.specs.Views.{Applies, IsBeside, IsUpAt, IsUpFolded, running_of, up_moved};
 
 use crate::event::Event;
 use crate::fault::NodeFault;
@@ -88,13 +90,17 @@ fn answered<S: PromiseStore>(
     message: &Message,
 ) -> Result<Vec<Message>, NodeFault>
     requires { members ≤ 7 }
-    ensures out { S.is_honest store.new → IfOk result (λ out. out.items ≡ (acceptor_answer members id (S.kept store.old) message.now).out) }
-    ensures saved { S.is_honest store.new → IsTrue (S.is_open store.new) → OnOk result (S.kept store.new ≡ saved_if (S.kept store.old) (acceptor_answer members id (S.kept store.old) message.now).save) }
-    ensures failed { S.is_honest store.new → IsTrue (S.is_open store.new) → OnErr result ((S.kept store.new ≡ S.kept store.old) ⊎ (S.kept store.new ≡ saved_if (S.kept store.old) (acceptor_answer members id (S.kept store.old) message.now).save)) }
-    ensures honest { S.is_honest store.new → S.is_honest store.old }
-    ensures stops { IfErr result (λ fault. stops fault ≡ true) }
-    ensures fault { IfErr result (MayMeet S.fails_by (Unit {0})) }
-    ensures disk { IfErr result (λ fault. fault ≡ NodeFault.Disk → S.faults store.old < S.faults store.new) }
+    ensures out {
+        Says (answer_calls message.now.slot message.now.body) (λ out. out.items)
+            (λ kept. (acceptor_answer members id kept message.now).out)
+            (moved S.seen store.old store.new) result
+    }
+    ensures turned {
+        MatchResult result
+            (λ _. Turned (answer_plan members id message.now) (moved S.seen store.old store.new) None)
+            (λ fault. (by : StoreFault) × (fault ≡ of_store by) ×
+                Turned (answer_plan members id message.now) (moved S.seen store.old store.new) (Some by))
+    }
 {
     match Acceptor::answer(alloc, store, members, id, message) {
         Ok(out) => Ok(out),
@@ -242,22 +248,18 @@ impl Up {
     }
 
     /// A wake.
-    fn wake<S: PromiseStore>(&mut self, store: &mut S) -> Result<Vec<Message>, NodeFault>
+    fn wake<S: PromiseStore>(
+        &mut self,
+        store: &mut S,
+        id: Member,
+        members: u8,
+    ) -> Result<Vec<Message>, NodeFault>
+        requires { IsUpAt id members self.old }
         ensures rest { IsBeside self.old self.new }
-        ensures out { S.is_honest store.new → IfOk result (λ out. out.items ≡ (wake_turn (S.kept store.old) self.old.proposer self.old.learner.applied (has_gap self.old.learner)).out) }
-        ensures after { S.is_honest store.new → OnOk result (self.new.proposer ≡ (wake_turn (S.kept store.old) self.old.proposer self.old.learner.applied (has_gap self.old.learner)).after) }
-        ensures saved { S.is_honest store.new → IsTrue (S.is_open store.new) → OnOk result (S.kept store.new ≡ saved_if (S.kept store.old) (wake_turn (S.kept store.old) self.old.proposer self.old.learner.applied (has_gap self.old.learner)).save) }
-        ensures err { OnErr result (self.new ≡ self.old) }
-        ensures failed { S.is_honest store.new → IsTrue (S.is_open store.new) → OnErr result ((S.kept store.new ≡ S.kept store.old) ⊎ (S.kept store.new ≡ saved_if (S.kept store.old) (wake_turn (S.kept store.old) self.old.proposer self.old.learner.applied (has_gap self.old.learner)).save)) }
-        ensures unsaved { S.is_honest store.new → IsTrue (S.is_open store.new) → IfErr result (λ fault. stops fault ≡ false → S.kept store.new ≡ S.kept store.old) }
-        ensures refused { IfSome (refusal_up (running_of self.old) Event.Wake) (λ fault. result ≡ Err fault) }
-        ensures fault { S.is_honest store.new → IfErr result (λ fault. stops fault ≡ false → refusal (S.kept store.old) (Some (running_of self.old)) Event.Wake ≡ Some fault) }
-        ensures passes { S.is_honest store.new → OnOk result (refusal (S.kept store.old) (Some (running_of self.old)) Event.Wake ≡ None) }
-        ensures honest { S.is_honest store.new → S.is_honest store.old }
-        ensures meets { IfErr result (MayMeet S.fails_by (Unit {0})) }
-        ensures stays { S.is_honest store.new → IsTrue (S.is_open store.new) → IfSome (refusal (S.kept store.old) (Some (running_of self.old)) Event.Wake) (λ _. S.kept store.new ≡ S.kept store.old) }
-        ensures tells { S.is_honest store.new → IfSome (refusal (S.kept store.old) (Some (running_of self.old)) Event.Wake) (λ fault. IsErrAnd result (IsRefusedBy S.round_fails_by fault)) }
-        ensures disk { IfErr result (λ fault. fault ≡ NodeFault.Disk → S.faults store.old < S.faults store.new) }
+        ensures plays {
+            Plays (moved S.seen store.old store.new) (up_moved id members self.old self.new) Event.Wake
+                (sent (λ out. out.items) result)
+        }
     {
         if self.is_at_end() {
             return Err(NodeFault::SlotsUsedUp);
@@ -310,11 +312,16 @@ impl Up {
     ) -> Result<Vec<Message>, NodeFault>
         requires up { IsUpAt id members self.old }
         requires member { message.from ≤ members }
-        ensures ok { IfOk result (λ out. IsDone (S.is_honest store.new) (IsTrue (S.is_open store.new)) (kit_view kit.now) id members (on_body members id (S.kept store.old) (running_of self.old) message message.body) out.items (S.kept store.old) (S.kept store.new) self.old self.new) }
-        ensures err { IfErr result (λ fault. (stops fault ≡ true) × (S.is_honest store.new → IsTrue (S.is_open store.new) → Leaves (on_body members id (S.kept store.old) (running_of self.old) message message.body) (S.kept store.old) (S.kept store.new))) }
-        ensures honest { S.is_honest store.new → S.is_honest store.old }
-        ensures fault { IfErr result (MayMeet S.fails_by (TakesForBody (running_of self.old) message message.body)) }
-        ensures disk { IfErr result (λ fault. fault ≡ NodeFault.Disk → S.faults store.old < S.faults store.new) }
+        ensures up { OnOk result (IsUpAt id members self.new) }
+        ensures folded {
+            OnOk result (IsUpFolded (kit_view kit.now) self.old → IsUpFolded (kit_view kit.now) self.new)
+        }
+        ensures plays {
+            PlaysBy (body_plan members id (running_of self.old) message message.body)
+                (λ kept. on_body members id kept (running_of self.old) message message.body) (λ _. None)
+                (moved S.seen store.old store.new) (up_moved id members self.old self.new)
+                (sent (λ out. out.items) result)
+        }
     {
         let Message {
             from,
@@ -357,11 +364,14 @@ impl Up {
         message: Message,
     ) -> Result<Vec<Message>, NodeFault>
         requires { IsUpAt id members self.old }
-        ensures ok { IfOk result (λ out. IsDone (S.is_honest store.new) (IsTrue (S.is_open store.new)) (kit_view kit.now) id members (on_message members id (S.kept store.old) (running_of self.old) message) out.items (S.kept store.old) (S.kept store.new) self.old self.new) }
-        ensures err { IfErr result (λ fault. (stops fault ≡ true) × (S.is_honest store.new → IsTrue (S.is_open store.new) → Leaves (on_message members id (S.kept store.old) (running_of self.old) message) (S.kept store.old) (S.kept store.new))) }
-        ensures honest { S.is_honest store.new → S.is_honest store.old }
-        ensures fault { IfErr result (MayMeet S.fails_by (TakesMemory members id (running_of self.old) (Event.Deliver message))) }
-        ensures disk { IfErr result (λ fault. fault ≡ NodeFault.Disk → S.faults store.old < S.faults store.new) }
+        ensures up { OnOk result (IsUpAt id members self.new) }
+        ensures folded {
+            OnOk result (IsUpFolded (kit_view kit.now) self.old → IsUpFolded (kit_view kit.now) self.new)
+        }
+        ensures plays {
+            Plays (moved S.seen store.old store.new) (up_moved id members self.old self.new)
+                (Event.Deliver message) (sent (λ out. out.items) result)
+        }
     {
         if !is_for(members, id, &message) {
             drop(message);
@@ -381,23 +391,22 @@ impl Up {
         event: Event,
     ) -> Result<Vec<Message>, NodeFault>
         requires { IsUpAt id members self.old }
-        ensures ok { IfOk result (λ out. IsDone (S.is_honest store.new) (IsTrue (S.is_open store.new)) (kit_view kit.now) id members (on_event members id (S.kept store.old) (running_of self.old) event) out.items (S.kept store.old) (S.kept store.new) self.old self.new) }
-        ensures err { IfErr result (λ fault. IsFailed (S.is_honest store.new) (IsTrue (S.is_open store.new)) (on_event members id (S.kept store.old) (running_of self.old) event) (stops fault) (S.kept store.old) (S.kept store.new) self.old self.new) }
-        ensures at_once { IfSome (refusal_up (running_of self.old) event) (λ fault. result ≡ Err fault) }
-        ensures refused { S.is_honest store.new → IfErr result (λ fault. stops fault ≡ false → refusal (S.kept store.old) (Some (running_of self.old)) event ≡ Some fault) }
-        ensures passes { S.is_honest store.new → OnOk result (refusal (S.kept store.old) (Some (running_of self.old)) event ≡ None) }
-        ensures honest { S.is_honest store.new → S.is_honest store.old }
-        ensures fault { IfErr result (MayMeet S.fails_by (TakesMemory members id (running_of self.old) event)) }
-        ensures stays { S.is_honest store.new → IsTrue (S.is_open store.new) → IfSome (refusal (S.kept store.old) (Some (running_of self.old)) event) (λ _. S.kept store.new ≡ S.kept store.old) }
-        ensures tells { S.is_honest store.new → IfSome (refusal (S.kept store.old) (Some (running_of self.old)) event) (λ fault. IsErrAnd result (IsRefusedBy S.round_fails_by fault)) }
-        ensures disk { IfErr result (λ fault. fault ≡ NodeFault.Disk → S.faults store.old < S.faults store.new) }
+        ensures up { IfOk result (λ _. IsUpAt id members self.new) }
+        ensures unchanged { IfErr result (λ fault. stops fault ≡ false → self.new ≡ self.old) }
+        ensures folded {
+            OnOk result (IsUpFolded (kit_view kit.now) self.old → IsUpFolded (kit_view kit.now) self.new)
+        }
+        ensures plays {
+            Plays (moved S.seen store.old store.new) (up_moved id members self.old self.new) event
+                (sent (λ out. out.items) result)
+        }
     {
         match event {
             Event::Submit(command) => match self.submit(alloc, command) {
                 Ok(()) => Ok(Vec::new(alloc)),
                 Err(fault) => Err(fault),
             },
-            Event::Wake => self.wake(store),
+            Event::Wake => self.wake(store, id, members),
             Event::Deliver(message) => self.on_message(alloc, kit, store, id, members, message),
         }
     }

@@ -4,3 +4,4 @@ pub mod Promises
 pub mod Proposing
 pub mod Queues
 pub mod Turns
+pub mod Wakes

@@ -1,16 +1,19 @@
 //! What a proposer does at each event: at most one save, and the messages that go out after it.
 
-ghost use Rattle.std.specs.Prelude.{◌≡◌, ◌⊎◌, ◌<◌, ◌≤◌, ◌^◌, Err, IfOk, ◌+◌, IfErr, IsErrAnd, IsTrue, OnOk, OnErr, false, nat_lt, true, if◌then◌else◌};
+ghost use Rattle.std.specs.Prelude.{◌≡◌, ◌≢◌, ◌<◌, ◌≤◌, ◌^◌, ◌+◌, Err, IfOk, IfErr, IsTrue, OnOk, OnErr, false, nat_lt, true, if◌then◌else◌};
 ghost use Rattle.press_acceptor.specs.Messages as messages;
-ghost use Rattle.press_acceptor.specs.StoreMap.{NoMore, Only};
-ghost use Rattle.press_acceptor.specs.declared.fault.StoreFault.TheVariants.{Disk, NoMemory};
+ghost use Rattle.press_acceptor.specs.Seen.{Calls, Looks, fault_in};
+ghost use Rattle.press_acceptor.specs.Seen.Call.{LoadsRound};
+ghost use Rattle.press_acceptor.specs.Turned.{Says, moved};
+ghost use Rattle.press_acceptor.specs.declared.fault.StoreFault.TheVariants.{NoMemory};
 ghost use Rattle.press_wire.specs.Ranges.{round_of};
 ghost use Rattle.press_wire.specs.declared.message.Body.TheVariants.{Accept};
-ghost use Rattle.press_proposer.specs.Faults.{IsWakeFault};
+ghost use Rattle.press_proposer.specs.Faults.{store_fault};
 ghost use Rattle.press_proposer.specs.Phases.{awaits};
-ghost use Rattle.press_proposer.specs.Proposing.{started, in_phase, left_by};
+ghost use Rattle.press_proposer.specs.Proposing.{started, in_phase};
 ghost use Rattle.press_proposer.specs.Queues.{is_full};
-ghost use Rattle.press_proposer.specs.Turns.{queued_by, is_content, is_used_up, next_round, wake_turn, promise_turn, nacked_by, applied_by};
+ghost use Rattle.press_proposer.specs.Turns.{queued_by, is_content, next_round, wake_turn, promise_turn, nacked_by, applied_by};
+ghost use Rattle.press_proposer.specs.Wakes.{Wakes, wake_calls};
 
 use crate::fault::ProposerFault;
 use crate::phase::Phase;
@@ -101,18 +104,16 @@ impl Proposer {
     ) -> Result<Vec<Message>, ProposerFault>
         requires { applied < 1000000 }
         ensures kept { self.new ≡ in_phase self.old self.new.phase }
-        ensures after { S.is_honest store.new → OnOk result (self.new ≡ (wake_turn (S.kept store.old) self.old applied gap).after) }
-        ensures out { S.is_honest store.new → IfOk result (λ out. out.items ≡ (wake_turn (S.kept store.old) self.old applied gap).out) }
-        ensures saved { S.is_honest store.new → IsTrue (S.is_open store.new) → OnOk result (S.kept store.new ≡ left_by (S.kept store.old) (wake_turn (S.kept store.old) self.old applied gap)) }
-        ensures durable { S.is_honest store.new → IsTrue (S.is_open store.new) → Only (S.kept store.old) (S.may_leave store.old) → OnOk result (Only (S.kept store.new) (S.may_leave store.new)) }
+        ensures after {
+            Says (wake_calls self.old gap) (λ _. self.new) (λ kept. (wake_turn kept self.old applied gap).after)
+                (moved S.seen store.old store.new) result
+        }
+        ensures out {
+            Says (wake_calls self.old gap) (λ out. out.items) (λ kept. (wake_turn kept self.old applied gap).out)
+                (moved S.seen store.old store.new) result
+        }
         ensures unchanged { OnErr result (self.new ≡ self.old) }
-        ensures failed { S.is_honest store.new → IsTrue (S.is_open store.new) → OnErr result ((S.kept store.new ≡ S.kept store.old) ⊎ (S.kept store.new ≡ left_by (S.kept store.old) (wake_turn (S.kept store.old) self.old applied gap))) }
-        ensures honest { S.is_honest store.new → S.is_honest store.old }
-        ensures fault { IfErr result (IsWakeFault (λ fault. (fault ≡ NoMemory) ⊎ S.fails_by fault)) }
-        ensures used_up { S.is_honest store.new → IsTrue (is_used_up (S.kept store.old) self.old gap) → IsErrAnd result (IsWakeFault S.round_fails_by) }
-        ensures disk { result ≡ Err (ProposerFault.Store Disk) → S.faults store.old < S.faults store.new }
-        ensures rounds { S.is_honest store.new → result ≡ Err ProposerFault.RoundsUsedUp → IsTrue (is_used_up (S.kept store.old) self.old gap) }
-        ensures refused { S.is_honest store.new → IsTrue (S.is_open store.new) → IsTrue (is_used_up (S.kept store.old) self.old gap) → S.kept store.new ≡ S.kept store.old }
+        ensures wakes { Wakes self.old applied gap (moved S.seen store.old store.new) (fault_in result) }
     {
         let slot = slot_after(applied);
         if self.is_content(gap) {
@@ -189,16 +190,21 @@ impl Proposer {
 
     /// The round behind the greatest that was saved or told.
     fn next_round<S: PromiseStore>(&self, store: &mut S) -> Result<Round, ProposerFault>
-        ensures round { S.is_honest store.new → IfOk result (λ round. round ≡ next_round (S.kept store.old) self.now) }
-        ensures left { S.is_honest store.new → IfOk result (λ _. nat_lt (2 ^ 40) (next_round (S.kept store.old) self.now) ≡ false) }
-        ensures used_up { S.is_honest store.new → result ≡ Err ProposerFault.RoundsUsedUp → nat_lt (2 ^ 40) (next_round (S.kept store.old) self.now) ≡ true }
-        ensures same { S.is_honest store.new → IsTrue (S.is_open store.new) → IsTrue (S.is_open store.old) × (S.kept store.new ≡ S.kept store.old) }
-        ensures crash { S.is_honest store.new → NoMore (S.may_leave store.old) (S.may_leave store.new) }
-        ensures honest { S.is_honest store.new → S.is_honest store.old }
-        ensures fault { IfErr result (IsWakeFault S.fails_by) }
-        ensures round_fault { IfErr result (IsWakeFault S.round_fails_by) }
-        ensures counts { S.faults store.old ≤ S.faults store.new }
-        ensures disk { result ≡ Err (ProposerFault.Store Disk) → S.faults store.old < S.faults store.new }
+        ensures calls { Calls LoadsRound (S.seen store.old) (S.seen store.new) (store_fault (fault_in result)) }
+        ensures looks { (S.seen store.new).is_honest → Looks (S.seen store.old) (S.seen store.new) }
+        ensures round {
+            (S.seen store.new).is_honest →
+                IfOk result (λ round. round ≡ next_round (S.seen store.old).kept self.now)
+        }
+        ensures left {
+            (S.seen store.new).is_honest →
+                IfOk result (λ _. nat_lt (2 ^ 40) (next_round (S.seen store.old).kept self.now) ≡ false)
+        }
+        ensures used_up {
+            (S.seen store.new).is_honest → result ≡ Err ProposerFault.RoundsUsedUp →
+                nat_lt (2 ^ 40) (next_round (S.seen store.old).kept self.now) ≡ true
+        }
+        ensures fault { IfErr result (λ fault. fault ≢ ProposerFault.Full) }
     {
         let last = store.last_round()?.max(self.nacked);
         let Some(round) = round_after(last) else {

@@ -1,4 +1,4 @@
-use Rattle.std.proofs.Common.{ℕ, ◌≡◌, List, inr, refl, ap, ◌∙◌}
+use Rattle.std.proofs.Common.{ℕ, ◌≡◌, List, refl, ap, ◌∙◌}
 use Rattle.std.specs.FinMap.{from_entries, insert}
 use Rattle.std.specs.Ordering.{nat_cmp}
 use Rattle.press_acceptor.specs.StoreMap.{StoreMap, with_row}
@@ -16,17 +16,9 @@ saved_row old new round k slot v row store e f g h =
     ∙ ap (λ (r : Row). with_row (store_of old round) slot r) g
     ∙ ap (λ (s : StoreMap). with_row s slot row) h
 
-pub returns-clause-saved : goal.returns-clause-saved
-returns-clause-saved c = λ _. (
-  refl,
-  refl,
-  saved_row c.self.inside.rows.entries c.insert.new.self.entries c.self.inside.last_round c.number.result c.args.slot c.in_ok-row.row c.args.row.now c.args.self.now
-      (inserted c.self.inside.rows.entries c.insert.new.self.entries c.number.result c.in_ok-row.row c.in_ok-insert.ensures.updates.0) c.number.ensures.value c.in_ok-row.ensures c.self.view_is,
-)
-
-pub returns-clause-crash : goal.returns-clause-crash
-returns-clause-crash c = λ _ left e.
-    let same =
+pub returns-clause-saves : goal.returns-clause-saves
+returns-clause-saves c = λ _.
+    let kept =
     saved_row c.self.inside.rows.entries c.insert.new.self.entries c.self.inside.last_round c.number.result c.args.slot c.in_ok-row.row c.args.row.now c.args.self.now
-    (inserted c.self.inside.rows.entries c.insert.new.self.entries c.number.result c.in_ok-row.row c.in_ok-insert.ensures.updates.0) c.number.ensures.value c.in_ok-row.ensures c.self.view_is in
-    inr (e ∙ same)
+    (inserted c.self.inside.rows.entries c.insert.new.self.entries c.number.result c.in_ok-row.row c.in_ok-insert.ensures.updates.0) c.number.ensures.value c.in_ok-row.ensures.copied c.self.view_is in
+    record { was_open = refl; is_open = refl; kept = kept; durable = λ left m. m }

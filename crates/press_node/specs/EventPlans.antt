@@ -1,0 +1,64 @@
+-- Which calls of its store each event makes, where it may take memory of its own, and what it saves (own): a message that is ignored takes no memory, nor does a
+-- refusal, a promise that doesn't count, a vote that isn't kept where nothing is chosen, or a query for a slot without a vote.
+use Rattle.std.specs.Prelude.{ℕ, ◌≡◌, ◌⊎◌, IsTrue, IsSome, Bool, true, false, None, List, [], if◌then◌else◌}
+use Rattle.press_wire.specs.declared.message.Body.{Body}
+use Rattle.press_wire.specs.declared.message.Body.TheVariants.{Prepare, Promise, Nack, Accept, Accepted, Query}
+use Rattle.press_wire.specs.declared.message.Message.{Message}
+use Rattle.press_wire.specs.declared.vote.Vote.{Vote}
+use Rattle.press_acceptor.specs.Plans.{TakesForAnswer, answer_calls}
+use Rattle.press_acceptor.specs.Seen.{Call}
+use Rattle.press_acceptor.specs.StoreMap.{StoreMap}
+use Rattle.press_acceptor.specs.Turned.{Plan}
+use Rattle.press_learner.specs.Chosen.{chosen_next, has_gap}
+use Rattle.press_learner.specs.Kept.{Kept, is_in_window, vote_at, with_vote}
+use Rattle.press_proposer.specs.Phases.{awaits}
+use Rattle.press_proposer.specs.Wakes.{wake_calls}
+use Rattle.press_node.specs.declared.event.Event.{Event}
+use Rattle.press_node.specs.declared.event.Event.TheVariants.{Submit, Wake, Deliver}
+use Rattle.press_node.specs.NodeEvent.{Running, is_for, on_body, on_event}
+
+-- a member's first vote for a slot is kept, or with the vote a value is chosen, which is applied
+abbrev pub TakesForVote : Kept → ℕ → ℕ → Vote → Type 0
+TakesForVote learner from slot vote = (IsTrue (is_in_window learner.applied slot) × (vote_at learner slot from ≡ None)) ⊎ IsSome (chosen_next (with_vote learner from slot vote))
+
+abbrev pub TakesForBody : Running → Message → Body → StoreMap → Type 0
+TakesForBody node message (Prepare round) kept = TakesForAnswer message.slot (Prepare round) kept
+TakesForBody node message (Accept round value) kept = TakesForAnswer message.slot (Accept round value) kept
+TakesForBody node message Query kept = TakesForAnswer message.slot Query kept
+TakesForBody node message (Promise ballot vote) kept = IsTrue (awaits node.proposer.phase message.from message.slot ballot)
+TakesForBody node message (Nack refused promised) kept = ⊥
+TakesForBody node message (Accepted vote) kept = TakesForVote node.learner message.from message.slot vote
+
+-- a message for the node, from a member
+abbrev pub body_plan : ℕ → ℕ → Running → Message → Body → Plan
+body_plan members id node message body = record {
+  calls = answer_calls message.slot body;
+  takes = TakesForBody node message body;
+  save = λ kept. (on_body members id kept node message body).save;
+}
+
+-- and nothing where it is ignored
+abbrev pub TakesWhere : Bool → Type 0 → Type 0
+TakesWhere true takes = takes
+TakesWhere false takes = ⊥
+
+abbrev pub calls_where : Bool → List Call → List Call
+calls_where true calls = calls
+calls_where false calls = []
+
+abbrev pub event_calls : ℕ → ℕ → Running → Event → List Call
+event_calls members id node (Submit command) = []
+event_calls members id node Wake = wake_calls node.proposer (has_gap node.learner)
+event_calls members id node (Deliver message) = calls_where (is_for members id message) (answer_calls message.slot message.body)
+
+abbrev pub TakesMemory : ℕ → ℕ → Running → Event → StoreMap → Type 0
+TakesMemory members id node (Submit command) kept = Unit {0}
+TakesMemory members id node Wake kept = Unit {0}
+TakesMemory members id node (Deliver message) kept = TakesWhere (is_for members id message) (TakesForBody node message message.body kept)
+
+abbrev pub event_plan : ℕ → ℕ → Running → Event → Plan
+event_plan members id node event = record {
+  calls = event_calls members id node event;
+  takes = TakesMemory members id node event;
+  save = λ kept. (on_event members id kept node event).save;
+}
