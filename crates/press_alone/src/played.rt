@@ -1,9 +1,10 @@
 //! A scene, played.
 
+use crate::seats::Seats;
+use crate::word::Word;
 use crate::words::{Scene, Start};
 use press_callbacks::{BoxedTurns, CallIn, Kit, Stored, script_turn};
 use press_kit::{KitParts, read_kit_file};
-use press_seats::{Seats, Word};
 use press_text::Copied;
 use std::fs;
 use std::io::Write;

@@ -1,4 +1,5 @@
-use press_seats::{Plan, Word, number_behind};
+use crate::store::Plan;
+use crate::word::{Word, number_behind};
 use std::alloc::{AllocError, Global};
 
 /// With what the nodes begin.

@@ -1,10 +1,14 @@
+mod acceptor;
 mod callbacks;
 mod events;
 mod hooks;
+mod learner;
 mod posts;
+mod proposer;
 mod runs;
 mod scans;
 mod scripts;
 mod site;
+mod synod;
 mod texts;
 mod twin;

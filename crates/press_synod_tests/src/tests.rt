@@ -1,4 +1,0 @@
-mod acceptor;
-mod common;
-mod learner;
-mod proposer;
