@@ -27,20 +27,21 @@ impl Acceptor {
         slot: Slot,
         ballot: Ballot,
     ) -> Result<Said, StoreFault>
-        ensures said { Says (reads_and_saves slot) (λ said. said) (λ kept. (prepare_turn kept slot ballot).said)
-            (moved S.seen store.old store.new) result }
-        ensures turned { Turned (prepare_plan slot ballot) (moved S.seen store.old store.new) (fault_in result) }
+        ensures said { Says (reads_and_saves slot) (λ said. said)
+            (λ kept. (prepare_turn kept slot ballot).said) (moved S.seen store.old store.new) result }
+        ensures turned { Turned (prepare_plan slot ballot) (moved S.seen store.old store.new)
+            (fault_in result) }
     {
         let row = store.load(slot)?;
         if let Some(promised) = row.refuses_prepare(&ballot) {
             return Ok(Said::Nack(promised));
         }
-        let row = Row {
+        let promised = Row {
             promised: Some(ballot),
             vote: row.vote,
         };
-        store.save(slot, &row)?;
-        Ok(Said::Promise(row.vote))
+        store.save(slot, &promised)?;
+        Ok(Said::Promise(promised.vote))
     }
 
     /// Votes for a proposal in a ballot that is at least the promise for the slot; a repeated request is answered with the vote that was cast.
@@ -66,9 +67,9 @@ impl Acceptor {
             return Ok(Said::Nack(promised));
         }
         let value = value.copy(alloc)?;
-        let row = Row::voted(Vote { ballot, value });
-        store.save(slot, &row)?;
-        Ok(Said::of_vote(row.vote))
+        let voted = Row::voted(Vote { ballot, value });
+        store.save(slot, &voted)?;
+        Ok(Said::of_vote(voted.vote))
     }
 
     /// Tells the vote for the slot, where there is one.

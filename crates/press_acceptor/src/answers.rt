@@ -31,7 +31,8 @@ impl Acceptor {
         ensures out { Says (answer_calls message.now.slot message.now.body) (λ out. out.items)
             (λ kept. (acceptor_answer members id kept message.now).out)
             (moved S.seen store.old store.new) result }
-        ensures turned { Turned (answer_plan members id message.now) (moved S.seen store.old store.new) (fault_in result) }
+        ensures turned { Turned (answer_plan members id message.now)
+            (moved S.seen store.old store.new) (fault_in result) }
     {
         let (asker, slot) = (message.from, message.slot);
         match &message.body {

@@ -15,8 +15,8 @@ mod store;
 pub use acceptor::Acceptor;
 pub use fault::StoreFault;
 pub use laws::{
-    a_new_round_is_legal, a_new_store_agrees, acceptor_saves_legal_facts, at_most_one_value_chosen,
-    ballots_are_ordered, some_value_chosen,
+    a_new_round_is_legal, a_new_store_agrees, a_settled_store_stays_settled,
+    acceptor_saves_legal_facts, at_most_one_value_chosen, ballots_are_ordered, some_value_chosen,
 };
 pub use memory::MemoryStore;
 pub use messages::{to_all, to_one};

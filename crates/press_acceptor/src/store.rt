@@ -21,24 +21,30 @@ pub trait PromiseStore {
     /// The row of a slot.
     fn load(&mut self, slot: Slot) -> Result<Row, StoreFault>
         ensures calls { Calls (LoadsRow slot) (seen self.old) (seen self.new) (fault_in result) }
-        ensures row { (seen self.new).is_honest → IfOk result (λ row. row ≡ row_at (seen self.old).kept slot) }
+        ensures row { (seen self.new).is_honest →
+            IfOk result (λ row. row ≡ row_at (seen self.old).kept slot) }
         ensures looks { (seen self.new).is_honest → Looks (seen self.old) (seen self.new) };
 
     /// Saves the row of a slot, whole or not at all.
     fn save(&mut self, slot: Slot, row: &Row) -> Result<(), StoreFault>
         ensures calls { Calls (SavesRow slot) (seen self.old) (seen self.new) (fault_in result) }
-        ensures saves { (seen self.new).is_honest → Saves (seen self.old) (seen self.new) (with_row (seen self.old).kept slot row.now) (fault_in result) };
+        ensures saves { (seen self.new).is_honest →
+            Saves (seen self.old) (seen self.new) (with_row (seen self.old).kept slot row.now)
+            (fault_in result) };
 
     /// The round that was saved last, or 0.
     fn last_round(&mut self) -> Result<u64, StoreFault>
         ensures calls { Calls LoadsRound (seen self.old) (seen self.new) (fault_in result) }
-        ensures round { (seen self.new).is_honest → IfOk result (λ round. round ≡ (seen self.old).kept.last_round) }
+        ensures round { (seen self.new).is_honest →
+            IfOk result (λ round. round ≡ (seen self.old).kept.last_round) }
         ensures looks { (seen self.new).is_honest → Looks (seen self.old) (seen self.new) };
 
     /// Saves the last round, whole or not at all.
     fn save_round(&mut self, round: Round) -> Result<(), StoreFault>
         ensures calls { Calls SavesRound (seen self.old) (seen self.new) (fault_in result) }
-        ensures saves { (seen self.new).is_honest → Saves (seen self.old) (seen self.new) (with_round (seen self.old).kept round) (fault_in result) };
+        ensures saves { (seen self.new).is_honest →
+            Saves (seen self.old) (seen self.new) (with_round (seen self.old).kept round)
+            (fault_in result) };
 
     /// A crash may leave what the store shows.
     ghost shows: { (store : Self) → MayLeaveShown (seen store) };

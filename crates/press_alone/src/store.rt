@@ -1,7 +1,7 @@
 //! A store in memory whose device fails once, where that is planned.
 
 ghost use Rattle.std.specs.Prelude.{◌≡◌, ◌⊎◌, ◌<◌, ◌≤◌, true, false};
-ghost use Rattle.press_acceptor.specs.declared.fault.StoreFault.TheVariants.{Disk, NoMemory};
+ghost use Rattle.press_acceptor.specs.declared.fault.StoreFault.TheVariants.{Damaged, Disk};
 
 use press_acceptor::{MemoryStore, PromiseStore, Row, StoreFault};
 use press_wire::{Round, Slot};
@@ -60,11 +60,11 @@ impl Failing {
         &self.memory
     }
 
-    // The device fails, and is shut. Past the greatest count it is memory that is told.
+    // The device fails, and is shut. A failure past the greatest count is told as damage.
     fn fails(&mut self) -> StoreFault
         ensures memory { self.new.memory ≡ self.old.memory }
         ensures shut { self.new.works ≡ false }
-        ensures fault { (result ≡ Disk) ⊎ (result ≡ NoMemory) }
+        ensures fault { (result ≡ Disk) ⊎ (result ≡ Damaged) }
         ensures disk { result ≡ Disk → self.old.faults < self.new.faults }
         ensures counts { self.old.faults ≤ self.new.faults }
     {
@@ -74,7 +74,7 @@ impl Failing {
                 self.faults = faults;
                 StoreFault::Disk
             }
-            None => StoreFault::NoMemory,
+            None => StoreFault::Damaged,
         }
     }
 
@@ -94,22 +94,19 @@ impl Failing {
 }
 
 impl PromiseStore for Failing {
-    ghost use Rattle.std.specs.Prelude.{◌≡◌, ◌⊎◌};
-    ghost use Rattle.press_acceptor.specs.declared.fault.StoreFault.TheVariants.{Disk, NoMemory};
+    ghost use Rattle.std.specs.Prelude.{◌≡◌, ◌⊎◌, IfSome};
+    ghost use Rattle.press_acceptor.specs.declared.fault.StoreFault.TheVariants.{Damaged, Disk, NoMemory};
 
-    ghost kept = { λ s. s.memory };
-
-    ghost may_leave = { λ s left. left ≡ s.memory };
-
-    ghost is_honest = { λ _. Unit {0} };
-
-    ghost is_open = { λ s. s.works };
-
-    ghost faults = { λ s. s.faults };
-
-    ghost fails_by = { λ f. (f ≡ Disk) ⊎ (f ≡ NoMemory) };
-
-    ghost round_fails_by = { λ f. (f ≡ Disk) ⊎ (f ≡ NoMemory) };
+    ghost seen = {
+        λ s. record {
+            is_honest = Unit {0};
+            is_open = s.works;
+            kept = s.memory;
+            may_leave = λ left. left ≡ s.memory;
+            faults = s.faults;
+            ends = λ call fault. IfSome fault (λ f. (f ≡ Disk) ⊎ (f ≡ Damaged) ⊎ (f ≡ NoMemory));
+        }
+    };
 
     fn faults(&self) -> u64 {
         self.faults
@@ -156,4 +153,8 @@ impl PromiseStore for Failing {
             }
         }
     }
+
+    ghost use Rattle.std.specs.Prelude.{refl};
+
+    ghost shows = { λ store honest is_open. refl };
 }

@@ -21,7 +21,7 @@ use Rattle.press_proposer.specs.declared.promises.Promise as promises
 use Rattle.press_learner.specs.Chosen.{has_gap}
 use Rattle.press_node.specs.declared.event.Event.{Event}
 use Rattle.press_node.specs.declared.event.Event.TheVariants.{Submit, Wake, Deliver}
-use Rattle.press_node.specs.Durable.{AreStored, IsStored, IsBodyStored}
+use Rattle.press_node.specs.Durable.{AreStored, IsAnswerStored, IsStored, IsBodyStored}
 use Rattle.press_node.specs.NodeEvent.{Running, Answer, quiet as node_quiet, is_for, left_by, on_body, on_event}
 use Rattle.press_acceptor.proofs.Maps.{get_here}
 use Rattle.press_node.proofs.Few.{either}
@@ -111,9 +111,6 @@ promise_stored store p from slot ballot vote =
 
 -- ---- the node
 
-abbrev IsAnswerStored : StoreMap → Answer → Type 0
-IsAnswerStored store a = AreStored (left_by store a) a.out
-
 body_stored : (n id : ℕ) (store : StoreMap) (node : Running) (message : Message) (body : Body) → IsAnswerStored store (on_body n id store node message body)
 body_stored n id store node message (Prepare round) = acceptor_stored n id store message.from message.slot message.body
 body_stored n id store node message (Accept round value) = acceptor_stored n id store message.from message.slot message.body
@@ -122,7 +119,7 @@ body_stored n id store node message (Promise ballot vote) = promise_stored store
 body_stored n id store node message (Nack refused promised) = none store
 body_stored n id store node message (Accepted vote) = none store
 
-pub event_stored : (n id : ℕ) (store : StoreMap) (node : Running) (event : Event) → AreStored (left_by store (on_event n id store node event)) (on_event n id store node event).out
+pub event_stored : (n id : ℕ) (store : StoreMap) (node : Running) (event : Event) → IsAnswerStored store (on_event n id store node event)
 event_stored n id store node (Submit command) = none store
 event_stored n id store node Wake = wake_stored store node.proposer node.learner.applied (has_gap node.learner)
 event_stored n id store node (Deliver message) =

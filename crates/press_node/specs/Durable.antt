@@ -5,6 +5,7 @@ use Rattle.press_wire.specs.declared.message.Body.{Body}
 use Rattle.press_wire.specs.declared.message.Body.TheVariants.{Prepare, Promise, Nack, Accept, Accepted, Query}
 use Rattle.press_wire.specs.declared.message.Message.{Message}
 use Rattle.press_acceptor.specs.StoreMap.{StoreMap, promise_of, vote_of}
+use Rattle.press_node.specs.NodeEvent.{Answer, left_by}
 
 abbrev pub IsBodyStored : StoreMap → ℕ → Body → Type 0
 IsBodyStored store slot (Promise ballot vote) = (promise_of store slot ≡ Some ballot) × (vote_of store slot ≡ vote)
@@ -19,3 +20,7 @@ IsStored store message = IsBodyStored store message.slot message.body
 
 abbrev pub AreStored : StoreMap → List Message → Type 0
 AreStored store messages = All (IsStored store) messages
+
+-- what an answer says, the store keeps after it
+abbrev pub IsAnswerStored : StoreMap → Answer → Type 0
+IsAnswerStored store answer = AreStored (left_by store answer) answer.out

@@ -52,10 +52,12 @@ impl<S> Node<S> {
 
     /// The reply to a request for a page of what the applied values make. Nothing changes.
     pub fn get(&self, target: &Target) -> Result<Reply, NodeFault>
-        ensures page { IfOk result (λ reply. IsPageAt (kit_of self.now) (state_of self.now).up target.now reply) }
+        ensures page { IfOk result
+            (λ reply. IsPageAt (kit_of self.now) (state_of self.now).up target.now reply) }
         ensures down { is_down (state_of self.now) ≡ true → result ≡ Err NodeFault.Down }
-        ensures fault { IfErr result (λ fault. ((fault ≡ NodeFault.Down) × (is_down (state_of self.now) ≡ true))
-            ⊎ (fault ≡ NodeFault.NoMemory)) }
+        ensures fault { IfErr result
+            (λ fault. ((fault ≡ NodeFault.Down) × (is_down (state_of self.now) ≡ true)) ⊎
+            (fault ≡ NodeFault.NoMemory)) }
     {
         self.state.get(&self.kit, target)
     }
@@ -72,7 +74,8 @@ impl<S: PromiseStore> Node<S> {
     ) -> Result<Node<S>, StartFault<S>>
         requires few { members ≤ 7 }
         requires member { id ≤ members }
-        ensures kit { MatchResult result (λ node. kit_of node ≡ kit_view kit) (λ e. kit_view e.kit ≡ kit_view kit) }
+        ensures kit { MatchResult result (λ node. kit_of node ≡ kit_view kit)
+            (λ e. kit_view e.kit ≡ kit_view kit) }
         ensures state { IfOk result (λ node. (S.seen (store_of node)).is_honest →
             state_of node ≡ started_at id members (S.seen store).kept.last_round) }
         ensures calls { MatchResult result

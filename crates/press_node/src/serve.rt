@@ -63,7 +63,8 @@ impl NodeFault {
 
 /// What the request on a connection asks for.
 fn asked<R: Read>(alloc: Global, reader: &mut R) -> Result<Asked, HttpFault>
-    ensures { (seen : List ℕ) × Consumes (R.remaining reader.old) (R.remaining reader.new) seen × (length seen ≤ longest_request) × AsksFor seen (R.remaining reader.new) result }
+    ensures { (seen : List ℕ) × Consumes (R.remaining reader.old) (R.remaining reader.new) seen ×
+        (length seen ≤ longest_request) × AsksFor seen (R.remaining reader.new) result }
 {
     match read_request(alloc, reader) {
         Ok(request) => route(alloc, &request),
@@ -74,8 +75,11 @@ fn asked<R: Read>(alloc: Global, reader: &mut R) -> Result<Asked, HttpFault>
 /// A reply with a fixed body, and nothing to be sent.
 fn refused<W: Write>(alloc: Global, writer: &mut W, status: u16) -> Result<Served, HttpFault>
     requires { IsTold status }
-    ensures ok { IfOk result (λ s. (s.status ≡ status) × (s.outbox.items ≡ []) × Appends (W.contents writer.old) (W.contents writer.new) (fault_bytes status)) }
-    ensures err { OnErr result (AppendsFront (W.contents writer.old) (W.contents writer.new) (fault_bytes status)) }
+    ensures ok { IfOk result
+        (λ s. (s.status ≡ status) × (s.outbox.items ≡ []) ×
+        Appends (W.contents writer.old) (W.contents writer.new) (fault_bytes status)) }
+    ensures err { OnErr result
+        (AppendsFront (W.contents writer.old) (W.contents writer.new) (fault_bytes status)) }
     ensures fault { IfErr result (λ e. e ≡ HttpFault.WriteFault) }
 {
     match write_fault(writer, status) {
@@ -117,7 +121,8 @@ fn told<W: Write>(
     outbox: Vec<Message>,
 ) -> Result<Served, HttpFault>
     ensures outbox { IfOk result (λ s. s.outbox.items ≡ outbox.items) }
-    ensures ok { IfOk result (λ s. Tells (W.contents writer.old) (W.contents writer.new) reply.now s.status) }
+    ensures ok { IfOk result
+        (λ s. Tells (W.contents writer.old) (W.contents writer.new) reply.now s.status) }
     ensures err { OnErr result (TellsFront (W.contents writer.old) (W.contents writer.new) reply.now) }
     ensures fault { IfErr result (λ e. e ≡ HttpFault.WriteFault) }
 {
@@ -144,8 +149,12 @@ fn shown<S: PromiseStore, W: Write>(
     target: &Target,
 ) -> Result<Served, HttpFault>
     ensures outbox { IfOk result (λ s. s.outbox.items ≡ []) }
-    ensures ok { IfOk result (λ s. Shows (kit_of node.now) (state_of node.now).up target.now (W.contents writer.old) (W.contents writer.new) s.status) }
-    ensures err { OnErr result (ShowsFront (kit_of node.now) (state_of node.now).up target.now (W.contents writer.old) (W.contents writer.new)) }
+    ensures ok { IfOk result
+        (λ s. Shows (kit_of node.now) (state_of node.now).up target.now (W.contents writer.old)
+        (W.contents writer.new) s.status) }
+    ensures err { OnErr result
+        (ShowsFront (kit_of node.now) (state_of node.now).up target.now (W.contents writer.old)
+        (W.contents writer.new)) }
     ensures fault { IfErr result (λ e. e ≡ HttpFault.WriteFault) }
 {
     match node.get(target) {
@@ -162,8 +171,8 @@ fn played<S: PromiseStore, W: Write>(
     reply: &Reply,
 ) -> Result<Served, HttpFault>
     ensures kit { kit_of node.new ≡ kit_of node.old }
-    ensures plays { PlaysAndTells (node_moved S.seen node.old node.new).plays event reply.now (W.contents writer.old)
-        (W.contents writer.new) result }
+    ensures plays { PlaysAndTells (node_moved S.seen node.old node.new).plays event reply.now
+        (W.contents writer.old) (W.contents writer.new) result }
 {
     let alloc = node.alloc;
     match node.on(event) {
@@ -189,8 +198,8 @@ fn answered<S: PromiseStore, W: Write>(
     asked: Asked,
 ) -> Result<Served, HttpFault>
     ensures kit { kit_of node.new ≡ kit_of node.old }
-    ensures answered { IsAnswered (node_moved S.seen node.old node.new) (W.contents writer.old) (W.contents writer.new)
-        asked result }
+    ensures answered { IsAnswered (node_moved S.seen node.old node.new) (W.contents writer.old)
+        (W.contents writer.new) asked result }
 {
     let alloc = node.alloc;
     match asked {
@@ -228,8 +237,8 @@ pub fn serve_one<S: PromiseStore, R: Read, W: Write>(
     writer: &mut W,
 ) -> Result<Served, HttpFault>
     ensures kit { kit_of node.new ≡ kit_of node.old }
-    ensures served { Serves (node_moved S.seen node.old node.new) (R.remaining reader.old) (R.remaining reader.new)
-        (W.contents writer.old) (W.contents writer.new) result }
+    ensures served { Serves (node_moved S.seen node.old node.new) (R.remaining reader.old)
+        (R.remaining reader.new) (W.contents writer.old) (W.contents writer.new) result }
 {
     match asked(node.alloc, reader) {
         Ok(asked) => answered(node, writer, asked),

@@ -69,7 +69,8 @@ fn slot_behind(applied: u64) -> Slot
 /// The command, where it isn't too long.
 fn short(command: Stamped) -> Result<Stamped, NodeFault>
     ensures ok { IfOk result (λ c. (c ≡ command) × (spell.is_too_long (Cmd command) ≡ false)) }
-    ensures err { IfErr result (λ fault. (fault ≡ NodeFault.TooLong) × (spell.is_too_long (Cmd command) ≡ true)) }
+    ensures err { IfErr result
+        (λ fault. (fault ≡ NodeFault.TooLong) × (spell.is_too_long (Cmd command) ≡ true)) }
 {
     let value = Value::Cmd(command);
     if is_too_long(&value) {
@@ -134,7 +135,8 @@ impl Up {
         ensures learner_members { self.new.learner.members ≡ self.old.learner.members }
         ensures count { OnOk result (self.new.learner.applied ≡ length self.new.values.items) }
         ensures stops { IfErr result (λ fault. stops fault ≡ true) }
-        ensures memory { IfErr result (λ fault. (fault ≡ NodeFault.NoMemory) × IsSome (chosen_next self.old.learner)) }
+        ensures memory { IfErr result
+            (λ fault. (fault ≡ NodeFault.NoMemory) × IsSome (chosen_next self.old.learner)) }
         ensures applies { IfOk result (λ more. Applies (kit_view kit.now) self.old more self.new) }
     {
         let value = match self.learner.next_chosen() {
@@ -170,9 +172,11 @@ impl Up {
         ensures learner_members { self.new.learner.members ≡ self.old.learner.members }
         ensures count { OnOk result (self.new.learner.applied ≡ length self.new.values.items) }
         ensures stops { IfErr result (λ fault. stops fault ≡ true) }
-        ensures memory { IfErr result (λ fault. (fault ≡ NodeFault.NoMemory) × IsSome (chosen_next self.old.learner)) }
+        ensures memory { IfErr result
+            (λ fault. (fault ≡ NodeFault.NoMemory) × IsSome (chosen_next self.old.learner)) }
         ensures settled { OnOk result (running_of self.new ≡ settled (running_of self.old)) }
-        ensures folded { OnOk result (IsUpFolded (kit_view kit.now) self.old → IsUpFolded (kit_view kit.now) self.new) }
+        ensures folded { OnOk result
+            (IsUpFolded (kit_view kit.now) self.old → IsUpFolded (kit_view kit.now) self.new) }
     {
         none_is_chosen_after_64();
         // Its contract tells that each kept vote is in the window.
@@ -204,9 +208,13 @@ impl Up {
         ensures learner_members { self.new.learner.members ≡ self.old.learner.members }
         ensures count { OnOk result (self.new.learner.applied ≡ length self.new.values.items) }
         ensures stops { IfErr result (λ fault. stops fault ≡ true) }
-        ensures memory { IfErr result (λ fault. (fault ≡ NodeFault.NoMemory) × TakesForVote self.old.learner from slot vote) }
-        ensures voted { OnOk result (running_of self.new ≡ settled (with_learner (running_of self.old) (with_vote self.old.learner from slot vote))) }
-        ensures folded { OnOk result (IsUpFolded (kit_view kit.now) self.old → IsUpFolded (kit_view kit.now) self.new) }
+        ensures memory { IfErr result
+            (λ fault. (fault ≡ NodeFault.NoMemory) × TakesForVote self.old.learner from slot vote) }
+        ensures voted { OnOk result
+            (running_of self.new ≡ settled
+            (with_learner (running_of self.old) (with_vote self.old.learner from slot vote))) }
+        ensures folded { OnOk result
+            (IsUpFolded (kit_view kit.now) self.old → IsUpFolded (kit_view kit.now) self.new) }
     {
         match self.learner.on_vote(from, slot, vote) {
             Ok(()) => self.settle(alloc, kit),
@@ -218,8 +226,11 @@ impl Up {
     fn submit(&mut self, alloc: Global, command: Stamped) -> Result<(), NodeFault>
         ensures rest { IsBeside self.old self.new }
         ensures queued { OnOk result (self.new.proposer ≡ queued_by self.old.proposer command) }
-        ensures refused { IfSome (refusal_up (running_of self.old) (Event.Submit command)) (λ fault. result ≡ Err fault) }
-        ensures fault { IfErr result (λ fault. stops fault ≡ false → refusal_up (running_of self.old) (Event.Submit command) ≡ Some fault) }
+        ensures refused { IfSome (refusal_up (running_of self.old) (Event.Submit command))
+            (λ fault. result ≡ Err fault) }
+        ensures fault { IfErr result
+            (λ fault. stops fault ≡ false →
+            refusal_up (running_of self.old) (Event.Submit command) ≡ Some fault) }
         ensures passes { OnOk result (refusal_up (running_of self.old) (Event.Submit command) ≡ None) }
         ensures memory { IfErr result (λ fault. stops fault ≡ true → fault ≡ NodeFault.NoMemory) }
         ensures err { OnErr result (self.new ≡ self.old) }
@@ -251,8 +262,8 @@ impl Up {
         members: u8,
     ) -> Result<Vec<Message>, NodeFault>
         ensures rest { IsBeside self.old self.new }
-        ensures plays { Plays (moved S.seen store.old store.new) (up_moved id members self.old self.new) Event.Wake
-            (sent (λ out. out.items) result) }
+        ensures plays { Plays (moved S.seen store.old store.new)
+            (up_moved id members self.old self.new) Event.Wake (sent (λ out. out.items) result) }
     {
         if self.is_at_end() {
             return Err(NodeFault::SlotsUsedUp);
@@ -274,10 +285,14 @@ impl Up {
     ) -> Result<Vec<Message>, NodeFault>
         requires { from ≤ self.old.proposer.members }
         ensures rest { IsBeside self.old self.new }
-        ensures out { IfOk result (λ out. out.items ≡ (promise_turn self.old.proposer from slot ballot vote).out) }
-        ensures after { OnOk result (self.new.proposer ≡ (promise_turn self.old.proposer from slot ballot vote).after) }
+        ensures out { IfOk result
+            (λ out. out.items ≡ (promise_turn self.old.proposer from slot ballot vote).out) }
+        ensures after { OnOk result
+            (self.new.proposer ≡ (promise_turn self.old.proposer from slot ballot vote).after) }
         ensures stops { IfErr result (λ fault. stops fault ≡ true) }
-        ensures memory { IfErr result (λ fault. (fault ≡ NodeFault.NoMemory) × IsTrue (awaits self.old.proposer.phase from slot ballot)) }
+        ensures memory { IfErr result
+            (λ fault. (fault ≡ NodeFault.NoMemory) ×
+            IsTrue (awaits self.old.proposer.phase from slot ballot)) }
     {
         match self.proposer.on_promise(from, slot, ballot, vote) {
             Ok(out) => Ok(out),
@@ -306,7 +321,8 @@ impl Up {
         requires up { IsUpAt id members self.old }
         requires member { message.from ≤ members }
         ensures up { OnOk result (IsUpAt id members self.new) }
-        ensures folded { OnOk result (IsUpFolded (kit_view kit.now) self.old → IsUpFolded (kit_view kit.now) self.new) }
+        ensures folded { OnOk result
+            (IsUpFolded (kit_view kit.now) self.old → IsUpFolded (kit_view kit.now) self.new) }
         ensures plays { PlaysBy (body_plan members id (running_of self.old) message message.body)
             (λ kept. on_body members id kept (running_of self.old) message message.body) (λ _. None)
             (moved S.seen store.old store.new) (up_moved id members self.old self.new)
@@ -354,7 +370,8 @@ impl Up {
     ) -> Result<Vec<Message>, NodeFault>
         requires { IsUpAt id members self.old }
         ensures up { OnOk result (IsUpAt id members self.new) }
-        ensures folded { OnOk result (IsUpFolded (kit_view kit.now) self.old → IsUpFolded (kit_view kit.now) self.new) }
+        ensures folded { OnOk result
+            (IsUpFolded (kit_view kit.now) self.old → IsUpFolded (kit_view kit.now) self.new) }
         ensures plays { Plays (moved S.seen store.old store.new) (up_moved id members self.old self.new)
             (Event.Deliver message) (sent (λ out. out.items) result) }
     {
@@ -378,9 +395,10 @@ impl Up {
         requires { IsUpAt id members self.old }
         ensures up { IfOk result (λ _. IsUpAt id members self.new) }
         ensures unchanged { IfErr result (λ fault. stops fault ≡ false → self.new ≡ self.old) }
-        ensures folded { OnOk result (IsUpFolded (kit_view kit.now) self.old → IsUpFolded (kit_view kit.now) self.new) }
-        ensures plays { Plays (moved S.seen store.old store.new) (up_moved id members self.old self.new) event
-            (sent (λ out. out.items) result) }
+        ensures folded { OnOk result
+            (IsUpFolded (kit_view kit.now) self.old → IsUpFolded (kit_view kit.now) self.new) }
+        ensures plays { Plays (moved S.seen store.old store.new)
+            (up_moved id members self.old self.new) event (sent (λ out. out.items) result) }
     {
         match event {
             Event::Submit(command) => match self.submit(alloc, command) {

@@ -10,8 +10,11 @@ use press_acceptor::ballots_are_ordered;
 
 /// The vote whose value is proposed is one that was reported, and of the greatest ballot; where there is none, none was reported (Paxos Made Simple, 2.2, P2c).
 pub fn best_is_the_greatest_reported()
-    ensures some { (promises : List Promise) (best : Vote) → best_of promises ≡ Some best → IsReported promises best × ((vote : Vote) → IsReported promises vote → AtMost vote.ballot best.ballot) }
-    ensures none { (promises : List Promise) (vote : Vote) → best_of promises ≡ None → ¬ IsReported promises vote }
+    ensures some { (promises : List Promise) (best : Vote) → best_of promises ≡ Some best →
+        IsReported promises best ×
+        ((vote : Vote) → IsReported promises vote → AtMost vote.ballot best.ballot) }
+    ensures none { (promises : List Promise) (vote : Vote) → best_of promises ≡ None →
+        ¬ IsReported promises vote }
 {
     ballots_are_ordered();
 }

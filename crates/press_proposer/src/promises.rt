@@ -91,7 +91,10 @@ pub fn value_with(
     vote: &Option<Vote>,
     queue: &Queue,
 ) -> Result<Value, AllocError>
-    ensures { IfOk result (λ value. (from : ℕ) → value ≡ model.choice (model.best_of (promises.now ++ record { from = from; vote = vote.now } ∷ [])) queue.now) }
+    ensures { IfOk result
+        (λ value. (from : ℕ) →
+        value ≡ model.choice
+        (model.best_of (promises.now ++ record { from = from; vote = vote.now } ∷ [])) queue.now) }
 {
     match better(best_of(promises), vote.as_ref()) {
         Some(best) => best.value.copy(alloc),
@@ -112,7 +115,8 @@ fn best_of(promises: &[Promise]) -> Option<&Vote>
 
 /// The vote of the greater ballot, of equal ones the first.
 fn better<'a>(best: Option<&'a Vote>, other: Option<&'a Vote>) -> Option<&'a Vote>
-    ensures { option_copied result ≡ model.better (option_copied best.entry) (option_copied other.entry) }
+    ensures { option_copied result ≡ model.better (option_copied best.entry)
+        (option_copied other.entry) }
 {
     match (best, other) {
         (best, None) => best,

@@ -82,7 +82,9 @@ impl Proposer {
     pub fn submit(&mut self, command: Stamped) -> Result<(), ProposerFault>
         ensures queued { OnOk result (self.new ≡ queued_by self.old command) }
         ensures room { IfOk result (λ _. is_full self.old.queue ≡ false) }
-        ensures fault { IfErr result (λ fault. fault ≡ (if is_full self.old.queue then ProposerFault.Full else ProposerFault.Store NoMemory)) }
+        ensures fault { IfErr result
+            (λ fault. fault ≡
+            (if is_full self.old.queue then ProposerFault.Full else ProposerFault.Store NoMemory)) }
         ensures unchanged { OnErr result (self.new ≡ self.old) }
     {
         if self.queue.is_full() {
@@ -104,16 +106,15 @@ impl Proposer {
     ) -> Result<Vec<Message>, ProposerFault>
         requires { applied < 1000000 }
         ensures kept { self.new ≡ in_phase self.old self.new.phase }
-        ensures after {
-            Says (wake_calls self.old gap) (λ _. self.new) (λ kept. (wake_turn kept self.old applied gap).after)
-                (moved S.seen store.old store.new) result
-        }
-        ensures out {
-            Says (wake_calls self.old gap) (λ out. out.items) (λ kept. (wake_turn kept self.old applied gap).out)
-                (moved S.seen store.old store.new) result
-        }
+        ensures after { Says (wake_calls self.old gap) (λ _. self.new)
+            (λ kept. (wake_turn kept self.old applied gap).after)
+            (moved S.seen store.old store.new) result }
+        ensures out { Says (wake_calls self.old gap) (λ out. out.items)
+            (λ kept. (wake_turn kept self.old applied gap).out)
+            (moved S.seen store.old store.new) result }
         ensures unchanged { OnErr result (self.new ≡ self.old) }
-        ensures wakes { Wakes self.old applied gap (moved S.seen store.old store.new) (fault_in result) }
+        ensures wakes { Wakes self.old applied gap (moved S.seen store.old store.new)
+            (fault_in result) }
     {
         let slot = slot_after(applied);
         if self.is_content(gap) {
@@ -146,7 +147,8 @@ impl Proposer {
         requires { from ≤ self.old.members }
         ensures kept { self.new ≡ in_phase self.old self.new.phase }
         ensures after { OnOk result (self.new ≡ (promise_turn self.old from slot ballot vote).after) }
-        ensures out { IfOk result (λ out. out.items ≡ (promise_turn self.old from slot ballot vote).out) }
+        ensures out { IfOk result
+            (λ out. out.items ≡ (promise_turn self.old from slot ballot vote).out) }
         ensures unchanged { OnErr result (self.new ≡ self.old) }
         ensures memory { OnErr result (IsTrue (awaits self.old.phase from slot ballot)) }
     {
@@ -190,20 +192,15 @@ impl Proposer {
 
     /// The round behind the greatest that was saved or told.
     fn next_round<S: PromiseStore>(&self, store: &mut S) -> Result<Round, ProposerFault>
-        ensures calls { Calls LoadsRound (S.seen store.old) (S.seen store.new) (store_fault (fault_in result)) }
+        ensures calls { Calls LoadsRound (S.seen store.old) (S.seen store.new)
+            (store_fault (fault_in result)) }
         ensures looks { (S.seen store.new).is_honest → Looks (S.seen store.old) (S.seen store.new) }
-        ensures round {
-            (S.seen store.new).is_honest →
-                IfOk result (λ round. round ≡ next_round (S.seen store.old).kept self.now)
-        }
-        ensures left {
-            (S.seen store.new).is_honest →
-                IfOk result (λ _. nat_lt (2 ^ 40) (next_round (S.seen store.old).kept self.now) ≡ false)
-        }
-        ensures used_up {
-            (S.seen store.new).is_honest → result ≡ Err ProposerFault.RoundsUsedUp →
-                nat_lt (2 ^ 40) (next_round (S.seen store.old).kept self.now) ≡ true
-        }
+        ensures round { (S.seen store.new).is_honest →
+            IfOk result (λ round. round ≡ next_round (S.seen store.old).kept self.now) }
+        ensures left { (S.seen store.new).is_honest →
+            IfOk result (λ _. nat_lt (2 ^ 40) (next_round (S.seen store.old).kept self.now) ≡ false) }
+        ensures used_up { (S.seen store.new).is_honest → result ≡ Err ProposerFault.RoundsUsedUp →
+            nat_lt (2 ^ 40) (next_round (S.seen store.old).kept self.now) ≡ true }
         ensures fault { IfErr result (λ fault. fault ≢ ProposerFault.Full) }
     {
         let last = store.last_round()?.max(self.nacked);
@@ -215,7 +212,9 @@ impl Proposer {
 
     /// Asks each member for a vote.
     fn ask(&self, slot: Slot, ballot: &Ballot, value: Value) -> Result<Vec<Message>, AllocError>
-        ensures { IfOk result (λ out. out.items ≡ messages.to_all self.now.members self.now.id slot (Accept ballot.now.round value)) }
+        ensures { IfOk result
+            (λ out. out.items ≡ messages.to_all self.now.members self.now.id slot
+            (Accept ballot.now.round value)) }
     {
         let round = ballot.round;
         self.to_all(slot, Body::Accept { round, value })
@@ -223,7 +222,8 @@ impl Proposer {
 
     /// A message to each member.
     fn to_all(&self, slot: Slot, body: Body) -> Result<Vec<Message>, AllocError>
-        ensures { IfOk result (λ out. out.items ≡ messages.to_all self.now.members self.now.id slot body) }
+        ensures { IfOk result
+            (λ out. out.items ≡ messages.to_all self.now.members self.now.id slot body) }
     {
         to_all(self.alloc, self.members, self.id, slot, &body)
     }
