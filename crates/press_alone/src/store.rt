@@ -97,16 +97,14 @@ impl PromiseStore for Failing {
     ghost use Rattle.std.specs.Prelude.{◌≡◌, ◌⊎◌, IfSome};
     ghost use Rattle.press_acceptor.specs.declared.fault.StoreFault.TheVariants.{Damaged, Disk, NoMemory};
 
-    ghost seen = {
-        λ s. record {
-            is_honest = Unit {0};
-            is_open = s.works;
-            kept = s.memory;
-            may_leave = λ left. left ≡ s.memory;
-            faults = s.faults;
-            ends = λ call fault. IfSome fault (λ f. (f ≡ Disk) ⊎ (f ≡ Damaged) ⊎ (f ≡ NoMemory));
-        }
-    };
+    ghost seen = { λ s. record {
+      is_honest = Unit {0};
+      is_open = s.works;
+      kept = s.memory;
+      may_leave = λ left. left ≡ s.memory;
+      faults = s.faults;
+      ends = λ call fault. IfSome fault (λ f. (f ≡ Disk) ⊎ (f ≡ Damaged) ⊎ (f ≡ NoMemory));
+    } };
 
     fn faults(&self) -> u64 {
         self.faults

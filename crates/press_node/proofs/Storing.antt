@@ -22,7 +22,7 @@ use Rattle.press_learner.specs.Chosen.{has_gap}
 use Rattle.press_node.specs.declared.event.Event.{Event}
 use Rattle.press_node.specs.declared.event.Event.TheVariants.{Submit, Wake, Deliver}
 use Rattle.press_node.specs.Durable.{AreStored, IsAnswerStored, IsStored, IsBodyStored}
-use Rattle.press_node.specs.NodeEvent.{Running, Answer, quiet as node_quiet, is_for, left_by, on_body, on_event}
+use Rattle.press_node.specs.NodeEvent.{Running, quiet as node_quiet, is_for, on_body, on_event}
 use Rattle.press_acceptor.proofs.Maps.{get_here}
 use Rattle.press_node.proofs.Few.{either}
 
