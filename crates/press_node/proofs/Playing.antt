@@ -64,7 +64,7 @@ module _ (store : StoreMove) (id members : ℕ) (s1 s2 d1 d2 : Type 0) (h1 h2 : 
   up_moves : (before : Option Running) (running : Running) (o : Option NodeFault) → Goes o → PlaysUp o running store (first before) event (Err fault) → PlaysUp o running store (second before) event (Err fault)
   up_moves before running (Some f) goes h = (h.0, same (ap stops (same_fault fault f (Err fault) (Err f) refl refl h.0) ∙ goes) h.1, h.2)
   up_moves before running None goes (inl h) = inl (record { by = h.by; is = h.is; down = down (ap stops h.is ∙ stops_by h.by); turned = h.turned; last = h.last })
-  up_moves before running None goes (inr h) = inr (record { is = h.is; same = same (ap stops h.is) h.same; turned = h.turned; none_left = h.none_left })
+  up_moves before running None goes (inr h) = inr (record { is = h.is; wanted = h.wanted; same = same (ap stops h.is) h.same; turned = h.turned; none_left = h.none_left })
 
   -- an event that was not done
   pub err_moves : (before : Option Running) → Plays store (first before) event (Err fault) → Plays store (second before) event (Err fault)

@@ -12,6 +12,7 @@ use Rattle.press_acceptor.specs.Turned.{Plan}
 use Rattle.press_learner.specs.Chosen.{chosen_next, has_gap}
 use Rattle.press_learner.specs.Kept.{Kept, is_in_window, vote_at, with_vote}
 use Rattle.press_proposer.specs.Phases.{awaits}
+use Rattle.press_proposer.specs.Turns.{is_content}
 use Rattle.press_proposer.specs.Wakes.{wake_calls}
 use Rattle.press_node.specs.declared.event.Event.{Event}
 use Rattle.press_node.specs.declared.event.Event.TheVariants.{Submit, Wake, Deliver}
@@ -62,3 +63,9 @@ event_plan members id node event = record {
   takes = TakesMemory members id node event;
   save = λ kept. (on_event members id kept node event).save;
 }
+
+-- a wake with something to propose
+abbrev pub WantsRound : Running → Event → Type 0
+WantsRound node (Submit command) = ⊥
+WantsRound node Wake = is_content node.proposer (has_gap node.learner) ≡ false
+WantsRound node (Deliver message) = ⊥

@@ -12,7 +12,7 @@ use Rattle.press_proposer.specs.Wakes.{last_round_plan}
 use Rattle.press_node.specs.declared.event.Event.{Event}
 use Rattle.press_node.specs.declared.fault.NodeFault.{NodeFault}
 use Rattle.press_node.specs.declared.fault.NodeFault.TheVariants.{Down, RoundsUsedUp}
-use Rattle.press_node.specs.EventPlans.{event_plan}
+use Rattle.press_node.specs.EventPlans.{WantsRound, event_plan}
 use Rattle.press_node.specs.Faults.{of_store}
 use Rattle.press_node.specs.NodeEvent.{Running, Answer, on_event}
 use Rattle.press_node.specs.Refusals.{refusal_up, refusal_by_rounds}
@@ -61,18 +61,19 @@ pub record IsStopped (plan : Plan) (refused : StoreMap → Option NodeFault) (st
   pub turned : Turned plan store (Some by)
   pub last : store.new.is_honest → refused store.old.kept ≡ Some RoundsUsedUp → Turned last_round_plan store (Some by)
 
--- No round is left: the store was asked for the last one, and nothing changed.
-pub record IsLast (refused : StoreMap → Option NodeFault) (store : StoreMove) (node : MemoryMove) (fault : NodeFault) : Type 0 where
+-- A round was wanted and none is left: the store was asked for the last one, and nothing changed.
+pub record IsLast (Wants : Type 0) (refused : StoreMap → Option NodeFault) (store : StoreMove) (node : MemoryMove) (fault : NodeFault) : Type 0 where
   pub is : fault ≡ RoundsUsedUp
+  pub wanted : Wants
   pub same : node.same
   pub turned : Turned last_round_plan store None
   pub none_left : store.new.is_honest → refused store.old.kept ≡ Some RoundsUsedUp
 
-abbrev pub PlaysBy : Plan → (StoreMap → Answer) → (StoreMap → Option NodeFault) → StoreMove → MemoryMove → Result (List Message) NodeFault → Type 0
-PlaysBy plan answer refused store node outcome =
+abbrev pub PlaysBy : Plan → (StoreMap → Answer) → Type 0 → (StoreMap → Option NodeFault) → StoreMove → MemoryMove → Result (List Message) NodeFault → Type 0
+PlaysBy plan answer wants refused store node outcome =
     MatchResult outcome
     (λ out. IsDone plan answer refused store node out)
-    (λ fault. IsStopped plan refused store node fault ⊎ IsLast refused store node fault)
+    (λ fault. IsStopped plan refused store node fault ⊎ IsLast wants refused store node fault)
 
 -- refused without the store: nothing changed
 abbrev pub IsRefused : NodeFault → StoreMove → MemoryMove → Result (List Message) NodeFault → Type 0
@@ -83,6 +84,7 @@ PlaysUp (Some fault) running store node event outcome = IsRefused fault store no
 PlaysUp None running store node event outcome =
     PlaysBy (event_plan node.members node.id running event)
     (λ kept. on_event node.members node.id kept running event)
+    (WantsRound running event)
     (λ kept. refusal_by_rounds kept running event)
     store node outcome
 

@@ -324,7 +324,7 @@ impl Up {
         ensures folded { OnOk result
             (IsUpFolded (kit_view kit.now) self.old → IsUpFolded (kit_view kit.now) self.new) }
         ensures plays { PlaysBy (body_plan members id (running_of self.old) message message.body)
-            (λ kept. on_body members id kept (running_of self.old) message message.body) (λ _. None)
+            (λ kept. on_body members id kept (running_of self.old) message message.body) ⊥ (λ _. None)
             (moved S.seen store.old store.new) (up_moved id members self.old self.new)
             (sent (λ out. out.items) result) }
     {

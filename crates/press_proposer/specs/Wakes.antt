@@ -30,8 +30,9 @@ pub record WakeFails (p : Proposing) (applied : ℕ) (gap : Bool) (store : Store
   pub turned : Turned (wake_plan p applied gap) store (Some fault)
   pub last : store.new.is_honest → IsTrue (is_used_up store.old.kept p gap) → Turned last_round_plan store (Some fault)
 
--- No round is left: the store keeps the last one.
+-- A round was wanted and none is left: the store keeps the last one.
 pub record WakeRefused (p : Proposing) (gap : Bool) (store : StoreMove) : Type 0 where
+  pub wanted : is_content p gap ≡ false
   pub turned : Turned last_round_plan store None
   pub last : store.new.is_honest → IsTrue (is_used_up store.old.kept p gap)
 
