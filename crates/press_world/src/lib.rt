@@ -1,0 +1,27 @@
+//! A cluster of nodes under any schedule: every message that was ever sent may come at any time, again, or never, and nodes may stop and start.
+//!
+//! What a schedule chooses is chosen once, and pages are those of the chosen values.
+#![tactic(auto)]
+
+mod cluster;
+mod entry;
+mod fault;
+mod laws;
+mod new;
+mod play;
+mod played;
+mod seat;
+mod seats;
+mod seen;
+mod step;
+mod turn;
+mod world;
+
+pub use fault::WorldFault;
+pub use laws::{
+    a_wake_prepares_legally, entries_stand_for_facts, every_schedule, what_is_learned_is_chosen,
+    what_is_proposed_is_allowed,
+};
+pub use played::Played;
+pub use step::{Cut, Step};
+pub use world::World;

@@ -1,0 +1,329 @@
+//! What happens to a cluster.
+
+ghost use Rattle.std.specs.Prelude.{◌≡◌, ◌<◌, ◌≤◌, ◌+◌, ◌^◌, IfOk, IfErr, OnOk, None, Some, length, option_copied, slice_get};
+ghost use Rattle.press_callbacks.specs.Kits.{KitView};
+ghost use Rattle.press_world.specs.Adding.{Adds};
+ghost use Rattle.press_world.specs.Happening.{Happens};
+ghost use Rattle.press_world.specs.Models.{facts, model, size, statics};
+ghost use Rattle.press_world.specs.Refusing.{message_numbered, place_numbered, refused_at};
+ghost use Rattle.press_world.specs.Seen.{IsAbout};
+ghost use Rattle.press_world.specs.Sound.{IsSound};
+ghost use Rattle.press_world.specs.Stepped.{FailsBy, Steps};
+ghost use Rattle.press_world.specs.Stored.{stored_does, stored_step};
+ghost use Rattle.press_world.specs.Telling.{applied_in, first_of, is_cut, or_none};
+ghost use Rattle.press_world.specs.Whole.{AppliesChosen, ChoosesOnce, HaveKit, IsAnswered, ShowsAlike};
+ghost use Rattle.press_world.specs.Worlds.{Place, index_of};
+ghost use Rattle.press_world.specs.declared.step.Step.{Step};
+ghost use Rattle.press_world.specs.declared.step.Step.TheVariants.{
+  Submit,
+  Wake,
+  Deliver,
+  Restart,
+  Get,
+};
+ghost use Rattle.press_node.specs.Faults.{stops};
+
+use crate::fault::WorldFault;
+use crate::played::Played;
+use crate::step::{Cut, Step};
+use crate::turn::Coming;
+use crate::world::World;
+use press_apply::Stamped;
+use press_learner::{chosen_by_majority, only_votes_that_came_are_kept};
+use press_node::{Event, NodeFault};
+use press_page::Target;
+use press_wire::{Message, Slot};
+
+const SLOTS: u64 = 1_000_000;
+
+// Of so many, numbered from 1, the index of the one with this number.
+fn index_of(number: u64, count: usize) -> Option<usize>
+    ensures { result ≡ index_of count number }
+{
+    if 1 <= number && number <= count as u64 {
+        Some((number - 1) as usize)
+    } else {
+        None
+    }
+}
+
+fn first_slot() -> Slot
+    ensures { result ≡ 1 }
+{
+    let Some(slot) = Slot::new(1) else {
+        unreachable!()
+    };
+    slot
+}
+
+// The slot after so many; the last, where there is none.
+fn slot_after(applied: u64) -> Slot
+    ensures { applied < 1000000 → applied + 1 ≡ result }
+{
+    let next = if applied < SLOTS { applied + 1 } else { SLOTS };
+    let Some(slot) = Slot::new(next as u32) else {
+        unreachable!()
+    };
+    slot
+}
+
+// The number of the first of so many messages.
+fn first_of(before: usize, count: usize) -> u64
+    requires { before + count < 2 ^ 64 }
+    ensures { result ≡ first_of before count }
+{
+    if count == 0 { 0 } else { before as u64 + 1 }
+}
+
+fn is_cut(cut: Option<Cut>) -> bool
+    ensures { result ≡ is_cut cut }
+{
+    match cut {
+        None => false,
+        Some(_) => true,
+    }
+}
+
+impl World {
+    /// The message with this number, counted from 1 in the order of sending.
+    pub fn sent(&self, number: u64) -> Option<&Message>
+        ensures { option_copied result ≡ message_numbered (model self.now) number }
+    {
+        let index = index_of(number, self.cluster.sent.len())?;
+        self.cluster.sent.as_slice().get(index)
+    }
+
+    /// How many slots a node has applied since its start; nothing where it is down or there is no such node.
+    pub fn applied(&self, node: u64) -> Option<u64>
+        ensures { result ≡ applied_in (place_numbered (model self.now) node) }
+    {
+        let index = index_of(node, self.cluster.seats.len())?;
+        let seat = self.cluster.seats.as_slice().get(index)?;
+        if seat.is_down() {
+            None
+        } else {
+            Some(seat.applied())
+        }
+    }
+
+    // An event of the node at this index, which a stop may cut.
+    fn turn(&mut self, index: usize, coming: Coming, cut: Option<Cut>) -> Result<usize, NodeFault>
+        requires inside { index < size self.old }
+        requires about { (p : Place) → slice_get (model self.old).places index ≡ Some p →
+            IsAbout p.up coming.event coming.slot }
+        requires step { (stop : _) → (x : Step) × (stored_step (size self.old) (model self.old) x ≡
+            stored_does (size self.old) (model self.old) coming.which index
+            (slice_get (model self.old).places index) coming.event stop) }
+        ensures statics { statics self.new ≡ statics self.old }
+        ensures count { IfOk result (λ count.
+            length (model self.new).sent ≡ length (model self.old).sent + count) }
+        ensures passed { OnOk result (refused_at (slice_get (model self.old).places index)
+            coming.event cut ≡ None) }
+        ensures ok { OnOk result (model self.new ≡
+            stored_does (size self.old) (model self.old) coming.which index
+            (slice_get (model self.old).places index) coming.event cut) }
+        ensures err { IfErr result (λ fault. FailsBy (model self.old)
+            (λ stop. stored_does (size self.old) (model self.old) coming.which index
+            (slice_get (model self.old).places index) coming.event stop)
+            (refused_at (slice_get (model self.old).places index) coming.event cut) fault
+            (stops fault) (model self.new)) }
+    {
+        chosen_by_majority();
+        only_votes_that_came_are_kept();
+        self.cluster.turn(index, coming, cut)
+    }
+
+    // What is told of an event that was done, before which so many messages were sent.
+    fn told(&self, index: usize, before: usize, count: usize, cut: Option<Cut>) -> Played
+        requires inside { index < size self.now }
+        requires sent { before + count ≤ length (model self.now).sent }
+        ensures { result ≡ record {
+            node = index + 1;
+            first = first_of before count;
+            count = count;
+            stopped = is_cut cut;
+            applied = or_none (applied_in (slice_get (model self.now).places index));
+            reply = None;
+        } }
+    {
+        Played {
+            node: index as u64 + 1,
+            first: first_of(before, count),
+            count: count as u64,
+            stopped: is_cut(cut),
+            applied: self.cluster.seats[index].applied(),
+            reply: None,
+        }
+    }
+
+    // An event of the node at this index, which a stop may cut, and what is told of it.
+    fn happen(
+        &mut self,
+        index: usize,
+        coming: Coming,
+        cut: Option<Cut>,
+    ) -> Result<Played, WorldFault>
+        requires inside { index < size self.old }
+        requires about { (p : Place) → slice_get (model self.old).places index ≡ Some p →
+            IsAbout p.up coming.event coming.slot }
+        requires step { (stop : _) → (x : Step) × (stored_step (size self.old) (model self.old) x ≡
+            stored_does (size self.old) (model self.old) coming.which index
+            (slice_get (model self.old).places index) coming.event stop) }
+        ensures statics { statics self.new ≡ statics self.old }
+        ensures happens { Happens (size self.old) (model self.old) coming.which index coming.event
+            cut (model self.new) result }
+    {
+        let before = self.cluster.sent.len();
+        match self.turn(index, coming, cut) {
+            Ok(count) => Ok(self.told(index, before, count, cut)),
+            Err(fault) => Err(WorldFault::Node(fault)),
+        }
+    }
+
+    fn index(&self, number: u64) -> Option<usize>
+        ensures { result ≡ index_of (length (model self.now).places) number }
+    {
+        index_of(number, self.cluster.seats.len())
+    }
+
+    // A command comes to a node.
+    fn submit(
+        &mut self,
+        number: u64,
+        command: &Stamped,
+        cut: Option<Cut>,
+    ) -> Result<Played, WorldFault>
+        ensures statics { statics self.new ≡ statics self.old }
+        ensures steps { (kit : KitView) → Steps kit (size self.old) (model self.old)
+            (Submit number command.now cut) (model self.new) result }
+    {
+        let Some(index) = self.index(number) else {
+            return Err(WorldFault::NoSuchNode);
+        };
+        let Ok(command) = command.copy(self.alloc) else {
+            return Err(WorldFault::Node(NodeFault::NoMemory));
+        };
+        let coming = Coming {
+            event: Event::Submit(command),
+            slot: first_slot(),
+            which: 0,
+        };
+        self.happen(index, coming, cut)
+    }
+
+    // The slot after those that the node at this index has applied.
+    fn next_slot(&self, index: usize) -> Slot
+        requires inside { index < size self.now }
+        ensures { (p : Place) → slice_get (model self.now).places index ≡ Some p →
+            IsAbout p.up Event.Wake result }
+    {
+        slot_after(self.cluster.seats[index].applied())
+    }
+
+    // A node is to see to its next slot.
+    fn wake(&mut self, number: u64, cut: Option<Cut>) -> Result<Played, WorldFault>
+        ensures statics { statics self.new ≡ statics self.old }
+        ensures steps { (kit : KitView) → Steps kit (size self.old) (model self.old)
+            (Wake number cut) (model self.new) result }
+    {
+        let Some(index) = self.index(number) else {
+            return Err(WorldFault::NoSuchNode);
+        };
+        let coming = Coming {
+            event: Event::Wake,
+            slot: self.next_slot(index),
+            which: 0,
+        };
+        self.happen(index, coming, cut)
+    }
+
+    // A message that was sent comes to the node that it is to.
+    fn deliver(&mut self, number: u64, cut: Option<Cut>) -> Result<Played, WorldFault>
+        ensures statics { statics self.new ≡ statics self.old }
+        ensures steps { (kit : KitView) → Steps kit (size self.old) (model self.old)
+            (Deliver number cut) (model self.new) result }
+    {
+        let Some(which) = index_of(number, self.cluster.sent.len()) else {
+            return Err(WorldFault::NoSuchMessage);
+        };
+        let Ok(message) = self.cluster.sent[which].copy(self.alloc) else {
+            return Err(WorldFault::Node(NodeFault::NoMemory));
+        };
+        let Some(index) = self.index(message.to.number() as u64) else {
+            drop(message);
+            return Err(WorldFault::NoSuchNode);
+        };
+        let coming = Coming {
+            slot: message.slot,
+            event: Event::Deliver(message),
+            which,
+        };
+        self.happen(index, coming, cut)
+    }
+
+    // A node starts anew over its store, whether it runs or not.
+    fn restart(&mut self, number: u64) -> Result<Played, WorldFault>
+        ensures statics { statics self.new ≡ statics self.old }
+        ensures steps { (kit : KitView) → Steps kit (size self.old) (model self.old)
+            (Restart number) (model self.new) result }
+    {
+        let Some(index) = self.index(number) else {
+            return Err(WorldFault::NoSuchNode);
+        };
+        chosen_by_majority();
+        only_votes_that_came_are_kept();
+        let before = self.cluster.sent.len();
+        self.cluster.restart(index);
+        Ok(self.told(index, before, 0, None))
+    }
+
+    // A page request comes to a node. Nothing changes.
+    fn get(&self, number: u64, target: &Target) -> Result<Played, WorldFault>
+        ensures steps { (kit : KitView) → HaveKit kit (statics self.now) →
+            Steps kit (size self.now) (model self.now) (Get number target.now) (model self.now)
+            result }
+    {
+        let Some(index) = self.index(number) else {
+            return Err(WorldFault::NoSuchNode);
+        };
+        match self.cluster.seats[index].get(target) {
+            Ok(reply) => {
+                let told = self.told(index, self.cluster.sent.len(), 0, None);
+                Ok(told.with_reply(reply))
+            }
+            Err(fault) => Err(WorldFault::Node(fault)),
+        }
+    }
+
+    fn played(&mut self, step: &Step) -> Result<Played, WorldFault>
+        ensures statics { statics self.new ≡ statics self.old }
+        ensures step { (kit : KitView) → HaveKit kit (statics self.old) →
+            Steps kit (size self.old) (model self.old) step.now (model self.new) result }
+    {
+        match step {
+            Step::Submit { node, command, cut } => self.submit(*node, command, *cut),
+            Step::Wake { node, cut } => self.wake(*node, *cut),
+            Step::Deliver { message, cut } => self.deliver(*message, *cut),
+            Step::Restart { node } => self.restart(*node),
+            Step::Get { node, target } => self.get(*node, target),
+        }
+    }
+
+    /// Plays a step. Messages are numbered from 1 in the order of sending.
+    pub fn play(&mut self, step: &Step) -> Result<Played, WorldFault>
+        requires always { Unit {0} }
+        ensures statics { statics self.new ≡ statics self.old }
+        ensures step { (kit : KitView) → HaveKit kit (statics self.old) →
+            Steps kit (size self.old) (model self.old) step.now (model self.new) result }
+        ensures sound { ∥ IsSound (model self.new) ∥₁ }
+        ensures added { ∥ Adds (facts self.old) (facts self.new) ∥₁ }
+        ensures applied { ∥ AppliesChosen (size self.new) (facts self.new)
+            (model self.new).places ∥₁ }
+        ensures once { ChoosesOnce (size self.new) (facts self.old) (facts self.new) }
+        ensures equal { ShowsAlike (model self.old).places (model self.new).places }
+        ensures headline { (kit : KitView) → HaveKit kit (statics self.old) →
+            IsAnswered kit (size self.new) (facts self.new) (model self.new) step.now result }
+    {
+        self.played(step)
+    }
+}
