@@ -1,7 +1,7 @@
 -- Places in a file, as they are told to its author: keys and numbers of lists, counted from 0 (own).
 use Rattle.std.specs.Prelude.{ℕ, List, [], ◌++◌, codes, decimal}
 use Rattle.press_kit.specs.declared.place.Place.{Place}
-use Rattle.press_kit.specs.declared.place.Place.TheVariants.{File, Callbacks, Callback, Op, Plugins, Plugin, Load, Active, ActiveName, Commands, Command, Pages, Page, Plays, Play}
+use Rattle.press_kit.specs.declared.place.Place.TheVariants.{File, Callbacks, Callback, Op, Plugins, Plugin, Load, Active, ActiveName, Commands, Command, Pages, Page, Plays, Play, Steps, Step}
 
 -- the place of an item of the list at a place; an op or a load is told as a whole
 abbrev pub item_of : Place → ℕ → Place
@@ -20,6 +20,8 @@ item_of Pages n = Page n
 item_of (Page p) n = Page p
 item_of Plays n = Play n
 item_of (Play p) n = Play p
+item_of Steps n = Step n
+item_of (Step s) n = Step s
 
 -- `name[n]`, with what stands behind it
 abbrev pub numbered : List ℕ → ℕ → List ℕ → List ℕ
@@ -41,3 +43,5 @@ place_text Pages = codes "pages"
 place_text (Page n) = numbered (codes "pages") n []
 place_text Plays = codes "plays"
 place_text (Play n) = numbered (codes "plays") n []
+place_text Steps = codes "steps"
+place_text (Step n) = numbered (codes "steps") n []

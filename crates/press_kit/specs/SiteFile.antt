@@ -1,6 +1,6 @@
 -- Site file: the commands that a JSON document (RFC 8259) gives, each with its token and its moment, or the first place at which it is bad (own).
 -- Keys that nobody names are passed over. What a command may not do to a site is no matter of the file.
-use Rattle.std.specs.Prelude.{ℕ, List, length, bytes_eq, nat_le, if◌then◌else◌, Option, Some, None, option_and_then, Result, Ok, codes}
+use Rattle.std.specs.Prelude.{ℕ, List, length, nat_le, if◌then◌else◌, Option, Some, None, option_and_then, Result, Ok, codes}
 use Rattle.serde_json.specs.Data.{Data}
 use Rattle.serde_json.specs.Find.{get, as_str}
 use Rattle.press_text.specs.Moments.{moment_of}

@@ -23,6 +23,9 @@ pub enum Place {
     Page(usize),
     Plays,
     Play(usize),
+    Steps,
+    /// A step of a schedule.
+    Step(usize),
 }
 
 impl Place {
@@ -46,6 +49,8 @@ impl Place {
             Place::Page(page) => Place::Page(page),
             Place::Plays => Place::Play(n),
             Place::Play(play) => Place::Play(play),
+            Place::Steps => Place::Step(n),
+            Place::Step(step) => Place::Step(step),
         }
     }
 
@@ -69,6 +74,8 @@ impl Place {
             Place::Page(n) => format!(in alloc; "pages[{n}]"),
             Place::Plays => String::from_str(alloc, "plays"),
             Place::Play(n) => format!(in alloc; "plays[{n}]"),
+            Place::Steps => String::from_str(alloc, "steps"),
+            Place::Step(n) => format!(in alloc; "steps[{n}]"),
         }
     }
 }

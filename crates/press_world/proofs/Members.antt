@@ -21,3 +21,6 @@ module _ (xs : List Static) (m : ∥ ((kit : KitView) × AreMembers kit xs) ∥�
 -- what doesn't change of the members tells that they are as many
 pub same_size : {X Y : Type 0} (f : X → Y) (g : X → Static) (old new : List X) → map g new ≡ map g old → length (map f new) ≡ length (map f old)
 same_size f g old new e = length-map new f ∙ sym (length-map new g) ∙ ap length e ∙ length-map old g ∙ sym (length-map old f)
+
+pub same_count : {X : Type 0} (g : X → Static) (old new : List X) → map g new ≡ map g old → length new ≡ length old
+same_count g old new e = sym (length-map new g) ∙ ap length e ∙ length-map old g

@@ -9,6 +9,7 @@ use Rattle.press_world.specs.Stored.{new_stored}
 use Rattle.press_world.specs.Worlds.{new_places, new_world}
 use Rattle.press_acceptor.specs.StoreMap.{new_store}
 use Rattle.press_world.specs.Worlds.{Place, restarted_place}
+use Rattle.press_world.specs.Whole.{HaveKit}
 use Rattle.press_world.proofs.Lists.{all_at}
 use Rattle.press_world.proofs.Votes.{Learns}
 use Rattle.press_world.proofs.Worlds.{length_new, new_agrees}
@@ -43,15 +44,22 @@ static_at id n (k ∷ kits) (suc i) x e =
     (h.0 ∙ omega arith, h.1, h.2)
 
 pub members_new : (kit : KitView) (kits : List KitView) → length kits ≤ 7 → AreKit kit kits → AreMembers kit (statics_from 1 (length kits) kits)
-members_new kit kits small same = (omega (arith, length_statics 1 (length kits) kits), λ i x e.
-    let h = static_at 1 (length kits) kits i x e in
-    record {
-      id = h.0 ∙ omega arith;
-      members = h.1 ∙ sym (length_statics 1 (length kits) kits);
-      alike = all_at (λ k. k ≡ kit) kits i x.kit same h.2;
-    })
+members_new kit kits small same = (
+  omega (arith, length_statics 1 (length kits) kits),
+  λ i x e.
+      let h = static_at 1 (length kits) kits i x e in
+      record {
+        id = h.0 ∙ omega arith;
+        members = h.1 ∙ sym (length_statics 1 (length kits) kits);
+        alike = all_at (λ k. k ≡ kit) kits i x.kit same h.2;
+      },
+)
 
 pub sound_new : Learns → (n : ℕ) → IsSound (new_stored n)
 sound_new law n =
     let a = new_agrees law n in
     record { agrees = subst (λ k. Agrees k (new_world n)) (sym a.size) a; within = tt }
+
+pub statics_have : (kit : KitView) (id n : ℕ) (kits : List KitView) → AreKit kit kits → HaveKit kit (statics_from id n kits)
+statics_have kit id n [] h = tt
+statics_have kit id n (k ∷ kits) h = (h.0, statics_have kit (id + 1) n kits h.1)

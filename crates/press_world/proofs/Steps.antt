@@ -139,13 +139,13 @@ module _ (kit : KitView) (n : ℕ) (s t : Stored) (number index : ℕ) (cut : Op
       (deliver_is n s number which index message e at to)
       refl
       (ap (λ o. record {
-          node = number_to o;
-          first = first_of (length s.sent) (length t.sent - length s.sent);
-          count = length t.sent - length s.sent;
-          stopped = is_cut cut;
-          applied = or_none (applied_in (place_numbered t (number_to o)));
-          reply = None;
-        }) found ∙ told_same s t message.to index cut number_is (place_after s t message.to index to same))
+        node = number_to o;
+        first = first_of (length s.sent) (length t.sent - length s.sent);
+        count = length t.sent - length s.sent;
+        stopped = is_cut cut;
+        applied = or_none (applied_in (place_numbered t (number_to o)));
+        reply = None;
+      }) found ∙ told_same s t message.to index cut number_is (place_after s t message.to index to same))
       h
     where
       number_is : message.to ≡ index + 1
@@ -178,24 +178,24 @@ pub restart_steps : (kit : KitView) (n : ℕ) (s t : Stored) (number index : ℕ
     played ≡ record { node = index + 1; first = 0; count = 0; stopped = false; applied = or_none (applied_in (slice_get t.places index)); reply = None } →
     Steps kit n s (Restart number) t (Ok played)
 restart_steps kit n s t number index place played e at same sent h p = (
-    ap is_missing (place_at s number index e ∙ at),
-    h ∙ sym (restart_is n s number index e),
-    p ∙ sym (ap (λ o. record {
-      node = number;
-      first = first_of (length s.sent) (length o - length s.sent);
-      count = length o - length s.sent;
-      stopped = false;
-      applied = or_none (applied_in (place_numbered t number));
-      reply = None;
-    }) sent ∙ ap (λ o. record {
-      node = number;
-      first = first_of (length s.sent) (length s.sent - length s.sent);
-      count = length s.sent - length s.sent;
-      stopped = false;
-      applied = or_none (applied_in o);
-      reply = None;
-    }) (place_after s t number index e same) ∙ nothing_sent s number index (or_none (applied_in (slice_get t.places index))) None (numbered (length s.places) number index e).0),
-  )
+  ap is_missing (place_at s number index e ∙ at),
+  h ∙ sym (restart_is n s number index e),
+  p ∙ sym (ap (λ o. record {
+    node = number;
+    first = first_of (length s.sent) (length o - length s.sent);
+    count = length o - length s.sent;
+    stopped = false;
+    applied = or_none (applied_in (place_numbered t number));
+    reply = None;
+  }) sent ∙ ap (λ o. record {
+    node = number;
+    first = first_of (length s.sent) (length s.sent - length s.sent);
+    count = length s.sent - length s.sent;
+    stopped = false;
+    applied = or_none (applied_in o);
+    reply = None;
+  }) (place_after s t number index e same) ∙ nothing_sent s number index (or_none (applied_in (slice_get t.places index))) None (numbered (length s.places) number index e).0),
+)
 
 pub get_steps : (kit : KitView) (n : ℕ) (s : Stored) (number index : ℕ) (target : Target) (store : StoreMap) (up : Option Up) (reply : Reply) (played : Played) →
     Some index ≡ index_of (length s.places) number → slice_get s.places index ≡ Some (record { store = store; up = option_map (λ (u : Up). u.running) up }) → IsPageAt kit up target reply →
@@ -203,8 +203,7 @@ pub get_steps : (kit : KitView) (n : ℕ) (s : Stored) (number index : ℕ) (tar
     Steps kit n s (Get number target) s (Ok played)
 get_steps kit n s number index target store None reply played e at page p = absurd page
 get_steps kit n s number index target store (Some up) reply played e at page p =
-    let found = place_at s number index e in
-    (
+    let found = place_at s number index e in (
       ap get_refused (found ∙ at),
       refl,
       p ∙ sym (ap (λ o. record {
@@ -215,7 +214,7 @@ get_steps kit n s number index target store (Some up) reply played e at page p =
         applied = or_none (applied_in o);
         reply = reply_at kit o target;
       }) found ∙ nothing_sent s number index (or_none (applied_in (slice_get s.places index))) (reply_at kit (slice_get s.places index) target) (numbered (length s.places) number index e).0
-        ∙ ap (λ r. record { node = index + 1; first = 0; count = 0; stopped = false; applied = or_none (applied_in (slice_get s.places index)); reply = r }) (ap (λ o. reply_at kit o target) at ∙ ap Some (sym page))),
+          ∙ ap (λ r. record { node = index + 1; first = 0; count = 0; stopped = false; applied = or_none (applied_in (slice_get s.places index)); reply = r }) (ap (λ o. reply_at kit o target) at ∙ ap Some (sym page))),
     )
 
 pub get_fails : (kit : KitView) (n : ℕ) (s : Stored) (number index : ℕ) (target : Target) (store : StoreMap) (up : Option Up) (fault : NodeFault) →

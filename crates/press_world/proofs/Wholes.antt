@@ -50,7 +50,7 @@ pub values_of : (s t : Stored) → length t.places ≡ length s.places → ∥ I
     HasApplied (slice_get s.places i) vs → HasApplied (slice_get t.places j) ws → length vs ≡ length ws → vs ≡ ws
 values_of s t size a b adds i j vs ws h k e =
     ∥∥₁_elim a (Coded-set (coded_list value_code) vs ws) (λ x.
-        ∥∥₁_elim (∥∥₁_map₂ b adds (λ y z. same_values s t x y size z i j vs ws h k e)) (Coded-set (coded_list value_code) vs ws) (λ e. e))
+    ∥∥₁_elim (∥∥₁_map₂ b adds (λ y z. same_values s t x y size z i j vs ws h k e)) (Coded-set (coded_list value_code) vs ws) (λ e. e))
 
 -- ---- the reply to a request for a page
 

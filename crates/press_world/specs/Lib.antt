@@ -5,7 +5,11 @@ pub mod Changes
 pub mod Entries
 pub mod Happening
 pub mod Models
+pub mod ReadingFiles
 pub mod Refusing
+pub mod ReplayFaults
+pub mod Replays
+pub mod ScheduleFile
 pub mod Seats
 pub mod Seen
 pub mod Sound
@@ -13,6 +17,7 @@ pub mod Starts
 pub mod Stepped
 pub mod Stored
 pub mod Telling
+pub mod Transcript
 pub mod Whole
 pub mod WorldFaults
 pub mod Worlds

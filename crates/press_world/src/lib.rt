@@ -1,6 +1,6 @@
 //! A cluster of nodes under any schedule: every message that was ever sent may come at any time, again, or never, and nodes may stop and start.
 //!
-//! What a schedule chooses is chosen once, and pages are those of the chosen values.
+//! What a schedule chooses is chosen once, and pages are those of the chosen values. Schedules are read from files, and transcripts tell what came of them.
 #![tactic(auto)]
 
 mod cluster;
@@ -10,10 +10,16 @@ mod laws;
 mod new;
 mod play;
 mod played;
+mod reading;
+mod replaying;
+mod replay_fault;
+mod schedule_file;
 mod seat;
 mod seats;
 mod seen;
 mod step;
+mod step_kind;
+mod transcript;
 mod turn;
 mod world;
 
@@ -23,5 +29,8 @@ pub use laws::{
     what_is_proposed_is_allowed,
 };
 pub use played::Played;
+pub use reading::{read_schedule, read_site};
+pub use replaying::{replay, write_end, write_step};
+pub use replay_fault::ReplayFault;
 pub use step::{Cut, Step};
 pub use world::World;

@@ -98,12 +98,7 @@ impl World {
         ensures { result ≡ applied_in (place_numbered (model self.now) node) }
     {
         let index = index_of(node, self.cluster.seats.len())?;
-        let seat = self.cluster.seats.as_slice().get(index)?;
-        if seat.is_down() {
-            None
-        } else {
-            Some(seat.applied())
-        }
+        self.cluster.seats.as_slice().get(index)?.counted()
     }
 
     // An event of the node at this index, which a stop may cut.
@@ -138,12 +133,12 @@ impl World {
         requires inside { index < size self.now }
         requires sent { before + count ≤ length (model self.now).sent }
         ensures { result ≡ record {
-            node = index + 1;
-            first = first_of before count;
-            count = count;
-            stopped = is_cut cut;
-            applied = or_none (applied_in (slice_get (model self.now).places index));
-            reply = None;
+          node = index + 1;
+          first = first_of before count;
+          count = count;
+          stopped = is_cut cut;
+          applied = or_none (applied_in (slice_get (model self.now).places index));
+          reply = None;
         } }
     {
         Played {

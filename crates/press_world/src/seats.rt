@@ -7,6 +7,7 @@ ghost use Rattle.press_node.specs.Nodes.{IsPageAt};
 ghost use Rattle.press_node.specs.States.{IsWhole, applied_count, is_down, running_in};
 ghost use Rattle.press_world.specs.Acts.{DoesAt, FailsAt};
 ghost use Rattle.press_world.specs.Seats.{place_of, static_of};
+ghost use Rattle.press_world.specs.Telling.{applied_at};
 ghost use Rattle.press_world.specs.Worlds.{restarted_place};
 ghost use Rattle.press_world.specs.declared.step.Cut.TheVariants.{
   BeforeSave,
@@ -82,6 +83,17 @@ impl Seat {
         ensures { result ≡ is_down self.now.state }
     {
         self.state.is_down()
+    }
+
+    /// How many values it has applied since its start, where it is up.
+    pub(crate) fn counted(&self) -> Option<u64>
+        ensures { result ≡ applied_at (place_of self.now) }
+    {
+        if self.is_down() {
+            None
+        } else {
+            Some(self.applied())
+        }
     }
 
     /// The reply to a request for a page.

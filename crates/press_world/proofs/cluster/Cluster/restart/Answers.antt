@@ -56,10 +56,10 @@ returns-clause-restarted g c =
     let at : slice_get seats c.args.index ≡ Some old = found seats c.args.index old c.requires.inside c.index_mut.ensures.value in
     let n : c.len-members.result ≡ length seats = omega (arith, c.len-members.ensures) in
     let place : place_of new ≡ restarted_place (length seats) (c.args.index + 1) old.store =
-      c.restart.ensures.place ∙ ap (λ k. restarted_place k c.member_at.result old.store) n ∙ ap (λ k. restarted_place (length seats) k old.store) c.member_at.ensures in
+    c.restart.ensures.place ∙ ap (λ k. restarted_place k c.member_at.result old.store) n ∙ ap (λ k. restarted_place (length seats) k old.store) c.member_at.ensures in
     (λ i. record {
-        places = (map_set place_of seats c.args.index new ∙ ap (slice_set (map place_of seats) c.args.index) place) i;
-        sent = c.args.self.now.sent.items;
-        entries = c.args.self.now.trace.items;
-      })
+      places = (map_set place_of seats c.args.index new ∙ ap (slice_set (map place_of seats) c.args.index) place) i;
+      sent = c.args.self.now.sent.items;
+      entries = c.args.self.now.trace.items;
+    })
     ∙ ap (stored_restarted (length seats) (kept_in c.args.self.now) c.args.index) (sym (map_get place_of seats c.args.index old at))

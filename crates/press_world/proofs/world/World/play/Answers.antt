@@ -35,7 +35,7 @@ returns-clause-equal g c i j vs ws = λ h k e.
     let w = c.args.self.now in
     let after = c.played.new.self in
     let same = values_of (model w) (model after) (same_size place_of static_of w.cluster.seats.items after.cluster.seats.items c.played.ensures.statics) w.sound after.sound
-        (added_by (size w) (model w) (model after) (statics w) c.args.step.now c.played.result (sym (length-map w.cluster.seats.items place_of)) w.sound w.members c.played.ensures.step) i j vs ws h k e in
+    (added_by (size w) (model w) (model after) (statics w) c.args.step.now c.played.result (sym (length-map w.cluster.seats.items place_of)) w.sound w.members c.played.ensures.step) i j vs ws h k e in
     (same, λ kit target. ap (λ xs. page_of kit (site_after kit xs) target) same)
 
 pub returns-clause-headline : goal.returns-clause-headline

@@ -25,6 +25,6 @@ invariant_of-self g c =
     }
 
 pub turn-requires-clause-few : goal.turn-requires-clause-few
-turn-requires-clause-few g c = 
+turn-requires-clause-few g c =
     let w = c.args.self.now in
     subst (λ k. k ≤ 7) (length-map w.cluster.seats.items static_of) (few (statics w) w.members)
