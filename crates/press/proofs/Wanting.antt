@@ -5,7 +5,7 @@ use Rattle.std.specs.Io.KnownBytes.{Keeps}
 use Rattle.press_callbacks.specs.Kits.{KitView}
 use Rattle.press_text.specs.Streams.{AppendsFront}
 use Rattle.press.specs.declared.ending.Ending.TheVariants.{Fault}
-use Rattle.press.specs.declared.fault.ReplayFault.TheVariants.{NoMemory}
+use Rattle.press_world.specs.declared.replay_fault.ReplayFault.TheVariants.{NoMemory}
 use Rattle.press.specs.Endings.{fault_line, known_of, Runs}
 use Rattle.press.specs.Words.{Asked}
 use Rattle.press.proofs.Ends.{outside}

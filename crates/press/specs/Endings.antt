@@ -5,16 +5,16 @@ use Rattle.press_callbacks.specs.Kits.{KitView}
 use Rattle.press_apply.specs.declared.command.Stamped.{Stamped}
 use Rattle.press_apply.specs.declared.value.Value.TheVariants.{Cmd}
 use Rattle.press_apply.specs.Apply.{site_after}
-use Rattle.press.specs.declared.fault.ReplayFault.{ReplayFault}
-use Rattle.press.specs.declared.fault.ReplayFault.TheVariants.{NoMemory, ReadFault, WriteFault, BadSchedule}
 use Rattle.press_page.specs.declared.reply.Reply.{Reply}
 use Rattle.press_page.specs.declared.reply.Target.{Target}
 use Rattle.press_page.specs.Page.{page_of}
+use Rattle.press_world.specs.ReadingFiles.{Has}
+use Rattle.press_world.specs.declared.replay_fault.ReplayFault.TheVariants.{NoMemory, ReadFault, WriteFault, BadSchedule}
+use Rattle.press_world.specs.declared.replay_fault.ReplayFault.{ReplayFault}
 use Rattle.press.specs.declared.ending.Ending.{Ending}
 use Rattle.press.specs.declared.ending.Ending.TheVariants.{Printed, Fault}
 use Rattle.press_kit.specs.declared.place.Place.{Place}
 use Rattle.press_kit.specs.SiteFile.{site_in}
-use Rattle.press.specs.Streams.{Has}
 use Rattle.press.specs.Words.{Asked, is_input}
 use Rattle.press_text.specs.Streams.{AppendsFront}
 

@@ -1,4 +1,2 @@
 pub mod Endings
-pub mod Faults
-pub mod Streams
 pub mod Words

@@ -7,13 +7,12 @@ ghost use Rattle.press_text.specs.Streams.{TakesAtMost};
 ghost use Rattle.press.specs.Endings.{ending_of, page_ending, printed, EndsOn};
 
 use crate::commands::apply_all;
-use crate::fault::ReplayFault;
-use crate::input::read_site;
 use press_apply::Stamped;
 use press_callbacks::Kit;
 use press_page::{Reply, Target, page};
 use press_site::Site;
 use press_text::{Items, Text};
+use press_world::{ReplayFault, read_site};
 use std::alloc::{AllocError, Global};
 use std::io::Read;
 

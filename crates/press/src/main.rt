@@ -3,14 +3,12 @@
 
 mod commands;
 mod ending;
-mod fault;
-mod input;
 mod run;
 #[cfg(test)]
 mod tests;
 mod words;
 
-use crate::fault::ReplayFault;
+use press_world::ReplayFault;
 use std::process::ExitCode;
 use std::rt::{Stderr, Stdin, Stdout};
 use std::{env, io};

@@ -9,12 +9,12 @@ ghost use Rattle.press.specs.Words.{asked_by, is_input};
 ghost use Rattle.press_demonstration.specs.Demonstration.{demonstration};
 
 use crate::ending::{Ending, page_end};
-use crate::fault::ReplayFault;
 use crate::words::{Wanted, read_words};
 use press_callbacks::{BoxedTurns, CallIn, Kit, Stored, script_turn};
 use press_demonstration::{grow, grow_turn, parts};
 use press_page::Target;
 use press_text::write_once;
+use press_world::ReplayFault;
 use std::alloc::Global;
 use std::io::{Read, Write};
 use std::rt::Files;

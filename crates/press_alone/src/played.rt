@@ -1,5 +1,6 @@
 //! A scene, played.
 
+use crate::schedules::replay_file;
 use crate::seats::Seats;
 use crate::word::Word;
 use crate::words::{Scene, Start};
@@ -16,7 +17,7 @@ const EMPTY_KIT: &[u8] = b"{\"callbacks\":[],\"plugins\":[]}";
 fn kit_file(rt: &HostRuntime, start: Start<'_>) -> anyhow::Result<Vec<u8>> {
     match start {
         Start::Kit(name) => Ok(fs::read(rt, name)?),
-        Start::New | Start::FailsBefore(_) | Start::FailsAfter(_) => {
+        Start::New | Start::FailsBefore(_) | Start::FailsAfter(_) | Start::Replay(_) => {
             let mut file = Vec::new(rt.alloc());
             file.extend_from_slice(EMPTY_KIT)?;
             Ok(file)
@@ -32,8 +33,18 @@ fn request(rt: &HostRuntime, word: Word<'_>) -> anyhow::Result<Vec<u8>> {
     }
 }
 
-/// Starts three nodes and plays the words on them. The kit's closures are boxed here, and nodes stay here: a box may not be handed out.
+/// Plays a schedule, or words on three new nodes.
 pub fn play(rt: &HostRuntime, scene: &Scene<'_>) -> anyhow::Result<()> {
+    match scene.start {
+        Start::Replay(name) => replay_file(rt, name),
+        Start::New | Start::Kit(_) | Start::FailsBefore(_) | Start::FailsAfter(_) => {
+            play_words(rt, scene)
+        }
+    }
+}
+
+// Starts three nodes and plays the words on them. The kit's closures are boxed here, and nodes stay here: a box may not be handed out.
+fn play_words(rt: &HostRuntime, scene: &Scene<'_>) -> anyhow::Result<()> {
     let alloc = rt.alloc();
     let file = kit_file(rt, scene.start)?;
     let mut seats = Seats::new(alloc);

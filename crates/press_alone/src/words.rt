@@ -13,13 +13,15 @@ pub enum Start<'w> {
     FailsBefore(u32),
     /// A store whose save of that number fails after it took.
     FailsAfter(u32),
+    /// No node, but the schedule of a file.
+    Replay(&'w str),
 }
 
 impl<'w> Start<'w> {
     /// When the stores fail.
     pub fn plan(self) -> Plan {
         match self {
-            Start::New | Start::Kit(_) => Plan::Never,
+            Start::New | Start::Kit(_) | Start::Replay(_) => Plan::Never,
             Start::FailsBefore(number) => Plan::Before(number),
             Start::FailsAfter(number) => Plan::After(number),
         }
@@ -31,6 +33,9 @@ impl<'w> Start<'w> {
         }
         if let Some(name) = word.strip_prefix("kit=") {
             return Some(Start::Kit(name));
+        }
+        if let Some(name) = word.strip_prefix("replay=") {
+            return Some(Start::Replay(name));
         }
         if let Some(number) = number_behind("fails-before=", word) {
             return Some(Start::FailsBefore(number));

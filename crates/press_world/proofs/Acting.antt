@@ -26,7 +26,7 @@ use Rattle.press_node.specs.Faults.{of_store, stops}
 use Rattle.press_node.specs.NodeEvent.{Running, quiet, is_for, on_body, on_event}
 use Rattle.press_node.specs.Plays.{IsStopped, IsLast, PlaysUp, PlaysWhere, sent, state_moved}
 use Rattle.press_node.specs.Refusals.{is_at_end, or_next, refusal, refusal_up, refusal_by_rounds}
-use Rattle.press_node.specs.States.{NodeState, IsWhole, Up, answer_in, running_in}
+use Rattle.press_node.specs.States.{NodeState, Up, answer_in, running_in}
 use Rattle.press_world.specs.Acts.{DoesAt, Fails, FailsAt}
 use Rattle.press_world.specs.Worlds.{Place}
 use Rattle.press_world.proofs.Stored.{promise_saves}

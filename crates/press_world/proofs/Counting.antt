@@ -1,5 +1,5 @@
 -- What a node counts as applied, and the slot of its next wake.
-use Rattle.std.proofs.Common.{ℕ, ◌+◌, ◌<◌, ◌≡◌, Bool, true, false, length, Option, None, Some, option_map, refl, sym, subst, ap, ◌∙◌}
+use Rattle.std.proofs.Common.{ℕ, ◌+◌, ◌<◌, ◌≡◌, false, length, Option, None, Some, option_map, refl, sym, subst, ap, ◌∙◌}
 use Rattle.std.proofs.lemmas.Bool.{leb-false}
 use Rattle.press_node.specs.declared.event.Event.TheVariants.{Wake}
 use Rattle.press_node.specs.NodeEvent.{Running}

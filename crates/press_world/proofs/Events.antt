@@ -1,7 +1,7 @@
 -- What each event does agrees with the trace.
-use Rattle.std.proofs.Common.{ℕ, zero, suc, ◌+◌, ◌*◌, ◌<◌, ◌≤◌, ◌≡◌, ◌≢◌, ◌⊎◌, inl, inr, Bool, true, false, cond, not, ◌&&◌, nat_eq, nat_le, nat_lt, max, List, [], ◌∷◌, ◌++◌, length, Option, None, Some, refl, sym, subst, ap, ◌∙◌, arith}
+use Rattle.std.proofs.Common.{ℕ, zero, suc, ◌+◌, ◌*◌, ◌<◌, ◌≡◌, ◌≢◌, ◌⊎◌, inl, inr, Bool, true, false, cond, not, ◌&&◌, nat_eq, max, List, [], ◌∷◌, ◌++◌, length, Option, None, Some, refl, sym, subst, ap, ◌∙◌, arith}
 use Rattle.std.proofs.lemmas.Bool.{cond_both, ltb-true, and_parts, eqb-true, not-true}
-use Rattle.std.specs.List.{AllByRecursion, range_with_len}
+use Rattle.std.specs.List.{AllByRecursion}
 use Rattle.press_apply.specs.declared.value.Value.{Value}
 use Rattle.press_wire.specs.Ballots.{is_same}
 use Rattle.press_wire.specs.declared.ballot.Ballot.{Ballot}
@@ -10,10 +10,10 @@ use Rattle.press_wire.specs.declared.message.Body.{Body}
 use Rattle.press_wire.specs.declared.message.Body.TheVariants.{Prepare, Promise, Nack, Accept, Accepted, Query}
 use Rattle.press_wire.specs.declared.message.Message.{Message}
 use Rattle.press_acceptor.specs.Agrees.{fact_of, StoreAgrees, IsLegalSave, IsOf}
-use Rattle.press_acceptor.specs.Answers.{acceptor_answer, answer_to, answer_of, said_out, query_out}
+use Rattle.press_acceptor.specs.Answers.{answer_to, answer_of, said_out, query_out}
 use Rattle.press_acceptor.specs.Blocks.{block_of}
 use Rattle.press_acceptor.specs.Messages.{message_to, to_all, to_one}
-use Rattle.press_acceptor.specs.StoreMap.{StoreMap, Save, promise_of, vote_of, saved}
+use Rattle.press_acceptor.specs.StoreMap.{StoreMap, Save, promise_of, vote_of}
 use Rattle.press_acceptor.specs.StoreMap.Save.{SaveRound, SavePromise, SaveVote}
 use Rattle.press_acceptor.specs.Trace.{Fact, Has, IsMember, IsLastVote, Legal}
 use Rattle.press_acceptor.specs.Trace.Fact.{Prepared, Proposed, Voted}
@@ -35,7 +35,7 @@ use Rattle.press_proposer.specs.declared.phase.Phase.TheVariants.{Idle, Preparin
 use Rattle.press_proposer.specs.declared.promises.Promise as one
 use Rattle.press_node.specs.declared.event.Event.{Event}
 use Rattle.press_node.specs.declared.event.Event.TheVariants.{Submit, Wake, Deliver}
-use Rattle.press_node.specs.NodeEvent.{Running, Answer, quiet, with_proposer, with_learner, by_proposer, by_acceptor, settled, is_for, on_body, on_message, on_event}
+use Rattle.press_node.specs.NodeEvent.{Running, Answer, quiet, with_proposer, with_learner, by_proposer, by_acceptor, settled, is_for, on_body, on_event}
 use Rattle.press_world.specs.Agreeing.{BodyAgrees, MessageAgrees, PhaseAgrees, NodeAgrees, UpAgrees}
 use Rattle.press_world.specs.Worlds.{store_after, trace_after_save, trace_after_sending, with_proposal}
 use Rattle.press_world.proofs.Counts.{once_more}

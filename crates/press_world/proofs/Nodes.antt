@@ -1,8 +1,7 @@
 -- Messages and nodes agree with the trace when it grows, and a node applies only what is chosen.
-use Rattle.std.proofs.Common.{ℕ, zero, suc, ◌+◌, ◌≡◌, ◌≢◌, ◌⊎◌, inl, inr, List, [], ◌∷◌, ◌++◌, length, slice_get, Option, None, Some, refl, sym, subst, ap, ◌∙◌, arith, length-append}
+use Rattle.std.proofs.Common.{ℕ, zero, suc, ◌+◌, ◌≡◌, ◌≢◌, ◌⊎◌, inl, inr, List, [], ◌∷◌, length, slice_get, Option, None, Some, refl, sym, subst, ◌∙◌, arith, length-append}
 use Rattle.press_apply.specs.declared.value.Value.{Value}
 use Rattle.press_wire.specs.declared.ballot.Ballot.{Ballot}
-use Rattle.press_wire.specs.declared.vote.Vote.{Vote}
 use Rattle.press_wire.specs.declared.message.Body.{Body}
 use Rattle.press_wire.specs.declared.message.Body.TheVariants.{Prepare, Promise, Nack, Accept, Accepted, Query}
 use Rattle.press_wire.specs.declared.message.Message.{Message}

@@ -1,5 +1,5 @@
 -- What is written of a transcript, and what is still to come, is all of it.
-use Rattle.std.proofs.Common.{ℕ, ◌+◌, ◌<◌, ◌≤◌, ◌≡◌, List, [], ◌∷◌, ◌++◌, length, map, drop, get_or, Option, None, Some, Result, Ok, Err, OnOk, OnErr, IfOk, refl, sym, subst, ap, ◌∙◌, append_assoc, append-nil, add-one, drop-cons}
+use Rattle.std.proofs.Common.{ℕ, ◌+◌, ◌<◌, ◌≤◌, ◌≡◌, List, ◌∷◌, ◌++◌, length, map, drop, get_or, Option, Result, Ok, Err, OnOk, OnErr, refl, sym, subst, ap, ◌∙◌, append_assoc, add-one, drop-cons}
 use Rattle.std.proofs.lemmas.List.{drop_all}
 use Rattle.std.specs.Io.KnownBytes.{Appends}
 use Rattle.press_callbacks.specs.Kits.{KitView}
@@ -16,8 +16,7 @@ pub cut : {X : Type 0} (xs : List X) (i : ℕ) (x : X) → i < length xs → x �
 cut xs i x lt here = rw (add-one, drop-cons xs i x lt, ← here) refl
 
 module _ (kit : KitView) (n : ℕ) (steps : List Step) (i number : ℕ) (s : Stored) (old now : Option (List ℕ)) (written whole : List ℕ)
-  (so_far : Appends old now written) (rest : written ++ lines kit n number s (drop i steps) ≡ whole) where
-
+    (so_far : Appends old now written) (rest : written ++ lines kit n number s (drop i steps) ≡ whole) where
   module _ (x : Step) (lt : i < length steps) (here : x ≡ get_or steps i x) where
     one : lines kit n number s (drop i steps) ≡ line_of kit n number s x ++ lines kit n (number + 1) (stored_step n s x) (drop (i + 1) steps)
     one = ap (lines kit n number s) (cut steps i x lt here)
@@ -29,8 +28,8 @@ module _ (kit : KitView) (n : ℕ) (steps : List Step) (i number : ℕ) (s : Sto
       written ++ line_of kit n number s x,
       Appends-trans old now new written (line_of kit n number s x) so_far told,
       ap (λ u. (written ++ line_of kit n number s x) ++ lines kit n (number + 1) u (drop (i + 1) steps)) e
-        ∙ append_assoc written (line_of kit n number s x) (lines kit n (number + 1) (stored_step n s x) (drop (i + 1) steps))
-        ∙ ap (λ ls. written ++ ls) (sym one) ∙ rest,
+          ∙ append_assoc written (line_of kit n number s x) (lines kit n (number + 1) (stored_step n s x) (drop (i + 1) steps))
+          ∙ ap (λ ls. written ++ ls) (sym one) ∙ rest,
     )
 
     -- or a front of its line

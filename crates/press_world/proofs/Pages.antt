@@ -1,12 +1,11 @@
 -- A page comes of chosen values.
-use Rattle.std.proofs.Common.{ℕ, ◌+◌, ◌≡◌, length, slice_get, Option, Some, None, IfSome, option_map, refl, sym, subst, ap, ◌∙◌}
+use Rattle.std.proofs.Common.{ℕ, ◌≡◌, length, slice_get, Option, Some, None, IfSome, option_map, refl, sym, subst}
 use Rattle.press_acceptor.specs.StoreMap.{StoreMap}
 use Rattle.press_callbacks.specs.Kits.{KitView}
 use Rattle.press_node.specs.Nodes.{IsPageAt}
 use Rattle.press_node.specs.States.{Up}
 use Rattle.press_page.specs.declared.reply.Reply.{Reply}
 use Rattle.press_page.specs.declared.reply.Target.{Target}
-use Rattle.press_world.specs.Agreeing.{UpAgrees}
 use Rattle.press_world.specs.Whole.{IsPage, HasApplied}
 use Rattle.press_world.specs.Sound.{IsSound}
 use Rattle.press_world.specs.Stored.{Stored, world_of}

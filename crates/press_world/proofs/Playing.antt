@@ -1,5 +1,5 @@
 -- A step keeps a stored world sound, and adds facts alone.
-use Rattle.std.proofs.Common.{ℕ, zero, suc, ◌+◌, ◌≡◌, ◌⊎◌, inl, inr, Bool, true, false, List, [], ◌∷◌, slice_get, length, Option, None, Some, Result, Ok, Err, OnOk, IfErr, refl, sym, subst, ap, ap₂, ◌∙◌, arith}
+use Rattle.std.proofs.Common.{ℕ, suc, ◌+◌, ◌≡◌, ◌⊎◌, inl, inr, Bool, true, false, List, [], ◌∷◌, slice_get, length, Option, None, Some, Result, Ok, Err, OnOk, IfErr, refl, sym, subst, ap, ap₂, ◌∙◌, arith}
 use Rattle.std.specs.List.{AllByRecursion}
 use Rattle.press_apply.specs.declared.value.Value.{Value}
 use Rattle.press_acceptor.specs.Blocks.{block_of}

@@ -1,11 +1,9 @@
 -- What a replay writes, by how the schedule was read and how its transcript was written.
-use Rattle.std.proofs.Common.{ℕ, ◌+◌, ◌≡◌, ◌≤◌, ◌⊎◌, inl, inr, List, [], ◌∷◌, ◌++◌, length, map, take, zero, suc, Option, None, Some, Result, Ok, Err, IfErr, refl, sym, subst, ap, append-nil, arith}
-use Rattle.std.specs.Io.KnownBytes.{Appends}
-use Rattle.std.specs.List.{AllByRecursion}
+use Rattle.std.proofs.Common.{ℕ, ◌≡◌, ◌≤◌, ◌⊎◌, inl, inr, List, [], ◌∷◌, length, map, take, zero, suc, Option, None, Some, Result, Ok, Err, IfErr, refl, sym, subst, ap, append-nil, arith}
 use Rattle.press_callbacks.specs.Kits.{KitView}
 use Rattle.press_kit.specs.declared.place.Place.{Place}
 use Rattle.press_text.specs.Streams.{AppendsFront}
-use Rattle.press_world.specs.ReadingFiles.{Has, ReadsAs, Refuses}
+use Rattle.press_world.specs.ReadingFiles.{ReadsAs, Refuses}
 use Rattle.press_world.specs.Replays.{Replays, Writes, WritesLines}
 use Rattle.press_world.specs.Starts.{AreKit}
 use Rattle.press_world.specs.declared.replay_fault.ReplayFault.{ReplayFault}

@@ -8,11 +8,11 @@ use Rattle.press_world.specs.Starts.{AreKit, statics_from}
 use Rattle.press_world.specs.Stored.{new_stored}
 use Rattle.press_world.specs.Worlds.{new_places, new_world}
 use Rattle.press_acceptor.specs.StoreMap.{new_store}
-use Rattle.press_world.specs.Worlds.{Place, restarted_place}
+use Rattle.press_world.specs.Worlds.{restarted_place}
 use Rattle.press_world.specs.Whole.{HaveKit}
 use Rattle.press_world.proofs.Lists.{all_at}
 use Rattle.press_world.proofs.Votes.{Learns}
-use Rattle.press_world.proofs.Worlds.{length_new, new_agrees}
+use Rattle.press_world.proofs.Worlds.{new_agrees}
 
 pub map_push : {X Y : Type 0} (f : X → Y) (xs : List X) (x : X) → map f (xs ++ x ∷ []) ≡ map f xs ++ f x ∷ []
 map_push f [] x = refl

@@ -1,5 +1,5 @@
 -- A stored world goes the way of the world that it stands for.
-use Rattle.std.proofs.Common.{ℕ, ◌+◌, ◌-◌, ◌≤◌, ◌<◌, ◌≡◌, Bool, true, false, cond, max, List, [], ◌∷◌, ◌++◌, length, slice_get, slice_set, Option, None, Some, refl, sym, subst, ap, ◌∙◌, arith, length-append}
+use Rattle.std.proofs.Common.{ℕ, ◌+◌, ◌-◌, ◌≤◌, ◌≡◌, Bool, true, false, List, [], ◌∷◌, ◌++◌, length, slice_get, slice_set, Option, None, Some, refl, sym, subst, ap, ◌∙◌, arith, length-append}
 use Rattle.std.proofs.lemmas.Bool.{cond_both}
 use Rattle.std.proofs.lemmas.Option.{slice_get_within}
 use Rattle.std.specs.List.{AllByRecursion}
@@ -13,7 +13,6 @@ use Rattle.press_acceptor.specs.Agrees.{fact_of, StoreAgrees}
 use Rattle.press_acceptor.specs.Answers.{answer_to}
 use Rattle.press_acceptor.specs.Blocks.{block_of}
 use Rattle.press_acceptor.specs.StoreMap.{StoreMap, Save, promise_of, vote_of}
-use Rattle.press_acceptor.specs.StoreMap.Save.{SaveRound, SavePromise, SaveVote}
 use Rattle.press_acceptor.specs.Trace.{Fact, Legal}
 use Rattle.press_acceptor.specs.Trace.Fact.{Promised, Proposed, Voted}
 use Rattle.press_acceptor.specs.Turns.{unless_greater, if_less, cast_in, prepare_by, accept_by}

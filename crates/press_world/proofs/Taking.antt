@@ -1,5 +1,5 @@
 -- A turn of one node, written down, is a step of the stored world.
-use Rattle.std.proofs.Common.{ℕ, zero, suc, ◌+◌, ◌≡◌, ◌⊎◌, inl, inr, Bool, true, false, cond, List, [], ◌∷◌, ◌++◌, length, slice_get, slice_set, Option, None, Some, option_map, refl, sym, subst, ap, ◌∙◌, append-nil}
+use Rattle.std.proofs.Common.{ℕ, zero, suc, ◌+◌, ◌≡◌, ◌⊎◌, inr, Bool, true, false, cond, List, [], ◌∷◌, ◌++◌, length, slice_get, slice_set, Option, None, Some, option_map, refl, sym, subst, ap, ◌∙◌, append-nil}
 use Rattle.press_wire.specs.declared.message.Message.{Message}
 use Rattle.press_acceptor.specs.StoreMap.{StoreMap, Save}
 use Rattle.press_node.specs.declared.event.Event.{Event}
@@ -15,11 +15,10 @@ use Rattle.press_world.specs.Refusing.{refused_at}
 use Rattle.press_world.specs.Stepped.{cut_of, IsCut, FailsBy}
 use Rattle.press_world.specs.declared.fault.WorldFault.TheVariants.{Node}
 use Rattle.press_world.specs.Stored.{Stored, stored_effect, stored_does, entries_after_save, entries_after_sending}
-use Rattle.press_world.specs.Worlds.{Place, saves, sends, left_up, store_after, refusal_before, unless_refused}
-use Rattle.press_world.specs.declared.entry.Entry.{Entry}
+use Rattle.press_world.specs.Worlds.{Place, saves, left_up, store_after, refusal_before, unless_refused}
 use Rattle.press_world.specs.declared.step.Cut.{Cut}
 use Rattle.press_world.specs.declared.step.Cut.TheVariants.{BeforeSave, AfterSave, AfterMessages}
-use Rattle.press_world.proofs.Told.{event_told, saved_told, unsaved_told, left_told, proposal_told, nothing_seen}
+use Rattle.press_world.proofs.Told.{event_told, saved_told, unsaved_told, left_told, proposal_told}
 
 pub set_same : {X : Type 0} (xs : List X) (i : ℕ) (x : X) → slice_get xs i ≡ Some x → slice_set xs i x ≡ xs
 set_same [] i x e = refl

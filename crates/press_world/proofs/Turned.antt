@@ -1,5 +1,5 @@
 -- What the code of a turn writes down is a step of the stored world.
-use Rattle.std.proofs.Common.{ℕ, ◌+◌, ◌≡◌, List, ◌++◌, length, slice_get, slice_set, Option, Some, None, refl, sym, subst, ap, ◌∙◌}
+use Rattle.std.proofs.Common.{ℕ, ◌+◌, ◌≡◌, List, ◌++◌, length, slice_get, Option, Some, None, sym, subst, ap, ◌∙◌}
 use Rattle.press_wire.specs.declared.message.Message.{Message}
 use Rattle.press_node.specs.declared.event.Event.{Event}
 use Rattle.press_node.specs.declared.fault.NodeFault.{NodeFault}

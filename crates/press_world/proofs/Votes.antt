@@ -1,11 +1,11 @@
 -- The learner keeps votes that were cast, and applies only what is chosen.
-use Rattle.std.proofs.Common.{ℕ, ◌*◌, ◌<◌, ◌≡◌, ◌⊎◌, ◌↔◌, inl, inr, Bool, true, List, Option, None, Some, refl, sym, subst}
+use Rattle.std.proofs.Common.{ℕ, ◌*◌, ◌<◌, ◌≡◌, ◌⊎◌, ◌↔◌, inl, inr, true, List, Option, None, Some, refl, sym, subst}
 use Rattle.std.specs.List.{count_by, range_with_len}
 use Rattle.press_apply.specs.declared.value.Value.{Value}
 use Rattle.press_wire.specs.declared.ballot.Ballot.{Ballot}
 use Rattle.press_wire.specs.declared.vote.Vote.{Vote}
 use Rattle.press_acceptor.specs.Blocks.{block_of}
-use Rattle.press_acceptor.specs.Trace.{Fact, Has, IsMember, Legal, Chosen}
+use Rattle.press_acceptor.specs.Trace.{Fact, Has, Legal, Chosen}
 use Rattle.press_acceptor.specs.Trace.Fact.{Voted}
 use Rattle.press_acceptor.proofs.Agreement.{one_proposal, proposed_before}
 use Rattle.press_acceptor.proofs.Ballots.{is_same-true}

@@ -1,8 +1,7 @@
 -- What is said of every cluster, from what holds of it and from what a step did.
-use Rattle.std.proofs.Common.{ℕ, ◌+◌, zero, suc, ◌≡◌, List, [], ◌∷◌, length, slice_get, Option, None, Some, IfSome, option_and_then, Result, Ok, Err, refl, sym, subst, ap, ◌∙◌}
+use Rattle.std.proofs.Common.{ℕ, suc, ◌≡◌, List, [], ◌∷◌, length, slice_get, Option, None, Some, IfSome, option_and_then, Result, Ok, Err, refl, sym, subst, ap, ◌∙◌}
 use Rattle.std.proofs.Math.Logic.{∥∥₁_elim, ∥∥₁_map, ∥∥₁_map₂}
 use Rattle.std.specs.Coded.{Coded, coded_list, codes}
-use Rattle.std.specs.List.{AllByRecursion}
 use base.Stored.{Coded-set}
 use Rattle.press_apply.specs.declared.value.Value.{Value}
 use Rattle.press_acceptor.specs.Trace.{Chosen}
@@ -11,12 +10,12 @@ use Rattle.press_page.specs.declared.reply.Reply.{Reply}
 use Rattle.press_page.specs.declared.reply.Target.{Target}
 use Rattle.press_node.specs.NodeEvent.{Running}
 use Rattle.press_world.specs.Adding.{Adds}
-use Rattle.press_world.specs.Refusing.{get_refused, is_missing, place_numbered, unless_up}
+use Rattle.press_world.specs.Refusing.{place_numbered}
 use Rattle.press_world.specs.Seats.{Static}
 use Rattle.press_world.specs.Sound.{AreMembers, IsSound}
 use Rattle.press_world.specs.Stepped.{Steps}
 use Rattle.press_world.specs.Stored.{Stored, world_of}
-use Rattle.press_world.specs.Telling.{reply_at, reply_where, told}
+use Rattle.press_world.specs.Telling.{reply_at, reply_where}
 use Rattle.press_world.specs.Whole.{AppliesChosen, ChoosesOnce, HasApplied, HaveKit, IsAnswered, IsPage}
 use Rattle.press_world.specs.Worlds.{Place, index_of}
 use Rattle.press_world.specs.declared.fault.WorldFault.{WorldFault}

@@ -7,7 +7,7 @@ use Rattle.press_wire.specs.declared.vote.Vote.{Vote}
 use Rattle.press_wire.specs.declared.message.Message.{Message}
 use Rattle.press_acceptor.specs.Agrees.{StoreAgrees}
 use Rattle.press_acceptor.specs.Blocks.{block_of}
-use Rattle.press_acceptor.specs.StoreMap.{StoreMap, new_store}
+use Rattle.press_acceptor.specs.StoreMap.{new_store}
 use Rattle.press_acceptor.specs.Trace.{Fact, IsMember, Legal}
 use Rattle.press_acceptor.proofs.NewStores.{new_store_agrees}
 use Rattle.press_learner.specs.Kept.{place_cmp}

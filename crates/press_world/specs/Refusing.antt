@@ -1,6 +1,6 @@
 -- Which fault refuses a step of a schedule (own): a node or a message that doesn't exist, a node that is down, or what a running node refuses.
 -- A step that is refused changes nothing and plays no cut.
-use Rattle.std.specs.Prelude.{ℕ, ◌-◌, Option, None, Some, option_and_then, option_map, length, slice_get}
+use Rattle.std.specs.Prelude.{ℕ, ◌-◌, Option, None, Some, IsSome, option_and_then, option_map, length, slice_get}
 use Rattle.press_acceptor.specs.StoreMap.{StoreMap}
 use Rattle.press_wire.specs.declared.message.Message.{Message}
 use Rattle.press_node.specs.declared.event.Event.{Event}
@@ -63,3 +63,13 @@ refused_step s (Wake number cut) = refused_at (place_numbered s number) event.Wa
 refused_step s (Deliver number cut) = refused_of s (message_numbered s number) cut
 refused_step s (Restart number) = is_missing (place_numbered s number)
 refused_step s (Get number target) = get_refused (place_numbered s number)
+
+-- ---- want of memory
+
+-- it may come only where the step names a node or a message that exists, and never at a restart
+abbrev pub TakesMemory : Stored → Step → Type 0
+TakesMemory s (Submit number command cut) = IsSome (index_of (length s.places) number)
+TakesMemory s (Wake number cut) = IsSome (index_of (length s.places) number)
+TakesMemory s (Deliver number cut) = IsSome (index_of (length s.sent) number)
+TakesMemory s (Restart number) = ⊥
+TakesMemory s (Get number target) = IsSome (index_of (length s.places) number)

@@ -11,8 +11,8 @@ mod new;
 mod play;
 mod played;
 mod reading;
-mod replaying;
 mod replay_fault;
+mod replaying;
 mod schedule_file;
 mod seat;
 mod seats;
@@ -30,7 +30,7 @@ pub use laws::{
 };
 pub use played::Played;
 pub use reading::{read_schedule, read_site};
-pub use replaying::{replay, write_end, write_step};
 pub use replay_fault::ReplayFault;
+pub use replaying::{replay, write_end, write_step};
 pub use step::{Cut, Step};
 pub use world::World;

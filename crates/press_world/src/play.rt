@@ -5,7 +5,7 @@ ghost use Rattle.press_callbacks.specs.Kits.{KitView};
 ghost use Rattle.press_world.specs.Adding.{Adds};
 ghost use Rattle.press_world.specs.Happening.{Happens};
 ghost use Rattle.press_world.specs.Models.{facts, model, size, statics};
-ghost use Rattle.press_world.specs.Refusing.{message_numbered, place_numbered, refused_at};
+ghost use Rattle.press_world.specs.Refusing.{message_numbered, place_numbered, refused_at, TakesMemory};
 ghost use Rattle.press_world.specs.Seen.{IsAbout};
 ghost use Rattle.press_world.specs.Sound.{IsSound};
 ghost use Rattle.press_world.specs.Stepped.{FailsBy, Steps};
@@ -189,6 +189,8 @@ impl World {
         cut: Option<Cut>,
     ) -> Result<Played, WorldFault>
         ensures statics { statics self.new ≡ statics self.old }
+        ensures memory { IfErr result (λ fault. fault ≡ WorldFault.Node NodeFault.NoMemory →
+            TakesMemory (model self.old) (Submit number command.now cut)) }
         ensures steps { (kit : KitView) → Steps kit (size self.old) (model self.old)
             (Submit number command.now cut) (model self.new) result }
     {
@@ -218,6 +220,8 @@ impl World {
     // A node is to see to its next slot.
     fn wake(&mut self, number: u64, cut: Option<Cut>) -> Result<Played, WorldFault>
         ensures statics { statics self.new ≡ statics self.old }
+        ensures memory { IfErr result (λ fault. fault ≡ WorldFault.Node NodeFault.NoMemory →
+            TakesMemory (model self.old) (Wake number cut)) }
         ensures steps { (kit : KitView) → Steps kit (size self.old) (model self.old)
             (Wake number cut) (model self.new) result }
     {
@@ -235,6 +239,8 @@ impl World {
     // A message that was sent comes to the node that it is to.
     fn deliver(&mut self, number: u64, cut: Option<Cut>) -> Result<Played, WorldFault>
         ensures statics { statics self.new ≡ statics self.old }
+        ensures memory { IfErr result (λ fault. fault ≡ WorldFault.Node NodeFault.NoMemory →
+            TakesMemory (model self.old) (Deliver number cut)) }
         ensures steps { (kit : KitView) → Steps kit (size self.old) (model self.old)
             (Deliver number cut) (model self.new) result }
     {
@@ -259,6 +265,8 @@ impl World {
     // A node starts anew over its store, whether it runs or not.
     fn restart(&mut self, number: u64) -> Result<Played, WorldFault>
         ensures statics { statics self.new ≡ statics self.old }
+        ensures memory { IfErr result (λ fault. fault ≡ WorldFault.Node NodeFault.NoMemory →
+            TakesMemory (model self.old) (Restart number)) }
         ensures steps { (kit : KitView) → Steps kit (size self.old) (model self.old)
             (Restart number) (model self.new) result }
     {
@@ -274,6 +282,8 @@ impl World {
 
     // A page request comes to a node. Nothing changes.
     fn get(&self, number: u64, target: &Target) -> Result<Played, WorldFault>
+        ensures memory { IfErr result (λ fault. fault ≡ WorldFault.Node NodeFault.NoMemory →
+            TakesMemory (model self.now) (Get number target.now)) }
         ensures steps { (kit : KitView) → HaveKit kit (statics self.now) →
             Steps kit (size self.now) (model self.now) (Get number target.now) (model self.now)
             result }
@@ -292,6 +302,8 @@ impl World {
 
     fn played(&mut self, step: &Step) -> Result<Played, WorldFault>
         ensures statics { statics self.new ≡ statics self.old }
+        ensures memory { IfErr result (λ fault. fault ≡ WorldFault.Node NodeFault.NoMemory →
+            TakesMemory (model self.old) step.now) }
         ensures step { (kit : KitView) → HaveKit kit (statics self.old) →
             Steps kit (size self.old) (model self.old) step.now (model self.new) result }
     {
@@ -310,6 +322,8 @@ impl World {
         ensures statics { statics self.new ≡ statics self.old }
         ensures step { (kit : KitView) → HaveKit kit (statics self.old) →
             Steps kit (size self.old) (model self.old) step.now (model self.new) result }
+        ensures memory { IfErr result (λ fault. fault ≡ WorldFault.Node NodeFault.NoMemory →
+            TakesMemory (model self.old) step.now) }
         ensures sound { ∥ IsSound (model self.new) ∥₁ }
         ensures added { ∥ Adds (facts self.old) (facts self.new) ∥₁ }
         ensures applied { ∥ AppliesChosen (size self.new) (facts self.new)

@@ -1,7 +1,7 @@
 use Rattle.std.proofs.lemmas.Result.{err_from_is_err_and}
 use Rattle.press_callbacks.specs.Kits.{kit_view}
 use Rattle.press.specs.declared.ending.Ending.TheVariants.{Fault}
-use Rattle.press.specs.declared.fault.ReplayFault.TheVariants.{NoMemory}
+use Rattle.press_world.specs.declared.replay_fault.ReplayFault.TheVariants.{NoMemory}
 use Rattle.press.proofs.Ends.{missed, outside, shown}
 use Rattle.press.proofs.ending.try_page.Goals as goal
 

@@ -1,6 +1,6 @@
 use Rattle.std.specs.Prelude.{None}
 use Rattle.press.specs.declared.ending.Ending.TheVariants.{Fault}
-use Rattle.press.specs.declared.fault.ReplayFault.TheVariants.{NoMemory, ReadFault}
+use Rattle.press_world.specs.declared.replay_fault.ReplayFault.TheVariants.{NoMemory, ReadFault}
 use Rattle.press_demonstration.specs.Demonstration.{demonstration}
 use Rattle.press.proofs.Ends.{outside, untold}
 use Rattle.press.proofs.run.shown_of.Goals as goal

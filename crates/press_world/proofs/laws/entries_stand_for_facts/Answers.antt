@@ -1,6 +1,5 @@
-use Rattle.std.proofs.Common.{ℕ, ◌≡◌, List, [], ◌∷◌, length, sym, subst, ap, ◌∙◌, refl}
+use Rattle.std.proofs.Common.{length, refl}
 use Rattle.press_world.specs.Stored.{new_stored}
-use Rattle.press_world.specs.Worlds.{new_world}
 use Rattle.press_world.proofs.Playing.{sound_step, run_stored}
 use Rattle.press_world.proofs.Stored.{step_stored}
 use Rattle.press_world.proofs.Votes.{learns}

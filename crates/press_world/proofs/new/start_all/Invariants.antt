@@ -1,4 +1,4 @@
-use Rattle.std.proofs.Common.{◌≡◌, ◌+◌, ◌++◌, length}
+use Rattle.std.proofs.Common.{◌≡◌, ◌++◌, length}
 use Rattle.press_world.specs.Seats.{places_of, statics_of}
 use Rattle.press_world.specs.Starts.{statics_from, views_of}
 use Rattle.press_world.specs.Worlds.{new_places}

@@ -1,9 +1,8 @@
-use Rattle.std.proofs.Common.{◌+◌, ◌≡◌, ◌≤◌, length, slice_get, sym, subst, ap, ◌∙◌, arith}
-use Rattle.std.proofs.lemmas.List.{length-map}
+use Rattle.std.proofs.Common.{◌+◌, ◌≡◌, ◌≤◌, length, sym, subst, ap, ◌∙◌, arith}
 use Rattle.std.proofs.lemmas.Result.{err_from_is_err_and}
 use Rattle.std.specs.Io.KnownBytes.{Appends}
 use Rattle.press_text.specs.Streams.{AppendsFront}
-use Rattle.press_world.specs.Models.{model, size, statics}
+use Rattle.press_world.specs.Models.{model, size}
 use Rattle.press_world.specs.Replays.{line_of, lines}
 use Rattle.press_world.specs.Seats.{static_of}
 use Rattle.press_world.specs.Stored.{stored_step}
@@ -31,12 +30,12 @@ loop-step-preserved g c =
       fixed = c.in_ok-play_one.ensures.statics ∙ c.loop-step.invariant.fixed;
       number = ap (λ k. k + 1) c.loop-step.invariant.number;
       told = λ kit have.
-        let inv = c.loop-step.invariant.told kit have in
-        let kept = subst (HaveKit kit) (sym c.loop-step.invariant.fixed) have in
-        goes_on kit (size w) c.args.steps.now c.loop-step.step-index c.loop-step.number (model c.loop-step.world) (g.W.Write.contents c.args.writer.now) (g.W.Write.contents c.loop-step.writer) inv.0 (lines kit (size w) 1 (model w) c.args.steps.now) inv.1 inv.2
-        c.step-item.result c.loop-step-test.true c.step-item.is (model c.play_one.new.world) (g.W.Write.contents c.play_one.new.writer)
-        (c.in_ok-play_one.ensures.step kit kept ∙ ap (λ k. stored_step k (model c.loop-step.world) c.step-item.result) n)
-        (subst (λ k. Appends (g.W.Write.contents c.loop-step.writer) (g.W.Write.contents c.play_one.new.writer) (line_of kit k c.loop-step.number (model c.loop-step.world) c.step-item.result)) n (c.in_ok-play_one.ensures.line kit kept));
+          let inv = c.loop-step.invariant.told kit have in
+          let kept = subst (HaveKit kit) (sym c.loop-step.invariant.fixed) have in
+          goes_on kit (size w) c.args.steps.now c.loop-step.step-index c.loop-step.number (model c.loop-step.world) (g.W.Write.contents c.args.writer.now) (g.W.Write.contents c.loop-step.writer) inv.0 (lines kit (size w) 1 (model w) c.args.steps.now) inv.1 inv.2
+          c.step-item.result c.loop-step-test.true c.step-item.is (model c.play_one.new.world) (g.W.Write.contents c.play_one.new.writer)
+          (c.in_ok-play_one.ensures.step kit kept ∙ ap (λ k. stored_step k (model c.loop-step.world) c.step-item.result) n)
+          (subst (λ k. Appends (g.W.Write.contents c.loop-step.writer) (g.W.Write.contents c.play_one.new.writer) (line_of kit k c.loop-step.number (model c.loop-step.world) c.step-item.result)) n (c.in_ok-play_one.ensures.line kit kept));
     }
 
 pub returns-clause-lines : goal.returns-clause-lines

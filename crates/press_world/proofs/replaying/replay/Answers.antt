@@ -1,8 +1,8 @@
-use Rattle.std.proofs.Common.{ℕ, ◌≡◌, ◌≤◌, List, length, map, take, Ok, Err, refl, sym, subst, ap, ◌∙◌, arith}
+use Rattle.std.proofs.Common.{ℕ, ◌≡◌, ◌≤◌, List, length, map, Ok, Err, refl, sym, subst, ap, ◌∙◌, arith}
 use Rattle.std.proofs.lemmas.Result.{err_from_is_err_and}
-use Rattle.press_callbacks.specs.Kits.{KitView, kit_view}
+use Rattle.press_callbacks.specs.Kits.{kit_view}
 use Rattle.press_world.specs.ReadingFiles.{ReadsAs}
-use Rattle.press_world.specs.Replays.{Replays, transcript, WritesLines}
+use Rattle.press_world.specs.Replays.{transcript, WritesLines}
 use Rattle.press_world.specs.ScheduleFile.{schedule_in}
 use Rattle.press_world.specs.Starts.{AreKit, views_of}
 use Rattle.press_world.specs.declared.step.Step.{Step}
@@ -36,6 +36,6 @@ returns-clause-replays g c kit = λ alike.
     let left : AreKit kit (views_of c.truncate.new.self.items) = subst (λ ks. AreKit kit ks) (sym (ap (map kit_view) c.truncate.ensures.items ∙ map_take kit_view nodes kits)) (first_alike kit nodes (views_of kits) alike) in
     let many : length c.truncate.new.self.items ≡ nodes = ap length c.truncate.ensures.items ∙ length_take nodes kits most in
     let same : transcript kit (length c.truncate.new.self.items, c.as_slice.result.now) ≡ transcript kit schedule =
-      ap (λ k. transcript kit (k, c.as_slice.result.now)) many ∙ ap (λ xs. transcript kit (nodes, xs)) c.as_slice.ensures in
+    ap (λ k. transcript kit (k, c.as_slice.result.now)) many ∙ ap (λ xs. transcript kit (nodes, xs)) c.as_slice.ensures in
     replayed (schedule_in (length kits)) (transcript kit) (g.R.Read.remaining c.args.reader.now) (g.W.Write.contents c.args.writer.now) (g.W.Write.contents c.play_new.new.writer) schedule c.play_new.result given c.play_new.ensures.fault
     (subst (λ bytes. WritesLines bytes (g.W.Write.contents c.args.writer.now) (g.W.Write.contents c.play_new.new.writer) c.play_new.result) same (c.play_new.ensures.lines kit left))

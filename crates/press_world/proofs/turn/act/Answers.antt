@@ -1,4 +1,4 @@
-use Rattle.std.proofs.Common.{ℕ, ◌+◌, ◌≡◌, List, length, map, slice_get, Some, subst, ◌∙◌}
+use Rattle.std.proofs.Common.{◌+◌, ◌≡◌, length, map, slice_get, Some, subst, ◌∙◌}
 use Rattle.std.proofs.lemmas.List.{length-map}
 use Rattle.press_world.specs.Acts.{DoesAt, FailsAt}
 use Rattle.press_world.specs.Seats.{static_of, place_of}

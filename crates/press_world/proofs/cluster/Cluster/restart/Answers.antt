@@ -1,4 +1,4 @@
-use Rattle.std.proofs.Common.{ℕ, ◌+◌, ◌≡◌, ◌≤◌, ◌<◌, List, length, map, slice_get, slice_set, Some, refl, sym, subst, ap, ◌∙◌, arith}
+use Rattle.std.proofs.Common.{◌+◌, ◌≡◌, ◌≤◌, length, map, slice_get, slice_set, Some, sym, subst, ap, ◌∙◌, arith}
 use Rattle.std.proofs.lemmas.List.{length-map}
 use Rattle.press_world.specs.Seats.{place_of, static_of}
 use Rattle.press_world.specs.Worlds.{restarted_place}

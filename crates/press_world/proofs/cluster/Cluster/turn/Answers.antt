@@ -1,4 +1,4 @@
-use Rattle.std.proofs.Common.{ℕ, ◌+◌, ◌++◌, ◌≡◌, List, length, slice_get, Some, ap, sym, ◌∙◌, arith}
+use Rattle.std.proofs.Common.{◌++◌, ◌≡◌, length, ap, ◌∙◌, arith}
 use Rattle.press_world.specs.Seen.{with_entry, proposal_entry}
 use Rattle.press_world.specs.Seats.{stored_of}
 use Rattle.press_world.proofs.Turned.{turn_done, turn_passed, turn_refused}

@@ -1,4 +1,4 @@
-use Rattle.std.proofs.Common.{◌≡◌, ◌<◌, length, slice_get, Some, sym, subst, ap, ◌∙◌, arith}
+use Rattle.std.proofs.Common.{◌≡◌, length, slice_get, Some, sym, subst, ap, ◌∙◌, arith}
 use Rattle.press_world.specs.Models.{model, size}
 use Rattle.press_world.specs.Seats.{place_of, static_of}
 use Rattle.press_world.specs.Worlds.{index_of}

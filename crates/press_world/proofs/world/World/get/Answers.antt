@@ -1,11 +1,8 @@
-use Rattle.std.proofs.Common.{◌≡◌, ◌<◌, length, map, slice_get, Some, None, sym, subst, ap, ◌∙◌, arith}
+use Rattle.std.proofs.Common.{◌≡◌, ◌<◌, length, slice_get, IsSome, Some, refl, subst, ap, ◌∙◌}
 use Rattle.std.proofs.lemmas.List.{length-map}
-use Rattle.press_callbacks.specs.Kits.{KitView, kit_view}
 use Rattle.press_node.specs.Nodes.{IsPageAt}
 use Rattle.press_world.specs.Models.{model, size, statics}
 use Rattle.press_world.specs.Seats.{place_of, static_of}
-use Rattle.press_world.specs.Telling.{applied_in, or_none}
-use Rattle.press_world.specs.Worlds.{index_of}
 use Rattle.press_world.proofs.Changed.{found, map_get}
 use Rattle.press_world.proofs.Lists.{all_at}
 use Rattle.press_world.proofs.Steps.{get_fails, get_steps, numbered}
@@ -20,6 +17,7 @@ returns-in-Ok g c =
     let lt : index < length seats = subst (λ k. index < k) (length-map seats place_of) (numbered (length (model w).places) c.args.number index c.in-Some.ensures).1 in
     let at : slice_get seats index ≡ Some seat = found seats index seat lt c.index-2.ensures in
     record {
+      memory = tt;
       steps = λ kit have.
           let same : (static_of seat).kit ≡ kit = all_at (λ x. x.kit ≡ kit) (statics w) index (static_of seat) have (map_get static_of seats index seat at) in
           get_steps kit (size w) (model w) c.args.number index c.args.target.now seat.store seat.state.up c.in-Ok.reply c.with_reply.result c.in-Some.ensures (map_get place_of seats index seat at)
@@ -36,5 +34,6 @@ returns-in-Err g c =
     let lt : index < length seats = subst (λ k. index < k) (length-map seats place_of) (numbered (length (model w).places) c.args.number index c.in-Some.ensures).1 in
     let at : slice_get seats index ≡ Some seat = found seats index seat lt c.index-2.ensures in
     record {
+      memory = λ e. subst (λ o. IsSome o) c.in-Some.ensures refl;
       steps = λ kit have. get_fails kit (size w) (model w) c.args.number index c.args.target.now seat.store seat.state.up c.in-Err.fault c.in-Some.ensures (map_get place_of seats index seat at) c.in-Err.ensures.fault;
     }

@@ -1,10 +1,8 @@
-use Rattle.std.proofs.Common.{◌≡◌, length, map, sym, ap, subst, ◌∙◌, arith}
+use Rattle.std.proofs.Common.{◌≡◌, length, sym, ap, subst, ◌∙◌, arith}
 use Rattle.std.proofs.lemmas.List.{length-map}
 use Rattle.press_callbacks.specs.Kits.{KitView, kit_view}
-use Rattle.press_world.specs.Seats.{statics_of, stored_of}
 use Rattle.press_world.specs.Sound.{AreMembers, IsSound}
 use Rattle.press_world.specs.Starts.{statics_from, views_of}
-use Rattle.press_world.specs.Stored.{new_stored}
 use Rattle.press_world.specs.Worlds.{new_places}
 use Rattle.press_world.proofs.Started.{members_new, sound_new}
 use Rattle.press_world.proofs.Votes.{learns}

@@ -1,4 +1,4 @@
-use Rattle.std.proofs.Common.{◌≡◌, ◌<◌, ◌+◌, slice_get, Some, sym, subst, ap, ◌∙◌}
+use Rattle.std.proofs.Common.{◌≡◌, ◌<◌, ◌+◌, Some, sym, subst, ◌∙◌}
 use Rattle.press_node.specs.declared.event.Event.TheVariants.{Wake}
 use Rattle.press_world.specs.Seats.{place_of}
 use Rattle.press_world.specs.Seen.{IsAbout}

@@ -1,16 +1,11 @@
-use Rattle.std.proofs.Common.{ℕ, ◌≡◌, List, length, slice_get, Some, sym, subst, ap, ◌∙◌}
+use Rattle.std.proofs.Common.{sym, ap}
 use Rattle.std.proofs.lemmas.List.{length-map}
-use Rattle.std.proofs.Math.Logic.{∥∥₁_elim, ∥∥₁_map, ∥∥₁_map₂}
-use Rattle.std.specs.Coded.{Coded, coded_list, codes}
-use base.Stored.{Coded-set}
 use Rattle.press_apply.specs.Apply.{site_after}
-use Rattle.press_apply.specs.declared.value.Value.{Value}
-use Rattle.press_callbacks.specs.Kits.{KitView}
 use Rattle.press_page.specs.Page.{page_of}
-use Rattle.press_world.specs.Models.{facts, model, size, statics}
+use Rattle.press_world.specs.Models.{model, size, statics}
 use Rattle.press_world.specs.Seats.{place_of, static_of}
 use Rattle.press_world.proofs.Members.{same_size}
-use Rattle.press_world.proofs.Wholes.{added_by, chosen_of, once_of, value_code, values_of, answered_by}
+use Rattle.press_world.proofs.Wholes.{added_by, chosen_of, once_of, values_of, answered_by}
 use Rattle.press_world.proofs.world.World.play.Goals as goal
 
 pub returns-clause-added : goal.returns-clause-added

@@ -1,4 +1,4 @@
-use Rattle.std.proofs.Common.{◌≡◌, length, slice_get, Some, None, sym, subst, ap, ◌∙◌, refl}
+use Rattle.std.proofs.Common.{length, sym, subst, ◌∙◌}
 use Rattle.std.proofs.lemmas.List.{length-map}
 use Rattle.std.proofs.Math.Logic.{∥∥₁_map}
 use Rattle.press_callbacks.specs.Kits.{KitView}

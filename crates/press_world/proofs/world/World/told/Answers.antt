@@ -1,4 +1,4 @@
-use Rattle.std.proofs.Common.{◌+◌, ◌≡◌, slice_get, Some, None, sym, ap, ◌∙◌}
+use Rattle.std.proofs.Common.{◌+◌, None, sym, ap, ◌∙◌}
 use Rattle.press_world.specs.Seats.{place_of}
 use Rattle.press_world.specs.Telling.{applied_in, or_none}
 use Rattle.press_world.proofs.Changed.{found, map_get}
