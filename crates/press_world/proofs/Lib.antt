@@ -11,7 +11,6 @@ mod Members
 mod Nodes
 mod Onward
 mod Outcomes
-mod Pages
 mod Playing
 mod Proposals
 mod Readings
