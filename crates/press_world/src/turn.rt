@@ -16,7 +16,7 @@ ghost use Rattle.press_world.specs.Worlds.{Place};
 
 use crate::cluster::Cluster;
 use crate::seat::Seat;
-use crate::seen::{Seen, entry_between, look, proposal_entry, send, write_down};
+use crate::seen::{Seen, look, proposal_entry, send, write_down};
 use crate::step::Cut;
 use press_node::{Event, NodeFault};
 use press_wire::{Message, Node as Member, Slot};
@@ -121,7 +121,7 @@ impl Cluster {
         let after = look_at(&self.seats, index, slot);
         write_down(
             &mut self.trace,
-            entry_between(before, after, member, which, slot),
+            before.entry_between(after, member, which, slot),
         );
         match result {
             Err(fault) => Err(fault),
