@@ -1,5 +1,7 @@
+pub mod Asked
 pub mod Ends
 pub mod FirstValue
+pub mod Kits
 pub mod Pushes
 pub mod Told
 pub mod Wanting

@@ -9,13 +9,17 @@ use Rattle.press_page.specs.declared.reply.Reply.{Reply}
 use Rattle.press_page.specs.declared.reply.Target.{Target}
 use Rattle.press_page.specs.Page.{page_of}
 use Rattle.press_world.specs.ReadingFiles.{Has}
+use Rattle.press_world.specs.Replays.{Replays, transcript}
+use Rattle.press_world.specs.ScheduleFile.{schedule_in}
 use Rattle.press_world.specs.declared.replay_fault.ReplayFault.TheVariants.{NoMemory, ReadFault, WriteFault, BadSchedule}
 use Rattle.press_world.specs.declared.replay_fault.ReplayFault.{ReplayFault}
 use Rattle.press.specs.declared.ending.Ending.{Ending}
-use Rattle.press.specs.declared.ending.Ending.TheVariants.{Printed, Fault}
+use Rattle.press.specs.declared.ending.Ending.TheVariants.{Printed, Replayed, Fault}
 use Rattle.press_kit.specs.declared.place.Place.{Place}
 use Rattle.press_kit.specs.SiteFile.{site_in}
 use Rattle.press.specs.Words.{Asked, is_input}
+use Rattle.press.specs.declared.task.Task.{Task}
+use Rattle.press.specs.declared.task.Task.TheVariants.{Page, Replay}
 use Rattle.press_text.specs.Streams.{AppendsFront}
 
 -- 0 for a page, 1 for any other reply
@@ -38,6 +42,7 @@ ending_of (Err fault) = Fault fault
 -- want of memory and failed reads come from outside, and may come at any run
 abbrev pub IsOutside : Ending → Type 0
 IsOutside (Printed status body) = ⊥
+IsOutside Replayed = ⊥
 IsOutside (Fault NoMemory) = Unit {0}
 IsOutside (Fault ReadFault) = Unit {0}
 IsOutside (Fault WriteFault) = ⊥
@@ -46,20 +51,43 @@ IsOutside (Fault BadSchedule) = ⊥
 abbrev pub EndsPage : KitView → Target → Ending → List ℕ → Type 0
 EndsPage kit target end input = (end ≡ page_ending kit target (site_in input)) ⊎ IsOutside end
 
--- The end of a run on the bytes that a reader has left.
+-- The end of a page's run on the bytes that a reader has left.
 unfoldable pub EndsOn : KitView → Target → Option (List ℕ) → Ending → Type 0
 EndsOn kit target remaining end = (input : List ℕ) × Has remaining input × EndsPage kit target end input
+
+abbrev pub replayed : Result (Unit {0}) ReplayFault
+replayed = Ok tt
+
+abbrev pub failed : ReplayFault → Result (Unit {0}) ReplayFault
+failed fault = Err fault
+
+-- The end of a replay of the schedule that a reader has left, over at most so many nodes of this kit, and what it has put on the output: the transcript, or
+-- a front of it where a write failed or memory was wanting; nothing where the file is bad or couldn't be read.
+unfoldable pub EndsReplay : KitView → ℕ → Option (List ℕ) → Option (List ℕ) → Option (List ℕ) → Ending → Type 0
+EndsReplay kit kits remaining out out' (Printed status body) = ⊥
+EndsReplay kit kits remaining out out' Replayed = Replays (schedule_in kits) (transcript kit) remaining out out' replayed
+EndsReplay kit kits remaining out out' (Fault fault) = Replays (schedule_in kits) (transcript kit) remaining out out' (failed fault)
+
+-- how many kits are made for it
+abbrev pub kits_for : Task → ℕ
+kits_for (Page target) = 1
+kits_for Replay = 7
+
+-- The end for what is asked, and the output by then: a page is yet to be printed.
+abbrev pub EndsTask : KitView → Task → Option (List ℕ) → Option (List ℕ) → Option (List ℕ) → Ending → Type 0
+EndsTask kit (Page target) remaining out out' end = EndsOn kit target remaining end × (out' ≡ out)
+EndsTask kit Replay remaining out out' end = EndsReplay kit (kits_for Replay) remaining out out' end
 
 -- What is known of a file's bytes: on the standard input, what that tells. A file that is opened by its name has some bytes.
 abbrev pub known_of : List ℕ → Option (List ℕ) → Option (List ℕ)
 known_of file remaining = if is_input file then remaining else None
 
 -- What words come to: an end for what is asked, and none where they are refused.
-abbrev pub Answers : KitView → Option Asked → Option (List ℕ) → Option Ending → Type 0
-Answers kit (Some asked) remaining (Some end) = EndsOn kit asked.1 (known_of asked.0 remaining) end
-Answers kit (Some asked) remaining None = ⊥
-Answers kit None remaining (Some end) = ⊥
-Answers kit None remaining None = Unit {0}
+abbrev pub Answers : KitView → Option Asked → Option (List ℕ) → Option (List ℕ) → Option (List ℕ) → Option Ending → Type 0
+Answers kit (Some asked) remaining out out' (Some end) = EndsTask kit asked.1 (known_of asked.0 remaining) out out' end
+Answers kit (Some asked) remaining out out' None = ⊥
+Answers kit None remaining out out' (Some end) = ⊥
+Answers kit None remaining out out' None = Keeps out out'
 
 abbrev pub fault_line : ReplayFault → List ℕ
 fault_line NoMemory = codes "press: fault 0\n"
@@ -70,12 +98,13 @@ fault_line BadSchedule = codes "press: fault 72\n"
 abbrev pub usage_line : List ℕ
 usage_line = codes "press: usage\n"
 
--- What is written of an ending: a body goes to the output; for a fault, or where the output has failed, which may be at any run, a line goes to
+-- What is written of an ending: a body goes to the output, and nothing after a transcript; for a fault, or where the output has failed, which may be at any run, a line goes to
 -- the errors, as far as they take it.
 abbrev pub Finishes : Ending → ℕ → Option (List ℕ) → Option (List ℕ) → Option (List ℕ) → Option (List ℕ) → Type 0
 Finishes (Printed status body) result out out' err err' =
     ((result ≡ status) × Appends out out' body × Keeps err err')
     ⊎ ((result ≡ 2) × AppendsFront out out' body × AppendsFront err err' (fault_line WriteFault))
+Finishes Replayed result out out' err err' = (result ≡ 0) × Keeps out out' × Keeps err err'
 Finishes (Fault fault) result out out' err err' = (result ≡ 2) × Keeps out out' × AppendsFront err err' (fault_line fault)
 
 -- Refused words: the usage, or want of memory to read them.
@@ -92,7 +121,7 @@ abbrev pub ReadsAsked : Option Asked → Option (List ℕ) → Option (List ℕ)
 ReadsAsked None input input' = Keeps input input'
 ReadsAsked (Some asked) input input' = is_input asked.0 ≡ false → Keeps input input'
 
--- A run for what is asked.
+-- A run for what is asked: its end, with the output by then, and what is written of that.
 abbrev pub Runs : KitView → Option Asked → Option (List ℕ) → ℕ → Option (List ℕ) → Option (List ℕ) → Option (List ℕ) → Option (List ℕ) → Type 0
 Runs kit None remaining result out out' err err' = TellsUsage result out out' err err'
-Runs kit (Some asked) remaining result out out' err err' = (end : Ending) × EndsOn kit asked.1 (known_of asked.0 remaining) end × Finishes end result out out' err err'
+Runs kit (Some asked) remaining result out out' err err' = (end : Ending) × (by_then : Option (List ℕ)) × EndsTask kit asked.1 (known_of asked.0 remaining) out by_then end × Finishes end result by_then out' err err'

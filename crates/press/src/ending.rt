@@ -1,25 +1,28 @@
 //! How a run of the program ends.
 
-ghost use Rattle.std.specs.Prelude.{◌≡◌, ◌+◌, IfOk, Ok};
-ghost use Rattle.press_callbacks.specs.Kits.{kit_view};
+ghost use Rattle.std.specs.Prelude.{◌≡◌, ◌≤◌, ◌+◌, IfOk, Ok, length};
+ghost use Rattle.press_callbacks.specs.Kits.{KitView, kit_view};
 ghost use Rattle.press_kit.specs.KitFile.{file_limit};
 ghost use Rattle.press_text.specs.Streams.{TakesAtMost};
-ghost use Rattle.press.specs.Endings.{ending_of, page_ending, printed, EndsOn};
+ghost use Rattle.press_world.specs.Starts.{AreKit, views_of};
+ghost use Rattle.press.specs.Endings.{ending_of, kits_for, page_ending, printed, EndsOn, EndsReplay, EndsTask};
 
 use crate::commands::apply_all;
+use crate::task::Task;
 use press_apply::Stamped;
 use press_callbacks::Kit;
 use press_page::{Reply, Target, page};
 use press_site::Site;
 use press_text::{Items, Text};
-use press_world::{ReplayFault, read_site};
+use press_world::{ReplayFault, read_site, replay};
 use std::alloc::{AllocError, Global};
-use std::io::Read;
+use std::io::{Read, Write};
 
-/// A body with the program's status, or a fault.
+/// A body with the program's status, a transcript that is written already, or a fault.
 #[derive(Debug, Drop)]
 pub enum Ending {
     Printed { status: u8, body: Text },
+    Replayed,
     Fault(ReplayFault),
 }
 
@@ -60,13 +63,55 @@ fn try_page<R: Read>(
     Ok(page_after(alloc, kit, target, commands)?)
 }
 
-/// The end of a run on the file that a reader has left, for what is asked of its site.
-pub fn page_end<R: Read>(alloc: Global, kit: &Kit, target: &Target, reader: &mut R) -> Ending
+// The end of a run on the file that a reader has left, for what is asked of its site.
+fn page_end<R: Read>(alloc: Global, kit: &Kit, target: &Target, reader: &mut R) -> Ending
     ensures took { TakesAtMost (R.remaining reader.old) (R.remaining reader.new) (file_limit + 1) }
     ensures ends { EndsOn (kit_view kit.now) target.now (R.remaining reader.old) result }
 {
     match try_page(alloc, kit, target, reader) {
         Ok(end) => end,
         Err(fault) => Ending::Fault(fault),
+    }
+}
+
+// The end of a replay of the schedule that a reader has left.
+#[tactic(auto, unfolding(crate::specs::Endings::EndsReplay))]
+fn replay_end<R: Read, W: Write>(
+    alloc: Global,
+    kits: Vec<Kit>,
+    reader: &mut R,
+    writer: &mut W,
+) -> Ending
+    requires few { length kits.items ≤ 7 }
+    requires alike { (kit : KitView) × AreKit kit (views_of kits.items) }
+    ensures took { TakesAtMost (R.remaining reader.old) (R.remaining reader.new) (file_limit + 1) }
+    ensures ends { (kit : KitView) → AreKit kit (views_of kits.items) →
+        EndsReplay kit (length kits.items) (R.remaining reader.old)
+        (W.contents writer.old) (W.contents writer.new) result }
+{
+    match replay(alloc, kits, reader, writer) {
+        Ok(()) => Ending::Replayed,
+        Err(fault) => Ending::Fault(fault),
+    }
+}
+
+/// The end of a run for a task, over kits that are alike and as many as it wants, on the file that a reader has left.
+pub fn end_over<R: Read, W: Write>(
+    alloc: Global,
+    kits: Vec<Kit>,
+    task: &Task,
+    reader: &mut R,
+    writer: &mut W,
+) -> Ending
+    requires count { length kits.items ≡ kits_for task.now }
+    requires alike { (kit : KitView) × AreKit kit (views_of kits.items) }
+    ensures took { TakesAtMost (R.remaining reader.old) (R.remaining reader.new) (file_limit + 1) }
+    ensures ends { (kit : KitView) → AreKit kit (views_of kits.items) →
+        EndsTask kit task.now (R.remaining reader.old)
+        (W.contents writer.old) (W.contents writer.new) result }
+{
+    match task {
+        Task::Page(target) => page_end(alloc, &kits[0], target, reader),
+        Task::Replay => replay_end(alloc, kits, reader, writer),
     }
 }

@@ -1,9 +1,10 @@
-//! The program: `press page FILE TARGET` prints a page of the site that the commands of a file make.
+//! The program: `press page FILE TARGET` prints a page of the site that the commands of a file make, and `press replay FILE` the transcript of a schedule.
 #![tactic(auto)]
 
 mod commands;
 mod ending;
 mod run;
+mod task;
 #[cfg(test)]
 mod tests;
 mod words;

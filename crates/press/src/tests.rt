@@ -1,5 +1,6 @@
 mod fakes;
 mod fixtures;
 mod kits;
+mod replays;
 mod runs;
 mod words;

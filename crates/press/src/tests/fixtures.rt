@@ -35,11 +35,20 @@ pub fn ran(rt: &(impl AllocGlobal + Files), file: &[u8]) -> EndedRun {
 
 /// A run for these words on the letters.
 pub fn asked(rt: &(impl AllocGlobal + Files), words: &[&str]) -> Result<EndedRun, Fail> {
+    asked_of(rt, words, LETTERS)
+}
+
+/// A run for these words on this file.
+pub fn asked_of(
+    rt: &(impl AllocGlobal + Files),
+    words: &[&str],
+    file: &[u8],
+) -> Result<EndedRun, Fail> {
     let mut given: Vec<String> = Vec::new(rt.alloc());
     for word in words {
         given.push(String::from_str(rt.alloc(), word)?)?;
     }
-    Ok(ended(rt, &given, LETTERS))
+    Ok(ended(rt, &given, file))
 }
 
 impl EndedRun {

@@ -5,4 +5,4 @@ use Rattle.press.proofs.Wanting.{no_memory}
 use Rattle.press.proofs.run.run.Goals as goal
 
 pub returns-in_default-clause-runs : goal.returns-in_default-clause-runs
-returns-in_default-clause-runs g c = no_memory demonstration (asked_by (map string_bytes c.args.words.now)) _ _ _ _ _ _ c.fail.ensures.status (search rules) c.fail.ensures.told
+returns-in_default-clause-runs g c = no_memory demonstration (asked_by (map string_bytes c.args.words.now)) _ _ _ _ _ c.fail.ensures.status (search rules) c.fail.ensures.told
