@@ -17,9 +17,11 @@ use Rattle.press.specs.declared.ending.Ending.{Ending}
 use Rattle.press.specs.declared.ending.Ending.TheVariants.{Printed, Replayed, Fault}
 use Rattle.press_kit.specs.declared.place.Place.{Place}
 use Rattle.press_kit.specs.SiteFile.{site_in}
-use Rattle.press.specs.Words.{Asked, is_input}
+use Rattle.press_sockets.specs.Listening.{listening_line}
+use Rattle.press_sockets.specs.Loops.{Loops}
+use Rattle.press.specs.Words.{Asked, OfFile, of_file, serve, is_input}
 use Rattle.press.specs.declared.task.Task.{Task}
-use Rattle.press.specs.declared.task.Task.TheVariants.{Page, Replay}
+use Rattle.press.specs.declared.task.Task.TheVariants.{Page, Replay, Loop}
 use Rattle.press_text.specs.Streams.{AppendsFront}
 
 -- 0 for a page, 1 for any other reply
@@ -68,26 +70,27 @@ EndsReplay kit kits remaining out out' (Printed status body) = ⊥
 EndsReplay kit kits remaining out out' Replayed = Replays (schedule_in kits) (transcript kit) remaining out out' replayed
 EndsReplay kit kits remaining out out' (Fault fault) = Replays (schedule_in kits) (transcript kit) remaining out out' (failed fault)
 
+-- The same where the steps come over sockets, any of which may fail: then a front of the transcript is left.
+unfoldable pub EndsLoop : KitView → ℕ → Option (List ℕ) → Option (List ℕ) → Option (List ℕ) → Ending → Type 0
+EndsLoop kit kits remaining out out' (Printed status body) = ⊥
+EndsLoop kit kits remaining out out' Replayed = Loops (schedule_in kits) (transcript kit) remaining out out' replayed
+EndsLoop kit kits remaining out out' (Fault fault) = Loops (schedule_in kits) (transcript kit) remaining out out' (failed fault)
+
 -- how many kits are made for it
 abbrev pub kits_for : Task → ℕ
 kits_for (Page target) = 1
 kits_for Replay = 7
+kits_for Loop = 7
 
 -- The end for what is asked, and the output by then: a page is yet to be printed.
 abbrev pub EndsTask : KitView → Task → Option (List ℕ) → Option (List ℕ) → Option (List ℕ) → Ending → Type 0
 EndsTask kit (Page target) remaining out out' end = EndsOn kit target remaining end × (out' ≡ out)
 EndsTask kit Replay remaining out out' end = EndsReplay kit (kits_for Replay) remaining out out' end
+EndsTask kit Loop remaining out out' end = EndsLoop kit (kits_for Loop) remaining out out' end
 
 -- What is known of a file's bytes: on the standard input, what that tells. A file that is opened by its name has some bytes.
 abbrev pub known_of : List ℕ → Option (List ℕ) → Option (List ℕ)
 known_of file remaining = if is_input file then remaining else None
-
--- What words come to: an end for what is asked, and none where they are refused.
-abbrev pub Answers : KitView → Option Asked → Option (List ℕ) → Option (List ℕ) → Option (List ℕ) → Option Ending → Type 0
-Answers kit (Some asked) remaining out out' (Some end) = EndsTask kit asked.1 (known_of asked.0 remaining) out out' end
-Answers kit (Some asked) remaining out out' None = ⊥
-Answers kit None remaining out out' (Some end) = ⊥
-Answers kit None remaining out out' None = Keeps out out'
 
 abbrev pub fault_line : ReplayFault → List ℕ
 fault_line NoMemory = codes "press: fault 0\n"
@@ -116,12 +119,22 @@ abbrev pub RefusesWords : Option Asked → ℕ → Option (List ℕ) → Option 
 RefusesWords (Some asked) result input input' out out' err err' = Unit {0}
 RefusesWords None result input input' out out' err err' = Keeps input input' × TellsUsage result out out' err err'
 
--- The standard input is read only where it is asked for.
+-- The standard input is read only where it is asked for. A server reads nothing of it.
 abbrev pub ReadsAsked : Option Asked → Option (List ℕ) → Option (List ℕ) → Type 0
 ReadsAsked None input input' = Keeps input input'
-ReadsAsked (Some asked) input input' = is_input asked.0 ≡ false → Keeps input input'
+ReadsAsked (Some (of_file wanted)) input input' = is_input wanted.0 ≡ false → Keeps input input'
+ReadsAsked (Some (serve server)) input input' = Keeps input input'
 
--- A run for what is asked: its end, with the output by then, and what is written of that.
+-- A run for what is asked of a file: its end, with the output by then, and what is written of that.
+abbrev pub Shows : KitView → OfFile → Option (List ℕ) → ℕ → Option (List ℕ) → Option (List ℕ) → Option (List ℕ) → Option (List ℕ) → Type 0
+Shows kit wanted remaining result out out' err err' = (end : Ending) × (by_then : Option (List ℕ)) × EndsTask kit wanted.1 (known_of wanted.0 remaining) out by_then end × Finishes end result by_then out' err err'
+
+-- A server's run: what it told on the output, as far as that took it. Sockets tell nothing of their bytes, and its lines on the errors tell of them.
+abbrev pub Listens : ℕ → ℕ → Option (List ℕ) → Option (List ℕ) → Type 0
+Listens port result out out' = ((result ≡ 0) ⊎ (result ≡ 2)) × AppendsFront out out' (listening_line port)
+
+-- A run for what is asked.
 abbrev pub Runs : KitView → Option Asked → Option (List ℕ) → ℕ → Option (List ℕ) → Option (List ℕ) → Option (List ℕ) → Option (List ℕ) → Type 0
 Runs kit None remaining result out out' err err' = TellsUsage result out out' err err'
-Runs kit (Some asked) remaining result out out' err err' = (end : Ending) × (by_then : Option (List ℕ)) × EndsTask kit asked.1 (known_of asked.0 remaining) out by_then end × Finishes end result by_then out' err err'
+Runs kit (Some (of_file wanted)) remaining result out out' err err' = Shows kit wanted remaining result out out' err err'
+Runs kit (Some (serve server)) remaining result out out' err err' = Listens server.port result out out'

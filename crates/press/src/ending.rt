@@ -5,7 +5,7 @@ ghost use Rattle.press_callbacks.specs.Kits.{KitView, kit_view};
 ghost use Rattle.press_kit.specs.KitFile.{file_limit};
 ghost use Rattle.press_text.specs.Streams.{TakesAtMost};
 ghost use Rattle.press_world.specs.Starts.{AreKit, views_of};
-ghost use Rattle.press.specs.Endings.{ending_of, kits_for, page_ending, printed, EndsOn, EndsReplay, EndsTask};
+ghost use Rattle.press.specs.Endings.{ending_of, kits_for, page_ending, printed, EndsLoop, EndsOn, EndsReplay, EndsTask};
 
 use crate::commands::apply_all;
 use crate::task::Task;
@@ -13,10 +13,12 @@ use press_apply::Stamped;
 use press_callbacks::Kit;
 use press_page::{Reply, Target, page};
 use press_site::Site;
+use press_sockets::loop_over;
 use press_text::{Items, Text};
 use press_world::{ReplayFault, read_site, replay};
 use std::alloc::{AllocError, Global};
 use std::io::{Read, Write};
+use std::net::Net;
 
 /// A body with the program's status, a transcript that is written already, or a fault.
 #[derive(Debug, Drop)]
@@ -95,9 +97,30 @@ fn replay_end<R: Read, W: Write>(
     }
 }
 
+// The same over sockets of the loopback.
+#[tactic(auto, unfolding(crate::specs::Endings::EndsLoop))]
+fn loop_end<Rt: AllocGlobal + Net, R: Read, W: Write>(
+    rt: &Rt,
+    kits: Vec<Kit>,
+    reader: &mut R,
+    writer: &mut W,
+) -> Ending
+    requires few { length kits.items ≤ 7 }
+    requires alike { (kit : KitView) × AreKit kit (views_of kits.items) }
+    ensures took { TakesAtMost (R.remaining reader.old) (R.remaining reader.new) (file_limit + 1) }
+    ensures ends { (kit : KitView) → AreKit kit (views_of kits.items) →
+        EndsLoop kit (length kits.items) (R.remaining reader.old)
+        (W.contents writer.old) (W.contents writer.new) result }
+{
+    match loop_over(rt, kits, reader, writer) {
+        Ok(()) => Ending::Replayed,
+        Err(fault) => Ending::Fault(fault),
+    }
+}
+
 /// The end of a run for a task, over kits that are alike and as many as it wants, on the file that a reader has left.
-pub fn end_over<R: Read, W: Write>(
-    alloc: Global,
+pub fn end_over<Rt: AllocGlobal + Net, R: Read, W: Write>(
+    rt: &Rt,
     kits: Vec<Kit>,
     task: &Task,
     reader: &mut R,
@@ -111,7 +134,8 @@ pub fn end_over<R: Read, W: Write>(
         (W.contents writer.old) (W.contents writer.new) result }
 {
     match task {
-        Task::Page(target) => page_end(alloc, &kits[0], target, reader),
-        Task::Replay => replay_end(alloc, kits, reader, writer),
+        Task::Page(target) => page_end(rt.alloc(), &kits[0], target, reader),
+        Task::Replay => replay_end(rt.alloc(), kits, reader, writer),
+        Task::Loop => loop_end(rt, kits, reader, writer),
     }
 }

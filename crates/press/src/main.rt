@@ -1,12 +1,15 @@
-//! The program: `press page FILE TARGET` prints a page of the site that the commands of a file make, and `press replay FILE` the transcript of a schedule.
+//! The program: `press page FILE TARGET` prints a page of the site that the commands of a file make, `press replay FILE` the transcript of a schedule, which
+//! `press loop FILE` carries over sockets; `press serve --port N --turns N` serves a node.
 #![tactic(auto)]
 
+mod boxing;
 mod commands;
 mod ending;
 mod run;
 mod task;
 #[cfg(test)]
 mod tests;
+mod wanted;
 mod words;
 
 use press_world::ReplayFault;
@@ -31,7 +34,7 @@ fn run_on(
     output: &mut Stdout,
     error: &mut Stderr,
 ) -> u8 {
-    run::run::<HostRuntime, Stdin, Stdout, Stderr>(rt, words, input, output, error)
+    run::run::<Stdin, Stdout, Stderr>(rt, words, input, output, error)
 }
 
 fn main(rt: HostRuntime) -> ExitCode {

@@ -7,4 +7,6 @@ pub enum Task {
     Page(Target),
     /// The transcript of its schedule.
     Replay,
+    /// The same, of steps that come over sockets of the loopback.
+    Loop,
 }

@@ -3,4 +3,5 @@ mod fixtures;
 mod kits;
 mod replays;
 mod runs;
+mod turns;
 mod words;

@@ -1,24 +1,19 @@
 //! The words of the program, by `clap`.
 
-ghost use Rattle.std.specs.Prelude.{◌≡◌, ◌≢◌, IfOk, None, false, map, option_and_then, option_map, string_bytes};
+ghost use Rattle.std.specs.Prelude.{◌≡◌, ◌≢◌, ◌≤◌, IfOk, IfSome, None, false, map, option_and_then, option_map, string_bytes};
 ghost use Rattle.clap.specs.Words.{FailsBy, app_of, fault_of, found_of, rows_of, subcommand_of, subcommand_rows_of};
 ghost use Rattle.clap.specs.declared.builder.command.Command.TheViews.{out-Command};
 ghost use Rattle.clap.specs.Values.{kind_of};
 ghost use Rattle.press.specs.Words as spec;
 
 use crate::task::Task;
+use crate::wanted::{Asked, Wanted};
 use clap::error::ErrorKind;
 use clap::{Arg, ArgMatches, Command, Error};
 use press_page::Target;
+use press_sockets::Setup;
+use press_text::dec_u64;
 use std::alloc::{AllocError, Global};
-
-/// A file, and what is asked of it.
-#[derive(Debug, Drop)]
-pub struct Wanted<'a> {
-    /// The file's name, or `-` for the standard input.
-    pub file: &'a str,
-    pub task: Task,
-}
 
 fn page_words<'a>(alloc: Global) -> Result<Command<'a>, AllocError>
     ensures app { IfOk result (λ c. app_of c ≡ spec.page_words) }
@@ -33,15 +28,29 @@ fn page_words<'a>(alloc: Global) -> Result<Command<'a>, AllocError>
     Ok(page)
 }
 
-fn replay_words<'a>(alloc: Global) -> Result<Command<'a>, AllocError>
-    ensures app { IfOk result (λ c. app_of c ≡ spec.replay_words) }
+// A command with a file alone.
+fn file_words<'a>(alloc: Global, name: &'a str) -> Result<Command<'a>, AllocError>
+    ensures app { IfOk result (λ c. app_of c ≡ spec.file_words name.now) }
     ensures local { IfOk result (λ c. (out-Command c).has_globals ≡ false) }
 {
     let file = Arg::new(alloc, "FILE").required(true);
-    let replay = Command::new(alloc, "replay")
+    let named = Command::new(alloc, name).disable_help_flag(true).arg(file)?;
+    Ok(named)
+}
+
+fn serve_words<'a>(alloc: Global) -> Result<Command<'a>, AllocError>
+    ensures app { IfOk result (λ c. app_of c ≡ spec.serve_words) }
+    ensures local { IfOk result (λ c. (out-Command c).has_globals ≡ false) }
+{
+    let port = Arg::new(alloc, "port").long("port").required(true);
+    let turns = Arg::new(alloc, "turns").long("turns").required(true);
+    let store = Arg::new(alloc, "store").long("store");
+    let serve = Command::new(alloc, "serve")
         .disable_help_flag(true)
-        .arg(file)?;
-    Ok(replay)
+        .arg(port)?
+        .arg(turns)?
+        .arg(store)?;
+    Ok(serve)
 }
 
 // What the words come to, as `clap` reads them.
@@ -50,20 +59,24 @@ fn parsed<'a>(alloc: Global, words: &'a [String]) -> Result<ArgMatches<'a>, Erro
     ensures matches { IfOk result (λ m. subcommand_rows_of m ≡ subcommand_of spec.program (map string_bytes words.entry.now)) }
 {
     let page = page_words(alloc)?;
-    let replay = replay_words(alloc)?;
+    let replay = file_words(alloc, "replay")?;
+    let looped = file_words(alloc, "loop")?;
+    let serve = serve_words(alloc)?;
     let program = Command::new(alloc, "press")
         .no_binary_name(true)
         .disable_help_flag(true)
         .disable_help_subcommand(true)
         .subcommand_required(true)
         .subcommand(page)?
-        .subcommand(replay)?;
+        .subcommand(replay)?
+        .subcommand(looped)?
+        .subcommand(serve)?;
     program.try_get_matches_from(words)
 }
 
 #[tactic(auto, using(crate::proofs::FirstValue::first_is))]
 fn page_in<'a>(alloc: Global, inside: &ArgMatches<'a>) -> Result<Option<Wanted<'a>>, AllocError>
-    ensures { IfOk result (λ w. option_map (λ w. (w.file.now, w.task)) w ≡ spec.page_in (rows_of (found_of inside.now))) }
+    ensures { IfOk result (λ w. option_map (λ w. spec.wanted_of w) w ≡ spec.page_in (rows_of (found_of inside.now))) }
 {
     let (Some(file), Some(text)) = (inside.get_str("FILE"), inside.get_str("TARGET")) else {
         return Ok(None);
@@ -76,13 +89,43 @@ fn page_in<'a>(alloc: Global, inside: &ArgMatches<'a>) -> Result<Option<Wanted<'
 }
 
 #[tactic(auto, using(crate::proofs::FirstValue::first_is))]
-fn replay_in<'a>(inside: &ArgMatches<'a>) -> Option<Wanted<'a>>
-    ensures { option_map (λ w. (w.file.now, w.task)) result ≡ spec.replay_in (rows_of (found_of inside.now)) }
+fn file_in<'a>(inside: &ArgMatches<'a>, task: Task) -> Option<Wanted<'a>>
+    ensures { option_map (λ w. spec.wanted_of w) result ≡ spec.file_in task (rows_of (found_of inside.now)) }
 {
     let file = inside.get_str("FILE")?;
-    Some(Wanted {
-        file,
-        task: Task::Replay,
+    Some(Wanted { file, task })
+}
+
+// The number that digits alone spell, from a least to a most.
+fn number_in(text: &str, least: u32, most: u32) -> Option<u32>
+    ensures value { result ≡ spec.number_in least most text.now }
+    ensures most { IfSome result (λ n. n ≤ most) }
+{
+    match dec_u64(text) {
+        Some(n) if u64::from(least) <= n && n <= u64::from(most) => Some(n as u32),
+        _ => None,
+    }
+}
+
+fn port_in(text: &str) -> Option<u16>
+    ensures { result ≡ spec.number_in 1 65535 text.now }
+{
+    match number_in(text, 1, 65_535) {
+        Some(n) => Some(n as u16),
+        None => None,
+    }
+}
+
+#[tactic(auto, using(crate::proofs::FirstValue::first_is))]
+fn server_in<'a>(inside: &ArgMatches<'a>) -> Option<Setup<'a>>
+    ensures { option_map (λ s. spec.server_of s) result ≡ spec.server_in (rows_of (found_of inside.now)) }
+{
+    let port = port_in(inside.get_str("port")?)?;
+    let turns = number_in(inside.get_str("turns")?, 0, 1_000_000)?;
+    Some(Setup {
+        port,
+        turns,
+        store: inside.get_str("store"),
     })
 }
 
@@ -90,21 +133,26 @@ fn wanted_in<'a>(
     alloc: Global,
     name: &str,
     inside: &ArgMatches<'a>,
-) -> Result<Option<Wanted<'a>>, AllocError>
-    ensures { IfOk result (λ w. option_map (λ w. (w.file.now, w.task)) w ≡ spec.asked_in name.now (rows_of (found_of inside.now))) }
+) -> Result<Option<Asked<'a>>, AllocError>
+    ensures { IfOk result (λ a. option_map (λ a. spec.asked_of a) a ≡ spec.asked_in name.now (rows_of (found_of inside.now))) }
 {
     if name == "page" {
-        page_in(alloc, inside)
+        let wanted = page_in(alloc, inside)?;
+        Ok(wanted.map(Asked::OfFile))
     } else if name == "replay" {
-        Ok(replay_in(inside))
+        Ok(file_in(inside, Task::Replay).map(Asked::OfFile))
+    } else if name == "loop" {
+        Ok(file_in(inside, Task::Loop).map(Asked::OfFile))
+    } else if name == "serve" {
+        Ok(server_in(inside).map(Asked::Serve))
     } else {
         Ok(None)
     }
 }
 
 // What `clap` has found.
-fn found_in<'a>(alloc: Global, matches: &ArgMatches<'a>) -> Result<Option<Wanted<'a>>, AllocError>
-    ensures { IfOk result (λ w. option_map (λ w. (w.file.now, w.task)) w
+fn found_in<'a>(alloc: Global, matches: &ArgMatches<'a>) -> Result<Option<Asked<'a>>, AllocError>
+    ensures { IfOk result (λ a. option_map (λ a. spec.asked_of a) a
         ≡ option_and_then (λ p. spec.asked_in p.0 p.1) (subcommand_rows_of matches.now)) }
 {
     match matches.subcommand() {
@@ -114,8 +162,8 @@ fn found_in<'a>(alloc: Global, matches: &ArgMatches<'a>) -> Result<Option<Wanted
 }
 
 // Nothing is asked, or memory was wanting.
-fn untold<'a>(e: Error) -> Result<Option<Wanted<'a>>, AllocError>
-    ensures { IfOk result (λ w. (w ≡ None) × (kind_of e ≢ ErrorKind.OutOfMemory)) }
+fn untold<'a>(e: Error) -> Result<Option<Asked<'a>>, AllocError>
+    ensures { IfOk result (λ a. (a ≡ None) × (kind_of e ≢ ErrorKind.OutOfMemory)) }
 {
     if e.kind() == ErrorKind::OutOfMemory {
         Err(AllocError)
@@ -125,14 +173,14 @@ fn untold<'a>(e: Error) -> Result<Option<Wanted<'a>>, AllocError>
 }
 
 /// What the words after the program's name ask for, or nothing where they are refused.
-pub fn read_words<'a>(alloc: Global, words: &'a [String]) -> Result<Option<Wanted<'a>>, AllocError>
-    ensures { IfOk result (λ w. option_map (λ w. (w.file.now, w.task)) w ≡ spec.asked_by (map string_bytes words.entry.now)) }
+pub fn read_words<'a>(alloc: Global, words: &'a [String]) -> Result<Option<Asked<'a>>, AllocError>
+    ensures { IfOk result (λ a. option_map (λ a. spec.asked_of a) a ≡ spec.asked_by (map string_bytes words.entry.now)) }
 {
     if words.is_empty() {
-        return Ok(Some(Wanted {
+        return Ok(Some(Asked::OfFile(Wanted {
             file: "-",
             task: Task::Page(Target::Post(1)),
-        }));
+        })));
     }
     match parsed(alloc, words) {
         Ok(matches) => found_in(alloc, &matches),

@@ -1,5 +1,4 @@
 use crate::run::run;
-use std::rt::Files;
 use std::test::Fail;
 
 /// The file that stands beside the program as its input.
@@ -15,7 +14,7 @@ pub struct EndedRun {
     pub rest: usize,
 }
 
-fn ended(rt: &(impl AllocGlobal + Files), words: &[String], file: &[u8]) -> EndedRun {
+fn ended(rt: &HostRuntime, words: &[String], file: &[u8]) -> EndedRun {
     let mut input = file;
     let mut out: Vec<u8> = Vec::new(rt.alloc());
     let mut told: Vec<u8> = Vec::new(rt.alloc());
@@ -29,21 +28,17 @@ fn ended(rt: &(impl AllocGlobal + Files), words: &[String], file: &[u8]) -> Ende
 }
 
 /// A run without words.
-pub fn ran(rt: &(impl AllocGlobal + Files), file: &[u8]) -> EndedRun {
+pub fn ran(rt: &HostRuntime, file: &[u8]) -> EndedRun {
     ended(rt, &[], file)
 }
 
 /// A run for these words on the letters.
-pub fn asked(rt: &(impl AllocGlobal + Files), words: &[&str]) -> Result<EndedRun, Fail> {
+pub fn asked(rt: &HostRuntime, words: &[&str]) -> Result<EndedRun, Fail> {
     asked_of(rt, words, LETTERS)
 }
 
 /// A run for these words on this file.
-pub fn asked_of(
-    rt: &(impl AllocGlobal + Files),
-    words: &[&str],
-    file: &[u8],
-) -> Result<EndedRun, Fail> {
+pub fn asked_of(rt: &HostRuntime, words: &[&str], file: &[u8]) -> Result<EndedRun, Fail> {
     let mut given: Vec<String> = Vec::new(rt.alloc());
     for word in words {
         given.push(String::from_str(rt.alloc(), word)?)?;

@@ -28,3 +28,34 @@ fn other_words_are_refused(rt: HostRuntime) -> Result<(), Fail> {
     assert!(rt; asked(&rt, &["page", "-x", "front"])?.is_refused());
     Ok(())
 }
+
+// Where the store can't be had, as in a folder that is not there, nothing is served.
+#[test]
+fn words_ask_for_a_server(rt: HostRuntime) -> Result<(), Fail> {
+    let outcome = asked(
+        &rt,
+        &[
+            "serve", "--port", "8080", "--turns", "0", "--store", "none/f",
+        ],
+    )?;
+    assert!(rt; outcome.left(2, "", "press: fault 51\n"));
+    assert_eq!(rt; outcome.rest, LETTERS.len());
+    Ok(())
+}
+
+#[test]
+fn other_words_of_a_server_are_refused(rt: HostRuntime) -> Result<(), Fail> {
+    for (port, turns) in [
+        ("0", "1"),
+        ("65536", "1"),
+        ("8080", "1000001"),
+        ("+8080", "1"),
+        ("8080", "x"),
+    ] {
+        let outcome = asked(&rt, &["serve", "--port", port, "--turns", turns])?;
+        assert!(rt; outcome.is_refused(), "at {port} {turns}");
+    }
+    assert!(rt; asked(&rt, &["serve", "--port", "8080"])?.is_refused());
+    assert!(rt; asked(&rt, &["serve", "--turns", "1"])?.is_refused());
+    Ok(())
+}

@@ -1,0 +1,17 @@
+use crate::task::Task;
+use press_sockets::Setup;
+
+/// A file, and what is asked of it.
+#[derive(Debug, Drop)]
+pub struct Wanted<'a> {
+    /// The file's name, or `-` for the standard input.
+    pub file: &'a str,
+    pub task: Task,
+}
+
+/// What the words after the program's name ask for.
+#[derive(Debug, Drop)]
+pub enum Asked<'a> {
+    OfFile(Wanted<'a>),
+    Serve(Setup<'a>),
+}

@@ -1,0 +1,5 @@
+pub mod Carried
+pub mod Delivering
+pub mod Fronts
+pub mod Onward
+pub mod Outcomes

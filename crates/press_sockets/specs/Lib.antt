@@ -1,0 +1,3 @@
+pub mod Listening
+pub mod Loops
+pub mod Turns

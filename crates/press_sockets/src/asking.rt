@@ -1,0 +1,177 @@
+//! The requests by which the steps of a schedule come over a connection.
+
+ghost use Rattle.std.specs.Prelude.{◌≡◌, Some};
+ghost use Rattle.press_apply.specs.Kinds.{kind_named};
+
+use form_urlencoded::Serializer;
+use itoa::Buffer;
+use press_apply::{Command, CommandKind, Stamped};
+use press_page::Target;
+use press_posts::Status;
+use press_text::{Moment, Text};
+use press_wire::{Message, WireFault, encode_msg};
+use press_world::{Step, World};
+use std::alloc::{AllocError, Global};
+
+/// The most bytes that a body may have.
+const LONGEST_BODY: usize = 65_536;
+
+const FORM: &str = "application/x-www-form-urlencoded";
+
+const BYTES: &str = "application/octet-stream";
+
+// The word for it in a form.
+fn word(kind: CommandKind) -> &'static str
+    ensures { kind_named result.now ≡ Some kind }
+{
+    match kind {
+        CommandKind::Insert => "insert",
+        CommandKind::Update => "update",
+        CommandKind::Trash => "trash",
+        CommandKind::Untrash => "untrash",
+        CommandKind::Delete => "delete",
+        CommandKind::SetOption => "option",
+        CommandKind::Activate => "activate",
+        CommandKind::Deactivate => "deactivate",
+        CommandKind::Tick => "tick",
+    }
+}
+
+fn put_number(form: &mut Serializer, name: &str, number: u64) -> Result<(), AllocError> {
+    let mut digits = Buffer::new();
+    form.append_pair(name, digits.format(number))
+}
+
+fn put_texts(form: &mut Serializer, title: &Text, content: &Text) -> Result<(), AllocError> {
+    form.append_pair("title", title.as_str())?;
+    form.append_pair("content", content.as_str())
+}
+
+fn put_standing(form: &mut Serializer, status: Status, date: Moment) -> Result<(), AllocError> {
+    form.append_pair("status", status.word())?;
+    put_number(form, "date", date.seconds())
+}
+
+fn put_fields(form: &mut Serializer, command: &Command) -> Result<(), AllocError> {
+    match command {
+        Command::Insert {
+            title,
+            content,
+            status,
+            date,
+        } => {
+            put_texts(form, title, content)?;
+            put_standing(form, *status, *date)
+        }
+        Command::Update {
+            id,
+            title,
+            content,
+            status,
+            date,
+        } => {
+            put_number(form, "id", *id)?;
+            put_texts(form, title, content)?;
+            put_standing(form, *status, *date)
+        }
+        Command::Trash { id } | Command::Untrash { id } | Command::Delete { id } => {
+            put_number(form, "id", *id)
+        }
+        Command::SetOption { name, value } => {
+            form.append_pair("name", name.as_str())?;
+            form.append_pair("value", value.as_str())
+        }
+        Command::Activate { plugin } | Command::Deactivate { plugin } => {
+            form.append_pair("plugin", plugin.as_str())
+        }
+        Command::Tick => Ok(()),
+    }
+}
+
+// The form that gives the command.
+fn form_of(alloc: Global, stamped: &Stamped) -> Result<String, AllocError> {
+    let mut form = Serializer::new(String::new(alloc));
+    form.append_pair("editor", stamped.token.editor.as_str())?;
+    put_number(&mut form, "seq", stamped.token.seq)?;
+    put_number(&mut form, "at", stamped.at.seconds())?;
+    form.append_pair("kind", word(CommandKind::of(&stamped.command)))?;
+    put_fields(&mut form, &stamped.command)?;
+    Ok(form.finish())
+}
+
+fn head_of_post(alloc: Global, path: &str, kind: &str, count: usize) -> Result<String, AllocError> {
+    format!(in alloc;
+        "POST {path} HTTP/1.1\r\nHost: 127.0.0.1\r\nContent-Type: {kind}\r\nContent-Length: {count}\r\n\r\n"
+    )
+}
+
+fn post(alloc: Global, path: &str, kind: &str, body: &[u8]) -> Result<Vec<u8>, AllocError> {
+    let head = head_of_post(alloc, path, kind, body.len())?;
+    let mut request = head.into_bytes();
+    request.extend_from_slice(body)?;
+    Ok(request)
+}
+
+fn path_of(alloc: Global, target: &Target) -> Result<String, AllocError> {
+    match target {
+        Target::Front => String::from_str(alloc, "/"),
+        Target::Post(id) => format!(in alloc; "/?p={id}"),
+        Target::Json(id) => format!(in alloc; "/wp-json/wp/v2/posts/{id}"),
+        Target::Result(token) => {
+            let editor = token.editor.as_str();
+            let seq = token.seq;
+            format!(in alloc; "/result/{editor}/{seq}")
+        }
+    }
+}
+
+fn get(alloc: Global, target: &Target) -> Result<Vec<u8>, AllocError> {
+    let path = path_of(alloc, target)?;
+    let request = format!(in alloc; "GET {path} HTTP/1.1\r\nHost: 127.0.0.1\r\n\r\n")?;
+    Ok(request.into_bytes())
+}
+
+// None, where the form is too long for a body.
+fn command_request(alloc: Global, stamped: &Stamped) -> Result<Option<Vec<u8>>, AllocError> {
+    let form = form_of(alloc, stamped)?;
+    if form.len() > LONGEST_BODY {
+        return Ok(None);
+    }
+    Ok(Some(post(alloc, "/command", FORM, form.as_bytes())?))
+}
+
+// None, where no bytes spell the message.
+fn message_request(alloc: Global, message: &Message) -> Result<Option<Vec<u8>>, AllocError> {
+    match encode_msg(alloc, message) {
+        Ok(bytes) => Ok(Some(post(alloc, "/peer", BYTES, &bytes)?)),
+        Err(WireFault::TooLong) => Ok(None),
+        Err(_) => Err(AllocError),
+    }
+}
+
+/// The bytes of the request by which a step comes to one of so many nodes. None for a step that comes without a connection: a wake, a restart,
+/// one that names no node or no message, and a command whose form is longer than a body may be.
+pub fn request_of(
+    alloc: Global,
+    nodes: usize,
+    step: &Step,
+    world: &World,
+) -> Result<Option<Vec<u8>>, AllocError> {
+    match step {
+        Step::Submit { node, command, .. } if is_node(nodes, *node) => {
+            command_request(alloc, command)
+        }
+        Step::Get { node, target } if is_node(nodes, *node) => Ok(Some(get(alloc, target)?)),
+        Step::Deliver { message, .. } => match world.sent(*message) {
+            Some(message) => message_request(alloc, message),
+            None => Ok(None),
+        },
+        Step::Submit { .. } | Step::Get { .. } | Step::Wake { .. } | Step::Restart { .. } => {
+            Ok(None)
+        }
+    }
+}
+
+fn is_node(nodes: usize, number: u64) -> bool {
+    1 <= number && number <= nodes as u64
+}

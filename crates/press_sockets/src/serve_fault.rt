@@ -1,0 +1,69 @@
+//! Why a server ends before its time.
+
+use press_acceptor::StoreFault;
+use press_text::WriteFault;
+use std::alloc::{AllocError, AllocFailed};
+use std::io;
+
+/// Why nothing is served, or no more.
+#[derive(Clone, Copy, Debug)]
+pub enum ServeFault {
+    NoMemory,
+    /// The listener, or a connection, could not be had.
+    NoConnections,
+    /// That it listens could not be told.
+    WriteFault,
+    Disk,
+    Damaged,
+}
+
+impl ServeFault {
+    /// Its number in `docs/RULES.md`.
+    pub fn number(self) -> u8 {
+        match self {
+            ServeFault::NoMemory => 0,
+            ServeFault::NoConnections => 40,
+            ServeFault::WriteFault => 42,
+            ServeFault::Disk => 50,
+            ServeFault::Damaged => 51,
+        }
+    }
+}
+
+impl From<AllocError> for ServeFault {
+    fn from(_e: AllocError) -> ServeFault {
+        ServeFault::NoMemory
+    }
+}
+
+impl<T: Drop> From<AllocFailed<T>> for ServeFault {
+    fn from(_e: AllocFailed<T>) -> ServeFault {
+        ServeFault::NoMemory
+    }
+}
+
+impl From<io::Error> for ServeFault {
+    fn from(e: io::Error) -> ServeFault {
+        if e.kind() == io::ErrorKind::OutOfMemory {
+            ServeFault::NoMemory
+        } else {
+            ServeFault::NoConnections
+        }
+    }
+}
+
+impl From<StoreFault> for ServeFault {
+    fn from(fault: StoreFault) -> ServeFault {
+        match fault {
+            StoreFault::NoMemory => ServeFault::NoMemory,
+            StoreFault::Disk => ServeFault::Disk,
+            StoreFault::Damaged => ServeFault::Damaged,
+        }
+    }
+}
+
+impl From<WriteFault> for ServeFault {
+    fn from(_f: WriteFault) -> ServeFault {
+        ServeFault::WriteFault
+    }
+}

@@ -1,0 +1,251 @@
+//! One connection, from its begin to its end.
+
+use crate::gathered::Gathered;
+use crate::turn::serve_turn;
+use mio::net::TcpStream;
+use press_acceptor::PromiseStore;
+use press_http::HttpFault;
+use press_node::Node;
+use press_text::write_once;
+use std::alloc::{AllocError, Global};
+use std::io;
+use std::io::{ErrorKind, Read, Write};
+use std::net::Shutdown;
+use std::time::{Duration, Instant};
+
+const PIECE: usize = 8192;
+
+// More pieces than a request has, so that a look behind them asks for no more.
+const MOST_PIECES: u32 = 10;
+
+// So many pieces are read away at once.
+const MOST_AWAY: u32 = 64;
+
+// All its reads and writes together take no longer.
+const SECONDS: u64 = 10;
+
+#[derive(Clone, Copy, PartialEq, Eq)]
+pub enum Phase {
+    /// The request isn't whole yet.
+    Reading,
+    /// The reply isn't out yet.
+    Writing,
+    /// The reply is out, and what still comes is read away: a close with bytes unread would reset the connection, and the client could lose the reply.
+    Ending,
+    Over,
+}
+
+/// A connection.
+pub struct Talk {
+    stream: TcpStream,
+    // How many came before it.
+    number: u64,
+    begun: Instant,
+    phase: Phase,
+    came: Gathered,
+    told: Vec<u8>,
+    sent: usize,
+    // More may be there to be read than was read, though nothing else comes.
+    has_more: bool,
+    alloc: Global,
+}
+
+impl Drop for Talk {
+    fn drop(self) {
+        let Talk {
+            stream: _,
+            number: _,
+            begun: _,
+            phase: _,
+            came: _,
+            told: _,
+            sent: _,
+            has_more: _,
+            alloc: _,
+        } = self;
+    }
+}
+
+// A line of what came of a connection; one that can't be written is passed over.
+fn write_line<E: Write>(log: &mut E, line: Result<String, AllocError>) {
+    if let Ok(line) = line {
+        let _ = write_once(log, line.as_bytes());
+    }
+}
+
+fn log_closed<E: Write>(alloc: Global, log: &mut E, why: &str) {
+    write_line(log, format!(in alloc; "closed: {why}\n"));
+}
+
+fn log_fault<E: Write>(alloc: Global, log: &mut E, fault: HttpFault) {
+    write_line(log, format!(in alloc; "closed: {fault}\n"));
+}
+
+fn log_served<E: Write>(alloc: Global, log: &mut E, came: &Gathered, status: u16, count: usize) {
+    let (method, target) = came.asked();
+    write_line(
+        log,
+        format!(in alloc; "{method} {target} {status} {count}\n"),
+    );
+}
+
+impl Talk {
+    pub fn new(alloc: Global, stream: TcpStream, number: u64, begun: Instant) -> Talk {
+        Talk {
+            stream,
+            number,
+            begun,
+            phase: Phase::Reading,
+            came: Gathered::new(alloc),
+            told: Vec::new(alloc),
+            sent: 0,
+            has_more: false,
+            alloc,
+        }
+    }
+
+    pub fn phase(&self) -> Phase {
+        self.phase
+    }
+
+    pub fn number(&self) -> u64 {
+        self.number
+    }
+
+    pub fn has_more(&self) -> bool {
+        self.has_more
+    }
+
+    pub fn stream(&mut self) -> &mut TcpStream {
+        &mut self.stream
+    }
+
+    /// Whether its time is over.
+    pub fn is_late(&self, now: Instant) -> bool {
+        Duration::from_secs(SECONDS) <= now.duration_since(self.begun)
+    }
+
+    /// It is given up before its request was whole.
+    pub fn give_up<E: Write>(&mut self, log: &mut E, why: &str) {
+        log_closed(self.alloc, log, why);
+        self.phase = Phase::Over;
+    }
+
+    // What is there of the request is taken; whether the input has ended.
+    fn gather(&mut self) -> io::Result<bool> {
+        let mut piece = [0u8; PIECE];
+        for _ in 0..MOST_PIECES {
+            match self.stream.read(&mut piece) {
+                Ok(0) => return Ok(true),
+                Ok(n) => self.came.add(&piece[..n])?,
+                Err(e) if e.kind() == ErrorKind::WouldBlock => return Ok(false),
+                Err(e) => return Err(e),
+            }
+        }
+        Ok(false)
+    }
+
+    // What came is looked at, where that is due; whether the connection had its turn.
+    fn look<S: PromiseStore, E: Write>(
+        &mut self,
+        node: &mut Node<S>,
+        ended: bool,
+        log: &mut E,
+    ) -> bool
+        requires always { Unit {0} }
+    {
+        if !ended && !self.came.is_due() {
+            return false;
+        }
+        let mut request = self.came.as_slice();
+        match serve_turn(self.alloc, node, &mut request, &mut self.told) {
+            Ok(status) => {
+                log_served(self.alloc, log, &self.came, status, self.told.len());
+                self.phase = Phase::Writing;
+                true
+            }
+            Err(HttpFault::Ended) if !ended => {
+                self.came.wait(self.alloc);
+                false
+            }
+            Err(fault) => {
+                log_fault(self.alloc, log, fault);
+                self.phase = Phase::Over;
+                true
+            }
+        }
+    }
+
+    fn hear<S: PromiseStore, E: Write>(&mut self, node: &mut Node<S>, log: &mut E) -> bool
+        requires always { Unit {0} }
+    {
+        match self.gather() {
+            Ok(ended) => self.look(node, ended, log),
+            Err(_) => {
+                log_fault(self.alloc, log, HttpFault::ReadFault);
+                self.phase = Phase::Over;
+                true
+            }
+        }
+    }
+
+    // The reply goes out as far as the socket takes it, and then its end is told.
+    fn send(&mut self) -> io::Result<()> {
+        for _ in 0..self.told.len() {
+            let left = self.told.get(self.sent..).unwrap_or(&[]);
+            if left.is_empty() {
+                break;
+            }
+            match self.stream.write(left) {
+                Ok(0) => return Err(io::Error::from(ErrorKind::WriteZero)),
+                Ok(n) => self.sent = self.sent.saturating_add(n),
+                Err(e) if e.kind() == ErrorKind::WouldBlock => return Ok(()),
+                Err(e) => return Err(e),
+            }
+        }
+        self.stream.shutdown(Shutdown::Write)?;
+        self.phase = Phase::Ending;
+        Ok(())
+    }
+
+    // What still comes goes nowhere.
+    fn read_away(&mut self) -> io::Result<()> {
+        let mut piece = [0u8; PIECE];
+        for _ in 0..MOST_AWAY {
+            match self.stream.read(&mut piece) {
+                Ok(0) => {
+                    self.phase = Phase::Over;
+                    return Ok(());
+                }
+                Ok(_) => {}
+                Err(e) if e.kind() == ErrorKind::WouldBlock => return Ok(()),
+                Err(e) => return Err(e),
+            }
+        }
+        self.has_more = true;
+        Ok(())
+    }
+
+    // What is left to do behind a look.
+    fn reply(&mut self) -> io::Result<()> {
+        if self.phase == Phase::Writing {
+            self.send()?;
+        }
+        if self.phase == Phase::Ending {
+            self.read_away()?;
+        }
+        Ok(())
+    }
+
+    /// What its socket is ready for is done; whether the connection had its turn by that: a reply was made, or it was closed without one.
+    pub fn step<S: PromiseStore, E: Write>(&mut self, node: &mut Node<S>, log: &mut E) -> bool
+        requires always { Unit {0} }
+    {
+        self.has_more = false;
+        let had_turn = self.phase == Phase::Reading && self.hear(node, log);
+        if self.reply().is_err() {
+            self.phase = Phase::Over;
+        }
+        had_turn
+    }
+}

@@ -1,0 +1,110 @@
+//! One turn of a server: a connection, and behind a command that was taken a wake with what the node sends to itself.
+
+ghost use Rattle.std.specs.Prelude.{◌≡◌, ◌++◌, OnOk};
+ghost use Rattle.press_node.specs.Nodes.{kit_of, node_moved};
+ghost use Rattle.press_node.specs.Plays.{sent};
+ghost use Rattle.press_sockets.specs.Turns.{Delivers, ServesTurn, Wakes, fault_of};
+
+use press_acceptor::PromiseStore;
+use press_http::HttpFault;
+use press_node::{Event, Node, NodeFault, serve_one};
+use press_wire::Message;
+use std::alloc::{AllocError, Global};
+use std::collections::VecDeque;
+use std::io::{Read, Write};
+
+// So many deliveries at most follow a wake of a node of seven, whose seven questions bring it a promise, seven calls for a vote and seven votes.
+const MOST_DELIVERIES: u32 = 22;
+
+// An event.
+fn played<S: PromiseStore>(node: &mut Node<S>, event: Event) -> Result<Vec<Message>, NodeFault>
+    requires always { Unit {0} }
+    ensures kit { kit_of node.new ≡ kit_of node.old }
+    ensures plays { (node_moved S.seen node.old node.new).plays event (sent (λ v. v.items) result) }
+{
+    match node.on(event) {
+        Ok(out) => Ok(out),
+        Err(fault) => Err(fault),
+    }
+}
+
+// Messages wait behind those that do so already.
+fn wait(waiting: &mut VecDeque<Message>, sent: Vec<Message>) -> Result<(), AllocError>
+    ensures { OnOk result (waiting.new.items ≡ waiting.old.items ++ sent.items) }
+{
+    for message in sent {
+        waiting.push_back(message)?;
+    }
+    Ok(())
+}
+
+// What waits is delivered, the oldest first, so many at most.
+fn deliver<S: PromiseStore>(
+    node: &mut Node<S>,
+    waiting: &mut VecDeque<Message>,
+    most: u32,
+) -> Result<(), NodeFault>
+    requires always { Unit {0} }
+    ensures kit { kit_of node.new ≡ kit_of node.old }
+    ensures delivers { Delivers (λ a b. node_moved S.seen a b) most waiting.old.items
+        node.old node.new (fault_of result) }
+{
+    for count in 0..most {
+        match waiting.pop_front() {
+            None => return Ok(()),
+            Some(message) => match played(node, Event::Deliver(message)) {
+                Err(fault) => return Err(fault),
+                Ok(sent) => match wait(waiting, sent) {
+                    Ok(()) => {}
+                    Err(AllocError) => return Err(NodeFault::NoMemory),
+                },
+            },
+        }
+    }
+    Ok(())
+}
+
+/// The node is woken, and its own messages are delivered, the oldest first, until none is left. The first fault ends it.
+pub fn wake<S: PromiseStore>(alloc: Global, node: &mut Node<S>) -> Result<(), NodeFault>
+    requires always { Unit {0} }
+    ensures kit { kit_of node.new ≡ kit_of node.old }
+    ensures wakes { Wakes (λ a b. node_moved S.seen a b) node.old node.new (fault_of result) }
+{
+    match played(node, Event::Wake) {
+        Err(fault) => Err(fault),
+        Ok(sent) => {
+            let mut waiting = VecDeque::new(alloc);
+            match wait(&mut waiting, sent) {
+                Ok(()) => deliver(node, &mut waiting, MOST_DELIVERIES),
+                Err(AllocError) => Err(NodeFault::NoMemory),
+            }
+        }
+    }
+}
+
+/// Serves one connection, and answers its status; behind a command that was taken the node is woken. A fault in that wake ends the wake alone: the command was
+/// taken all the same.
+pub fn serve_turn<S: PromiseStore, R: Read, W: Write>(
+    alloc: Global,
+    node: &mut Node<S>,
+    reader: &mut R,
+    writer: &mut W,
+) -> Result<u16, HttpFault>
+    requires always { Unit {0} }
+    ensures kit { kit_of node.new ≡ kit_of node.old }
+    ensures turn { ServesTurn (λ a b. node_moved S.seen a b) node.old node.new
+        (R.remaining reader.old) (R.remaining reader.new)
+        (W.contents writer.old) (W.contents writer.new) result }
+{
+    match serve_one(node, reader, writer) {
+        Err(fault) => Err(fault),
+        Ok(served) => {
+            let status = served.status;
+            drop(served);
+            if status == 202 {
+                let _ = wake(alloc, node);
+            }
+            Ok(status)
+        }
+    }
+}

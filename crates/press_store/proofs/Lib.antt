@@ -1,0 +1,12 @@
+mod Adopting
+mod Looked
+mod Made
+mod Maps
+mod Queries
+mod Reopened
+mod Rounds
+mod Saved
+mod Slots
+mod Texts
+mod Told
+mod Values

@@ -1,0 +1,34 @@
+-- What an open finds of an earlier run.
+use Rattle.std.proofs.Common.{◌≡◌, List, [], ◌∷◌, filter, ap, subst, ◌∙◌, inl, inr}
+use Rattle.std.specs.List.{AllZip}
+use Rattle.sqlite.specs.Tree.{Trees}
+use Rattle.sqlite.specs.Recovery.{Image}
+use Rattle.sqlite.specs.Effect.{Database}
+use Rattle.sqlite.specs.State.{State, Opens, IsLive}
+use Rattle.sqlite.specs.Start.{FindsIn}
+use Rattle.sqlite_trees.specs.Objects.{catalog_tree}
+use Rattle.sqlite_catalog.specs.Listing.{IsSound, is_table_row}
+use Rattle.press_store.specs.Tables.{no_schema, store_schema}
+use Rattle.press_store.specs.Shown.{store_in}
+use Rattle.press_store.specs.Adopted.{Adopts}
+use Rattle.press_store.specs.Opened.{Finds, IsUp}
+
+no_rows : {A B : Type 0} (P : A → B → Type 0) (xs : List A) (y : B) (ys : List B) → AllZip P xs [] → AllZip P xs (y ∷ ys) → ⊥
+no_rows P [] y ys none some = some
+no_rows P (x ∷ xs) y ys none some = none
+
+-- a list of objects is not that of nothing and that of a store
+not_both : (db : Trees) → IsSound no_schema db → IsSound store_schema db → ⊥
+not_both db none some = no_rows _ (filter is_table_row (db catalog_tree)) _ _ none.lists.listed.tables some.lists.listed.tables
+
+pub finds_again : (was now : State) (image : Image) → Opens was → IsLive was → FindsIn image was → Adopts was now → Finds image now
+finds_again was now image opens live found adopts db holds store = elim adopts.kept [
+  | inl new ↦
+      let sound : IsSound was.now.schema was.now.trees = (live opens.is_open).0 in
+      let trees : was.now.trees ≡ db = ap (λ (d : Database). d.trees) opens.clean ∙ found.holds db holds in
+      absurd (not_both db (subst (IsSound no_schema) trees (subst (λ s. IsSound s was.now.trees) new.0 sound)) store.sound)
+  | inr same ↦ same.1 ∙ ap store_in (found.holds db holds)
+]
+
+pub is_up : (was now : State) → Adopts was now → IsUp now
+is_up was now h = record { is_open = h.is_open; durable = h.durable }

@@ -1,0 +1,18 @@
+use Rattle.std.proofs.Common.{◌≡◌, subst, rules}
+use Rattle.press_store.specs.Adopting.{IsOneNumber}
+use Rattle.press_store.proofs.Adopting.{round_looks, round_same, round_kept}
+use Rattle.press_store.proofs.adopt.has_round.Goals as goal
+
+pub returns-clause-looks : goal.returns-clause-looks
+returns-clause-looks g c clean has = round_looks g.D.Store c.args.conn.now c.read.new.conn has c.read.result clean (c.read.ensures.asked clean)
+
+pub returns-in_err-rows-clause-looks : goal.returns-in_err-rows-clause-looks
+returns-in_err-rows-clause-looks g c clean has = round_looks g.D.Store c.args.conn.now c.read.new.conn has c.read.result clean (c.read.ensures.asked clean)
+
+pub returns-clause-shows : goal.returns-clause-shows
+returns-clause-shows g c clean has = round_same g.D.Store c.args.conn.now c.read.new.conn has c.in_ok-rows.rows (c.in_ok-rows.ensures.asked clean)
+
+pub returns-clause-kept : goal.returns-clause-kept
+returns-clause-kept g c clean has found =
+    let same : c.deref.result.now ≡ c.in_ok-rows.rows.items = search rules in
+    round_kept g.D.Store c.args.conn.now c.read.new.conn has c.in_ok-rows.rows (c.in_ok-rows.ensures.asked clean) (subst IsOneNumber same (c.is_one_number.ensures found))

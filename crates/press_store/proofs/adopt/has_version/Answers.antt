@@ -1,0 +1,11 @@
+use Rattle.press_store.proofs.Adopting.{version_looks, version_same}
+use Rattle.press_store.proofs.adopt.has_version.Goals as goal
+
+pub returns-clause-looks : goal.returns-clause-looks
+returns-clause-looks g c clean has = version_looks g.D.Store c.args.conn.now c.read.new.conn has c.read.result clean (c.read.ensures.asked clean)
+
+pub returns-in_err-rows-clause-looks : goal.returns-in_err-rows-clause-looks
+returns-in_err-rows-clause-looks g c clean has = version_looks g.D.Store c.args.conn.now c.read.new.conn has c.read.result clean (c.read.ensures.asked clean)
+
+pub returns-clause-shows : goal.returns-clause-shows
+returns-clause-shows g c clean has = version_same g.D.Store c.args.conn.now c.read.new.conn has c.in_ok-rows.rows (c.in_ok-rows.ensures.asked clean)

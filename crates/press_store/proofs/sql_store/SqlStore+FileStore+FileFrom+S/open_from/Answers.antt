@@ -1,0 +1,15 @@
+use Rattle.sqlite.specs.State.{HasCleanDisk}
+use Rattle.sqlite.specs.Files.{file_state}
+use Rattle.sqlite.specs.WalFiles.{image_at}
+use Rattle.press_store.proofs.Reopened.{finds_again, is_up}
+use Rattle.press_store.proofs.sql_store.SqlStore+FileStore+FileFrom+S.open_from.Goals as goal
+
+pub returns-in-Ok-adopt-clause-up : goal.returns-in-Ok-adopt-clause-up
+returns-in-Ok-adopt-clause-up g c clean ours = is_up (file_state c.in-Ok.conn) (file_state c.in-Ok-adopt.store.conn) (c.in-Ok-adopt.ensures.adopts clean ours)
+
+pub returns-in-Ok-adopt-clause-found : goal.returns-in-Ok-adopt-clause-found
+returns-in-Ok-adopt-clause-found g c clean ours =
+    let was = c.in-Ok.conn in
+    let early : HasCleanDisk (file_state was) = c.in-Ok-adopt.ensures.clean clean in
+    let opened = c.in-Ok.ensures.opened early in
+    finds_again (file_state was) (file_state c.in-Ok-adopt.store.conn) (image_at g.S.Start) opened.0 opened.1 (c.in-Ok.ensures.found early) (c.in-Ok-adopt.ensures.adopts clean ours)

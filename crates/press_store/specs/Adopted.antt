@@ -1,0 +1,33 @@
+-- What an adoption leaves (own).
+use Rattle.std.specs.Prelude.{◌≡◌, ◌⊎◌, IsTrue}
+use Rattle.sqlite.specs.Store.{Ghosts}
+use Rattle.sqlite.specs.Tree.{Trees}
+use Rattle.sqlite.specs.State.{State, HasCleanDisk}
+use Rattle.sqlite.specs.Held.{Held, state}
+use Rattle.press_acceptor.specs.StoreMap.{Only, new_store}
+use Rattle.press_store.specs.Tables.{no_schema, store_schema}
+use Rattle.press_store.specs.Kept.{kept_by, MayLeave}
+use Rattle.press_store.specs.Attempt.{Ready}
+use Rattle.press_store.specs.Making.{IsFresh}
+
+-- the database has nothing in it, or the two tables of a store and nothing else
+abbrev pub IsServed : State → Type 0
+IsServed s = (s.now.schema ≡ no_schema) ⊎ (s.now.schema ≡ store_schema)
+
+-- An empty database is a new store then. One that a store made keeps what it kept. A crash leaves nothing else.
+pub record Adopts (old new : State) : Type 0 where
+  pub is_open : IsTrue new.is_open
+  pub kept : ((old.now.schema ≡ no_schema) × (kept_by new ≡ new_store)) ⊎ ((old.now.schema ≡ store_schema) × (kept_by new ≡ kept_by old))
+  pub durable : Only (kept_by new) (MayLeave new)
+
+-- What is handed back: the database as it was. A crash leaves what could stand before, or a new store where there was nothing.
+pub record HandsBack (old new : State) : Type 0 where
+  pub same : IsTrue new.is_open → IsTrue old.is_open × (new.now ≡ old.now)
+  pub crash : (db : Trees) → new.may_leave db → old.may_leave db ⊎ ((old.now.schema ≡ no_schema) × IsFresh (record { schema = store_schema; trees = db }))
+
+module _ {S : Type 0} (g : Ghosts S) (old new : Held S) where
+  abbrev pub IsAdopted : Type 0
+  IsAdopted = HasCleanDisk (state g new) → Ready (state g new) × Adopts (state g old) (state g new)
+
+  abbrev pub IsHandedBack : Type 0
+  IsHandedBack = HasCleanDisk (state g new) → IsServed (state g old) → HandsBack (state g old) (state g new)

@@ -1,0 +1,15 @@
+-- What an error of a connection says of its store (own): the numbers 0, 50 and 51.
+use Rattle.sqlite.specs.declared.error.Error.{Error}
+use Rattle.sqlite.specs.declared.error.Error.TheVariants.{SqliteFailure}
+use Rattle.sqlite.specs.declared.error.ErrorCode.TheVariants.{OutOfMemory, SystemIoFailure, DatabaseCorrupt, DiskFull, TooBig}
+use Rattle.press_acceptor.specs.declared.fault.StoreFault.{StoreFault}
+use Rattle.press_acceptor.specs.declared.fault.StoreFault.TheVariants.{NoMemory, Disk, Damaged}
+
+-- want of memory, the disk or a size; and damage for any other cause
+abbrev pub told : Error → StoreFault
+told (SqliteFailure OutOfMemory) = NoMemory
+told (SqliteFailure SystemIoFailure) = Disk
+told (SqliteFailure DatabaseCorrupt) = Disk
+told (SqliteFailure DiskFull) = Disk
+told (SqliteFailure TooBig) = Disk
+told _ = Damaged

@@ -1,0 +1,10 @@
+pub mod Adopted
+pub mod Adopting
+pub mod Attempt
+pub mod Faults
+pub mod Held
+pub mod Kept
+pub mod Making
+pub mod Opened
+pub mod Shown
+pub mod Tables

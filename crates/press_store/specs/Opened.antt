@@ -1,0 +1,25 @@
+-- What an open finds of an earlier run (own).
+use Rattle.std.specs.Prelude.{◌≡◌, IsTrue}
+use Rattle.sqlite.specs.Recovery.{Image}
+use Rattle.sqlite.specs.Tree.{Trees}
+use Rattle.sqlite.specs.State.{State}
+use Rattle.sqlite.specs.Files.{HoldsDatabase}
+use Rattle.sqlite_catalog.specs.Listing.{IsSound}
+use Rattle.press_acceptor.specs.StoreMap.{Only}
+use Rattle.press_store.specs.Tables.{store_schema}
+use Rattle.press_store.specs.Shown.{IsKept, store_in}
+use Rattle.press_store.specs.Kept.{kept_by, MayLeave}
+
+-- it is open, and a crash leaves what it keeps and nothing else
+pub record IsUp (s : State) : Type 0 where
+  pub is_open : IsTrue s.is_open
+  pub durable : Only (kept_by s) (MayLeave s)
+
+-- the trees are those of a store's two tables
+pub record IsStore (db : Trees) : Type 0 where
+  pub sound : IsSound store_schema db
+  pub kept : IsKept db
+
+-- What was saved is found again: where the files hold the trees of a store, it keeps what they stand for.
+abbrev pub Finds : Image → State → Type 0
+Finds image s = (db : Trees) → HoldsDatabase image db → IsStore db → kept_by s ≡ store_in db

@@ -1,0 +1,13 @@
+//! The store of promises and votes on a SQL database: two tables, and one statement on them for each call.
+#![tactic(auto)]
+
+mod adopt;
+mod fault;
+mod make;
+mod meta;
+mod ours;
+mod rows;
+mod sql_store;
+mod statement;
+
+pub use sql_store::SqlStore;

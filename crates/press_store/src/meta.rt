@@ -1,0 +1,88 @@
+//! The last round, in the table `meta`.
+
+ghost use Rattle.std.specs.Prelude.{◌≡◌, ◌≤◌, ◌^◌, pos, IfSome};
+ghost use Rattle.sqlite.specs.Order.{column};
+ghost use Rattle.sqlite.specs.Value.{owned};
+ghost use Rattle.sqlite.specs.declared.types.Value.TheVariants.{Int};
+ghost use Rattle.press_acceptor.specs.StoreMap.{with_round};
+ghost use Rattle.press_store.specs.Attempt.{Answers, Doubts, Looks, Saves, StaysReady};
+ghost use Rattle.press_store.specs.Shown.{most_rounds, number_in, IsRoundRow};
+
+use crate::statement::{read, write};
+use press_wire::Round;
+use sqlite::types::ValueRef;
+use sqlite::{Alter, Connection, Error, Row as Shown};
+
+fn as_int(n: u64) -> i64
+    requires { n ≤ 2 ^ 40 }
+    ensures { result ≡ pos n }
+{
+    n as i64
+}
+
+fn round_value<'a>(round: Round) -> ValueRef<'a>
+    ensures value { owned result ≡ Int (pos round) }
+    ensures range { round ≤ 2 ^ 40 }
+{
+    ValueRef::Int(as_int(round.number()))
+}
+
+pub fn put_round<S: Alter>(conn: &mut Connection<S>, round: Round) -> Result<usize, Error>
+    ensures saves { Saves S.Store conn.old conn.new (λ store. with_round store round) result }
+    ensures ready { StaysReady S.Store conn.old conn.new }
+    ensures clean { Doubts S.Store conn.old conn.new }
+{
+    let params = [round_value(round)];
+    write(
+        conn,
+        "UPDATE meta SET n = ?1 WHERE name = 'last_round'",
+        &params,
+    )
+}
+
+fn find_round<S: Alter>(conn: &mut Connection<S>) -> Result<Vec<Shown>, Error>
+    ensures looks { Looks S.Store conn.old conn.new }
+    ensures round { Answers S.Store conn.old conn.new result
+        (λ store rows. IsRoundRow store rows.items) }
+    ensures ready { StaysReady S.Store conn.old conn.new }
+    ensures clean { Doubts S.Store conn.old conn.new }
+{
+    read(conn, "SELECT n FROM meta WHERE name = 'last_round'", &[])
+}
+
+fn number(value: ValueRef<'_>) -> Option<u64>
+    ensures { result ≡ number_in 0 most_rounds (owned value.entry) }
+{
+    let ValueRef::Int(n) = value else {
+        return None;
+    };
+    if n < 0 {
+        return None;
+    }
+    let n = n as u64;
+    if n <= 1 << 40 { Some(n) } else { None }
+}
+
+fn round_of(row: &Shown) -> Option<u64>
+    ensures { result ≡ number_in 0 most_rounds (column row.now 0) }
+{
+    match row.get_ref(0) {
+        Ok(value) => number(value),
+        Err(_) => None,
+    }
+}
+
+/// None where the number is damaged.
+pub fn read_round<S: Alter>(conn: &mut Connection<S>) -> Result<Option<u64>, Error>
+    ensures looks { Looks S.Store conn.old conn.new }
+    ensures round { Answers S.Store conn.old conn.new result
+        (λ store found. IfSome found (λ n. n ≡ store.last_round)) }
+    ensures ready { StaysReady S.Store conn.old conn.new }
+    ensures clean { Doubts S.Store conn.old conn.new }
+{
+    let rows = find_round(conn)?;
+    match rows.first() {
+        Some(row) => Ok(round_of(row)),
+        None => Ok(None),
+    }
+}

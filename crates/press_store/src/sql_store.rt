@@ -1,0 +1,179 @@
+//! The store over a connection.
+
+ghost use Rattle.std.specs.Prelude.{◌≡◌, ◌<◌, ◌≤◌, IsTrue, IfOk, IfErr};
+ghost use Rattle.sqlite.specs.State.{HasCleanDisk};
+ghost use Rattle.sqlite.specs.Held.{state};
+ghost use Rattle.sqlite.specs.Files.{file_state};
+ghost use Rattle.sqlite.specs.WalFiles.{image_at};
+ghost use Rattle.press_store.specs.Adopted.{Adopts, IsServed, IsHandedBack};
+ghost use Rattle.press_store.specs.Opened.{Finds, IsUp};
+ghost use Rattle.press_store.specs.Attempt.{IsReady};
+
+use crate::adopt::prepare;
+use crate::fault::fault_of;
+use crate::meta::{put_round, read_round};
+use crate::rows::{put_row, read_row, spell};
+use press_acceptor::{PromiseStore, Row, StoreFault};
+use press_wire::{Round, Slot, WireFault};
+use sqlite::{Alter, Connection, Error, File, FileFrom, FileStore, Start, Unknown};
+use std::alloc::Global;
+use std::marker::Model;
+use std::rt::HostRuntime;
+
+/// A store over the tables `promise` and `meta` of a database. Each call is one statement, so a save is kept whole or not at all.
+#[derive(Drop)]
+pub struct SqlStore<D: Alter> {
+    conn: Connection<D>,
+    faults: u64,
+    is_ours: bool,
+    alloc: Global,
+}
+
+impl<D: Alter> Model for SqlStore<D> {
+    ghost use Rattle.std.specs.Prelude.{IsTrue};
+    ghost use Rattle.press_store.specs.Kept.{Kept, kept_code};
+    ghost use Rattle.press_store.specs.Attempt.{IsReady};
+
+    ghost Value = { Kept D };
+
+    ghost coded = { kept_code D.code };
+
+    ghost view = { λ s. record { conn = s.conn; faults = s.faults; is_ours = s.is_ours } };
+
+    ghost invariant = { λ s. IsTrue s.is_ours → IsReady D.Store s.conn };
+}
+
+impl<D: Alter> SqlStore<D> {
+    /// A store over the connection, which has no limit on its steps from then on. Its tables are made where it has none. A fault hands
+    /// the connection back: Damaged where it is in a transaction, or where the tables are not those of a store.
+    pub fn adopt(
+        alloc: Global,
+        conn: Connection<D>,
+    ) -> Result<SqlStore<D>, (StoreFault, Connection<D>)>
+        ensures ours { IfOk result (λ store. IsServed (state D.Store conn) → IsTrue store.is_ours) }
+        ensures adopts { IfOk result (λ store. HasCleanDisk (state D.Store store.conn) →
+            IsTrue store.is_ours → Adopts (state D.Store conn) (state D.Store store.conn)) }
+        ensures clean { IfOk result (λ store. HasCleanDisk (state D.Store store.conn) →
+            HasCleanDisk (state D.Store conn)) }
+        ensures faults { IfOk result (λ store. store.faults ≡ 0) }
+        ensures back { IfErr result (λ refused. IsHandedBack D.Store conn refused.1) }
+    {
+        let mut conn = conn;
+        match prepare(&mut conn) {
+            Ok(is_ours) => Ok(SqlStore {
+                conn,
+                faults: 0,
+                is_ours,
+                alloc,
+            }),
+            Err(fault) => Err((fault, conn)),
+        }
+    }
+
+    /// The connection, as the last save left it.
+    pub fn into_connection(self) -> Connection<D>
+        ensures { result ≡ self.conn }
+    {
+        let SqlStore { conn, .. } = self;
+        conn
+    }
+}
+
+impl<S: Start> SqlStore<FileStore<FileFrom<S>>> {
+    /// A store in the file at the path, which is made where there is none; `S` stands for what it held.
+    pub fn open_from(
+        rt: &HostRuntime,
+        path: &str,
+        start: S,
+    ) -> Result<SqlStore<FileStore<FileFrom<S>>>, StoreFault>
+        ensures up { IfOk result (λ store. HasCleanDisk (file_state store.conn) →
+            IsTrue store.is_ours → IsUp (file_state store.conn)) }
+        ensures found { IfOk result (λ store. HasCleanDisk (file_state store.conn) →
+            IsTrue store.is_ours → Finds (image_at S.Start) (file_state store.conn)) }
+        ensures faults { IfOk result (λ store. store.faults ≡ 0) }
+    {
+        let conn = match Connection::open_from(rt, path, false, start) {
+            Ok(conn) => conn,
+            Err((error, _)) => return Err(fault_of(error)),
+        };
+        match SqlStore::adopt(rt.alloc(), conn) {
+            Ok(store) => Ok(store),
+            Err((fault, _)) => Err(fault),
+        }
+    }
+}
+
+impl SqlStore<FileStore<File>> {
+    /// A store in the file at the path, which is made where there is none.
+    pub fn open(rt: &HostRuntime, path: &str) -> Result<SqlStore<FileStore<File>>, StoreFault>
+        ensures up { IfOk result (λ store. HasCleanDisk (file_state store.conn) →
+            IsTrue store.is_ours → IsUp (file_state store.conn)) }
+        ensures faults { IfOk result (λ store. store.faults ≡ 0) }
+    {
+        SqlStore::open_from(rt, path, Unknown)
+    }
+}
+
+/// The fault that the error is, counted where it names the disk.
+fn counted(faults: &mut u64, error: Error) -> StoreFault
+    ensures disk { result ≡ StoreFault.Disk → faults.old < faults.new }
+    ensures counts { faults.old ≤ faults.new }
+{
+    match fault_of(error) {
+        StoreFault::Disk if *faults == u64::MAX => StoreFault::Damaged,
+        StoreFault::Disk => {
+            *faults += 1;
+            StoreFault::Disk
+        }
+        fault => fault,
+    }
+}
+
+impl<D: Alter> PromiseStore for SqlStore<D> {
+    ghost use Rattle.press_store.specs.Kept.{seen_of};
+    ghost use Rattle.std.specs.Prelude.{refl};
+
+    ghost seen = { seen_of D.Store };
+
+    fn faults(&self) -> u64 {
+        self.faults
+    }
+
+    fn load(&mut self, slot: Slot) -> Result<Row, StoreFault> {
+        match read_row(self.alloc, &mut self.conn, slot) {
+            Ok(Some(row)) => Ok(row),
+            Ok(None) => Err(StoreFault::Damaged),
+            Err(error) => Err(counted(&mut self.faults, error)),
+        }
+    }
+
+    fn save(&mut self, slot: Slot, row: &Row) -> Result<(), StoreFault> {
+        let bytes = match spell(self.alloc, &row.vote) {
+            Ok(bytes) => bytes,
+            Err(WireFault::NoMemory) => return Err(StoreFault::NoMemory),
+            Err(_) => return Err(StoreFault::Damaged),
+        };
+        match put_row(&mut self.conn, slot, row, &bytes) {
+            Ok(_) => Ok(()),
+            Err(error) => Err(counted(&mut self.faults, error)),
+        }
+    }
+
+    fn last_round(&mut self) -> Result<u64, StoreFault> {
+        match read_round(&mut self.conn) {
+            Ok(Some(round)) => Ok(round),
+            Ok(None) => Err(StoreFault::Damaged),
+            Err(error) => Err(counted(&mut self.faults, error)),
+        }
+    }
+
+    fn save_round(&mut self, round: Round) -> Result<(), StoreFault> {
+        match put_round(&mut self.conn, round) {
+            Ok(_) => Ok(()),
+            Err(error) => Err(counted(&mut self.faults, error)),
+        }
+    }
+
+    ghost shows = { λ store honest is_open.
+        ((D.Store.view store.conn.store).committed, D.Store.stays store.conn.store is_open, refl) };
+}
