@@ -2,6 +2,7 @@ pub mod BodyReads
 pub mod Digits
 pub mod Fronts
 pub mod HeadReads
+pub mod Joined
 pub mod LineEnds
 pub mod Names
 pub mod Phrases

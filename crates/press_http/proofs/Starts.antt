@@ -14,7 +14,7 @@ use Rattle.press_http.specs.declared.start.Start.{Start}
 use Rattle.press_http.specs.Heads.{IsHead, ReadsHead, RefusesHead, longest_head, most_fields}
 use Rattle.press_http.proofs.LineEnds.{head_has, line_ends}
 use Rattle.press_http.specs.Bodies.{are_digits, body_length, is_empty, length_by, length_for, length_in, length_of, longest_body, starts_with_slash, values_of}
-use Rattle.press_http.specs.Requests.{IsJudged, IsStart, Refuses}
+use Rattle.press_http.specs.Requests.{EndsBy, IsJudged, IsStart, Refuses}
 
 -- ---- which faults a length has
 
@@ -75,6 +75,21 @@ judged fault.NoLength seen left j = j
 judged fault.TooBig seen left j = j
 judged fault.FieldsTooLarge seen left j = let q : false ≡ true = tells j.0 fault.FieldsTooLarge j.3 in cc
 judged fault.NotDone seen left j = j
+
+pub judged_alone : (e : HttpFault) (h : RequestHead) → length_of h ≡ Err e → (reads : List (Option (List ℕ))) → EndsBy e reads
+judged_alone fault.NoMemory h p reads = tt
+judged_alone fault.ReadFault h p reads = let q : false ≡ true = tells h fault.ReadFault p in cc
+judged_alone fault.Ended h p reads = let q : false ≡ true = tells h fault.Ended p in cc
+judged_alone fault.WriteFault h p reads = tt
+judged_alone fault.BadHead h p reads = tt
+judged_alone fault.BadForm h p reads = tt
+judged_alone fault.BadPeer h p reads = tt
+judged_alone fault.NotFound h p reads = tt
+judged_alone fault.NotAllowed h p reads = tt
+judged_alone fault.NoLength h p reads = tt
+judged_alone fault.TooBig h p reads = tt
+judged_alone fault.FieldsTooLarge h p reads = tt
+judged_alone fault.NotDone h p reads = tt
 
 pub head_refused : (e : HttpFault) (seen : List ℕ) (left : Option (List ℕ)) → length seen ≤ longest_head → RefusesHead e seen left → Refuses e seen left
 head_refused fault.NoMemory seen left short r = r
@@ -161,9 +176,9 @@ module _ (seen : List ℕ) (headers : List HeaderSpan) (spans : RequestSpans) wh
 
   pub begins_bad : IsHead seen headers spans → length headers ≡ most_fields → length seen ≤ longest_head → (e : HttpFault)
       → body_length (span_bytes seen spans.method) (span_bytes seen spans.path) (map (header_bytes seen) (take spans.headers headers)) ≡ Err e
-      → (left : Option (List ℕ)) → Refuses e seen left
+      → (left : Option (List ℕ)) → Refuses e seen left × ((reads : List (Option (List ℕ))) → EndsBy e reads)
   begins_bad head room short e p left =
-      judged e seen left (head.0, drop spans.len seen, reads_head head room short, sym (same_length head) ∙ p, short)
+      (judged e seen left (head.0, drop spans.len seen, reads_head head room short, sym (same_length head) ∙ p, short), judged_alone e head.0 (sym (same_length head) ∙ p))
 
   pub begins : IsHead seen headers spans → length headers ≡ most_fields → length seen ≤ longest_head → (s : Start)
       → body_length (span_bytes seen spans.method) (span_bytes seen spans.path) (map (header_bytes seen) (take spans.headers headers)) ≡ Ok s.count

@@ -23,7 +23,7 @@ whole seen more s r start short few there method target body =
     let read : length (seen ++ more) ≤ longest_head + s.count = omega (arith, short, few, length-append seen more) in
     (start.0, s.rest ++ more, s.count, longer seen more s.rest start.0 start.1, start.2, fits, method ∙ start.3, target ∙ start.4, body, read)
 
-cut : (seen more : List ℕ) (s : Start) → IsStart seen s → length s.rest + length more < s.count → IsCut (seen ++ more)
+pub cut : (seen more : List ℕ) (s : Start) → IsStart seen s → length s.rest + length more < s.count → IsCut (seen ++ more)
 cut seen more s start short =
     (start.0, s.rest ++ more, s.count, longer seen more s.rest start.0 start.1, start.2, omega (arith, short, length-append s.rest more))
 

@@ -89,3 +89,7 @@ RefusesBody fault.NoLength n rest more left = ⊥
 RefusesBody fault.TooBig n rest more left = ⊥
 RefusesBody fault.FieldsTooLarge n rest more left = ⊥
 RefusesBody fault.NotDone n rest more left = ⊥
+
+-- more bytes are wanted than stood behind the head and were read
+abbrev pub WantsBody : ℕ → List ℕ → List ℕ → Type 0
+WantsBody n rest more = length rest + length more < n

@@ -1,6 +1,6 @@
 -- Head: the request line and the fields of a request (RFC 9112, 2 to 5), of at most 8,192 bytes and 32 fields (own limits), and what a reading of one says
 -- of the bytes that it saw.
-use Rattle.std.specs.Prelude.{◌≡◌, ◌⊎◌, ℕ, ◌<◌, ◌≤◌, List, [], length, Option, Some, None, Result, Ok, Err}
+use Rattle.std.specs.Prelude.{◌≡◌, ◌⊎◌, ℕ, ◌<◌, ◌≤◌, List, length, Option, Some, None, Result, Ok, Err}
 use Rattle.std.specs.Io.KnownBytes.{IsAtEnd}
 use Rattle.httparse.specs.declared.spans.HeaderSpan.{HeaderSpan}
 use Rattle.httparse.specs.declared.spans.RequestSpans.{RequestSpans}
@@ -8,6 +8,7 @@ use Rattle.httparse.specs.Grammar.{RequestHead, print_request, ReadsRequest, Has
 use Rattle.httparse.specs.Spans.{IsRequestAt, IsRequestWithin, RequestExceeds}
 use Rattle.press_http.specs.declared.fault.HttpFault.{HttpFault}
 use Rattle.press_http.specs.declared.fault.HttpFault.TheVariants as fault
+use Rattle.press_http.specs.Reads.{came}
 
 abbrev pub most_fields : ℕ
 most_fields = 32
@@ -74,18 +75,22 @@ Looks seen headers (Ok (Some spans)) = IsHead seen headers spans
 Looks seen headers (Ok None) = IsUnfinished seen
 Looks seen headers (Err e) = LooksBad e seen
 
--- why one read gave no bytes to keep: there was no memory for those that came, or the read failed and took none
-abbrev pub Misses : HttpFault → List ℕ → Type 0
-Misses fault.NoMemory bytes = 0 < length bytes
-Misses fault.ReadFault bytes = bytes ≡ []
-Misses fault.Ended bytes = ⊥
-Misses fault.WriteFault bytes = ⊥
-Misses fault.BadHead bytes = ⊥
-Misses fault.BadForm bytes = ⊥
-Misses fault.BadPeer bytes = ⊥
-Misses fault.NotFound bytes = ⊥
-Misses fault.NotAllowed bytes = ⊥
-Misses fault.NoLength bytes = ⊥
-Misses fault.TooBig bytes = ⊥
-Misses fault.FieldsTooLarge bytes = ⊥
-Misses fault.NotDone bytes = ⊥
+-- why one read gave no bytes to keep: there was no memory for those that came, or it failed
+abbrev pub Misses : HttpFault → Option (List ℕ) → Type 0
+Misses fault.NoMemory read = 0 < length (came read)
+Misses fault.ReadFault read = read ≡ None
+Misses fault.Ended read = ⊥
+Misses fault.WriteFault read = ⊥
+Misses fault.BadHead read = ⊥
+Misses fault.BadForm read = ⊥
+Misses fault.BadPeer read = ⊥
+Misses fault.NotFound read = ⊥
+Misses fault.NotAllowed read = ⊥
+Misses fault.NoLength read = ⊥
+Misses fault.TooBig read = ⊥
+Misses fault.FieldsTooLarge read = ⊥
+Misses fault.NotDone read = ⊥
+
+-- no head stands there yet, and there is room for more
+abbrev pub WantsHead : List ℕ → Type 0
+WantsHead seen = IsUnfinished seen × (length seen < longest_head)

@@ -7,8 +7,9 @@ use Rattle.press_http.specs.declared.fault.HttpFault.{HttpFault}
 use Rattle.press_http.specs.declared.fault.HttpFault.TheVariants as fault
 use Rattle.press_http.specs.declared.request.Request.{Request}
 use Rattle.press_http.specs.declared.start.Start.{Start}
-use Rattle.press_http.specs.Heads.{ReadsHead, RefusesHead, longest_head}
+use Rattle.press_http.specs.Heads.{ReadsHead, RefusesHead, WantsHead, longest_head}
 use Rattle.press_http.specs.Bodies.{length_of, longest_body}
+use Rattle.press_http.specs.Reads.{HasEnded, HasFailed}
 
 -- the most bytes that are read for a request
 abbrev pub longest_request : ℕ
@@ -52,3 +53,23 @@ Refuses fault.BadForm seen left = ⊥
 Refuses fault.BadPeer seen left = ⊥
 Refuses fault.NotFound seen left = ⊥
 Refuses fault.NotAllowed seen left = ⊥
+
+-- what was seen is no whole request yet, and more bytes may make it one
+abbrev pub WantsMore : List ℕ → Type 0
+WantsMore seen = WantsHead seen ⊎ IsCut seen
+
+-- a read that failed and the end are told as what they are
+abbrev pub EndsBy : HttpFault → List (Option (List ℕ)) → Type 0
+EndsBy fault.ReadFault reads = HasFailed reads
+EndsBy fault.Ended reads = HasEnded reads
+EndsBy fault.NoMemory reads = Unit {0}
+EndsBy fault.WriteFault reads = Unit {0}
+EndsBy fault.BadHead reads = Unit {0}
+EndsBy fault.BadForm reads = Unit {0}
+EndsBy fault.BadPeer reads = Unit {0}
+EndsBy fault.NotFound reads = Unit {0}
+EndsBy fault.NotAllowed reads = Unit {0}
+EndsBy fault.NoLength reads = Unit {0}
+EndsBy fault.TooBig reads = Unit {0}
+EndsBy fault.FieldsTooLarge reads = Unit {0}
+EndsBy fault.NotDone reads = Unit {0}

@@ -1,15 +1,17 @@
 //! Reading a head in the pieces in which it comes.
 
-ghost use Rattle.std.specs.Prelude.{◌≡◌, ℕ, ◌≤◌, List, length, MatchResult};
+ghost use Rattle.std.specs.Prelude.{◌≡◌, ℕ, ◌≤◌, List, length, Option, MatchResult};
 ghost use Rattle.std.specs.Io.KnownBytes.{Consumes};
-ghost use Rattle.press_http.specs.Heads.{IsHead, Looks, RefusesHead, longest_head, most_fields};
+ghost use Rattle.press_http.specs.Heads.{IsHead, Looks, RefusesHead, WantsHead, longest_head, most_fields};
+ghost use Rattle.press_http.specs.Reads.{MayGoOn, Reads, seen_by};
+ghost use Rattle.press_http.specs.Requests.{EndsBy};
 
 use crate::fault::HttpFault;
+use crate::pieces::Pieces;
 use crate::streams::read_some;
 use httparse::spans::{HeaderSpan, RequestSpans, parse_request};
 use httparse::{Error, Status};
 use std::alloc::Global;
-use std::io::Read;
 
 /// How many fields a head may have.
 pub const MOST_FIELDS: usize = 32;
@@ -32,14 +34,16 @@ fn look(buf: &[u8], headers: &mut [HeaderSpan]) -> Result<Option<RequestSpans>, 
 
 /// Reads a head in the pieces in which it comes: the bytes that were seen, which begin with the head, and where its parts are.
 /// Bytes after the head stand behind it.
-pub fn read_head<R: Read>(
+pub fn read_head<R: Pieces>(
     alloc: Global,
     reader: &mut R,
     headers: &mut [HeaderSpan],
 ) -> Result<(Vec<u8>, RequestSpans), HttpFault>
     requires { length headers.old ≡ most_fields }
-    ensures { (seen : List ℕ) × Consumes (R.remaining reader.old) (R.remaining reader.new) seen × (length seen ≤ longest_head)
-        × MatchResult result (λ x. (x.0.items ≡ seen) × IsHead seen headers.new x.1) (λ e. RefusesHead e seen (R.remaining reader.new)) }
+    ensures { (reads : List (Option (List ℕ))) × Reads R.gives WantsHead reads reader.old reader.new
+        × Consumes (R.left reader.old) (R.left reader.new) (seen_by reads) × (length (seen_by reads) ≤ longest_head)
+        × MatchResult result (λ x. (x.0.items ≡ seen_by reads) × IsHead (seen_by reads) headers.new x.1 × MayGoOn reads)
+        (λ e. RefusesHead e (seen_by reads) (R.left reader.new) × EndsBy e reads) }
 {
     let mut buf = Vec::new(alloc);
     while buf.len() < LONGEST_HEAD {

@@ -5,18 +5,19 @@ ghost use Rattle.std.specs.Io.KnownBytes.{Consumes};
 ghost use Rattle.httparse.specs.Grammar.{IsToken};
 ghost use Rattle.httparse.specs.Spans.{IsRequestWithin, header_bytes, span_bytes};
 ghost use Rattle.press_http.specs.Bodies.{body_length};
-ghost use Rattle.press_http.specs.Heads.{IsHead, longest_head, most_fields};
-ghost use Rattle.press_http.specs.Requests.{IsStart, Refuses};
+ghost use Rattle.press_http.specs.Heads.{IsHead, WantsHead, longest_head, most_fields};
+ghost use Rattle.press_http.specs.Reads.{MayGoOn, Reads, seen_by};
+ghost use Rattle.press_http.specs.Requests.{EndsBy, IsStart, Refuses};
 
 use crate::fault::HttpFault;
 use crate::fields::body_length;
 use crate::head::{MOST_FIELDS, read_head};
+use crate::pieces::Pieces;
 use http::Method;
 use http::method::MethodError;
 use httparse::spans::{EMPTY_HEADER_SPAN, HeaderSpan, RequestSpans};
 use press_text::{Items, Text};
 use std::alloc::{AllocError, Global};
-use std::io::Read;
 use std::str::from_utf8;
 
 /// A head, the count of bytes of the body, and what stood behind the head.
@@ -93,7 +94,8 @@ fn begun(
     requires head { IsHead seen.now headers.now spans.now }
     requires room { length headers.now ≡ most_fields }
     requires short { length seen.now ≤ longest_head }
-    ensures { (left : Option (List ℕ)) → MatchResult result (IsStart seen.now) (λ e. Refuses e seen.now left) }
+    ensures { (left : Option (List ℕ)) → MatchResult result (IsStart seen.now)
+        (λ e. Refuses e seen.now left × ((reads : List (Option (List ℕ))) → EndsBy e reads)) }
 {
     let count = count_of(seen, headers, spans)?;
     let start = parts(alloc, seen, headers, spans, count)?;
@@ -101,9 +103,11 @@ fn begun(
 }
 
 /// Reads the head of a request, and judges it.
-pub fn read_start<R: Read>(alloc: Global, reader: &mut R) -> Result<Start, HttpFault>
-    ensures { (seen : List ℕ) × Consumes (R.remaining reader.old) (R.remaining reader.new) seen × (length seen ≤ longest_head)
-        × MatchResult result (IsStart seen) (λ e. Refuses e seen (R.remaining reader.new)) }
+pub fn read_start<R: Pieces>(alloc: Global, reader: &mut R) -> Result<Start, HttpFault>
+    ensures { (reads : List (Option (List ℕ))) × Reads R.gives WantsHead reads reader.old reader.new
+        × Consumes (R.left reader.old) (R.left reader.new) (seen_by reads) × (length (seen_by reads) ≤ longest_head)
+        × MatchResult result (λ s. IsStart (seen_by reads) s × MayGoOn reads)
+        (λ e. Refuses e (seen_by reads) (R.left reader.new) × EndsBy e reads) }
 {
     let mut headers = [EMPTY_HEADER_SPAN; MOST_FIELDS];
     let (seen, spans) = read_head(alloc, reader, &mut headers)?;

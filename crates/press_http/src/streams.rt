@@ -1,28 +1,31 @@
 //! One read from a connection.
 
-ghost use Rattle.std.specs.Prelude.{◌≡◌, ℕ, ◌<◌, ◌≤◌, List, ◌++◌, length, MatchResult};
+ghost use Rattle.std.specs.Prelude.{◌≡◌, ℕ, ◌<◌, ◌≤◌, List, ◌++◌, length, Option, Some, MatchResult};
 ghost use Rattle.std.specs.Io.KnownBytes.{Consumes, IsAtEnd};
 ghost use Rattle.press_http.specs.Heads.{Misses};
+ghost use Rattle.press_http.specs.Reads.{came};
 
 use crate::fault::HttpFault;
-use std::io::Read;
+use crate::pieces::Pieces;
 
 const PIECE: usize = 4096;
 
 /// One read of at most `room` bytes, which are put at the end; how many came. None is the end, and takes no memory.
-pub fn read_some<R: Read>(
+pub fn read_some<R: Pieces>(
     reader: &mut R,
     out: &mut Vec<u8>,
     room: usize,
 ) -> Result<usize, HttpFault>
     requires { 0 < room }
-    ensures { (bytes : List ℕ) × Consumes (R.remaining reader.old) (R.remaining reader.new) bytes × (length bytes ≤ room)
-        × MatchResult result (λ n. (n ≡ length bytes) × (out.new.items ≡ out.old.items ++ bytes) × (n ≡ 0 → IsAtEnd (R.remaining reader.new))) (λ e. Misses e bytes) }
+    ensures { (read : Option (List ℕ)) × R.gives reader.old read reader.new
+        × Consumes (R.left reader.old) (R.left reader.new) (came read) × (length (came read) ≤ room)
+        × MatchResult result (λ n. (read ≡ Some (came read)) × (n ≡ length (came read)) × (out.new.items ≡ out.old.items ++ came read)
+        × (n ≡ 0 → IsAtEnd (R.left reader.new))) (λ e. Misses e read) }
 {
     let mut piece = [0u8; PIECE];
     let room = if room < PIECE { room } else { PIECE };
     let buf = &mut piece[..room];
-    let Ok(n) = reader.read(buf) else {
+    let Ok(n) = reader.piece(buf) else {
         return Err(HttpFault::ReadFault);
     };
     if n > 0 {

@@ -1,0 +1,38 @@
+//! A reader whose reads are told one by one.
+
+ghost use Rattle.std.specs.Prelude.{take, None, Some, MatchResult};
+ghost use Rattle.std.specs.Io.{ReadsAtMost};
+ghost use Rattle.std.specs.Io.KnownBytes.{ReadConsumes};
+
+use std::io;
+use std::io::Read;
+
+/// A reader whose contract tells its reads one by one, as every reader's may.
+pub trait Pieces {
+    ghost use Rattle.std.specs.Prelude.{ℕ, List, Option};
+
+    // The bytes that reads will give from here on, where they are known.
+    ghost left: { Self → Option (List ℕ) };
+
+    // One read leads from a state to another, and gives bytes, or fails.
+    ghost gives: { Self → Option (List ℕ) → Self → Type 0 };
+
+    /// One read. None is its end.
+    fn piece(&mut self, buf: &mut [u8]) -> io::Result<usize>
+        ensures bound { ReadsAtMost result buf.new }
+        ensures bytes { ReadConsumes (left self.old) (left self.new) result buf.new }
+        ensures gives { MatchResult result (λ n. gives self.old (Some (take n buf.new)) self.new)
+            (λ _. gives self.old None self.new) };
+}
+
+impl<R: Read> Pieces for R {
+    ghost use Rattle.press_http.specs.Reads.{Took};
+
+    ghost left = { λ r. R.remaining r };
+
+    ghost gives = { λ old read new. Took (R.remaining old) read (R.remaining new) };
+
+    fn piece(&mut self, buf: &mut [u8]) -> io::Result<usize> {
+        self.read(buf)
+    }
+}
