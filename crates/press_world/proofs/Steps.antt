@@ -229,6 +229,13 @@ get_fails kit n s number index target store None fault e at (inl h) =
     )
 get_fails kit n s number index target store (Some up) fault e at (inl h) = cc
 
+-- where a page isn't refused, its node is up
+pub get_takes : (s : Stored) (number index : ℕ) (store : StoreMap) (up : Option Up) (fault : NodeFault) →
+    Some index ≡ index_of (length s.places) number → slice_get s.places index ≡ Some (record { store = store; up = option_map (λ (u : Up). u.running) up }) →
+    (is_down_where up ≡ true → ◌≡◌ {A = Result Reply NodeFault} (Err fault) (Err Down)) → ◌≡◌ {A = WorldFault} (Node fault) (Node NoMemory) → get_refused (place_numbered s number) ≡ None
+get_takes s number index store None fault e at down memory = let d : ◌≡◌ {A = Result Reply NodeFault} (Err fault) (Err Down) = down refl in cc
+get_takes s number index store (Some up) fault e at down memory = ap get_refused (place_at s number index e ∙ at)
+
 pub some_place : {X : Type 0} (xs : List X) (i : ℕ) → i < length xs → (x : X) × (slice_get xs i ≡ Some x)
 some_place [] i lt = absurd (omega arith)
 some_place (x ∷ xs) zero lt = (x, refl)

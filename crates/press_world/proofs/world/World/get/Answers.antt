@@ -1,11 +1,11 @@
-use Rattle.std.proofs.Common.{◌≡◌, ◌<◌, length, slice_get, IsSome, Some, refl, subst, ap, ◌∙◌}
+use Rattle.std.proofs.Common.{◌≡◌, ◌<◌, length, slice_get, Some, refl, subst, ap, ◌∙◌}
 use Rattle.std.proofs.lemmas.List.{length-map}
 use Rattle.press_node.specs.Nodes.{IsPageAt}
 use Rattle.press_world.specs.Models.{model, size, statics}
 use Rattle.press_world.specs.Seats.{place_of, static_of}
 use Rattle.press_world.proofs.Changed.{found, map_get}
 use Rattle.press_world.proofs.Lists.{all_at}
-use Rattle.press_world.proofs.Steps.{get_fails, get_steps, numbered}
+use Rattle.press_world.proofs.Steps.{get_fails, get_steps, get_takes, numbered}
 use Rattle.press_world.proofs.world.World.get.Goals as goal
 
 pub returns-in-Ok : goal.returns-in-Ok
@@ -34,6 +34,6 @@ returns-in-Err g c =
     let lt : index < length seats = subst (λ k. index < k) (length-map seats place_of) (numbered (length (model w).places) c.args.number index c.in-Some.ensures).1 in
     let at : slice_get seats index ≡ Some seat = found seats index seat lt c.index-2.ensures in
     record {
-      memory = λ e. subst (λ o. IsSome o) c.in-Some.ensures refl;
+      memory = get_takes (model w) c.args.number index seat.store seat.state.up c.in-Err.fault c.in-Some.ensures (map_get place_of seats index seat at) c.in-Err.ensures.down;
       steps = λ kit have. get_fails kit (size w) (model w) c.args.number index c.args.target.now seat.store seat.state.up c.in-Err.fault c.in-Some.ensures (map_get place_of seats index seat at) c.in-Err.ensures.fault;
     }
