@@ -17,7 +17,7 @@ use Rattle.press.specs.declared.ending.Ending.{Ending}
 use Rattle.press.specs.declared.ending.Ending.TheVariants.{Printed, Replayed, Fault}
 use Rattle.press_kit.specs.declared.place.Place.{Place}
 use Rattle.press_kit.specs.SiteFile.{site_in}
-use Rattle.press_sockets.specs.Listening.{listening_line}
+use Rattle.press_sockets.specs.Listening.{Where, listening_line}
 use Rattle.press_sockets.specs.Loops.{Loops}
 use Rattle.press.specs.Words.{Asked, OfFile, of_file, serve, is_input}
 use Rattle.press.specs.declared.task.Task.{Task}
@@ -130,11 +130,11 @@ abbrev pub Shows : KitView → OfFile → Option (List ℕ) → ℕ → Option (
 Shows kit wanted remaining result out out' err err' = (end : Ending) × (by_then : Option (List ℕ)) × EndsTask kit wanted.1 (known_of wanted.0 remaining) out by_then end × Finishes end result by_then out' err err'
 
 -- A server's run: what it told on the output, as far as that took it. Sockets tell nothing of their bytes, and its lines on the errors tell of them.
-abbrev pub Listens : ℕ → ℕ → Option (List ℕ) → Option (List ℕ) → Type 0
-Listens port result out out' = ((result ≡ 0) ⊎ (result ≡ 2)) × AppendsFront out out' (listening_line port)
+abbrev pub Listens : Where → ℕ → Option (List ℕ) → Option (List ℕ) → Type 0
+Listens place result out out' = ((result ≡ 0) ⊎ (result ≡ 2)) × AppendsFront out out' (listening_line place)
 
 -- A run for what is asked.
 abbrev pub Runs : KitView → Option Asked → Option (List ℕ) → ℕ → Option (List ℕ) → Option (List ℕ) → Option (List ℕ) → Option (List ℕ) → Type 0
 Runs kit None remaining result out out' err err' = TellsUsage result out out' err err'
 Runs kit (Some (of_file wanted)) remaining result out out' err err' = Shows kit wanted remaining result out out' err err'
-Runs kit (Some (serve server)) remaining result out out' err err' = Listens server.port result out out'
+Runs kit (Some (serve server)) remaining result out out' err err' = Listens server.place result out out'

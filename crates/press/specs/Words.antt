@@ -1,4 +1,4 @@
--- What the words after the program's name ask for: `page FILE TARGET`, `replay FILE`, `loop FILE` or `serve --port N --turns N [--store FILE]`, as `clap` reads words; without any,
+-- What the words after the program's name ask for: `page FILE TARGET`, `replay FILE`, `loop FILE`, or `serve` with words by their names, as `clap` reads words; without any,
 -- post 1 of the standard input (own).
 use Rattle.std.specs.Prelude.{ℕ, List, [], ◌∷◌, ◌&&◌, Bool, true, bytes_eq, nat_le, if◌then◌else◌, Option, Some, None, option_and_then, option_map, codes}
 use Rattle.clap.specs.Kinds.{Kinds}
@@ -8,6 +8,10 @@ use Rattle.press_page.specs.Targets.{target_in}
 use Rattle.press_text.specs.Decimals.{decimal_in}
 use Rattle.press.specs.declared.wanted.Asked as declared
 use Rattle.press.specs.declared.wanted.Asked.TheVariants as told
+use Rattle.press_sockets.specs.Listening.Where.{alone_at, member_of}
+use Rattle.press_sockets.specs.Listening.{Where}
+use Rattle.press_sockets.specs.declared.setup.Place.TheVariants.{Alone, Member}
+use Rattle.press_sockets.specs.declared.setup.Place.{Place}
 use Rattle.press_sockets.specs.declared.setup.Setup.{Setup}
 use Rattle.press.specs.declared.wanted.Wanted.{Wanted}
 use Rattle.press.specs.declared.task.Task.{Task}
@@ -28,10 +32,6 @@ needed id = record (new_rule id) { required = true }
 abbrev pub named : Text → Rule
 named id = record (new_rule id) { long = Some id }
 
--- and one that has to be
-abbrev pub needed_by_name : Text → Rule
-needed_by_name id = record (new_rule id) { long = Some id; required = true }
-
 -- a command without a call for help
 abbrev pub helpless : Text → App
 helpless name = record { top = record (new_app name).top { disable_help_flag = true }; subs = [] }
@@ -43,9 +43,14 @@ page_words = with_rule (with_rule (helpless (codes "page")) (needed (codes "FILE
 abbrev pub file_words : Text → App
 file_words name = with_rule (helpless name) (needed (codes "FILE"))
 
+-- where a server stands
+abbrev pub place_words : App
+place_words =
+    with_rule (with_rule (with_rule (with_rule (helpless (codes "serve")) (named (codes "port"))) (named (codes "id"))) (named (codes "peers"))) (named (codes "tick"))
+
 abbrev pub serve_words : App
 serve_words =
-    with_rule (with_rule (with_rule (helpless (codes "serve")) (needed_by_name (codes "port"))) (needed_by_name (codes "turns"))) (named (codes "store"))
+    with_rule (with_rule (with_rule (with_rule place_words (named (codes "store"))) (named (codes "turns"))) (named (codes "editor"))) (named (codes "ahead"))
 
 abbrev pub bare : App
 bare = record {
@@ -62,11 +67,15 @@ program = with_subcommand (with_subcommand (with_subcommand (with_subcommand bar
 abbrev pub OfFile : Type 0
 OfFile = List ℕ × Task
 
--- a server at a port, for so many connections, over the store in a file, or in memory
+-- a server: where it stands, with the milliseconds of its tick; for so many connections, or until it is ended; over the store in a file, or in memory; with the file of a page for
+-- editors; and how many seconds ahead a command may be
 pub record Server : Type 0 where
-  pub port : ℕ
-  pub turns : ℕ
+  pub place : Where
+  pub tick : ℕ
+  pub turns : Option ℕ
   pub store : Option (List ℕ)
+  pub editor : Option (List ℕ)
+  pub ahead : Option ℕ
 
 pub data Asked : Type 0 where
   of_file : OfFile → Asked
@@ -92,13 +101,52 @@ if_within least most n = if nat_le least n && nat_le n most then Some n else Non
 abbrev pub number_in : ℕ → ℕ → Text → Option ℕ
 number_in least most text = decimal_in text >>= if_within least most
 
+-- a number that may be told
+abbrev pub perhaps_number : ℕ → ℕ → Option Text → Option (Option ℕ)
+perhaps_number least most None = Some None
+perhaps_number least most (Some text) = option_map (λ n. Some n) (number_in least most text)
+
+abbrev pub tick_in : Option Text → Option ℕ
+tick_in None = Some 300
+tick_in (Some text) = number_in 10 60000 text
+
+-- something, where the word isn't there
+abbrev pub without : {A : Type 0} → Option Text → Option A → Option A
+without None found = found
+without (Some word) found = None
+
+-- with a port a node by itself, which has no word of a member
+abbrev pub alone_by : Text → List Row → Option (Where × ℕ)
+alone_by port rows =
+    without (first_of (codes "id") rows) (without (first_of (codes "peers") rows) (without (first_of (codes "tick") rows) (option_map (λ n. (alone_at n, 0)) (number_in 1 65535 port))))
+
+-- else a member of a cluster, which needs a store in a file
+abbrev pub member_by : List Row → Option (Where × ℕ)
+member_by rows = do
+  id ← first_of (codes "id") rows
+  number ← number_in 1 7 id
+  peers ← first_of (codes "peers") rows
+  store ← first_of (codes "store") rows
+  tick ← tick_in (first_of (codes "tick") rows)
+  Some (member_of number peers, tick)
+
+abbrev pub place_by : Option Text → List Row → Option (Where × ℕ)
+place_by (Some port) rows = alone_by port rows
+place_by None rows = member_by rows
+
 abbrev pub server_in : List Row → Option Server
 server_in rows = do
-  port ← first_of (codes "port") rows
-  at ← number_in 1 65535 port
-  turns ← first_of (codes "turns") rows
-  count ← number_in 0 1000000 turns
-  Some (record { port = at; turns = count; store = first_of (codes "store") rows })
+  place ← place_by (first_of (codes "port") rows) rows
+  turns ← perhaps_number 0 1000000 (first_of (codes "turns") rows)
+  ahead ← perhaps_number 0 4294967295 (first_of (codes "ahead") rows)
+  Some (record {
+    place = place.0;
+    tick = place.1;
+    turns = turns;
+    store = first_of (codes "store") rows;
+    editor = first_of (codes "editor") rows;
+    ahead = ahead;
+  })
 
 -- by the name of the subcommand
 abbrev pub asked_in : Text → List Row → Option Asked
@@ -126,8 +174,20 @@ is_input file = bytes_eq file (codes "-")
 abbrev pub wanted_of : Wanted → OfFile
 wanted_of w = (w.file.now, w.task)
 
+-- a node by itself has no tick
+abbrev pub place_of : Place → Where × ℕ
+place_of (Alone port) = (alone_at port, 0)
+place_of (Member id peers tick) = (member_of id peers.now, tick)
+
 abbrev pub server_of : Setup → Server
-server_of s = record { port = s.port; turns = s.turns; store = option_map (λ file. file.now) s.store }
+server_of s = record {
+  place = (place_of s.place).0;
+  tick = (place_of s.place).1;
+  turns = s.turns;
+  store = option_map (λ file. file.now) s.store;
+  editor = option_map (λ file. file.now) s.editor;
+  ahead = s.ahead;
+}
 
 abbrev pub asked_of : declared.Asked → Asked
 asked_of (told.OfFile w) = of_file (wanted_of w)

@@ -5,7 +5,7 @@ ghost use Rattle.std.specs.Io.KnownBytes.{Appends, Keeps};
 ghost use Rattle.press_kit.specs.KitFile.{file_limit};
 ghost use Rattle.press_text.specs.Streams.{AppendsFront, TakesAtMost};
 ghost use Rattle.press.specs.Endings.{fault_line, kits_for, usage_line, known_of, EndsTask, Finishes, Listens, ReadsAsked, RefusesWords, Runs, Shows};
-ghost use Rattle.press_sockets.specs.Listening.{listening_line};
+ghost use Rattle.press_sockets.specs.Listening.{listening_line, where_of};
 ghost use Rattle.press.specs.Words.{asked_by, asked_of, is_input, wanted_of};
 ghost use Rattle.press_demonstration.specs.Demonstration.{demonstration};
 
@@ -180,8 +180,9 @@ fn show<Rt: AllocGlobal + Files + Net, R: Read, W: Write, E: Write>(
 
 fn serve_line(fault: ServeFault) -> &'static [u8] {
     match fault {
+        ServeFault::BadPeers => b"press: usage\n",
         ServeFault::NoMemory => b"press: fault 0\n",
-        ServeFault::NoConnections => b"press: fault 40\n",
+        ServeFault::NoConnections | ServeFault::ReadFault => b"press: fault 40\n",
         ServeFault::WriteFault => b"press: fault 42\n",
         ServeFault::Disk => b"press: fault 50\n",
         ServeFault::Damaged => b"press: fault 51\n",
@@ -196,7 +197,8 @@ fn served<W: Write, E: Write>(
     writer: &mut W,
     error: &mut E,
 ) -> Result<(), ServeFault>
-    ensures { AppendsFront (W.contents writer.old) (W.contents writer.new) (listening_line setup.now.port) }
+    ensures { AppendsFront (W.contents writer.old) (W.contents writer.new)
+        (listening_line (where_of setup.now.place)) }
 {
     let alloc = rt.alloc();
     match demonstration_kit!(alloc) {
@@ -212,7 +214,8 @@ fn serve<W: Write, E: Write>(
     writer: &mut W,
     error: &mut E,
 ) -> u8
-    ensures { Listens setup.now.port result (W.contents writer.old) (W.contents writer.new) }
+    ensures { Listens (where_of setup.now.place) result
+        (W.contents writer.old) (W.contents writer.new) }
 {
     match served(rt, setup, writer, error) {
         Ok(()) => 0,
@@ -248,8 +251,9 @@ fn answered<R: Read, W: Write, E: Write>(
 /// One run over an input and two outputs: `page FILE TARGET` prints the reply to what is asked after the commands of a site file, which is
 /// the standard input for `-`; without words that is `page - post:1`. The status is 0 for a reply of status 200, and 1 for another.
 /// `replay FILE` prints the transcript of a schedule over at most seven nodes, with status 0, and so does `loop FILE`, where each command, message and request for a page comes
-/// over a socket of the loopback. `serve --port N --turns N [--store FILE]` serves a node of a cluster of one
-/// at a port of 127.0.0.1, for so many connections, and ends with status 0. A fault is a line `press: fault N` on the errors, and
+/// over a socket of the loopback. `serve --port N [--store FILE]` serves a node of a cluster of one at a port of 127.0.0.1, and `serve --id N --peers HOST:PORT,.. --store FILE [--tick N]`
+/// one of a cluster of up to seven at its own address among these; with `--turns N` for so many connections, and then it ends with status 0; with `--editor FILE` that file is shown at `/editor`, and
+/// with `--ahead N` no command is taken that is so many seconds ahead of the machine's clock. A fault is a line `press: fault N` on the errors, and
 /// status 2; so is `press: usage` for any other words, and then nothing is read.
 ///
 /// Of a server the clauses say that its words are taken as told, and which line it prints: what goes over its sockets is outside them, since these tell no bytes.

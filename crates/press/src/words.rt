@@ -1,7 +1,7 @@
 //! The words of the program, by `clap`.
 
-ghost use Rattle.std.specs.Prelude.{◌≡◌, ◌≢◌, ◌≤◌, IfOk, IfSome, None, false, map, option_and_then, option_map, string_bytes};
-ghost use Rattle.clap.specs.Words.{FailsBy, app_of, fault_of, found_of, rows_of, subcommand_of, subcommand_rows_of};
+ghost use Rattle.std.specs.Prelude.{◌≡◌, ◌≢◌, ◌≤◌, IfOk, IfSome, None, codes, false, map, option_and_then, option_map, string_bytes};
+ghost use Rattle.clap.specs.Words.{FailsBy, app_of, fault_of, first_of, found_of, rows_of, subcommand_of, subcommand_rows_of};
 ghost use Rattle.clap.specs.declared.builder.command.Command.TheViews.{out-Command};
 ghost use Rattle.clap.specs.Values.{kind_of};
 ghost use Rattle.press.specs.Words as spec;
@@ -11,7 +11,7 @@ use crate::wanted::{Asked, Wanted};
 use clap::error::ErrorKind;
 use clap::{Arg, ArgMatches, Command, Error};
 use press_page::Target;
-use press_sockets::Setup;
+use press_sockets::{Place, Setup};
 use press_text::dec_u64;
 use std::alloc::{AllocError, Global};
 
@@ -38,18 +38,34 @@ fn file_words<'a>(alloc: Global, name: &'a str) -> Result<Command<'a>, AllocErro
     Ok(named)
 }
 
+// The words of where a server stands.
+fn place_words<'a>(alloc: Global) -> Result<Command<'a>, AllocError>
+    ensures app { IfOk result (λ c. app_of c ≡ spec.place_words) }
+    ensures local { IfOk result (λ c. (out-Command c).has_globals ≡ false) }
+{
+    let port = Arg::new(alloc, "port").long("port");
+    let id = Arg::new(alloc, "id").long("id");
+    let peers = Arg::new(alloc, "peers").long("peers");
+    let tick = Arg::new(alloc, "tick").long("tick");
+    let serve = Command::new(alloc, "serve")
+        .disable_help_flag(true)
+        .arg(port)?
+        .arg(id)?
+        .arg(peers)?
+        .arg(tick)?;
+    Ok(serve)
+}
+
 fn serve_words<'a>(alloc: Global) -> Result<Command<'a>, AllocError>
     ensures app { IfOk result (λ c. app_of c ≡ spec.serve_words) }
     ensures local { IfOk result (λ c. (out-Command c).has_globals ≡ false) }
 {
-    let port = Arg::new(alloc, "port").long("port").required(true);
-    let turns = Arg::new(alloc, "turns").long("turns").required(true);
     let store = Arg::new(alloc, "store").long("store");
-    let serve = Command::new(alloc, "serve")
-        .disable_help_flag(true)
-        .arg(port)?
-        .arg(turns)?
-        .arg(store)?;
+    let turns = Arg::new(alloc, "turns").long("turns");
+    let editor = Arg::new(alloc, "editor").long("editor");
+    let ahead = Arg::new(alloc, "ahead").long("ahead");
+    let place = place_words(alloc)?;
+    let serve = place.arg(store)?.arg(turns)?.arg(editor)?.arg(ahead)?;
     Ok(serve)
 }
 
@@ -116,16 +132,85 @@ fn port_in(text: &str) -> Option<u16>
     }
 }
 
+fn perhaps_number(text: Option<&str>, least: u32, most: u32) -> Option<Option<u32>>
+    ensures { result ≡ spec.perhaps_number least most (option_map (λ t. t.now) text) }
+{
+    match text {
+        None => Some(None),
+        Some(text) => Some(Some(number_in(text, least, most)?)),
+    }
+}
+
+fn tick_in(text: Option<&str>) -> Option<u32>
+    ensures { result ≡ spec.tick_in (option_map (λ t. t.now) text) }
+{
+    match text {
+        None => Some(300),
+        Some(text) => number_in(text, 10, 60_000),
+    }
+}
+
+fn id_in(text: &str) -> Option<u8>
+    ensures { result ≡ spec.number_in 1 7 text.now }
+{
+    match number_in(text, 1, 7) {
+        Some(n) => Some(n as u8),
+        None => None,
+    }
+}
+
+#[tactic(auto, using(crate::proofs::FirstValue::first_is))]
+fn alone_in<'a>(inside: &ArgMatches<'a>, port: &str) -> Option<Place<'a>>
+    ensures { option_map (λ p. spec.place_of p) result
+        ≡ spec.alone_by port.now (rows_of (found_of inside.now)) }
+{
+    let (None, None, None) = (
+        inside.get_str("id"),
+        inside.get_str("peers"),
+        inside.get_str("tick"),
+    ) else {
+        return None;
+    };
+    let port = port_in(port)?;
+    Some(Place::Alone { port })
+}
+
+#[tactic(auto, using(crate::proofs::FirstValue::first_is))]
+fn member_in<'a>(inside: &ArgMatches<'a>) -> Option<Place<'a>>
+    ensures { option_map (λ p. spec.place_of p) result
+        ≡ spec.member_by (rows_of (found_of inside.now)) }
+{
+    let id = id_in(inside.get_str("id")?)?;
+    let peers = inside.get_str("peers")?;
+    let _store = inside.get_str("store")?;
+    let tick = tick_in(inside.get_str("tick"))?;
+    Some(Place::Member { id, peers, tick })
+}
+
+#[tactic(auto, using(crate::proofs::FirstValue::first_is))]
+fn place_in<'a>(inside: &ArgMatches<'a>) -> Option<Place<'a>>
+    ensures { option_map (λ p. spec.place_of p) result
+        ≡ spec.place_by (first_of (codes "port") (rows_of (found_of inside.now))) (rows_of (found_of inside.now)) }
+{
+    match inside.get_str("port") {
+        Some(port) => alone_in(inside, port),
+        None => member_in(inside),
+    }
+}
+
 #[tactic(auto, using(crate::proofs::FirstValue::first_is))]
 fn server_in<'a>(inside: &ArgMatches<'a>) -> Option<Setup<'a>>
     ensures { option_map (λ s. spec.server_of s) result ≡ spec.server_in (rows_of (found_of inside.now)) }
 {
-    let port = port_in(inside.get_str("port")?)?;
-    let turns = number_in(inside.get_str("turns")?, 0, 1_000_000)?;
+    let place = place_in(inside)?;
+    let turns = perhaps_number(inside.get_str("turns"), 0, 1_000_000)?;
+    let ahead = perhaps_number(inside.get_str("ahead"), 0, u32::MAX)?;
     Some(Setup {
-        port,
+        place,
         turns,
         store: inside.get_str("store"),
+        editor: inside.get_str("editor"),
+        ahead,
     })
 }
 

@@ -69,6 +69,16 @@ fn word(bytes: &[u8]) -> (&str, &[u8]) {
     }
 }
 
+/// The method and the target of a request, as far as its first line has such words, and `-` for one that it lacks.
+pub fn words_of(bytes: &[u8]) -> (&str, &str) {
+    let (method, rest) = word(bytes);
+    let (target, _) = match rest {
+        [_, rest @ ..] => word(rest),
+        [] => ("-", rest),
+    };
+    (method, target)
+}
+
 /// The bytes of a request so far, and when another look at them is due.
 pub struct Gathered {
     bytes: Vec<u8>,
@@ -134,11 +144,6 @@ impl Gathered {
 
     /// The method and the target, as far as the first line has such words.
     pub fn asked(&self) -> (&str, &str) {
-        let (method, rest) = word(&self.bytes);
-        let (target, _) = match rest {
-            [_, rest @ ..] => word(rest),
-            [] => ("-", rest),
-        };
-        (method, target)
+        words_of(&self.bytes)
     }
 }

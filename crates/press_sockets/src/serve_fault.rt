@@ -1,5 +1,6 @@
 //! Why a server ends before its time.
 
+use crate::peers::PeersFault;
 use press_acceptor::StoreFault;
 use press_text::WriteFault;
 use std::alloc::{AllocError, AllocFailed};
@@ -11,23 +12,14 @@ pub enum ServeFault {
     NoMemory,
     /// The listener, or a connection, could not be had.
     NoConnections,
+    /// The page for editors could not be read.
+    ReadFault,
+    /// The peers are not told as they should be: nothing is opened.
+    BadPeers,
     /// That it listens could not be told.
     WriteFault,
     Disk,
     Damaged,
-}
-
-impl ServeFault {
-    /// Its number in `docs/RULES.md`.
-    pub fn number(self) -> u8 {
-        match self {
-            ServeFault::NoMemory => 0,
-            ServeFault::NoConnections => 40,
-            ServeFault::WriteFault => 42,
-            ServeFault::Disk => 50,
-            ServeFault::Damaged => 51,
-        }
-    }
 }
 
 impl From<AllocError> for ServeFault {
@@ -58,6 +50,15 @@ impl From<StoreFault> for ServeFault {
             StoreFault::NoMemory => ServeFault::NoMemory,
             StoreFault::Disk => ServeFault::Disk,
             StoreFault::Damaged => ServeFault::Damaged,
+        }
+    }
+}
+
+impl From<PeersFault> for ServeFault {
+    fn from(fault: PeersFault) -> ServeFault {
+        match fault {
+            PeersFault::NoMemory => ServeFault::NoMemory,
+            PeersFault::Unknown => ServeFault::BadPeers,
         }
     }
 }

@@ -1,74 +1,114 @@
 //! A server over readiness: no connection is waited for, so one that says nothing, or reads nothing, holds up nobody.
 
+use crate::answers::{Answers, Outgoing, Time};
+use crate::call::Call;
+use crate::calls::{Calls, Ended};
 use crate::talk::{Phase, Talk};
 use crate::talks::Talks;
 use mio::net::{TcpListener, TcpStream};
 use mio::{Events, Interest, Poll, Token};
-use press_acceptor::PromiseStore;
-use press_node::Node;
 use std::alloc::Global;
 use std::io;
 use std::io::{ErrorKind, Write};
-use std::net::{IpAddr, Ipv4Addr, Net, SocketAddr};
+use std::net::{IpAddr, Net, SocketAddr};
 use std::time::{Clock, Duration, Instant};
 
-const LISTENER: Token = Token(0);
+const LISTENER: usize = 0;
 
 const EVENTS: usize = 256;
 
 // So many connections are taken before others have their turn.
 const MOST_TAKEN: u32 = 256;
 
+// So many requests go out before others have their turn.
+const MOST_CALLED: u32 = 256;
+
 // So long may pass before late connections are seen.
 const MILLISECONDS: u64 = 100;
 
-/// A listener, and the connections that came by it.
+// So long may pass where requests go out by time.
+const STEP: u64 = 2;
+
+/// Who has a token of the poll.
+enum Holder {
+    Listener,
+    /// The connection of that place.
+    Talk(usize),
+    /// The request of that place.
+    Call(usize),
+}
+
+fn holder_of(token: Token) -> Holder {
+    let number = usize::from(token);
+    match number.checked_sub(1) {
+        None => Holder::Listener,
+        Some(rest) if rest % 2 == 0 => Holder::Talk(rest / 2),
+        Some(rest) => Holder::Call(rest / 2),
+    }
+}
+
+fn token_of_talk(place: usize) -> Token {
+    Token(place.saturating_mul(2).saturating_add(1))
+}
+
+fn token_of_call(place: usize) -> Token {
+    Token(place.saturating_mul(2).saturating_add(2))
+}
+
+/// A listener, the connections that came by it, and the requests that go out.
 #[derive(Drop)]
 pub struct Server {
     poll: Poll,
     listener: TcpListener,
     talks: Talks,
+    calls: Calls,
     // So many connections came.
     came: u64,
-    // So many are still to have their turn.
-    left: u32,
-    // When the last wait ended.
+    // So many are still to have their turn, where it ends by that.
+    left: Option<u32>,
+    // When it began, and when the last wait ended.
+    begun: Instant,
     now: Instant,
+    // Whether requests go out by time.
+    is_timed: bool,
     alloc: Global,
 }
 
 impl Server {
-    /// Listens at a port of 127.0.0.1, for so many connections.
+    /// Listens at an address, for so many connections, or until it is ended.
     pub fn listen<R: AllocGlobal + Net + Clock>(
         rt: &R,
-        port: u16,
-        turns: u32,
+        addr: SocketAddr,
+        turns: Option<u32>,
+        is_timed: bool,
     ) -> io::Result<Server> {
-        let addr = SocketAddr::new(IpAddr::V4(Ipv4Addr::new(127, 0, 0, 1)), port);
         let poll = Poll::new(rt)?;
         let mut listener = TcpListener::bind(rt, addr)?;
         poll.registry()
-            .register(&mut listener, LISTENER, Interest::READABLE)?;
+            .register(&mut listener, Token(LISTENER), Interest::READABLE)?;
         let now = Instant::now(rt)?;
         Ok(Server {
             poll,
             listener,
             talks: Talks::new(rt.alloc()),
+            calls: Calls::new(rt.alloc()),
             came: 0,
             left: turns,
+            begun: now,
             now,
+            is_timed,
             alloc: rt.alloc(),
         })
     }
 
-    fn begin<E: Write>(&mut self, stream: TcpStream, log: &mut E) -> io::Result<()> {
-        let talk = Talk::new(self.alloc, stream, self.came, self.now);
+    fn begin<E: Write>(&mut self, stream: TcpStream, from: IpAddr, log: &mut E) -> io::Result<()> {
+        let talk = Talk::new(self.alloc, stream, from, self.came, self.now);
         self.came = self.came.saturating_add(1);
         let place = self.talks.enter(talk, log)?;
         if let Some(talk) = self.talks.get_mut(place) {
             self.poll.registry().register(
                 talk.stream(),
-                Token(place.saturating_add(1)),
+                token_of_talk(place),
                 Interest::READABLE | Interest::WRITABLE,
             )?;
         }
@@ -79,7 +119,7 @@ impl Server {
     fn take<E: Write>(&mut self, log: &mut E) -> io::Result<()> {
         for _ in 0..MOST_TAKEN {
             match self.listener.accept() {
-                Ok((stream, _)) => self.begin(stream, log)?,
+                Ok((stream, from)) => self.begin(stream, from.ip(), log)?,
                 Err(e) => match e.kind() {
                     ErrorKind::WouldBlock => return Ok(()),
                     ErrorKind::ConnectionAborted => {}
@@ -94,20 +134,28 @@ impl Server {
         // More may wait though nothing else comes: the listener is to be told of again.
         self.poll
             .registry()
-            .reregister(&mut self.listener, LISTENER, Interest::READABLE)
+            .reregister(&mut self.listener, Token(LISTENER), Interest::READABLE)
+    }
+
+    // Whether connections are still to have their turn.
+    fn is_open(&self) -> bool {
+        self.left != Some(0)
     }
 
     fn had_turn(&mut self) {
-        self.left = self.left.saturating_sub(1);
-        if self.left == 0 {
-            self.talks.end_unheard();
+        if let Some(left) = self.left {
+            let left = left.saturating_sub(1);
+            self.left = Some(left);
+            if left == 0 {
+                self.talks.end_unheard();
+            }
         }
     }
 
     // A connection's socket is ready.
-    fn step<S: PromiseStore, E: Write>(
+    fn step<A: Answers, E: Write>(
         &mut self,
-        node: &mut Node<S>,
+        answers: &mut A,
         place: usize,
         log: &mut E,
     ) -> io::Result<()>
@@ -116,13 +164,13 @@ impl Server {
         let Some(talk) = self.talks.get_mut(place) else {
             return Ok(());
         };
-        let had_turn = talk.step(node, log);
+        let had_turn = talk.step(answers, log);
         if talk.phase() == Phase::Over {
             self.talks.leave(place);
         } else if talk.has_more() {
             self.poll.registry().reregister(
                 talk.stream(),
-                Token(place.saturating_add(1)),
+                token_of_talk(place),
                 Interest::READABLE | Interest::WRITABLE,
             )?;
         }
@@ -132,9 +180,56 @@ impl Server {
         Ok(())
     }
 
-    // Waits until a socket is ready, or a connection may be late.
+    // The socket of a request that goes out is ready.
+    fn step_call<A: Answers>(&mut self, answers: &mut A, place: usize) {
+        if let Some(Ended {
+            place,
+            round,
+            is_taken,
+        }) = self.calls.step(place)
+        {
+            answers.called(place, round, is_taken);
+        }
+    }
+
+    // A request goes out. One that can't is lost, as a message may be.
+    fn call<R: Net>(&mut self, net: &R, outgoing: Outgoing) -> io::Result<()> {
+        let stream = TcpStream::connect(net, outgoing.addr)?;
+        let place = self.calls.enter(Call::new(stream, outgoing, self.now))?;
+        if let Some(call) = self.calls.get_mut(place) {
+            self.poll.registry().register(
+                call.stream(),
+                token_of_call(place),
+                Interest::READABLE | Interest::WRITABLE,
+            )?;
+        }
+        Ok(())
+    }
+
+    // What waits goes out, as far as there is room.
+    fn call_all<R: Net, A: Answers>(&mut self, net: &R, answers: &mut A) {
+        for _ in 0..u64::MAX {
+            let Some(outgoing) = answers.next_call() else {
+                break;
+            };
+            let _ = self.calls.add(outgoing);
+        }
+        for _ in 0..MOST_CALLED {
+            let Some(outgoing) = self.calls.next() else {
+                return;
+            };
+            let place = outgoing.place;
+            if self.call(net, outgoing).is_err() {
+                self.calls.close_lane(place);
+            }
+        }
+    }
+
+    // Waits until a socket is ready, or a connection may be late, or it is time for something.
     fn wait(&mut self, events: &mut Events<Global>) -> io::Result<()> {
-        let limit = if self.talks.is_empty() {
+        let limit = if self.is_timed {
+            Some(Duration::from_millis(STEP))
+        } else if self.talks.is_empty() {
             None
         } else {
             Some(Duration::from_millis(MILLISECONDS))
@@ -143,19 +238,20 @@ impl Server {
     }
 
     // What the sockets are ready for is done.
-    fn round<S: PromiseStore, E: Write>(
+    fn round<A: Answers, E: Write>(
         &mut self,
-        node: &mut Node<S>,
+        answers: &mut A,
         events: &Events<Global>,
         log: &mut E,
     ) -> io::Result<()>
         requires always { Unit {0} }
     {
         for event in events.iter() {
-            match usize::from(event.token()).checked_sub(1) {
-                Some(place) => self.step(node, place, log)?,
-                None if self.left > 0 => self.take(log)?,
-                None => {}
+            match holder_of(event.token()) {
+                Holder::Talk(place) => self.step(answers, place, log)?,
+                Holder::Call(place) => self.step_call(answers, place),
+                Holder::Listener if self.is_open() => self.take(log)?,
+                Holder::Listener => {}
             }
         }
         Ok(())
@@ -163,29 +259,42 @@ impl Server {
 
     fn end_late<E: Write>(&mut self, log: &mut E) {
         for _ in 0..self.talks.end_late(self.now, log) {
-            if self.left > 0 {
+            if self.is_open() {
                 self.had_turn();
             }
         }
+        self.calls.end_late(self.now);
     }
 
-    /// Serves until so many connections had their turn and the last reply is out. A connection has it when its request is served, or it is closed without a reply.
-    pub fn serve<S: PromiseStore, C: Clock, E: Write>(
+    // The time, by both clocks.
+    fn time<C: Clock>(&mut self, clock: &C) -> io::Result<Time> {
+        self.now = Instant::now(clock)?;
+        let since = self.now.duration_since(self.begun);
+        Ok(Time {
+            millis: u64::try_from(since.as_millis()).unwrap_or(u64::MAX),
+            seconds: clock.since_1970()?.as_secs(),
+        })
+    }
+
+    /// Serves until so many connections had their turn and the last reply is out, or until it is ended. A connection has its turn when its request is served, or it is closed without a reply.
+    pub fn serve<R: Net + Clock, A: Answers, E: Write>(
         &mut self,
-        clock: &C,
-        node: &mut Node<S>,
+        rt: &R,
+        answers: &mut A,
         log: &mut E,
     ) -> io::Result<()>
         requires always { Unit {0} }
     {
         let mut events = Events::with_capacity(self.alloc, EVENTS)?;
         for _ in 0..u64::MAX {
-            if self.left == 0 && self.talks.is_empty() {
+            if !self.is_open() && self.talks.is_empty() {
                 return Ok(());
             }
+            self.call_all(rt, answers);
             self.wait(&mut events)?;
-            self.now = Instant::now(clock)?;
-            self.round(node, &events, log)?;
+            let time = self.time(rt)?;
+            answers.pass(time);
+            self.round(answers, &events, log)?;
             self.end_late(log);
         }
         Ok(())

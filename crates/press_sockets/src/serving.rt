@@ -1,21 +1,29 @@
-//! A node by itself behind a server, over a store in memory or in a file.
+//! A node behind a server, by itself or as a member of a cluster, over a store in memory or in a file.
 
 ghost use Rattle.std.specs.Prelude.{◌≡◌, IfOk, string_bytes};
 ghost use Rattle.press_text.specs.Streams.{AppendsFront};
-ghost use Rattle.press_sockets.specs.Listening.{listening_line};
+ghost use Rattle.press_sockets.specs.Listening.{listening_line, where_of};
+ghost use Rattle.press_sockets.specs.Listening.Where.{alone_at, member_of};
 
+use crate::alone::Alone;
+use crate::answers::Answers;
+use crate::member::Clustered;
+use crate::peers::{Peers, member_at};
+use crate::screen::Screen;
 use crate::serve_fault::ServeFault;
 use crate::server::Server;
-use crate::setup::Setup;
+use crate::setup::{Place, Setup};
 use crate::turn::wake;
 use press_acceptor::{MemoryStore, PromiseStore, StoreFault};
 use press_callbacks::Kit;
 use press_node::{Node, StartFault};
 use press_store::SqlStore;
-use press_text::write_once;
+use press_text::{Text, write_once};
 use press_wire::Node as Member;
 use std::alloc::{AllocError, Global};
+use std::fs;
 use std::io::Write;
+use std::net::{IpAddr, Ipv4Addr, SocketAddr};
 
 // The only member of its cluster.
 fn member() -> Member
@@ -39,6 +47,25 @@ pub fn begin<S: PromiseStore + Drop>(
     }
 }
 
+// A member of a cluster begins over its store.
+fn begin_member<S: PromiseStore + Drop>(
+    alloc: Global,
+    peers: &Peers,
+    kit: Kit,
+    store: S,
+) -> Result<(Member, Node<S>), ServeFault> {
+    let (Some(member), Ok(count)) = (member_at(peers.place()), u8::try_from(peers.count())) else {
+        return Err(ServeFault::BadPeers);
+    };
+    if count > 7 || member.number() > count {
+        return Err(ServeFault::BadPeers);
+    }
+    match Node::start(alloc, member, count, kit, store) {
+        Ok(node) => Ok((member, node)),
+        Err(StartFault { fault, .. }) => Err(fault.into()),
+    }
+}
+
 // What its store keeps is chosen again, and applied: it is woken until nothing more is.
 fn catch_up<S: PromiseStore>(alloc: Global, node: &mut Node<S>)
     requires always { Unit {0} }
@@ -52,18 +79,39 @@ fn catch_up<S: PromiseStore>(alloc: Global, node: &mut Node<S>)
 }
 
 #[tactic(auto, unfolding(crate::specs::Listening::listening_line))]
-fn listening_line(alloc: Global, port: u16) -> Result<String, AllocError>
-    ensures { IfOk result (λ t. string_bytes t ≡ listening_line port) }
+fn alone_line(alloc: Global, port: u16) -> Result<String, AllocError>
+    ensures { IfOk result (λ t. string_bytes t ≡ listening_line (alone_at port)) }
 {
     format!(in alloc; "listening on 127.0.0.1:{port}\n")
 }
 
+#[tactic(auto, unfolding(crate::specs::Listening::listening_line))]
+fn member_line(alloc: Global, id: u8, peers: &str) -> Result<String, AllocError>
+    ensures { IfOk result (λ t. string_bytes t ≡ listening_line (member_of id peers.now)) }
+{
+    format!(in alloc; "listening as {id} of {peers}\n")
+}
+
+fn listening_line(alloc: Global, place: &Place<'_>) -> Result<String, AllocError>
+    ensures { IfOk result (λ t. string_bytes t ≡ listening_line (where_of place.now)) }
+{
+    match place {
+        Place::Alone { port } => alone_line(alloc, *port),
+        Place::Member { id, peers, .. } => member_line(alloc, *id, peers),
+    }
+}
+
 // Tells that it listens.
 #[tactic(auto, using(crate::proofs::Fronts::nothing))]
-fn announce<W: Write>(alloc: Global, port: u16, writer: &mut W) -> Result<(), ServeFault>
-    ensures { AppendsFront (W.contents writer.old) (W.contents writer.new) (listening_line port) }
+fn announce<W: Write>(
+    alloc: Global,
+    place: &Place<'_>,
+    writer: &mut W,
+) -> Result<(), ServeFault>
+    ensures { AppendsFront (W.contents writer.old) (W.contents writer.new)
+        (listening_line (where_of place.now)) }
 {
-    let line = listening_line(alloc, port)?;
+    let line = listening_line(alloc, place)?;
     write_once(writer, line.as_bytes())?;
     match writer.flush() {
         Ok(()) => Ok(()),
@@ -71,26 +119,85 @@ fn announce<W: Write>(alloc: Global, port: u16, writer: &mut W) -> Result<(), Se
     }
 }
 
+// It listens, tells so, and serves.
 #[tactic(auto, using(crate::proofs::Fronts::nothing))]
-fn serve_node<S: PromiseStore, W: Write, E: Write>(
+fn serve_over<A: Answers, W: Write, E: Write>(
     rt: &HostRuntime,
-    node: &mut Node<S>,
+    answers: &mut A,
     setup: &Setup<'_>,
     writer: &mut W,
     error: &mut E,
 ) -> Result<(), ServeFault>
     requires always { Unit {0} }
-    ensures { AppendsFront (W.contents writer.old) (W.contents writer.new) (listening_line setup.now.port) }
+    ensures { AppendsFront (W.contents writer.old) (W.contents writer.new)
+        (listening_line (where_of setup.now.place)) }
 {
-    catch_up(rt.alloc(), node);
-    let mut server = Server::listen(rt, setup.port, setup.turns)?;
-    announce(rt.alloc(), setup.port, writer)?;
-    server.serve(rt, node, error)?;
+    let is_timed = matches!(setup.place, Place::Member { .. });
+    let mut server = Server::listen(rt, answers.addr(), setup.turns, is_timed)?;
+    announce(rt.alloc(), &setup.place, writer)?;
+    server.serve(rt, answers, error)?;
     Ok(())
 }
 
-/// Serves one node, the only one of its cluster, at a port of 127.0.0.1. It is woken until nothing more is applied; then it listens and tells so on the writer,
-/// and connections are served until so many had their turn, with a line for each on the errors.
+fn screen_of(rt: &HostRuntime, setup: &Setup<'_>) -> Result<Screen, ServeFault> {
+    let editor = match setup.editor {
+        None => None,
+        Some(file) => match fs::read_to_string(rt, file) {
+            Ok(page) => Some(Text::from_string(page)?),
+            Err(_) => return Err(ServeFault::ReadFault),
+        },
+    };
+    Ok(Screen::new(editor, setup.ahead.map(u64::from)))
+}
+
+fn loopback(port: u16) -> SocketAddr {
+    SocketAddr::new(IpAddr::V4(Ipv4Addr::new(127, 0, 0, 1)), port)
+}
+
+// A node by itself at a port.
+#[tactic(auto, using(crate::proofs::Fronts::nothing))]
+fn serve_alone<S: PromiseStore + Drop, W: Write, E: Write>(
+    rt: &HostRuntime,
+    node: Node<S>,
+    port: u16,
+    setup: &Setup<'_>,
+    writer: &mut W,
+    error: &mut E,
+) -> Result<(), ServeFault>
+    ensures { AppendsFront (W.contents writer.old) (W.contents writer.new)
+        (listening_line (where_of setup.now.place)) }
+{
+    let screen = screen_of(rt, setup)?;
+    let mut node = node;
+    catch_up(rt.alloc(), &mut node);
+    let mut alone = Alone::new(rt.alloc(), loopback(port), node, &screen);
+    serve_over(rt, &mut alone, setup, writer, error)
+}
+
+// A member of a cluster, at its own address.
+#[tactic(auto, using(crate::proofs::Fronts::nothing))]
+fn serve_member<W: Write, E: Write>(
+    rt: &HostRuntime,
+    kit: Kit,
+    setup: &Setup<'_>,
+    writer: &mut W,
+    error: &mut E,
+) -> Result<(), ServeFault>
+    ensures { AppendsFront (W.contents writer.old) (W.contents writer.new)
+        (listening_line (where_of setup.now.place)) }
+{
+    let (Place::Member { id, peers, tick }, Some(file)) = (setup.place, setup.store) else {
+        return Err(ServeFault::BadPeers);
+    };
+    let peers = Peers::read(rt.alloc(), rt, id, peers)?;
+    let screen = screen_of(rt, setup)?;
+    let (member, node) = begin_member(rt.alloc(), &peers, kit, SqlStore::open(rt, file)?)?;
+    let mut clustered = Clustered::new(rt.alloc(), node, member, peers, u64::from(tick), &screen);
+    serve_over(rt, &mut clustered, setup, writer, error)
+}
+
+/// Serves one node: it listens and tells so on the writer, and connections are served until so many had their turn, or until it is ended, with a line for each on the errors.
+/// One by itself is first woken until nothing more is applied; a member of a cluster answers no page and no command until its peers have nothing newer.
 #[tactic(auto, using(crate::proofs::Fronts::nothing))]
 pub fn serve<W: Write, E: Write>(
     rt: &HostRuntime,
@@ -99,16 +206,20 @@ pub fn serve<W: Write, E: Write>(
     writer: &mut W,
     error: &mut E,
 ) -> Result<(), ServeFault>
-    ensures { AppendsFront (W.contents writer.old) (W.contents writer.new) (listening_line setup.now.port) }
+    ensures { AppendsFront (W.contents writer.old) (W.contents writer.new)
+        (listening_line (where_of setup.now.place)) }
 {
+    let Place::Alone { port } = setup.place else {
+        return serve_member(rt, kit, setup, writer, error);
+    };
     match setup.store {
         Some(file) => {
-            let mut node = begin(rt.alloc(), kit, SqlStore::open(rt, file)?)?;
-            serve_node(rt, &mut node, setup, writer, error)
+            let node = begin(rt.alloc(), kit, SqlStore::open(rt, file)?)?;
+            serve_alone(rt, node, port, setup, writer, error)
         }
         None => {
-            let mut node = begin(rt.alloc(), kit, MemoryStore::new(rt.alloc()))?;
-            serve_node(rt, &mut node, setup, writer, error)
+            let node = begin(rt.alloc(), kit, MemoryStore::new(rt.alloc()))?;
+            serve_alone(rt, node, port, setup, writer, error)
         }
     }
 }

@@ -1,10 +1,27 @@
+/// Where a server stands.
+#[derive(Clone, Copy, Debug)]
+pub enum Place<'a> {
+    /// A node by itself, which listens at a port of 127.0.0.1.
+    Alone { port: u16 },
+    /// The member of that number among those whose addresses the text names, with commas between; it listens at its own.
+    Member {
+        id: u8,
+        peers: &'a str,
+        /// Milliseconds after which it asks the others for what it may have missed.
+        tick: u32,
+    },
+}
+
 /// What a server is to do.
 #[derive(Clone, Copy, Debug)]
 pub struct Setup<'a> {
-    /// Where it listens: from 1.
-    pub port: u16,
-    /// So many connections are served.
-    pub turns: u32,
+    pub place: Place<'a>,
+    /// So many connections are served; without it, as many as come until it is ended.
+    pub turns: Option<u32>,
     /// The file of its store, which is in memory without one.
     pub store: Option<&'a str>,
+    /// The file of the page for editors.
+    pub editor: Option<&'a str>,
+    /// A command may be so many seconds ahead of the machine's clock.
+    pub ahead: Option<u32>,
 }

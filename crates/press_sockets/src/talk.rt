@@ -1,16 +1,14 @@
 //! One connection, from its begin to its end.
 
+use crate::answers::Answers;
 use crate::gathered::Gathered;
-use crate::turn::serve_turn;
 use mio::net::TcpStream;
-use press_acceptor::PromiseStore;
 use press_http::HttpFault;
-use press_node::Node;
 use press_text::write_once;
 use std::alloc::{AllocError, Global};
 use std::io;
 use std::io::{ErrorKind, Read, Write};
-use std::net::Shutdown;
+use std::net::{IpAddr, Shutdown};
 use std::time::{Duration, Instant};
 
 const PIECE: usize = 8192;
@@ -38,6 +36,7 @@ pub enum Phase {
 /// A connection.
 pub struct Talk {
     stream: TcpStream,
+    from: IpAddr,
     // How many came before it.
     number: u64,
     begun: Instant,
@@ -54,6 +53,7 @@ impl Drop for Talk {
     fn drop(self) {
         let Talk {
             stream: _,
+            from: _,
             number: _,
             begun: _,
             phase: _,
@@ -90,9 +90,16 @@ fn log_served<E: Write>(alloc: Global, log: &mut E, came: &Gathered, status: u16
 }
 
 impl Talk {
-    pub fn new(alloc: Global, stream: TcpStream, number: u64, begun: Instant) -> Talk {
+    pub fn new(
+        alloc: Global,
+        stream: TcpStream,
+        from: IpAddr,
+        number: u64,
+        begun: Instant,
+    ) -> Talk {
         Talk {
             stream,
+            from,
             number,
             begun,
             phase: Phase::Reading,
@@ -146,9 +153,9 @@ impl Talk {
     }
 
     // What came is looked at, where that is due; whether the connection had its turn.
-    fn look<S: PromiseStore, E: Write>(
+    fn look<A: Answers, E: Write>(
         &mut self,
-        node: &mut Node<S>,
+        answers: &mut A,
         ended: bool,
         log: &mut E,
     ) -> bool
@@ -157,8 +164,7 @@ impl Talk {
         if !ended && !self.came.is_due() {
             return false;
         }
-        let mut request = self.came.as_slice();
-        match serve_turn(self.alloc, node, &mut request, &mut self.told) {
+        match answers.answer(self.from, self.came.as_slice(), &mut self.told) {
             Ok(status) => {
                 log_served(self.alloc, log, &self.came, status, self.told.len());
                 self.phase = Phase::Writing;
@@ -176,11 +182,11 @@ impl Talk {
         }
     }
 
-    fn hear<S: PromiseStore, E: Write>(&mut self, node: &mut Node<S>, log: &mut E) -> bool
+    fn hear<A: Answers, E: Write>(&mut self, answers: &mut A, log: &mut E) -> bool
         requires always { Unit {0} }
     {
         match self.gather() {
-            Ok(ended) => self.look(node, ended, log),
+            Ok(ended) => self.look(answers, ended, log),
             Err(_) => {
                 log_fault(self.alloc, log, HttpFault::ReadFault);
                 self.phase = Phase::Over;
@@ -238,11 +244,11 @@ impl Talk {
     }
 
     /// What its socket is ready for is done; whether the connection had its turn by that: a reply was made, or it was closed without one.
-    pub fn step<S: PromiseStore, E: Write>(&mut self, node: &mut Node<S>, log: &mut E) -> bool
+    pub fn step<A: Answers, E: Write>(&mut self, answers: &mut A, log: &mut E) -> bool
         requires always { Unit {0} }
     {
         self.has_more = false;
-        let had_turn = self.phase == Phase::Reading && self.hear(node, log);
+        let had_turn = self.phase == Phase::Reading && self.hear(answers, log);
         if self.reply().is_err() {
             self.phase = Phase::Over;
         }

@@ -55,7 +55,26 @@ fn other_words_of_a_server_are_refused(rt: HostRuntime) -> Result<(), Fail> {
         let outcome = asked(&rt, &["serve", "--port", port, "--turns", turns])?;
         assert!(rt; outcome.is_refused(), "at {port} {turns}");
     }
-    assert!(rt; asked(&rt, &["serve", "--port", "8080"])?.is_refused());
     assert!(rt; asked(&rt, &["serve", "--turns", "1"])?.is_refused());
+    Ok(())
+}
+
+// Words of a node by itself beside those of a member, a member without one of its words, and one whose addresses are none: nothing is opened.
+#[test]
+fn words_of_a_server_that_do_not_fit_are_refused(rt: HostRuntime) -> Result<(), Fail> {
+    let peers = "127.0.0.1:1,127.0.0.1:2";
+    for words in [
+        &["serve", "--port", "8080", "--id", "1"][..],
+        &["serve", "--port", "8080", "--peers", peers][..],
+        &["serve", "--port", "8080", "--tick", "300"][..],
+        &["serve", "--id", "1", "--peers", peers][..],
+        &["serve", "--id", "1", "--store", "f"][..],
+        &["serve", "--peers", peers, "--store", "f"][..],
+        &["serve", "--id", "8", "--peers", peers, "--store", "f"][..],
+        &["serve", "--id", "3", "--peers", peers, "--store", "f"][..],
+        &["serve", "--id", "1", "--peers", "here", "--store", "f"][..],
+    ] {
+        assert!(rt; asked(&rt, words)?.is_refused());
+    }
     Ok(())
 }

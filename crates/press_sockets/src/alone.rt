@@ -1,0 +1,87 @@
+//! A node by itself behind a server: it has nobody to call.
+
+use crate::answers::{Answers, Outgoing, Time};
+use crate::screen::{Screen, Sort, refuse_form};
+use crate::turn::serve_turn;
+use press_acceptor::PromiseStore;
+use press_http::HttpFault;
+use press_node::Node;
+use std::alloc::Global;
+use std::net::{IpAddr, SocketAddr};
+
+pub struct Alone<'s, S: PromiseStore> {
+    alloc: Global,
+    addr: SocketAddr,
+    node: Node<S>,
+    screen: &'s Screen,
+    time: Time,
+}
+
+impl<S: PromiseStore + Drop> Drop for Alone<'_, S> {
+    fn drop(self) {
+        let Alone {
+            alloc: _,
+            addr: _,
+            node: _,
+            screen: _,
+            time: _,
+        } = self;
+    }
+}
+
+impl<'s, S: PromiseStore> Alone<'s, S> {
+    pub fn new(
+        alloc: Global,
+        addr: SocketAddr,
+        node: Node<S>,
+        screen: &'s Screen,
+    ) -> Alone<'s, S> {
+        let time = Time {
+            millis: 0,
+            seconds: 0,
+        };
+        Alone {
+            alloc,
+            addr,
+            node,
+            screen,
+            time,
+        }
+    }
+}
+
+impl<S: PromiseStore> Answers for Alone<'_, S> {
+    fn addr(&self) -> SocketAddr {
+        self.addr
+    }
+
+    fn answer(
+        &mut self,
+        _from: IpAddr,
+        request: &[u8],
+        told: &mut Vec<u8>,
+    ) -> Result<u16, HttpFault>
+        requires always { Unit {0} }
+    {
+        match self.screen.sort_of(self.alloc, request) {
+            Sort::Editor if self.screen.has_editor() => self.screen.show_editor(self.alloc, told),
+            Sort::Command(at) if self.screen.is_ahead(at, self.time.seconds) => refuse_form(told),
+            _ => {
+                let mut rest = request;
+                serve_turn(self.alloc, &mut self.node, &mut rest, told)
+            }
+        }
+    }
+
+    fn next_call(&mut self) -> Option<Outgoing> {
+        None
+    }
+
+    fn called(&mut self, _place: usize, _round: u64, _is_taken: bool) {}
+
+    fn pass(&mut self, time: Time)
+        requires always { Unit {0} }
+    {
+        self.time = time;
+    }
+}

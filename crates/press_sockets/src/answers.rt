@@ -1,0 +1,58 @@
+//! What stands behind a server: it answers requests, and has requests of its own to send.
+
+use press_http::HttpFault;
+use std::net::{IpAddr, SocketAddr};
+
+/// When something happens.
+#[derive(Clone, Copy)]
+pub struct Time {
+    /// Milliseconds of a clock that does not go back.
+    pub millis: u64,
+    /// Seconds since 1970, by the machine's clock.
+    pub seconds: u64,
+}
+
+/// A request that goes out.
+pub struct Outgoing {
+    /// The place of the member that it is for, from 0.
+    pub place: usize,
+    pub addr: SocketAddr,
+    pub bytes: Vec<u8>,
+    /// In which round of questions it is sent; 0 where it is none.
+    pub round: u64,
+}
+
+impl Drop for Outgoing {
+    fn drop(self) {
+        let Outgoing {
+            place: _,
+            addr: _,
+            bytes: _,
+            round: _,
+        } = self;
+    }
+}
+
+pub trait Answers {
+    /// Where it listens.
+    fn addr(&self) -> SocketAddr;
+
+    /// The reply to a request goes to `told`; its status. Ended where the request isn't whole.
+    fn answer(
+        &mut self,
+        from: IpAddr,
+        request: &[u8],
+        told: &mut Vec<u8>,
+    ) -> Result<u16, HttpFault>
+        requires always { Unit {0} };
+
+    /// The next request that goes out, where one waits.
+    fn next_call(&mut self) -> Option<Outgoing>;
+
+    /// What came of a request that went out: whether the member took it.
+    fn called(&mut self, place: usize, round: u64, is_taken: bool);
+
+    /// Time has passed.
+    fn pass(&mut self, time: Time)
+        requires always { Unit {0} };
+}

@@ -1,0 +1,157 @@
+//! One request that goes out to a member, from its begin to its end.
+
+use crate::answers::Outgoing;
+use mio::net::TcpStream;
+use std::io;
+use std::io::{ErrorKind, Read, Write};
+use std::time::{Duration, Instant};
+
+const PIECE: usize = 1024;
+
+// So many pieces of a reply are read away at once.
+const MOST_AWAY: u32 = 16;
+
+// The reply of a request that was taken begins so.
+const TAKEN: &[u8; 12] = b"HTTP/1.1 200";
+
+// It takes no longer.
+const SECONDS: u64 = 2;
+
+#[derive(Clone, Copy, PartialEq, Eq)]
+pub enum Course {
+    Goes,
+    Taken,
+    Lost,
+}
+
+/// A request that goes out.
+pub struct Call {
+    stream: TcpStream,
+    outgoing: Outgoing,
+    sent: usize,
+    // So many of the reply's first bytes are those of one that was taken.
+    alike: usize,
+    begun: Instant,
+    course: Course,
+}
+
+impl Drop for Call {
+    fn drop(self) {
+        let Call {
+            stream: _,
+            outgoing: _,
+            sent: _,
+            alike: _,
+            begun: _,
+            course: _,
+        } = self;
+    }
+}
+
+impl Call {
+    pub fn new(stream: TcpStream, outgoing: Outgoing, begun: Instant) -> Call {
+        Call {
+            stream,
+            outgoing,
+            sent: 0,
+            alike: 0,
+            begun,
+            course: Course::Goes,
+        }
+    }
+
+    pub fn stream(&mut self) -> &mut TcpStream {
+        &mut self.stream
+    }
+
+    /// For which member it is.
+    pub fn place(&self) -> usize {
+        self.outgoing.place
+    }
+
+    pub fn round(&self) -> u64 {
+        self.outgoing.round
+    }
+
+    pub fn course(&self) -> Course {
+        self.course
+    }
+
+    /// Whether its time is over.
+    pub fn is_late(&self, now: Instant) -> bool {
+        Duration::from_secs(SECONDS) <= now.duration_since(self.begun)
+    }
+
+    fn is_out(&self) -> bool {
+        self.outgoing.bytes.len() <= self.sent
+    }
+
+    // The request goes out as far as the socket takes it.
+    fn send(&mut self) -> io::Result<()> {
+        for _ in 0..self.outgoing.bytes.len() {
+            let left = self.outgoing.bytes.get(self.sent..).unwrap_or(&[]);
+            if left.is_empty() {
+                return Ok(());
+            }
+            match self.stream.write(left) {
+                Ok(0) => return Err(io::Error::from(ErrorKind::WriteZero)),
+                Ok(n) => self.sent = self.sent.saturating_add(n),
+                Err(e) => match e.kind() {
+                    ErrorKind::WouldBlock | ErrorKind::NotConnected => return Ok(()),
+                    _ => return Err(e),
+                },
+            }
+        }
+        Ok(())
+    }
+
+    fn hear(&mut self, piece: &[u8]) {
+        for byte in piece {
+            match TAKEN.get(self.alike) {
+                Some(wanted) if *wanted == *byte => self.alike = self.alike.saturating_add(1),
+                Some(_) => self.course = Course::Lost,
+                None => return,
+            }
+        }
+    }
+
+    fn end(&mut self) {
+        self.course = if self.course == Course::Goes && self.alike == TAKEN.len() {
+            Course::Taken
+        } else {
+            Course::Lost
+        };
+    }
+
+    // The reply is read away, until it ends.
+    fn read_away(&mut self) -> io::Result<()> {
+        let mut piece = [0u8; PIECE];
+        for _ in 0..MOST_AWAY {
+            match self.stream.read(&mut piece) {
+                Ok(0) => {
+                    self.end();
+                    return Ok(());
+                }
+                Ok(n) => self.hear(&piece[..n]),
+                Err(e) if e.kind() == ErrorKind::WouldBlock => return Ok(()),
+                Err(e) => return Err(e),
+            }
+        }
+        Ok(())
+    }
+
+    fn go_on(&mut self) -> io::Result<()> {
+        self.send()?;
+        if self.is_out() {
+            self.read_away()?;
+        }
+        Ok(())
+    }
+
+    /// What its socket is ready for is done.
+    pub fn step(&mut self) {
+        if self.go_on().is_err() {
+            self.course = Course::Lost;
+        }
+    }
+}

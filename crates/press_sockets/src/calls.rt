@@ -1,0 +1,159 @@
+//! The requests that go out at once, and those that wait.
+
+use crate::answers::Outgoing;
+use crate::call::{Call, Course};
+use std::alloc::{AllocError, Global};
+use std::collections::VecDeque;
+use std::time::Instant;
+
+// So many stand at once for one member.
+const MOST_OPEN: usize = 32;
+
+// So many wait for one member; one more is lost.
+const MOST_WAITING: usize = 4_096;
+
+// The requests for one member.
+struct Lane {
+    waiting: VecDeque<Outgoing>,
+    open: usize,
+}
+
+impl Drop for Lane {
+    fn drop(self) {
+        let Lane {
+            waiting: _,
+            open: _,
+        } = self;
+    }
+}
+
+/// What came of a request.
+#[derive(Clone, Copy)]
+pub struct Ended {
+    pub place: usize,
+    pub round: u64,
+    pub is_taken: bool,
+}
+
+#[derive(Drop)]
+pub struct Calls {
+    alloc: Global,
+    lanes: Vec<Lane>,
+    places: Vec<Option<Call>>,
+}
+
+impl Calls {
+    pub fn new(alloc: Global) -> Calls {
+        Calls {
+            alloc,
+            lanes: Vec::new(alloc),
+            places: Vec::new(alloc),
+        }
+    }
+
+    fn make_lane(&mut self, place: usize) -> Result<(), AllocError> {
+        for _ in self.lanes.len()..place.saturating_add(1) {
+            self.lanes.push(Lane {
+                waiting: VecDeque::new(self.alloc),
+                open: 0,
+            })?;
+        }
+        Ok(())
+    }
+
+    /// A request waits, or is lost.
+    pub fn add(&mut self, outgoing: Outgoing) -> Result<(), AllocError> {
+        let place = outgoing.place;
+        self.make_lane(place)?;
+        if let Some(lane) = self.lanes.get_mut(place) {
+            if lane.waiting.len() < MOST_WAITING {
+                lane.waiting.push_back(outgoing)?;
+            }
+        }
+        Ok(())
+    }
+
+    /// The next that may go out.
+    pub fn next(&mut self) -> Option<Outgoing> {
+        for lane in self.lanes.iter_mut() {
+            if lane.open < MOST_OPEN {
+                if let Some(outgoing) = lane.waiting.pop_front() {
+                    lane.open = lane.open.saturating_add(1);
+                    return Some(outgoing);
+                }
+            }
+        }
+        None
+    }
+
+    /// One that was to go out has ended.
+    pub fn close_lane(&mut self, place: usize) {
+        if let Some(lane) = self.lanes.get_mut(place) {
+            lane.open = lane.open.saturating_sub(1);
+        }
+    }
+
+    fn free_place(&mut self) -> Result<usize, AllocError> {
+        if let Some(place) = self.places.iter().position(|call| call.is_none()) {
+            return Ok(place);
+        }
+        let count = self.places.len();
+        self.places.push(None)?;
+        Ok(count)
+    }
+
+    /// One goes out; its place in this table.
+    pub fn enter(&mut self, call: Call) -> Result<usize, AllocError> {
+        let place = self.free_place()?;
+        if let Some(slot) = self.places.get_mut(place) {
+            *slot = Some(call);
+        }
+        Ok(place)
+    }
+
+    pub fn get_mut(&mut self, place: usize) -> Option<&mut Call> {
+        match self.places.get_mut(place) {
+            Some(Some(call)) => Some(call),
+            _ => None,
+        }
+    }
+
+    // A call leaves its place.
+    fn leave(&mut self, place: usize, is_taken: bool) -> Option<Ended> {
+        let call = self.get_mut(place)?;
+        let ended = Ended {
+            place: call.place(),
+            round: call.round(),
+            is_taken,
+        };
+        if let Some(slot) = self.places.get_mut(place) {
+            *slot = None;
+        }
+        self.close_lane(ended.place);
+        Some(ended)
+    }
+
+    /// What its socket is ready for is done; what came of the request, where it has ended by that.
+    pub fn step(&mut self, place: usize) -> Option<Ended> {
+        let call = self.get_mut(place)?;
+        call.step();
+        match call.course() {
+            Course::Goes => None,
+            Course::Taken => self.leave(place, true),
+            Course::Lost => self.leave(place, false),
+        }
+    }
+
+    /// Those whose time is over end.
+    pub fn end_late(&mut self, now: Instant) {
+        for place in 0..self.places.len() {
+            let is_late = match self.places.get(place) {
+                Some(Some(call)) => call.is_late(now),
+                _ => false,
+            };
+            if is_late {
+                let _ = self.leave(place, false);
+            }
+        }
+    }
+}

@@ -1,0 +1,316 @@
+//! A node of a cluster behind a server: its messages go out as requests, and those that come are delivered.
+
+use crate::answers::{Answers, Outgoing, Time};
+use crate::gathered::words_of;
+use crate::pace::{Due, Pace};
+use crate::peers::{Peers, member_at};
+use crate::screen::{Screen, Sort, not_found, refuse_for_now, refuse_form, show_ready, sort_of};
+use press_acceptor::PromiseStore;
+use press_http::HttpFault;
+use press_node::{Event, Node, Served, serve_one};
+use press_wire::{Body, Message, Node as Member, Slot, encode_msg};
+use std::alloc::{AllocError, Global};
+use std::collections::VecDeque;
+use std::net::{IpAddr, Ipv4Addr, SocketAddr};
+
+// More messages than a node sends to itself behind one event.
+const MOST_OWN: u32 = 1_000;
+
+// So many requests wait to go out; another is lost, as a message may be.
+const MOST_OUT: usize = 20_000;
+
+/// A node of a cluster.
+pub struct Clustered<'s, S: PromiseStore> {
+    alloc: Global,
+    node: Node<S>,
+    member: Member,
+    peers: Peers,
+    pace: Pace,
+    screen: &'s Screen,
+    time: Time,
+    // What it sends to itself, the oldest first.
+    own: VecDeque<Message>,
+    // What goes out to others.
+    out: VecDeque<Outgoing>,
+}
+
+impl<S: PromiseStore + Drop> Drop for Clustered<'_, S> {
+    fn drop(self) {
+        let Clustered {
+            alloc: _,
+            node: _,
+            member: _,
+            peers: _,
+            pace: _,
+            screen: _,
+            time: _,
+            own: _,
+            out: _,
+        } = self;
+    }
+}
+
+fn head_of_message(alloc: Global, count: usize) -> Result<String, AllocError> {
+    format!(in alloc;
+        "POST /peer HTTP/1.1\r\nHost: press\r\nContent-Type: application/octet-stream\r\nContent-Length: {count}\r\n\r\n"
+    )
+}
+
+// The bytes of the request that carries a message. None without memory.
+fn request_of(alloc: Global, message: &Message) -> Option<Vec<u8>> {
+    let body = encode_msg(alloc, message).ok()?;
+    let head = head_of_message(alloc, body.len()).ok()?;
+    let mut request = head.into_bytes();
+    request.extend_from_slice(&body).ok()?;
+    Some(request)
+}
+
+// Whether the request is a message, as its first line has it.
+fn is_message(request: &[u8]) -> bool {
+    let (method, target) = words_of(request);
+    method == "POST" && target == "/peer"
+}
+
+fn is_proposal(message: &Message) -> bool {
+    matches!(message.body, Body::Prepare { .. })
+}
+
+fn is_question(message: &Message) -> bool {
+    matches!(message.body, Body::Query)
+}
+
+fn is_refusal(message: &Message) -> bool {
+    matches!(message.body, Body::Nack { .. })
+}
+
+// Whether it answers a proposal of another.
+fn is_answer(message: &Message) -> bool {
+    matches!(message.body, Body::Promise { .. } | Body::Accepted { .. })
+}
+
+impl<'s, S: PromiseStore> Clustered<'s, S> {
+    pub fn new(
+        alloc: Global,
+        node: Node<S>,
+        member: Member,
+        peers: Peers,
+        tick: u64,
+        screen: &'s Screen,
+    ) -> Clustered<'s, S> {
+        let pace = Pace::new(peers.place(), peers.count(), tick);
+        let time = Time {
+            millis: 0,
+            seconds: 0,
+        };
+        Clustered {
+            alloc,
+            node,
+            member,
+            peers,
+            pace,
+            screen,
+            time,
+            own: VecDeque::new(alloc),
+            out: VecDeque::new(alloc),
+        }
+    }
+
+    // A message goes out, or is lost.
+    fn put(&mut self, message: &Message, round: u64) {
+        let place = usize::from(message.to.number()).saturating_sub(1);
+        let Some(addr) = self.peers.addr(place) else {
+            return;
+        };
+        if self.out.len() >= MOST_OUT {
+            return;
+        }
+        let Some(bytes) = request_of(self.alloc, message) else {
+            return;
+        };
+        let outgoing = Outgoing {
+            place,
+            addr,
+            bytes,
+            round,
+        };
+        let _ = self.out.push_back(outgoing);
+    }
+
+    // What a message that is sent tells of the time.
+    fn note(&mut self, message: &Message) {
+        if message.to == self.member {
+            if is_refusal(message) {
+                self.pace.refused();
+            }
+        } else if is_answer(message) {
+            self.pace.leave_alone();
+        }
+    }
+
+    fn send(&mut self, messages: Vec<Message>) {
+        let round = self.pace.round();
+        for message in messages {
+            self.note(&message);
+            if message.to == self.member {
+                let _ = self.own.push_back(message);
+            } else {
+                let round = if is_question(&message) { round } else { 0 };
+                self.put(&message, round);
+            }
+        }
+    }
+
+    // What it sends to itself is delivered, until nothing waits.
+    fn hear_own(&mut self)
+        requires always { Unit {0} }
+    {
+        for _ in 0..MOST_OWN {
+            let Some(message) = self.own.pop_front() else {
+                break;
+            };
+            if let Ok(sent) = self.node.on(Event::Deliver(message)) {
+                self.send(sent);
+            }
+        }
+        let applied = self.node.applied();
+        self.pace.moved(applied);
+    }
+
+    fn wake(&mut self)
+        requires always { Unit {0} }
+    {
+        let sent = match self.node.on(Event::Wake) {
+            Ok(sent) => sent,
+            Err(_) => {
+                self.pace.woken(false);
+                return;
+            }
+        };
+        let proposes = sent.iter().any(is_proposal);
+        self.pace.woken(proposes);
+        self.send(sent);
+        self.hear_own();
+    }
+
+    // The others are asked for their votes for a slot.
+    fn ask_for(&mut self, slot: Slot) {
+        let round = self.pace.round();
+        let from = self.member;
+        for place in 0..self.peers.count() {
+            if place == self.peers.place() {
+                continue;
+            }
+            if let Some(to) = member_at(place) {
+                let question = Message {
+                    from,
+                    to,
+                    slot,
+                    body: Body::Query,
+                };
+                self.put(&question, round);
+            }
+        }
+    }
+
+    // The others are asked for so many slots behind those that are applied.
+    fn ask(&mut self, count: u64) {
+        let applied = self.node.applied();
+        for number in 1..count.saturating_add(1) {
+            let number = u32::try_from(applied.saturating_add(number)).unwrap_or(u32::MAX);
+            if let Some(slot) = Slot::new(number) {
+                self.ask_for(slot);
+            }
+        }
+    }
+
+    // A node alone in its cluster has nobody to wait for.
+    fn note_round(&mut self) {
+        let round = self.pace.round();
+        if self.peers.is_round_taken(round) {
+            self.pace.taken();
+        }
+    }
+
+    fn serve(&mut self, request: &[u8], told: &mut Vec<u8>) -> Result<u16, HttpFault>
+        requires always { Unit {0} }
+    {
+        let mut rest = request;
+        let Served { status, outbox } = serve_one(&mut self.node, &mut rest, told)?;
+        if status == 202 {
+            self.pace.submitted();
+        }
+        self.send(outbox);
+        self.hear_own();
+        Ok(status)
+    }
+
+    fn show_ready(&self, told: &mut Vec<u8>) -> Result<u16, HttpFault> {
+        let now = self.time.millis;
+        let is_ready = self.pace.is_settled()
+            && self.peers.is_majority_near(now)
+            && !self.node.is_down();
+        let near = self.peers.near(self.alloc, now)?;
+        show_ready(self.alloc, is_ready, self.node.applied(), &near, told)
+    }
+}
+
+impl<S: PromiseStore> Answers for Clustered<'_, S> {
+    fn addr(&self) -> SocketAddr {
+        match self.peers.addr(self.peers.place()) {
+            Some(addr) => addr,
+            None => SocketAddr::new(IpAddr::V4(Ipv4Addr::new(127, 0, 0, 1)), 0),
+        }
+    }
+
+    fn answer(
+        &mut self,
+        from: IpAddr,
+        request: &[u8],
+        told: &mut Vec<u8>,
+    ) -> Result<u16, HttpFault>
+        requires always { Unit {0} }
+    {
+        let is_peer = self.peers.has(from);
+        if is_peer && is_message(request) {
+            return self.serve(request, told);
+        }
+        match sort_of(self.alloc, request) {
+            Sort::Ready => self.show_ready(told),
+            Sort::Editor if self.screen.has_editor() => self.screen.show_editor(self.alloc, told),
+            Sort::Peer if !is_peer => not_found(told),
+            Sort::Command(_) | Sort::Page if !self.pace.is_settled() => refuse_for_now(told),
+            Sort::Command(at) if self.screen.is_ahead(at, self.time.seconds) => refuse_form(told),
+            _ => self.serve(request, told),
+        }
+    }
+
+    fn next_call(&mut self) -> Option<Outgoing> {
+        self.out.pop_front()
+    }
+
+    fn called(&mut self, place: usize, round: u64, is_taken: bool) {
+        if is_taken {
+            let now = self.time.millis;
+            self.peers.heard(place, round, now);
+            self.note_round();
+        }
+    }
+
+    fn pass(&mut self, time: Time)
+        requires always { Unit {0} }
+    {
+        self.time = time;
+        match self.pace.pass(time.millis) {
+            Due::Nothing => {}
+            Due::Wake => self.wake(),
+            Due::Ask(count) => {
+                if count > 1 || self.pace.is_waiting() {
+                    self.ask(count);
+                } else {
+                    self.wake();
+                }
+                self.note_round();
+            }
+        }
+    }
+}

@@ -1,0 +1,176 @@
+//! The members of a cluster, by their addresses.
+
+use press_wire::Node as Member;
+use std::alloc::{AllocError, AllocFailed, Global};
+use std::net::{IpAddr, Net, SocketAddr, ToSocketAddrs};
+
+// The members of a cluster are few.
+const MOST: usize = 7;
+
+// Who answered within so many milliseconds did so lately.
+const LATELY: u64 = 2_000;
+
+struct Peer {
+    addr: SocketAddr,
+    // When it last took a request of this node.
+    heard: Option<u64>,
+    // The last round of questions of which it took one.
+    round: u64,
+}
+
+impl Drop for Peer {
+    fn drop(self) {
+        let Peer {
+            addr: _,
+            heard: _,
+            round: _,
+        } = self;
+    }
+}
+
+/// The members, of which one is this node.
+#[derive(Drop)]
+pub struct Peers {
+    all: Vec<Peer>,
+    place: usize,
+}
+
+// Why no peers were read.
+pub enum PeersFault {
+    NoMemory,
+    /// The text names no members, or too many, or not this one; or an address can't be found.
+    Unknown,
+}
+
+impl<T: Drop> From<AllocFailed<T>> for PeersFault {
+    fn from(_e: AllocFailed<T>) -> PeersFault {
+        PeersFault::NoMemory
+    }
+}
+
+fn addr_in<N: Net>(net: &N, text: &str) -> Option<SocketAddr> {
+    let mut found = text.to_socket_addrs(net).ok()?;
+    found.next()
+}
+
+impl Peers {
+    /// The members whose addresses stand in the text, with commas between; the node's number is its place there, from 1.
+    pub fn read<N: Net>(
+        alloc: Global,
+        net: &N,
+        number: u8,
+        text: &str,
+    ) -> Result<Peers, PeersFault> {
+        let mut all = Vec::new(alloc);
+        for part in text.split(',') {
+            let Some(addr) = addr_in(net, part) else {
+                return Err(PeersFault::Unknown);
+            };
+            if all.len() >= MOST {
+                return Err(PeersFault::Unknown);
+            }
+            all.push(Peer {
+                addr,
+                heard: None,
+                round: 0,
+            })?;
+        }
+        let place = usize::from(number);
+        if place == 0 || place > all.len() {
+            return Err(PeersFault::Unknown);
+        }
+        Ok(Peers {
+            all,
+            place: place - 1,
+        })
+    }
+
+    /// How many there are: at most 7.
+    pub fn count(&self) -> usize {
+        self.all.len()
+    }
+
+    /// The place of this node, from 0.
+    pub fn place(&self) -> usize {
+        self.place
+    }
+
+    /// The address of a member.
+    pub fn addr(&self, place: usize) -> Option<SocketAddr> {
+        self.all.get(place).map(|peer| peer.addr)
+    }
+
+    /// Whether a member has that address.
+    pub fn has(&self, ip: IpAddr) -> bool {
+        self.all.iter().any(|peer| peer.addr.ip() == ip)
+    }
+
+    /// A member took a request of this round.
+    pub fn heard(&mut self, place: usize, round: u64, now: u64) {
+        if let Some(peer) = self.all.get_mut(place) {
+            peer.heard = Some(now);
+            if round > peer.round {
+                peer.round = round;
+            }
+        }
+    }
+
+    // Whether so many members but for this node make a majority with it.
+    fn is_majority(&self, others: usize) -> bool {
+        self.all.len() < others.saturating_add(1).saturating_mul(2)
+    }
+
+    /// Whether a majority, this node among it, took a question of that round.
+    pub fn is_round_taken(&self, round: u64) -> bool {
+        let mut others: usize = 0;
+        for (place, peer) in self.all.iter().enumerate() {
+            if place != self.place && peer.round >= round {
+                others = others.saturating_add(1);
+            }
+        }
+        self.is_majority(others)
+    }
+
+    fn is_near(&self, place: usize, peer: &Peer, now: u64) -> bool {
+        place == self.place
+            || match peer.heard {
+                Some(heard) => now.saturating_sub(heard) <= LATELY,
+                None => false,
+            }
+    }
+
+    /// Whether a majority answered lately.
+    pub fn is_majority_near(&self, now: u64) -> bool {
+        let mut others: usize = 0;
+        for (place, peer) in self.all.iter().enumerate() {
+            if place != self.place && self.is_near(place, peer, now) {
+                others = others.saturating_add(1);
+            }
+        }
+        self.is_majority(others)
+    }
+
+    /// The numbers of the members that answered lately, with commas between.
+    pub fn near(&self, alloc: Global, now: u64) -> Result<String, AllocError> {
+        let mut text = String::new(alloc);
+        for (place, peer) in self.all.iter().enumerate() {
+            if self.is_near(place, peer, now) {
+                if !text.is_empty() {
+                    text.push(',')?;
+                }
+                let number = place.saturating_add(1);
+                let digits = format!(in alloc; "{number}")?;
+                text.push_str(&digits)?;
+            }
+        }
+        Ok(text)
+    }
+}
+
+/// The member of that place.
+pub fn member_at(place: usize) -> Option<Member> {
+    match u8::try_from(place.saturating_add(1)) {
+        Ok(number) => Member::new(number),
+        Err(_) => None,
+    }
+}
