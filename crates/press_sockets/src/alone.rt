@@ -77,7 +77,7 @@ impl<S: PromiseStore> Answers for Alone<'_, S> {
         None
     }
 
-    fn called(&mut self, _place: usize, _round: u64, _is_taken: bool) {}
+    fn called(&mut self, _place: usize, _round: u64, _reply: &[u8]) {}
 
     fn pass(&mut self, time: Time)
         requires always { Unit {0} }

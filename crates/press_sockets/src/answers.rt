@@ -18,7 +18,7 @@ pub struct Outgoing {
     pub place: usize,
     pub addr: SocketAddr,
     pub bytes: Vec<u8>,
-    /// In which round of questions it is sent; 0 where it is none.
+    /// Which look it is a part of; 0 for a message.
     pub round: u64,
 }
 
@@ -49,8 +49,8 @@ pub trait Answers {
     /// The next request that goes out, where one waits.
     fn next_call(&mut self) -> Option<Outgoing>;
 
-    /// What came of a request that went out: whether the member took it.
-    fn called(&mut self, place: usize, round: u64, is_taken: bool);
+    /// The reply to a request that went out, as far as it is looked at.
+    fn called(&mut self, place: usize, round: u64, reply: &[u8]);
 
     /// Time has passed.
     fn pass(&mut self, time: Time)

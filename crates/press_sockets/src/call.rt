@@ -2,6 +2,7 @@
 
 use crate::answers::Outgoing;
 use mio::net::TcpStream;
+use std::alloc::{AllocError, Global};
 use std::io;
 use std::io::{ErrorKind, Read, Write};
 use std::time::{Duration, Instant};
@@ -11,8 +12,8 @@ const PIECE: usize = 1024;
 // So many pieces of a reply are read away at once.
 const MOST_AWAY: u32 = 16;
 
-// The reply of a request that was taken begins so.
-const TAKEN: &[u8; 12] = b"HTTP/1.1 200";
+// So many bytes of a reply are looked at.
+const LONGEST: usize = 512;
 
 // It takes no longer.
 const SECONDS: u64 = 2;
@@ -20,7 +21,8 @@ const SECONDS: u64 = 2;
 #[derive(Clone, Copy, PartialEq, Eq)]
 pub enum Course {
     Goes,
-    Taken,
+    /// Its reply came.
+    Whole,
     Lost,
 }
 
@@ -29,8 +31,7 @@ pub struct Call {
     stream: TcpStream,
     outgoing: Outgoing,
     sent: usize,
-    // So many of the reply's first bytes are those of one that was taken.
-    alike: usize,
+    reply: Vec<u8>,
     begun: Instant,
     course: Course,
 }
@@ -41,7 +42,7 @@ impl Drop for Call {
             stream: _,
             outgoing: _,
             sent: _,
-            alike: _,
+            reply: _,
             begun: _,
             course: _,
         } = self;
@@ -49,12 +50,12 @@ impl Drop for Call {
 }
 
 impl Call {
-    pub fn new(stream: TcpStream, outgoing: Outgoing, begun: Instant) -> Call {
+    pub fn new(alloc: Global, stream: TcpStream, outgoing: Outgoing, begun: Instant) -> Call {
         Call {
             stream,
             outgoing,
             sent: 0,
-            alike: 0,
+            reply: Vec::new(alloc),
             begun,
             course: Course::Goes,
         }
@@ -67,6 +68,11 @@ impl Call {
     /// For which member it is.
     pub fn place(&self) -> usize {
         self.outgoing.place
+    }
+
+    /// The reply to it, as far as it is looked at.
+    pub fn reply(&self) -> &[u8] {
+        &self.reply
     }
 
     pub fn round(&self) -> u64 {
@@ -105,22 +111,10 @@ impl Call {
         Ok(())
     }
 
-    fn hear(&mut self, piece: &[u8]) {
-        for byte in piece {
-            match TAKEN.get(self.alike) {
-                Some(wanted) if *wanted == *byte => self.alike = self.alike.saturating_add(1),
-                Some(_) => self.course = Course::Lost,
-                None => return,
-            }
-        }
-    }
-
-    fn end(&mut self) {
-        self.course = if self.course == Course::Goes && self.alike == TAKEN.len() {
-            Course::Taken
-        } else {
-            Course::Lost
-        };
+    fn hear(&mut self, piece: &[u8]) -> Result<(), AllocError> {
+        let room = LONGEST.saturating_sub(self.reply.len());
+        let front = piece.get(..room).unwrap_or(piece);
+        self.reply.extend_from_slice(front)
     }
 
     // The reply is read away, until it ends.
@@ -129,10 +123,10 @@ impl Call {
         for _ in 0..MOST_AWAY {
             match self.stream.read(&mut piece) {
                 Ok(0) => {
-                    self.end();
+                    self.course = Course::Whole;
                     return Ok(());
                 }
-                Ok(n) => self.hear(&piece[..n]),
+                Ok(n) => self.hear(&piece[..n])?,
                 Err(e) if e.kind() == ErrorKind::WouldBlock => return Ok(()),
                 Err(e) => return Err(e),
             }

@@ -1,7 +1,7 @@
 //! The requests that go out at once, and those that wait.
 
 use crate::answers::Outgoing;
-use crate::call::{Call, Course};
+use crate::call::Call;
 use std::alloc::{AllocError, Global};
 use std::collections::VecDeque;
 use std::time::Instant;
@@ -25,14 +25,6 @@ impl Drop for Lane {
             open: _,
         } = self;
     }
-}
-
-/// What came of a request.
-#[derive(Clone, Copy)]
-pub struct Ended {
-    pub place: usize,
-    pub round: u64,
-    pub is_taken: bool,
 }
 
 #[derive(Drop)]
@@ -118,30 +110,16 @@ impl Calls {
         }
     }
 
-    // A call leaves its place.
-    fn leave(&mut self, place: usize, is_taken: bool) -> Option<Ended> {
-        let call = self.get_mut(place)?;
-        let ended = Ended {
-            place: call.place(),
-            round: call.round(),
-            is_taken,
+    /// One leaves its place.
+    pub fn leave(&mut self, place: usize) {
+        let Some(call) = self.get_mut(place) else {
+            return;
         };
+        let lane = call.place();
         if let Some(slot) = self.places.get_mut(place) {
             *slot = None;
         }
-        self.close_lane(ended.place);
-        Some(ended)
-    }
-
-    /// What its socket is ready for is done; what came of the request, where it has ended by that.
-    pub fn step(&mut self, place: usize) -> Option<Ended> {
-        let call = self.get_mut(place)?;
-        call.step();
-        match call.course() {
-            Course::Goes => None,
-            Course::Taken => self.leave(place, true),
-            Course::Lost => self.leave(place, false),
-        }
+        self.close_lane(lane);
     }
 
     /// Those whose time is over end.
@@ -152,7 +130,7 @@ impl Calls {
                 _ => false,
             };
             if is_late {
-                let _ = self.leave(place, false);
+                self.leave(place);
             }
         }
     }

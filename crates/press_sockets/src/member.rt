@@ -12,12 +12,16 @@ use press_wire::{Body, Message, Node as Member, Slot, encode_msg};
 use std::alloc::{AllocError, Global};
 use std::collections::VecDeque;
 use std::net::{IpAddr, Ipv4Addr, SocketAddr};
+use std::str::from_utf8;
 
 // More messages than a node sends to itself behind one event.
 const MOST_OWN: u32 = 1_000;
 
 // So many requests wait to go out; another is lost, as a message may be.
 const MOST_OUT: usize = 20_000;
+
+// The reply to a message that was taken begins so.
+const TAKEN: &[u8] = b"HTTP/1.1 200";
 
 /// A node of a cluster.
 pub struct Clustered<'s, S: PromiseStore> {
@@ -65,6 +69,20 @@ fn request_of(alloc: Global, message: &Message) -> Option<Vec<u8>> {
     Some(request)
 }
 
+// The bytes of the request for how far a member is. None without memory.
+fn look_request(alloc: Global) -> Option<Vec<u8>> {
+    let text = String::from_str(alloc, "GET /ready HTTP/1.1\r\nHost: press\r\n\r\n").ok()?;
+    Some(text.into_bytes())
+}
+
+// How many slots a member has applied, as its reply tells.
+fn applied_in(reply: &[u8]) -> Option<u64> {
+    let text = from_utf8(reply).ok()?;
+    let (_, rest) = text.split_once("\"applied\":")?;
+    let (digits, _) = rest.split_once(',')?;
+    digits.parse().ok()
+}
+
 // Whether the request is a message, as its first line has it.
 fn is_message(request: &[u8]) -> bool {
     let (method, target) = words_of(request);
@@ -73,10 +91,6 @@ fn is_message(request: &[u8]) -> bool {
 
 fn is_proposal(message: &Message) -> bool {
     matches!(message.body, Body::Prepare { .. })
-}
-
-fn is_question(message: &Message) -> bool {
-    matches!(message.body, Body::Query)
 }
 
 fn is_refusal(message: &Message) -> bool {
@@ -115,18 +129,14 @@ impl<'s, S: PromiseStore> Clustered<'s, S> {
         }
     }
 
-    // A message goes out, or is lost.
-    fn put(&mut self, message: &Message, round: u64) {
-        let place = usize::from(message.to.number()).saturating_sub(1);
+    // A request goes out to a member, or is lost.
+    fn put(&mut self, place: usize, bytes: Vec<u8>, round: u64) {
         let Some(addr) = self.peers.addr(place) else {
             return;
         };
         if self.out.len() >= MOST_OUT {
             return;
         }
-        let Some(bytes) = request_of(self.alloc, message) else {
-            return;
-        };
         let outgoing = Outgoing {
             place,
             addr,
@@ -134,6 +144,18 @@ impl<'s, S: PromiseStore> Clustered<'s, S> {
             round,
         };
         let _ = self.out.push_back(outgoing);
+    }
+
+    // A message goes to its member, this node itself or another, or is lost.
+    fn send_one(&mut self, message: Message) {
+        if message.to == self.member {
+            let _ = self.own.push_back(message);
+            return;
+        }
+        let place = usize::from(message.to.number()).saturating_sub(1);
+        if let Some(bytes) = request_of(self.alloc, &message) {
+            self.put(place, bytes, 0);
+        }
     }
 
     // What a message that is sent tells of the time.
@@ -148,15 +170,9 @@ impl<'s, S: PromiseStore> Clustered<'s, S> {
     }
 
     fn send(&mut self, messages: Vec<Message>) {
-        let round = self.pace.round();
         for message in messages {
             self.note(&message);
-            if message.to == self.member {
-                let _ = self.own.push_back(message);
-            } else {
-                let round = if is_question(&message) { round } else { 0 };
-                self.put(&message, round);
-            }
+            self.send_one(message);
         }
     }
 
@@ -192,14 +208,10 @@ impl<'s, S: PromiseStore> Clustered<'s, S> {
         self.hear_own();
     }
 
-    // The others are asked for their votes for a slot.
+    // Each member is asked for its vote for a slot.
     fn ask_for(&mut self, slot: Slot) {
-        let round = self.pace.round();
         let from = self.member;
         for place in 0..self.peers.count() {
-            if place == self.peers.place() {
-                continue;
-            }
             if let Some(to) = member_at(place) {
                 let question = Message {
                     from,
@@ -207,27 +219,49 @@ impl<'s, S: PromiseStore> Clustered<'s, S> {
                     slot,
                     body: Body::Query,
                 };
-                self.put(&question, round);
+                self.send_one(question);
             }
         }
     }
 
-    // The others are asked for so many slots behind those that are applied.
-    fn ask(&mut self, count: u64) {
-        let applied = self.node.applied();
-        for number in 1..count.saturating_add(1) {
-            let number = u32::try_from(applied.saturating_add(number)).unwrap_or(u32::MAX);
+    // The members are asked for the slots that are not applied, up to this one.
+    fn ask(&mut self, last: u64)
+        requires always { Unit {0} }
+    {
+        let next = self.node.applied().saturating_add(1);
+        for number in next..last.saturating_add(1) {
+            let number = u32::try_from(number).unwrap_or(u32::MAX);
             if let Some(slot) = Slot::new(number) {
                 self.ask_for(slot);
             }
         }
+        self.hear_own();
     }
 
-    // A node alone in its cluster has nobody to wait for.
+    // The others are asked how far they are; this node sees to the next slot.
+    fn look(&mut self)
+        requires always { Unit {0} }
+    {
+        let round = self.pace.round();
+        let own = self.peers.place();
+        for place in 0..self.peers.count() {
+            if place != own {
+                if let Some(bytes) = look_request(self.alloc) {
+                    self.put(place, bytes, round);
+                }
+            }
+        }
+        if !self.pace.is_waiting() {
+            self.wake();
+        }
+        self.note_round();
+    }
+
+    // Whether enough have told how far they are. A member by itself has nobody to wait for.
     fn note_round(&mut self) {
         let round = self.pace.round();
         if self.peers.is_round_taken(round) {
-            self.pace.taken();
+            self.pace.known();
         }
     }
 
@@ -288,11 +322,16 @@ impl<S: PromiseStore> Answers for Clustered<'_, S> {
         self.out.pop_front()
     }
 
-    fn called(&mut self, place: usize, round: u64, is_taken: bool) {
-        if is_taken {
-            let now = self.time.millis;
-            self.peers.heard(place, round, now);
-            self.note_round();
+    fn called(&mut self, place: usize, round: u64, reply: &[u8]) {
+        let now = self.time.millis;
+        match applied_in(reply) {
+            Some(applied) if round > 0 => {
+                self.peers.heard(place, round, now);
+                self.pace.told(applied);
+                self.note_round();
+            }
+            _ if reply.starts_with(TAKEN) => self.peers.heard(place, 0, now),
+            _ => {}
         }
     }
 
@@ -303,14 +342,8 @@ impl<S: PromiseStore> Answers for Clustered<'_, S> {
         match self.pace.pass(time.millis) {
             Due::Nothing => {}
             Due::Wake => self.wake(),
-            Due::Ask(count) => {
-                if count > 1 || self.pace.is_waiting() {
-                    self.ask(count);
-                } else {
-                    self.wake();
-                }
-                self.note_round();
-            }
+            Due::Look => self.look(),
+            Due::Ask(last) => self.ask(last),
         }
     }
 }

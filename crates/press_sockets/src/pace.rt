@@ -1,4 +1,4 @@
-//! When a node of a cluster wakes, and when it asks what it may have missed. It is a matter of time alone: what the cluster agrees on doesn't hang on it.
+//! When a node of a cluster wakes, when it looks how far the others are, and when it asks what it has missed. It is a matter of time alone: what the cluster agrees on doesn't hang on it.
 
 // Milliseconds between the turns of two nodes: the nodes take turns, by slots, so that two proposals seldom meet.
 const STEP: u64 = 4;
@@ -9,13 +9,13 @@ const LEFT_ALONE: u64 = 40;
 // So long after a refusal it wakes again.
 const REFUSED: u64 = 10;
 
-// Answers may be on their way for so long after the questions were taken.
-const ON_ITS_WAY: u64 = 20;
+// So long answers may be on their way before it asks again.
+const ON_ITS_WAY: u64 = 100;
 
-// As long as it isn't known that nothing was missed, it asks as often as that.
-const UNSETTLED: u64 = 50;
+// As long as it doesn't know how far the others are, it looks as often as that.
+const UNKNOWN: u64 = 50;
 
-// So many slots are asked for at once, where more is missed than one: as many as a node keeps votes for.
+// So many slots are asked for at once: as many as a node keeps votes for.
 const WINDOW: u64 = 64;
 
 /// What is due.
@@ -24,7 +24,9 @@ pub enum Due {
     Nothing,
     /// A wake, for a command that waits.
     Wake,
-    /// A wake, and questions for so many slots.
+    /// A look at how far the others are.
+    Look,
+    /// Questions for the slots that are not applied, up to this one.
     Ask(u64),
 }
 
@@ -33,21 +35,22 @@ pub struct Pace {
     // The node's place, from 0, among so many.
     place: u64,
     members: u64,
-    // Milliseconds from one question to the next, where nothing happens.
+    // Milliseconds from one look to the next.
     tick: u64,
     now: u64,
     // So many slots are applied.
     applied: u64,
     // When it wakes, where a command may wait.
     wake_at: Option<u64>,
-    // When it asks, and for how many slots.
-    ask_at: u64,
-    ask_for: u64,
-    // The last round of questions: its number, and the last slot that it asked for.
+    // When it looks again, and how often it did.
+    look_at: u64,
     round: u64,
+    // The most slots that another has told to be applied, and whether enough have told.
+    newest: u64,
+    is_known: bool,
+    // The last slot that it asked for, and when it asks again.
     asked_to: u64,
-    // When enough members had taken its questions.
-    taken_at: Option<u64>,
+    ask_at: u64,
     is_settled: bool,
 }
 
@@ -60,21 +63,22 @@ impl Pace {
             now: 0,
             applied: 0,
             wake_at: None,
-            ask_at: 0,
-            ask_for: 1,
+            look_at: 0,
             round: 0,
+            newest: 0,
+            is_known: false,
             asked_to: 0,
-            taken_at: None,
+            ask_at: 0,
             is_settled: false,
         }
     }
 
-    /// Whether it is known that the members had nothing newer when it began.
+    /// Whether it has once had what a majority had.
     pub fn is_settled(&self) -> bool {
         self.is_settled
     }
 
-    /// The last round of questions.
+    /// The last look.
     pub fn round(&self) -> u64 {
         self.round
     }
@@ -95,10 +99,8 @@ impl Pace {
 
     // The time of this node's turn, so long from now.
     fn turn_after(&self, wait: u64) -> u64 {
-        let rank = self.rank();
-        self.now
-            .saturating_add(wait)
-            .saturating_add(STEP.saturating_mul(rank))
+        let turn = STEP.saturating_mul(self.rank());
+        self.now.saturating_add(wait).saturating_add(turn)
     }
 
     fn wake_by(&mut self, time: u64) {
@@ -117,11 +119,8 @@ impl Pace {
 
     /// It was woken; whether it proposes.
     pub fn woken(&mut self, proposes: bool) {
-        self.wake_at = if proposes {
-            Some(self.turn_after(LEFT_ALONE))
-        } else {
-            None
-        };
+        let again = self.turn_after(LEFT_ALONE);
+        self.wake_at = if proposes { Some(again) } else { None };
     }
 
     /// Another proposes.
@@ -140,6 +139,17 @@ impl Pace {
         }
     }
 
+    /// Whether a command may wait.
+    pub fn is_waiting(&self) -> bool {
+        self.wake_at.is_some()
+    }
+
+    fn settle(&mut self) {
+        if self.is_known && self.applied >= self.newest {
+            self.is_settled = true;
+        }
+    }
+
     /// So many slots are applied.
     pub fn moved(&mut self, applied: u64) {
         if applied <= self.applied {
@@ -147,70 +157,54 @@ impl Pace {
         }
         self.applied = applied;
         if self.wake_at.is_some() {
-            self.wake_at = Some(self.turn_after(0));
+            let turn = self.turn_after(0);
+            self.wake_at = Some(turn);
         }
-        if !self.is_settled || self.is_on_its_way() {
-            if applied >= self.asked_to {
-                self.ask_at = self.now;
-                self.ask_for = WINDOW;
-            }
-        }
+        self.settle();
     }
 
-    // Whether answers to the last questions may still come.
-    fn is_on_its_way(&self) -> bool {
-        match self.taken_at {
-            Some(at) => self.now <= at.saturating_add(ON_ITS_WAY),
-            None => false,
-        }
+    /// Another has applied so many.
+    pub fn told(&mut self, applied: u64) {
+        self.newest = self.newest.max(applied);
     }
 
-    /// Enough members took the questions of the last round.
-    pub fn taken(&mut self) {
-        if self.taken_at.is_none() {
-            self.taken_at = Some(self.now);
-        }
+    /// Enough have told how far they are.
+    pub fn known(&mut self) {
+        self.is_known = true;
+        self.settle();
     }
 
-    // It asks for so many slots.
-    fn begin_round(&mut self, count: u64) {
+    fn look(&mut self) {
         self.round = self.round.saturating_add(1);
-        self.asked_to = self.applied.saturating_add(count);
-        self.taken_at = None;
-        self.ask_for = 1;
         let share = self.tick.saturating_mul(self.place) / 16;
-        let wait = if self.is_settled {
+        let wait = if self.is_known {
             self.tick.saturating_add(share)
         } else {
-            UNSETTLED
+            UNKNOWN
         };
-        self.ask_at = self.now.saturating_add(wait);
+        self.look_at = self.now.saturating_add(wait);
     }
 
-    // A round was taken, and nobody had the last slot that it asked for.
-    fn settle(&mut self) {
-        if self.taken_at.is_some() && !self.is_on_its_way() && self.applied < self.asked_to {
-            self.is_settled = true;
-        }
+    // Whether it asks: for slots that it hasn't asked for, or again.
+    fn asks(&self) -> bool {
+        self.newest > self.applied && (self.applied >= self.asked_to || self.ask_at <= self.now)
     }
 
     /// Time has passed; what is due.
     pub fn pass(&mut self, now: u64) -> Due {
         self.now = now;
-        self.settle();
-        if self.now >= self.ask_at {
-            let count = self.ask_for;
-            self.begin_round(count);
-            return Due::Ask(count);
+        if self.asks() {
+            self.asked_to = self.newest.min(self.applied.saturating_add(WINDOW));
+            self.ask_at = now.saturating_add(ON_ITS_WAY);
+            return Due::Ask(self.asked_to);
+        }
+        if self.look_at <= now {
+            self.look();
+            return Due::Look;
         }
         match self.wake_at {
-            Some(at) if at <= self.now => Due::Wake,
+            Some(at) if at <= now => Due::Wake,
             _ => Due::Nothing,
         }
-    }
-
-    /// Whether a command may wait.
-    pub fn is_waiting(&self) -> bool {
-        self.wake_at.is_some()
     }
 }

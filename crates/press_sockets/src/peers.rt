@@ -14,7 +14,7 @@ struct Peer {
     addr: SocketAddr,
     // When it last took a request of this node.
     heard: Option<u64>,
-    // The last round of questions of which it took one.
+    // The last look in which it told how far it is.
     round: u64,
 }
 
@@ -105,7 +105,7 @@ impl Peers {
         self.all.iter().any(|peer| peer.addr.ip() == ip)
     }
 
-    /// A member took a request of this round.
+    /// A member answered, in this look where it is one.
     pub fn heard(&mut self, place: usize, round: u64, now: u64) {
         if let Some(peer) = self.all.get_mut(place) {
             peer.heard = Some(now);
@@ -120,7 +120,7 @@ impl Peers {
         self.all.len() < others.saturating_add(1).saturating_mul(2)
     }
 
-    /// Whether a majority, this node among it, took a question of that round.
+    /// Whether a majority, this node among it, has told how far it is in that look.
     pub fn is_round_taken(&self, round: u64) -> bool {
         let mut others: usize = 0;
         for (place, peer) in self.all.iter().enumerate() {

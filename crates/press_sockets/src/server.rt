@@ -1,8 +1,8 @@
 //! A server over readiness: no connection is waited for, so one that says nothing, or reads nothing, holds up nobody.
 
 use crate::answers::{Answers, Outgoing, Time};
-use crate::call::Call;
-use crate::calls::{Calls, Ended};
+use crate::call::{Call, Course};
+use crate::calls::Calls;
 use crate::talk::{Phase, Talk};
 use crate::talks::Talks;
 use mio::net::{TcpListener, TcpStream};
@@ -182,20 +182,24 @@ impl Server {
 
     // The socket of a request that goes out is ready.
     fn step_call<A: Answers>(&mut self, answers: &mut A, place: usize) {
-        if let Some(Ended {
-            place,
-            round,
-            is_taken,
-        }) = self.calls.step(place)
-        {
-            answers.called(place, round, is_taken);
+        let Some(call) = self.calls.get_mut(place) else {
+            return;
+        };
+        call.step();
+        match call.course() {
+            Course::Goes => {}
+            Course::Lost => self.calls.leave(place),
+            Course::Whole => {
+                answers.called(call.place(), call.round(), call.reply());
+                self.calls.leave(place);
+            }
         }
     }
 
     // A request goes out. One that can't is lost, as a message may be.
     fn call<R: Net>(&mut self, net: &R, outgoing: Outgoing) -> io::Result<()> {
         let stream = TcpStream::connect(net, outgoing.addr)?;
-        let place = self.calls.enter(Call::new(stream, outgoing, self.now))?;
+        let place = self.calls.enter(Call::new(self.alloc, stream, outgoing, self.now))?;
         if let Some(call) = self.calls.get_mut(place) {
             self.poll.registry().register(
                 call.stream(),

@@ -191,7 +191,10 @@ fn serve_member<W: Write, E: Write>(
     };
     let peers = Peers::read(rt.alloc(), rt, id, peers)?;
     let screen = screen_of(rt, setup)?;
-    let (member, node) = begin_member(rt.alloc(), &peers, kit, SqlStore::open(rt, file)?)?;
+    let (member, mut node) = begin_member(rt.alloc(), &peers, kit, SqlStore::open(rt, file)?)?;
+    if peers.count() == 1 {
+        catch_up(rt.alloc(), &mut node);
+    }
     let mut clustered = Clustered::new(rt.alloc(), node, member, peers, u64::from(tick), &screen);
     serve_over(rt, &mut clustered, setup, writer, error)
 }
