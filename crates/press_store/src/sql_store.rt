@@ -21,12 +21,23 @@ use std::marker::Model;
 use std::rt::HostRuntime;
 
 /// A store over the tables `promise` and `meta` of a database. Each call is one statement, so a save is kept whole or not at all.
-#[derive(Drop)]
 pub struct SqlStore<D: Alter> {
     conn: Connection<D>,
     faults: u64,
     is_ours: bool,
     alloc: Global,
+}
+
+// It is written out, so that a caller does not prove again how each part of a database is dropped.
+impl<D: Alter + Drop> Drop for SqlStore<D> {
+    fn drop(self) {
+        let SqlStore {
+            conn: _,
+            faults: _,
+            is_ours: _,
+            alloc: _,
+        } = self;
+    }
 }
 
 impl<D: Alter> Model for SqlStore<D> {
@@ -74,7 +85,12 @@ impl<D: Alter> SqlStore<D> {
     pub fn into_connection(self) -> Connection<D>
         ensures { result ≡ self.conn }
     {
-        let SqlStore { conn, .. } = self;
+        let SqlStore {
+            conn,
+            faults: _,
+            is_ours: _,
+            alloc: _,
+        } = self;
         conn
     }
 }

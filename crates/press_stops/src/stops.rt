@@ -1,0 +1,206 @@
+//! Stops of a store on two files in memory, at each call that one of them gets; after each the files crash, and the store is opened again.
+
+use crate::command::{command_over, goes_on_over};
+use crate::rows::{is_row_of, row_of};
+use press_acceptor::{PromiseStore, Row, StoreFault};
+use press_store::SqlStore;
+use press_wire::{Round, Slot};
+use sqlite::{Connection, FileStore, Files, Options};
+use sqlite_disk::{Crash, Fuse, Memory};
+use std::alloc::Global;
+
+// More calls than any run below makes, and fewer.
+const MOST: u64 = 1_000;
+
+const FEWEST: u64 = 10;
+
+type Stopped = Fuse<Memory>;
+
+type Stored = SqlStore<FileStore<Stopped>>;
+
+/// Which of the two files is stopped.
+#[derive(Clone, Copy, PartialEq, Eq)]
+pub enum Stops {
+    Log,
+    Database,
+}
+
+/// What is stopped.
+#[derive(Clone, Copy, PartialEq, Eq)]
+pub enum Work {
+    /// A round and two rows of one slot are saved.
+    Saves,
+    /// A node by itself takes a command, and applies it.
+    Command,
+}
+
+fn fused(alloc: Global, stops: Stops, calls: u64) -> Files<Stopped> {
+    let (log, db) = match stops {
+        Stops::Log => (calls, u64::MAX),
+        Stops::Database => (u64::MAX, calls),
+    };
+    Files {
+        log: Fuse::new(Memory::new(alloc), log),
+        db: Fuse::new(Memory::new(alloc), db),
+    }
+}
+
+// A store over the files, or the files.
+fn opened(alloc: Global, files: Files<Stopped>) -> Result<Stored, Files<Stopped>> {
+    if !files.may_be_used() {
+        return Err(files);
+    }
+    let conn = match Connection::open_files(alloc, files, Options::new(1)) {
+        Ok(conn) => conn,
+        Err((_, left)) => return Err(left.into_files()),
+    };
+    match SqlStore::adopt(alloc, conn) {
+        Ok(store) => Ok(store),
+        Err((_, conn)) => Err(conn.into_store().close()),
+    }
+}
+
+fn files_of(store: Stored) -> Files<Stopped> {
+    store.into_connection().into_store().close()
+}
+
+// ---- a round and two rows
+
+fn save_all<S: PromiseStore>(store: &mut S, told: &mut u32) -> Result<(), StoreFault> {
+    if let (Some(slot), Some(round), Some(first), Some(second)) =
+        (Slot::new(1), Round::new(7), row_of(9), row_of(11))
+    {
+        store.save_round(round)?;
+        *told = 1;
+        store.save(slot, &first)?;
+        *told = 2;
+        store.save(slot, &second)?;
+        *told = 3;
+    }
+    Ok(())
+}
+
+// How many of these saves are kept, where it is the first ones that are.
+fn saves_in(round: u64, row: &Row) -> Option<u32> {
+    match (round, is_row_of(row, 9), is_row_of(row, 11)) {
+        (0, false, false) if row.promised.is_none() => Some(0),
+        (7, false, false) if row.promised.is_none() => Some(1),
+        (7, true, false) => Some(2),
+        (7, false, true) => Some(3),
+        _ => None,
+    }
+}
+
+// ---- a command of a node by itself
+
+// How many saves had gone before so many events were done: a round with the wake, a promise with the first delivery, a vote with the third.
+fn saves_before(events: u32) -> u32 {
+    match events {
+        0 | 1 => 0,
+        2 => 1,
+        3 | 4 => 2,
+        _ => 3,
+    }
+}
+
+// How many of these saves are kept, where it is the first ones that are.
+fn saves_of_command_in(round: u64, row: &Row) -> Option<u32> {
+    match (round, row.promised.is_some(), row.vote.is_some()) {
+        (0, false, false) => Some(0),
+        (1, false, false) => Some(1),
+        (1, true, false) => Some(2),
+        (1, true, true) => Some(3),
+        _ => None,
+    }
+}
+
+// ---- each stop in turn
+
+// The work over files of which one stops; the files then, and how many saves were told.
+fn played(alloc: Global, work: Work, files: Files<Stopped>) -> (Files<Stopped>, u32) {
+    let mut store = match opened(alloc, files) {
+        Ok(store) => store,
+        Err(files) => return (files, 0),
+    };
+    match work {
+        Work::Saves => {
+            let mut told = 0;
+            let _ = save_all(&mut store, &mut told);
+            (files_of(store), told)
+        }
+        Work::Command => {
+            let (store, events) = command_over(alloc, store);
+            (files_of(store), saves_before(events))
+        }
+    }
+}
+
+// What a store keeps that was opened after a stop, as a number of saves.
+fn kept_of<S: PromiseStore>(work: Work, store: &mut S) -> Option<u32> {
+    let slot = Slot::new(1)?;
+    let round = store.last_round().ok()?;
+    let row = store.load(slot).ok()?;
+    match work {
+        Work::Saves => saves_in(round, &row),
+        Work::Command => saves_of_command_in(round, &row),
+    }
+}
+
+/// What came of one stop.
+enum Came {
+    /// The run ended before the stop.
+    Whole,
+    /// It was stopped, and what was told is kept, with at most one save more.
+    Kept,
+    /// Something that was told is lost, or what is kept is no front of what was saved.
+    Lost,
+}
+
+fn came_of(told: u32, kept: Option<u32>, goes_on: bool) -> Came {
+    match kept {
+        Some(kept) if goes_on && told <= kept && kept <= told.saturating_add(1) => {
+            if told == 3 { Came::Whole } else { Came::Kept }
+        }
+        _ => Came::Lost,
+    }
+}
+
+fn stopped_at(alloc: Global, work: Work, stops: Stops, calls: u64) -> Came {
+    let (mut files, told) = played(alloc, work, fused(alloc, stops, calls));
+    files.log.crash();
+    files.db.crash();
+    let mut store = match opened(alloc, files) {
+        Ok(store) => store,
+        Err(_) => return Came::Lost,
+    };
+    let kept = kept_of(work, &mut store);
+    let (store, goes_on) = match work {
+        Work::Saves => (store, true),
+        Work::Command => goes_on_over(alloc, store, kept == Some(3)),
+    };
+    drop(files_of(store));
+    came_of(told, kept, goes_on)
+}
+
+/// Stops the work at each call in turn, until it ends before the stop.
+pub fn play_stops(rt: &HostRuntime, work: Work, stops: Stops) -> anyhow::Result<()> {
+    for calls in 0..MOST {
+        match stopped_at(rt.alloc(), work, stops, calls) {
+            Came::Kept => {}
+            Came::Whole if calls < FEWEST => {
+                println!(rt; "only {calls} stops")?;
+                return Ok(());
+            }
+            Came::Whole => {
+                println!(rt; "stopped at each call, and nothing that was told is lost")?;
+                return Ok(());
+            }
+            Came::Lost => {
+                println!(rt; "a stop after {calls} calls loses what was told")?;
+                return Ok(());
+            }
+        }
+    }
+    println!(rt; "no run ends before its stop")?;
+    Ok(())
+}

@@ -1,0 +1,152 @@
+//! A store on a SQL database, in memory or over two files in memory: it stands over the connection for the words of a session, and gives it back. What is opened is closed on each way out,
+//! since whoever drops a database proves how each of its parts is dropped.
+
+use crate::asks::{ask_all, save_often};
+use press_acceptor::StoreFault;
+use press_store::SqlStore;
+use sqlite::{Alter, Connection, FileStore, Files, MemStore, Options, Wary};
+use sqlite_disk::Memory;
+use std::alloc::Global;
+
+/// On what the database stands.
+#[derive(Clone, Copy, PartialEq, Eq)]
+pub enum Base {
+    Memory,
+    Files,
+    /// In memory, over tables that another has made, which take any value, with a text for the round of slot 1.
+    Loose,
+}
+
+const LOOSE: &str =
+    "CREATE TABLE promise (slot INTEGER PRIMARY KEY, round INTEGER, node INTEGER, vround INTEGER, vnode INTEGER, value BLOB);
+    CREATE TABLE meta (name TEXT PRIMARY KEY, n INTEGER NOT NULL) STRICT;
+    INSERT INTO meta VALUES ('version', 1), ('last_round', 4);
+    INSERT INTO promise (slot, round, node) VALUES (1, 'x', 1)";
+
+/// The words of a store from one adoption to the next.
+pub type Session<'w> = Vec<&'w str>;
+
+fn refused(fault: StoreFault) -> anyhow::Error {
+    anyhow::anyhow!("no store: {fault}")
+}
+
+// A store stands over the connection, and is asked.
+fn session<D: Alter>(
+    rt: &HostRuntime,
+    conn: Connection<D>,
+    words: &[&str],
+) -> (Connection<D>, anyhow::Result<()>) {
+    match SqlStore::adopt(rt.alloc(), conn) {
+        Ok(mut store) => {
+            let done = ask_all(rt, &mut store, words);
+            (store.into_connection(), done)
+        }
+        Err((fault, conn)) => (conn, Err(refused(fault))),
+    }
+}
+
+fn sessions<D: Alter>(
+    rt: &HostRuntime,
+    conn: Connection<D>,
+    all: &[Session<'_>],
+) -> (Connection<D>, anyhow::Result<()>) {
+    let mut conn = conn;
+    for words in all.iter() {
+        let (left, done) = session(rt, conn, words);
+        conn = left;
+        if done.is_err() {
+            return (conn, done);
+        }
+    }
+    (conn, Ok(()))
+}
+
+fn loosened(conn: &mut Connection<MemStore>) -> anyhow::Result<()> {
+    conn.execute_batch(LOOSE)?;
+    Ok(())
+}
+
+fn play_in_memory(rt: &HostRuntime, base: Base, all: &[Session<'_>]) -> anyhow::Result<()> {
+    let mut conn = Connection::open_in_memory(rt.alloc())?;
+    let made = if base == Base::Loose {
+        loosened(&mut conn)
+    } else {
+        Ok(())
+    };
+    let (conn, done) = sessions(rt, conn, all);
+    drop(conn.into_store());
+    made?;
+    done
+}
+
+fn closed(conn: Connection<FileStore<Memory>>) -> (Files<Memory>, anyhow::Result<()>) {
+    match conn.close_files() {
+        Ok(files) => (files, Ok(())),
+        Err((error, left)) => (left.close(), Err(error.into())),
+    }
+}
+
+// The files are opened, the store over them is asked, and they are closed.
+fn session_over_files(
+    rt: &HostRuntime,
+    files: Files<Memory>,
+    words: &[&str],
+) -> (Files<Memory>, anyhow::Result<()>) {
+    if !files.may_be_used() {
+        return (files, Err(anyhow::anyhow!("a file is shut")));
+    }
+    match Connection::open_files(rt.alloc(), files, Options::new(1)) {
+        Ok(conn) => {
+            let (conn, done) = session(rt, conn, words);
+            let (files, closed) = closed(conn);
+            (files, done.and(closed))
+        }
+        Err((error, left)) => (left.into_files(), Err(error.into())),
+    }
+}
+
+fn play_over_files(rt: &HostRuntime, all: &[Session<'_>]) -> anyhow::Result<()> {
+    let mut files = Files {
+        log: Memory::new(rt.alloc()),
+        db: Memory::new(rt.alloc()),
+    };
+    for words in all.iter() {
+        let (left, done) = session_over_files(rt, files, words);
+        files = left;
+        done?;
+    }
+    Ok(())
+}
+
+/// Plays each session on the store, the first on a new one.
+pub fn play_store(rt: &HostRuntime, base: Base, all: &[Session<'_>]) -> anyhow::Result<()> {
+    match base {
+        Base::Memory | Base::Loose => play_in_memory(rt, base, all),
+        Base::Files => play_over_files(rt, all),
+    }
+}
+
+/// How often a commit syncs.
+#[derive(Clone, Copy, PartialEq, Eq)]
+pub enum Syncs {
+    Once,
+    Twice,
+}
+
+fn saved_in_file(rt: &HostRuntime, name: &str, count: u32, syncs: Syncs) -> Result<(), StoreFault> {
+    match syncs {
+        Syncs::Once => save_often(&mut SqlStore::open(rt, name)?, count),
+        Syncs::Twice => save_often(&mut SqlStore::open_from(rt, name, Wary)?, count),
+    }
+}
+
+/// Saves so many rounds and rows in the file of that name.
+pub fn save_in_file(rt: &HostRuntime, name: &str, count: u32, syncs: Syncs) -> anyhow::Result<()> {
+    match saved_in_file(rt, name, count, syncs) {
+        Ok(()) => {
+            println!(rt; "{count} rounds and {count} rows are saved")?;
+            Ok(())
+        }
+        Err(fault) => Err(refused(fault)),
+    }
+}
