@@ -13,6 +13,7 @@ pub struct Time {
 }
 
 /// A request that goes out.
+#[derive(Drop)]
 pub struct Outgoing {
     /// The place of the member that it is for, from 0.
     pub place: usize,
@@ -20,17 +21,6 @@ pub struct Outgoing {
     pub bytes: Vec<u8>,
     /// Which look it is a part of; 0 for a message.
     pub round: u64,
-}
-
-impl Drop for Outgoing {
-    fn drop(self) {
-        let Outgoing {
-            place: _,
-            addr: _,
-            bytes: _,
-            round: _,
-        } = self;
-    }
 }
 
 pub trait Answers {

@@ -29,7 +29,11 @@ pub enum Course {
 /// A request that goes out.
 pub struct Call {
     stream: TcpStream,
-    outgoing: Outgoing,
+    // For which member it is.
+    place: usize,
+    // Which look it is a part of.
+    round: u64,
+    bytes: Vec<u8>,
     sent: usize,
     reply: Vec<u8>,
     begun: Instant,
@@ -40,7 +44,9 @@ impl Drop for Call {
     fn drop(self) {
         let Call {
             stream: _,
-            outgoing: _,
+            place: _,
+            round: _,
+            bytes: _,
             sent: _,
             reply: _,
             begun: _,
@@ -51,9 +57,17 @@ impl Drop for Call {
 
 impl Call {
     pub fn new(alloc: Global, stream: TcpStream, outgoing: Outgoing, begun: Instant) -> Call {
+        let Outgoing {
+            place,
+            addr: _,
+            bytes,
+            round,
+        } = outgoing;
         Call {
             stream,
-            outgoing,
+            place,
+            round,
+            bytes,
             sent: 0,
             reply: Vec::new(alloc),
             begun,
@@ -67,7 +81,7 @@ impl Call {
 
     /// For which member it is.
     pub fn place(&self) -> usize {
-        self.outgoing.place
+        self.place
     }
 
     /// The reply to it, as far as it is looked at.
@@ -76,7 +90,7 @@ impl Call {
     }
 
     pub fn round(&self) -> u64 {
-        self.outgoing.round
+        self.round
     }
 
     pub fn course(&self) -> Course {
@@ -89,13 +103,13 @@ impl Call {
     }
 
     fn is_out(&self) -> bool {
-        self.outgoing.bytes.len() <= self.sent
+        self.bytes.len() <= self.sent
     }
 
     // The request goes out as far as the socket takes it.
     fn send(&mut self) -> io::Result<()> {
-        for _ in 0..self.outgoing.bytes.len() {
-            let left = self.outgoing.bytes.get(self.sent..).unwrap_or(&[]);
+        for _ in 0..self.bytes.len() {
+            let left = self.bytes.get(self.sent..).unwrap_or(&[]);
             if left.is_empty() {
                 return Ok(());
             }
