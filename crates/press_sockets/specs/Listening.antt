@@ -9,8 +9,8 @@ pub data Where : Type 0 where
   member_of : ℕ → List ℕ → Where
 
 unfoldable pub listening_line : Where → List ℕ
-listening_line (alone_at port) = codes "listening on 127.0.0.1:" ++ decimal port ++ codes "\n"
-listening_line (member_of id peers) = codes "listening as " ++ decimal id ++ codes " of " ++ peers ++ codes "\n"
+listening_line (alone_at port) = codes "listening on 127.0.0.1:" ++ (decimal port ++ codes "\n")
+listening_line (member_of id peers) = codes "listening as " ++ (decimal id ++ (codes " of " ++ (peers ++ codes "\n")))
 
 -- as it stands in memory
 abbrev pub where_of : Place → Where

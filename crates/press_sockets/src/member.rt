@@ -4,7 +4,7 @@ use crate::answers::{Answers, Outgoing, Time};
 use crate::gathered::words_of;
 use crate::pace::{Due, Pace};
 use crate::peers::{Peers, member_at};
-use crate::screen::{Screen, Sort, not_found, refuse_for_now, refuse_form, show_ready, sort_of};
+use crate::screen::{Screen, Sort, Standing, not_found, refuse_for_now, refuse_form, show_ready, sort_of};
 use press_acceptor::PromiseStore;
 use press_http::HttpFault;
 use press_node::{Event, Node, Served, serve_one};
@@ -22,6 +22,14 @@ const MOST_OUT: usize = 20_000;
 
 // The reply to a message that was taken begins so.
 const TAKEN: &[u8] = b"HTTP/1.1 200";
+
+/// What a node of a cluster has beside it.
+#[derive(Drop)]
+pub struct Party<'s> {
+    pub peers: Peers,
+    pub pace: Pace,
+    pub screen: &'s Screen,
+}
 
 /// A node of a cluster.
 pub struct Clustered<'s, S: PromiseStore> {
@@ -103,15 +111,13 @@ fn is_answer(message: &Message) -> bool {
 }
 
 impl<'s, S: PromiseStore> Clustered<'s, S> {
-    pub fn new(
-        alloc: Global,
-        node: Node<S>,
-        member: Member,
-        peers: Peers,
-        tick: u64,
-        screen: &'s Screen,
-    ) -> Clustered<'s, S> {
-        let pace = Pace::new(peers.place(), peers.count(), tick);
+    pub fn new(alloc: Global, node: Node<S>, party: Party<'s>) -> Clustered<'s, S> {
+        let Party {
+            peers,
+            pace,
+            screen,
+        } = party;
+        let member = peers.own();
         let time = Time {
             millis: 0,
             seconds: 0,
@@ -284,7 +290,12 @@ impl<'s, S: PromiseStore> Clustered<'s, S> {
             && self.peers.is_majority_near(now)
             && !self.node.is_down();
         let near = self.peers.near(self.alloc, now)?;
-        show_ready(self.alloc, is_ready, self.node.applied(), &near, told)
+        let standing = Standing {
+            is_ready,
+            applied: self.node.applied(),
+            near: &near,
+        };
+        show_ready(self.alloc, standing, told)
     }
 }
 

@@ -32,7 +32,7 @@ impl Drop for Peer {
 #[derive(Drop)]
 pub struct Peers {
     all: Vec<Peer>,
-    place: usize,
+    own: Member,
 }
 
 // Why no peers were read.
@@ -75,14 +75,10 @@ impl Peers {
                 round: 0,
             })?;
         }
-        let place = usize::from(number);
-        if place == 0 || place > all.len() {
-            return Err(PeersFault::Unknown);
+        match Member::new(number) {
+            Some(own) if usize::from(number) <= all.len() => Ok(Peers { all, own }),
+            _ => Err(PeersFault::Unknown),
         }
-        Ok(Peers {
-            all,
-            place: place - 1,
-        })
     }
 
     /// How many there are: at most 7.
@@ -90,9 +86,14 @@ impl Peers {
         self.all.len()
     }
 
+    /// This node.
+    pub fn own(&self) -> Member {
+        self.own
+    }
+
     /// The place of this node, from 0.
     pub fn place(&self) -> usize {
-        self.place
+        usize::from(self.own.number()).saturating_sub(1)
     }
 
     /// The address of a member.
@@ -122,9 +123,10 @@ impl Peers {
 
     /// Whether a majority, this node among it, has told how far it is in that look.
     pub fn is_round_taken(&self, round: u64) -> bool {
+        let own = self.place();
         let mut others: usize = 0;
         for (place, peer) in self.all.iter().enumerate() {
-            if place != self.place && peer.round >= round {
+            if place != own && peer.round >= round {
                 others = others.saturating_add(1);
             }
         }
@@ -132,7 +134,7 @@ impl Peers {
     }
 
     fn is_near(&self, place: usize, peer: &Peer, now: u64) -> bool {
-        place == self.place
+        place == self.place()
             || match peer.heard {
                 Some(heard) => now.saturating_sub(heard) <= LATELY,
                 None => false,
@@ -141,9 +143,10 @@ impl Peers {
 
     /// Whether a majority answered lately.
     pub fn is_majority_near(&self, now: u64) -> bool {
+        let own = self.place();
         let mut others: usize = 0;
         for (place, peer) in self.all.iter().enumerate() {
-            if place != self.place && self.is_near(place, peer, now) {
+            if place != own && self.is_near(place, peer, now) {
                 others = others.saturating_add(1);
             }
         }

@@ -134,14 +134,27 @@ fn ready_head(alloc: Global, is_ready: bool, count: usize) -> Result<String, All
     )
 }
 
-/// Whether the node is ready, how many slots it has applied, and which members answered lately.
+/// How far a node is.
+#[derive(Clone, Copy)]
+pub struct Standing<'a> {
+    pub is_ready: bool,
+    /// So many slots are applied.
+    pub applied: u64,
+    /// The numbers of the members that answered lately, with commas between.
+    pub near: &'a str,
+}
+
+/// How far the node is.
 pub fn show_ready(
     alloc: Global,
-    is_ready: bool,
-    applied: u64,
-    near: &str,
+    standing: Standing<'_>,
     told: &mut Vec<u8>,
 ) -> Result<u16, HttpFault> {
+    let Standing {
+        is_ready,
+        applied,
+        near,
+    } = standing;
     let body = format!(in alloc; "{{\"ready\":{is_ready},\"applied\":{applied},\"members\":[{near}]}}\n")?;
     let head = ready_head(alloc, is_ready, body.len())?;
     tell(told, head.as_bytes())?;

@@ -3,7 +3,7 @@
 use crate::answers::{Answers, Outgoing, Time};
 use crate::call::{Call, Course};
 use crate::calls::Calls;
-use crate::talk::{Phase, Talk};
+use crate::talk::{Arrival, Phase, Talk};
 use crate::talks::Talks;
 use mio::net::{TcpListener, TcpStream};
 use mio::{Events, Interest, Poll, Token};
@@ -102,7 +102,12 @@ impl Server {
     }
 
     fn begin<E: Write>(&mut self, stream: TcpStream, from: IpAddr, log: &mut E) -> io::Result<()> {
-        let talk = Talk::new(self.alloc, stream, from, self.came, self.now);
+        let arrival = Arrival {
+            from,
+            number: self.came,
+            begun: self.now,
+        };
+        let talk = Talk::new(self.alloc, stream, arrival);
         self.came = self.came.saturating_add(1);
         let place = self.talks.enter(talk, log)?;
         if let Some(talk) = self.talks.get_mut(place) {

@@ -7,8 +7,9 @@ ghost use Rattle.press_sockets.specs.Listening.Where.{alone_at, member_of};
 
 use crate::alone::Alone;
 use crate::answers::Answers;
-use crate::member::Clustered;
-use crate::peers::{Peers, member_at};
+use crate::member::{Clustered, Party};
+use crate::pace::Pace;
+use crate::peers::Peers;
 use crate::screen::Screen;
 use crate::serve_fault::ServeFault;
 use crate::server::Server;
@@ -53,15 +54,16 @@ fn begin_member<S: PromiseStore + Drop>(
     peers: &Peers,
     kit: Kit,
     store: S,
-) -> Result<(Member, Node<S>), ServeFault> {
-    let (Some(member), Ok(count)) = (member_at(peers.place()), u8::try_from(peers.count())) else {
+) -> Result<Node<S>, ServeFault> {
+    let member = peers.own();
+    let Ok(count) = u8::try_from(peers.count()) else {
         return Err(ServeFault::BadPeers);
     };
     if count > 7 || member.number() > count {
         return Err(ServeFault::BadPeers);
     }
     match Node::start(alloc, member, count, kit, store) {
-        Ok(node) => Ok((member, node)),
+        Ok(node) => Ok(node),
         Err(StartFault { fault, .. }) => Err(fault.into()),
     }
 }
@@ -101,6 +103,13 @@ fn listening_line(alloc: Global, place: &Place<'_>) -> Result<String, AllocError
     }
 }
 
+// What a server begins with.
+#[derive(Clone, Copy)]
+struct Start<'a> {
+    rt: &'a HostRuntime,
+    setup: &'a Setup<'a>,
+}
+
 // Tells that it listens.
 #[tactic(auto, using(crate::proofs::Fronts::nothing))]
 fn announce<W: Write>(
@@ -122,16 +131,16 @@ fn announce<W: Write>(
 // It listens, tells so, and serves.
 #[tactic(auto, using(crate::proofs::Fronts::nothing))]
 fn serve_over<A: Answers, W: Write, E: Write>(
-    rt: &HostRuntime,
+    start: Start<'_>,
     answers: &mut A,
-    setup: &Setup<'_>,
     writer: &mut W,
     error: &mut E,
 ) -> Result<(), ServeFault>
     requires always { Unit {0} }
     ensures { AppendsFront (W.contents writer.old) (W.contents writer.new)
-        (listening_line (where_of setup.now.place)) }
+        (listening_line (where_of start.entry.setup.now.place)) }
 {
+    let Start { rt, setup } = start;
     let is_timed = matches!(setup.place, Place::Member { .. });
     let mut server = Server::listen(rt, answers.addr(), setup.turns, is_timed)?;
     announce(rt.alloc(), &setup.place, writer)?;
@@ -154,49 +163,62 @@ fn loopback(port: u16) -> SocketAddr {
     SocketAddr::new(IpAddr::V4(Ipv4Addr::new(127, 0, 0, 1)), port)
 }
 
-// A node by itself at a port.
+fn port_of(place: Place<'_>) -> u16 {
+    match place {
+        Place::Alone { port } => port,
+        Place::Member { .. } => 0,
+    }
+}
+
+// A node by itself.
 #[tactic(auto, using(crate::proofs::Fronts::nothing))]
 fn serve_alone<S: PromiseStore + Drop, W: Write, E: Write>(
-    rt: &HostRuntime,
+    start: Start<'_>,
     node: Node<S>,
-    port: u16,
-    setup: &Setup<'_>,
     writer: &mut W,
     error: &mut E,
 ) -> Result<(), ServeFault>
     ensures { AppendsFront (W.contents writer.old) (W.contents writer.new)
-        (listening_line (where_of setup.now.place)) }
+        (listening_line (where_of start.entry.setup.now.place)) }
 {
+    let Start { rt, setup } = start;
     let screen = screen_of(rt, setup)?;
+    let addr = loopback(port_of(setup.place));
     let mut node = node;
     catch_up(rt.alloc(), &mut node);
-    let mut alone = Alone::new(rt.alloc(), loopback(port), node, &screen);
-    serve_over(rt, &mut alone, setup, writer, error)
+    let mut alone = Alone::new(rt.alloc(), addr, node, &screen);
+    serve_over(start, &mut alone, writer, error)
 }
 
 // A member of a cluster, at its own address.
 #[tactic(auto, using(crate::proofs::Fronts::nothing))]
 fn serve_member<W: Write, E: Write>(
-    rt: &HostRuntime,
+    start: Start<'_>,
     kit: Kit,
-    setup: &Setup<'_>,
     writer: &mut W,
     error: &mut E,
 ) -> Result<(), ServeFault>
     ensures { AppendsFront (W.contents writer.old) (W.contents writer.new)
-        (listening_line (where_of setup.now.place)) }
+        (listening_line (where_of start.entry.setup.now.place)) }
 {
+    let Start { rt, setup } = start;
     let (Place::Member { id, peers, tick }, Some(file)) = (setup.place, setup.store) else {
         return Err(ServeFault::BadPeers);
     };
     let peers = Peers::read(rt.alloc(), rt, id, peers)?;
     let screen = screen_of(rt, setup)?;
-    let (member, mut node) = begin_member(rt.alloc(), &peers, kit, SqlStore::open(rt, file)?)?;
+    let mut node = begin_member(rt.alloc(), &peers, kit, SqlStore::open(rt, file)?)?;
     if peers.count() == 1 {
         catch_up(rt.alloc(), &mut node);
     }
-    let mut clustered = Clustered::new(rt.alloc(), node, member, peers, u64::from(tick), &screen);
-    serve_over(rt, &mut clustered, setup, writer, error)
+    let pace = Pace::new(peers.place(), peers.count(), u64::from(tick));
+    let party = Party {
+        peers,
+        pace,
+        screen: &screen,
+    };
+    let mut clustered = Clustered::new(rt.alloc(), node, party);
+    serve_over(start, &mut clustered, writer, error)
 }
 
 /// Serves one node: it listens and tells so on the writer, and connections are served until so many had their turn, or until it is ended, with a line for each on the errors.
@@ -212,17 +234,18 @@ pub fn serve<W: Write, E: Write>(
     ensures { AppendsFront (W.contents writer.old) (W.contents writer.new)
         (listening_line (where_of setup.now.place)) }
 {
-    let Place::Alone { port } = setup.place else {
-        return serve_member(rt, kit, setup, writer, error);
-    };
+    let start = Start { rt, setup };
+    if matches!(setup.place, Place::Member { .. }) {
+        return serve_member(start, kit, writer, error);
+    }
     match setup.store {
         Some(file) => {
             let node = begin(rt.alloc(), kit, SqlStore::open(rt, file)?)?;
-            serve_alone(rt, node, port, setup, writer, error)
+            serve_alone(start, node, writer, error)
         }
         None => {
             let node = begin(rt.alloc(), kit, MemoryStore::new(rt.alloc()))?;
-            serve_alone(rt, node, port, setup, writer, error)
+            serve_alone(start, node, writer, error)
         }
     }
 }

@@ -33,13 +33,19 @@ pub enum Phase {
     Over,
 }
 
+/// How a connection came.
+#[derive(Clone, Copy)]
+pub struct Arrival {
+    pub from: IpAddr,
+    /// So many came before it.
+    pub number: u64,
+    pub begun: Instant,
+}
+
 /// A connection.
 pub struct Talk {
     stream: TcpStream,
-    from: IpAddr,
-    // How many came before it.
-    number: u64,
-    begun: Instant,
+    arrival: Arrival,
     phase: Phase,
     came: Gathered,
     told: Vec<u8>,
@@ -53,9 +59,7 @@ impl Drop for Talk {
     fn drop(self) {
         let Talk {
             stream: _,
-            from: _,
-            number: _,
-            begun: _,
+            arrival: _,
             phase: _,
             came: _,
             told: _,
@@ -90,18 +94,10 @@ fn log_served<E: Write>(alloc: Global, log: &mut E, came: &Gathered, status: u16
 }
 
 impl Talk {
-    pub fn new(
-        alloc: Global,
-        stream: TcpStream,
-        from: IpAddr,
-        number: u64,
-        begun: Instant,
-    ) -> Talk {
+    pub fn new(alloc: Global, stream: TcpStream, arrival: Arrival) -> Talk {
         Talk {
             stream,
-            from,
-            number,
-            begun,
+            arrival,
             phase: Phase::Reading,
             came: Gathered::new(alloc),
             told: Vec::new(alloc),
@@ -116,7 +112,7 @@ impl Talk {
     }
 
     pub fn number(&self) -> u64 {
-        self.number
+        self.arrival.number
     }
 
     pub fn has_more(&self) -> bool {
@@ -129,7 +125,7 @@ impl Talk {
 
     /// Whether its time is over.
     pub fn is_late(&self, now: Instant) -> bool {
-        Duration::from_secs(SECONDS) <= now.duration_since(self.begun)
+        Duration::from_secs(SECONDS) <= now.duration_since(self.arrival.begun)
     }
 
     /// It is given up before its request was whole.
@@ -164,7 +160,7 @@ impl Talk {
         if !ended && !self.came.is_due() {
             return false;
         }
-        match answers.answer(self.from, self.came.as_slice(), &mut self.told) {
+        match answers.answer(self.arrival.from, self.came.as_slice(), &mut self.told) {
             Ok(status) => {
                 log_served(self.alloc, log, &self.came, status, self.told.len());
                 self.phase = Phase::Writing;
