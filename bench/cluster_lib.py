@@ -101,8 +101,9 @@ class Cluster:
     def file(self, place):
         return self.folder / f"node{place + 1}.db"
 
-    def start(self, place):
-        words = ["serve", "--id", str(place + 1), "--peers", self.peers(place), "--store", str(self.file(place)), "--tick", str(self.tick)]
+    def start(self, place, further=()):
+        """Starts a node, with these words behind its own."""
+        words = ["serve", "--id", str(place + 1), "--peers", self.peers(place), "--store", str(self.file(place)), "--tick", str(self.tick), *further]
         log = open(self.folder / f"node{place + 1}.log", "ab")
         node = subprocess.Popen([self.program, *words], stdout=subprocess.PIPE, stderr=log)
         line = node.stdout.readline()
@@ -110,9 +111,9 @@ class Cluster:
             raise SystemExit(f"node {place + 1} doesn't start: {line!r}, status {node.wait()}")
         self.nodes[place] = node
 
-    def start_all(self):
+    def start_all(self, further=()):
         for place in range(self.count):
-            self.start(place)
+            self.start(place, further)
 
     def kill(self, place):
         if self.nodes[place] is not None:
