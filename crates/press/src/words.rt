@@ -133,7 +133,7 @@ fn port_in(text: &str) -> Option<u16>
 }
 
 fn perhaps_number(text: Option<&str>, least: u32, most: u32) -> Option<Option<u32>>
-    ensures { result ≡ spec.perhaps_number least most (option_map (λ t. t.now) text) }
+    ensures { result ≡ spec.perhaps_number least most (option_map (λ t. t.now) text.entry) }
 {
     match text {
         None => Some(None),
@@ -142,7 +142,7 @@ fn perhaps_number(text: Option<&str>, least: u32, most: u32) -> Option<Option<u3
 }
 
 fn tick_in(text: Option<&str>) -> Option<u32>
-    ensures { result ≡ spec.tick_in (option_map (λ t. t.now) text) }
+    ensures { result ≡ spec.tick_in (option_map (λ t. t.now) text.entry) }
 {
     match text {
         None => Some(300),

@@ -1,6 +1,6 @@
 //! A node by itself behind a server: it has nobody to call.
 
-use crate::answers::{Answers, Outgoing, Time};
+use crate::answers::{Answers, Errand, Outgoing, Time};
 use crate::screen::{Screen, Sort, refuse_form};
 use crate::turn::serve_turn;
 use press_acceptor::PromiseStore;
@@ -77,7 +77,7 @@ impl<S: PromiseStore> Answers for Alone<'_, S> {
         None
     }
 
-    fn called(&mut self, _place: usize, _round: u64, _reply: &[u8]) {}
+    fn called(&mut self, _place: usize, _errand: Errand, _reply: &[u8]) {}
 
     fn pass(&mut self, time: Time)
         requires always { Unit {0} }

@@ -12,6 +12,16 @@ pub struct Time {
     pub seconds: u64,
 }
 
+/// What a request that goes out is for.
+#[derive(Clone, Copy, PartialEq, Eq)]
+pub enum Errand {
+    Message,
+    /// A message too: a question for a vote.
+    Question,
+    /// How far a member is; the number of the look.
+    Look(u64),
+}
+
 /// A request that goes out.
 #[derive(Drop)]
 pub struct Outgoing {
@@ -19,8 +29,7 @@ pub struct Outgoing {
     pub place: usize,
     pub addr: SocketAddr,
     pub bytes: Vec<u8>,
-    /// Which look it is a part of; 0 for a message.
-    pub round: u64,
+    pub errand: Errand,
 }
 
 pub trait Answers {
@@ -39,8 +48,8 @@ pub trait Answers {
     /// The next request that goes out, where one waits.
     fn next_call(&mut self) -> Option<Outgoing>;
 
-    /// The reply to a request that went out, as far as it is looked at.
-    fn called(&mut self, place: usize, round: u64, reply: &[u8]);
+    /// A request that went out, or was to, has ended: its reply, as far as it is looked at; empty where it is lost.
+    fn called(&mut self, place: usize, errand: Errand, reply: &[u8]);
 
     /// Time has passed.
     fn pass(&mut self, time: Time)

@@ -1,6 +1,6 @@
 //! One request that goes out to a member, from its begin to its end.
 
-use crate::answers::Outgoing;
+use crate::answers::{Errand, Outgoing};
 use mio::net::TcpStream;
 use std::alloc::{AllocError, Global};
 use std::io;
@@ -31,8 +31,7 @@ pub struct Call {
     stream: TcpStream,
     // For which member it is.
     place: usize,
-    // Which look it is a part of.
-    round: u64,
+    errand: Errand,
     bytes: Vec<u8>,
     sent: usize,
     reply: Vec<u8>,
@@ -45,7 +44,7 @@ impl Drop for Call {
         let Call {
             stream: _,
             place: _,
-            round: _,
+            errand: _,
             bytes: _,
             sent: _,
             reply: _,
@@ -61,12 +60,12 @@ impl Call {
             place,
             addr: _,
             bytes,
-            round,
+            errand,
         } = outgoing;
         Call {
             stream,
             place,
-            round,
+            errand,
             bytes,
             sent: 0,
             reply: Vec::new(alloc),
@@ -89,8 +88,8 @@ impl Call {
         &self.reply
     }
 
-    pub fn round(&self) -> u64 {
-        self.round
+    pub fn errand(&self) -> Errand {
+        self.errand
     }
 
     pub fn course(&self) -> Course {

@@ -53,16 +53,18 @@ impl Calls {
         Ok(())
     }
 
-    /// A request waits, or is lost.
-    pub fn add(&mut self, outgoing: Outgoing) -> Result<(), AllocError> {
+    /// A request waits, or is lost; whether it waits.
+    pub fn add(&mut self, outgoing: Outgoing) -> bool {
         let place = outgoing.place;
-        self.make_lane(place)?;
-        if let Some(lane) = self.lanes.get_mut(place) {
-            if lane.waiting.len() < MOST_WAITING {
-                lane.waiting.push_back(outgoing)?;
-            }
+        if self.make_lane(place).is_err() {
+            return false;
         }
-        Ok(())
+        match self.lanes.get_mut(place) {
+            Some(lane) if lane.waiting.len() < MOST_WAITING => {
+                lane.waiting.push_back(outgoing).is_ok()
+            }
+            _ => false,
+        }
     }
 
     /// The next that may go out.
@@ -85,7 +87,8 @@ impl Calls {
         }
     }
 
-    fn free_place(&mut self) -> Result<usize, AllocError> {
+    /// A place for one more.
+    pub fn free_place(&mut self) -> Result<usize, AllocError> {
         if let Some(place) = self.places.iter().position(|call| call.is_none()) {
             return Ok(place);
         }
@@ -94,13 +97,11 @@ impl Calls {
         Ok(count)
     }
 
-    /// One goes out; its place in this table.
-    pub fn enter(&mut self, call: Call) -> Result<usize, AllocError> {
-        let place = self.free_place()?;
+    /// One takes a free place.
+    pub fn enter(&mut self, place: usize, call: Call) {
         if let Some(slot) = self.places.get_mut(place) {
             *slot = Some(call);
         }
-        Ok(place)
     }
 
     pub fn get_mut(&mut self, place: usize) -> Option<&mut Call> {
@@ -122,16 +123,16 @@ impl Calls {
         self.close_lane(lane);
     }
 
-    /// Those whose time is over end.
-    pub fn end_late(&mut self, now: Instant) {
-        for place in 0..self.places.len() {
-            let is_late = match self.places.get(place) {
-                Some(Some(call)) => call.is_late(now),
-                _ => false,
-            };
-            if is_late {
-                self.leave(place);
-            }
+    /// So many places there are.
+    pub fn len(&self) -> usize {
+        self.places.len()
+    }
+
+    /// Whether the time of one is over.
+    pub fn is_late(&self, place: usize, now: Instant) -> bool {
+        match self.places.get(place) {
+            Some(Some(call)) => call.is_late(now),
+            _ => false,
         }
     }
 }

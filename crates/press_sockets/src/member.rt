@@ -1,6 +1,6 @@
 //! A node of a cluster behind a server: its messages go out as requests, and those that come are delivered.
 
-use crate::answers::{Answers, Outgoing, Time};
+use crate::answers::{Answers, Errand, Outgoing, Time};
 use crate::gathered::words_of;
 use crate::pace::{Due, Pace};
 use crate::peers::{Peers, member_at};
@@ -101,6 +101,10 @@ fn is_proposal(message: &Message) -> bool {
     matches!(message.body, Body::Prepare { .. })
 }
 
+fn is_question(message: &Message) -> bool {
+    matches!(message.body, Body::Query)
+}
+
 fn is_refusal(message: &Message) -> bool {
     matches!(message.body, Body::Nack { .. })
 }
@@ -136,7 +140,7 @@ impl<'s, S: PromiseStore> Clustered<'s, S> {
     }
 
     // A request goes out to a member, or is lost.
-    fn put(&mut self, place: usize, bytes: Vec<u8>, round: u64) {
+    fn put(&mut self, place: usize, bytes: Vec<u8>, errand: Errand) {
         let Some(addr) = self.peers.addr(place) else {
             return;
         };
@@ -147,9 +151,11 @@ impl<'s, S: PromiseStore> Clustered<'s, S> {
             place,
             addr,
             bytes,
-            round,
+            errand,
         };
-        let _ = self.out.push_back(outgoing);
+        if self.out.push_back(outgoing).is_ok() && errand != Errand::Message {
+            self.peers.ask(place);
+        }
     }
 
     // A message goes to its member, this node itself or another, or is lost.
@@ -160,7 +166,12 @@ impl<'s, S: PromiseStore> Clustered<'s, S> {
         }
         let place = usize::from(message.to.number()).saturating_sub(1);
         if let Some(bytes) = request_of(self.alloc, &message) {
-            self.put(place, bytes, 0);
+            let errand = if is_question(&message) {
+                Errand::Question
+            } else {
+                Errand::Message
+            };
+            self.put(place, bytes, errand);
         }
     }
 
@@ -214,31 +225,34 @@ impl<'s, S: PromiseStore> Clustered<'s, S> {
         self.hear_own();
     }
 
-    // Each member is asked for its vote for a slot.
-    fn ask_for(&mut self, slot: Slot) {
+    // A member is asked for its vote for a slot.
+    fn ask_for(&mut self, to: Member, number: u64) {
         let from = self.member;
-        for place in 0..self.peers.count() {
-            if let Some(to) = member_at(place) {
-                let question = Message {
-                    from,
-                    to,
-                    slot,
-                    body: Body::Query,
-                };
-                self.send_one(question);
-            }
+        let number = u32::try_from(number).unwrap_or(u32::MAX);
+        if let Some(slot) = Slot::new(number) {
+            let question = Message {
+                from,
+                to,
+                slot,
+                body: Body::Query,
+            };
+            self.send_one(question);
         }
     }
 
-    // The members are asked for the slots that are not applied, up to this one.
+    // Each member that isn't busy is asked for the slots that are not applied, up to this one.
     fn ask(&mut self, last: u64)
         requires always { Unit {0} }
     {
         let next = self.node.applied().saturating_add(1);
-        for number in next..last.saturating_add(1) {
-            let number = u32::try_from(number).unwrap_or(u32::MAX);
-            if let Some(slot) = Slot::new(number) {
-                self.ask_for(slot);
+        for place in 0..self.peers.count() {
+            let Some(to) = member_at(place) else {
+                continue;
+            };
+            if !self.peers.is_busy(place) {
+                for number in next..last.saturating_add(1) {
+                    self.ask_for(to, number);
+                }
             }
         }
         self.hear_own();
@@ -251,9 +265,9 @@ impl<'s, S: PromiseStore> Clustered<'s, S> {
         let round = self.pace.round();
         let own = self.peers.place();
         for place in 0..self.peers.count() {
-            if place != own {
+            if place != own && !self.peers.is_busy(place) {
                 if let Some(bytes) = look_request(self.alloc) {
-                    self.put(place, bytes, round);
+                    self.put(place, bytes, Errand::Look(round));
                 }
             }
         }
@@ -333,16 +347,19 @@ impl<S: PromiseStore> Answers for Clustered<'_, S> {
         self.out.pop_front()
     }
 
-    fn called(&mut self, place: usize, round: u64, reply: &[u8]) {
-        let now = self.time.millis;
-        match applied_in(reply) {
-            Some(applied) if round > 0 => {
-                self.peers.heard(place, round, now);
-                self.pace.told(applied);
-                self.note_round();
-            }
-            _ if reply.starts_with(TAKEN) => self.peers.heard(place, 0, now),
-            _ => {}
+    fn called(&mut self, place: usize, errand: Errand, reply: &[u8]) {
+        if errand != Errand::Message {
+            self.peers.asked(place);
+        }
+        let told = applied_in(reply);
+        if told.is_some() || reply.starts_with(TAKEN) {
+            let now = self.time.millis;
+            self.peers.heard(place, now);
+        }
+        if let (Errand::Look(round), Some(applied)) = (errand, told) {
+            self.peers.told(place, round);
+            self.pace.told(applied);
+            self.note_round();
         }
     }
 

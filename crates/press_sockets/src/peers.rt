@@ -10,12 +10,17 @@ const MOST: usize = 7;
 // Who answered within so many milliseconds did so lately.
 const LATELY: u64 = 2_000;
 
+// With so many looks and questions on their way a member gets no more.
+const MOST_ASKED: u32 = 32;
+
 struct Peer {
     addr: SocketAddr,
     // When it last took a request of this node.
     heard: Option<u64>,
     // The last look in which it told how far it is.
     round: u64,
+    // So many looks and questions are on their way to it.
+    asked: u32,
 }
 
 impl Drop for Peer {
@@ -24,6 +29,7 @@ impl Drop for Peer {
             addr: _,
             heard: _,
             round: _,
+            asked: _,
         } = self;
     }
 }
@@ -73,6 +79,7 @@ impl Peers {
                 addr,
                 heard: None,
                 round: 0,
+                asked: 0,
             })?;
         }
         match Member::new(number) {
@@ -106,13 +113,39 @@ impl Peers {
         self.all.iter().any(|peer| peer.addr.ip() == ip)
     }
 
-    /// A member answered, in this look where it is one.
-    pub fn heard(&mut self, place: usize, round: u64, now: u64) {
+    /// A member answered.
+    pub fn heard(&mut self, place: usize, now: u64) {
         if let Some(peer) = self.all.get_mut(place) {
             peer.heard = Some(now);
-            if round > peer.round {
-                peer.round = round;
-            }
+        }
+    }
+
+    /// A member told how far it is, in this look.
+    pub fn told(&mut self, place: usize, round: u64) {
+        if let Some(peer) = self.all.get_mut(place) {
+            peer.round = peer.round.max(round);
+        }
+    }
+
+    /// A look or a question goes to a member.
+    pub fn ask(&mut self, place: usize) {
+        if let Some(peer) = self.all.get_mut(place) {
+            peer.asked = peer.asked.saturating_add(1);
+        }
+    }
+
+    /// One of these has ended.
+    pub fn asked(&mut self, place: usize) {
+        if let Some(peer) = self.all.get_mut(place) {
+            peer.asked = peer.asked.saturating_sub(1);
+        }
+    }
+
+    /// Whether many looks and questions are still on their way to a member: it gets no more for now, so that they don't pile up in front of its other messages.
+    pub fn is_busy(&self, place: usize) -> bool {
+        match self.all.get(place) {
+            Some(peer) => peer.asked >= MOST_ASKED,
+            None => false,
         }
     }
 

@@ -193,25 +193,33 @@ impl Server {
         call.step();
         match call.course() {
             Course::Goes => {}
-            Course::Lost => self.calls.leave(place),
+            Course::Lost => self.lose(answers, place),
             Course::Whole => {
-                answers.called(call.place(), call.round(), call.reply());
+                answers.called(call.place(), call.errand(), call.reply());
                 self.calls.leave(place);
             }
         }
     }
 
+    // A request that goes out is given up.
+    fn lose<A: Answers>(&mut self, answers: &mut A, place: usize) {
+        if let Some(call) = self.calls.get_mut(place) {
+            answers.called(call.place(), call.errand(), &[]);
+        }
+        self.calls.leave(place);
+    }
+
     // A request goes out. One that can't is lost, as a message may be.
     fn call<R: Net>(&mut self, net: &R, outgoing: Outgoing) -> io::Result<()> {
         let stream = TcpStream::connect(net, outgoing.addr)?;
-        let place = self.calls.enter(Call::new(self.alloc, stream, outgoing, self.now))?;
-        if let Some(call) = self.calls.get_mut(place) {
-            self.poll.registry().register(
-                call.stream(),
-                token_of_call(place),
-                Interest::READABLE | Interest::WRITABLE,
-            )?;
-        }
+        let mut call = Call::new(self.alloc, stream, outgoing, self.now);
+        let place = self.calls.free_place()?;
+        self.poll.registry().register(
+            call.stream(),
+            token_of_call(place),
+            Interest::READABLE | Interest::WRITABLE,
+        )?;
+        self.calls.enter(place, call);
         Ok(())
     }
 
@@ -221,15 +229,19 @@ impl Server {
             let Some(outgoing) = answers.next_call() else {
                 break;
             };
-            let _ = self.calls.add(outgoing);
+            let (place, errand) = (outgoing.place, outgoing.errand);
+            if !self.calls.add(outgoing) {
+                answers.called(place, errand, &[]);
+            }
         }
         for _ in 0..MOST_CALLED {
             let Some(outgoing) = self.calls.next() else {
                 return;
             };
-            let place = outgoing.place;
+            let (place, errand) = (outgoing.place, outgoing.errand);
             if self.call(net, outgoing).is_err() {
                 self.calls.close_lane(place);
+                answers.called(place, errand, &[]);
             }
         }
     }
@@ -266,13 +278,17 @@ impl Server {
         Ok(())
     }
 
-    fn end_late<E: Write>(&mut self, log: &mut E) {
+    fn end_late<A: Answers, E: Write>(&mut self, answers: &mut A, log: &mut E) {
         for _ in 0..self.talks.end_late(self.now, log) {
             if self.is_open() {
                 self.had_turn();
             }
         }
-        self.calls.end_late(self.now);
+        for place in 0..self.calls.len() {
+            if self.calls.is_late(place, self.now) {
+                self.lose(answers, place);
+            }
+        }
     }
 
     // The time, by both clocks.
@@ -304,7 +320,7 @@ impl Server {
             let time = self.time(rt)?;
             answers.pass(time);
             self.round(answers, &events, log)?;
-            self.end_late(log);
+            self.end_late(answers, log);
         }
         Ok(())
     }
