@@ -2,16 +2,10 @@
 //! `press loop FILE` carries over sockets; `press serve --port N --turns N` serves a node.
 #![tactic(auto)]
 
-mod boxing;
-mod commands;
-mod ending;
-mod run;
-mod task;
 #[cfg(test)]
 mod tests;
-mod wanted;
-mod words;
 
+use press_program::{fail, refuse, run};
 use press_world::ReplayFault;
 use std::process::ExitCode;
 use std::rt::{Stderr, Stdin, Stdout};
@@ -34,7 +28,7 @@ fn run_on(
     output: &mut Stdout,
     error: &mut Stderr,
 ) -> u8 {
-    run::run::<Stdin, Stdout, Stderr>(rt, words, input, output, error)
+    run::<Stdin, Stdout, Stderr>(rt, words, input, output, error)
 }
 
 fn main(rt: HostRuntime) -> ExitCode {
@@ -42,9 +36,9 @@ fn main(rt: HostRuntime) -> ExitCode {
     let status = match words_of(&rt) {
         Ok(words) => run_on(&rt, &words, &mut rt.stdin(), &mut rt.stdout(), &mut error),
         Err(e) if e.kind() == io::ErrorKind::OutOfMemory => {
-            run::fail(ReplayFault::NoMemory, &mut error)
+            fail(ReplayFault::NoMemory, &mut error)
         }
-        Err(_) => run::refuse(&mut error),
+        Err(_) => refuse(&mut error),
     };
     ExitCode::from(status)
 }

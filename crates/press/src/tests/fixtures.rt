@@ -1,4 +1,4 @@
-use crate::run::run;
+use press_program::run;
 use std::test::Fail;
 
 /// The file that stands beside the program as its input.

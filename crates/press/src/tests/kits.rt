@@ -1,6 +1,6 @@
-use crate::boxing::demonstration_kit;
 use press_callbacks::{BoxedTurns, CallIn, Kit, Stored, script_turn};
 use press_demonstration::{grow, grow_turn, parts};
+use press_program::demonstration_kit;
 use std::test::Fail;
 
 // The demonstration kit, made twice, is the same kit.

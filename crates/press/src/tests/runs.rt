@@ -1,6 +1,6 @@
-use crate::run::run;
 use crate::tests::fakes::{Endless, Failing, Narrow};
 use crate::tests::fixtures::{LETTERS, ran};
+use press_program::run;
 use press_kit::FILE_LIMIT;
 use std::alloc::Global;
 use std::test::Fail;

@@ -1,8 +1,0 @@
-use Rattle.std.proofs.Common.{rules, map, string_bytes}
-use Rattle.press_demonstration.specs.Demonstration.{demonstration}
-use Rattle.press.specs.Words.{asked_by}
-use Rattle.press.proofs.Wanting.{no_memory}
-use Rattle.press.proofs.run.run.Goals as goal
-
-pub returns-in_default-clause-runs : goal.returns-in_default-clause-runs
-returns-in_default-clause-runs g c = no_memory demonstration (asked_by (map string_bytes c.args.words.now)) _ _ _ _ _ c.fail.ensures.status (search rules) c.fail.ensures.told

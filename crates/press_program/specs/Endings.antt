@@ -1,0 +1,140 @@
+-- What the program does for its words and its input (own).
+use Rattle.std.specs.Prelude.{◌≡◌, ◌⊎◌, ℕ, List, map, nat_eq, if◌then◌else◌, false, Option, Some, None, Result, Ok, Err, codes}
+use Rattle.std.specs.Io.KnownBytes.{Appends, Keeps}
+use Rattle.press_callbacks.specs.Kits.{KitView}
+use Rattle.press_apply.specs.declared.command.Stamped.{Stamped}
+use Rattle.press_apply.specs.declared.value.Value.TheVariants.{Cmd}
+use Rattle.press_apply.specs.Apply.{site_after}
+use Rattle.press_page.specs.declared.reply.Reply.{Reply}
+use Rattle.press_page.specs.declared.reply.Target.{Target}
+use Rattle.press_page.specs.Page.{page_of}
+use Rattle.press_world.specs.ReadingFiles.{Has}
+use Rattle.press_world.specs.Replays.{Replays, transcript}
+use Rattle.press_world.specs.ScheduleFile.{schedule_in}
+use Rattle.press_world.specs.declared.replay_fault.ReplayFault.TheVariants.{NoMemory, ReadFault, WriteFault, BadSchedule}
+use Rattle.press_world.specs.declared.replay_fault.ReplayFault.{ReplayFault}
+use Rattle.press_program.specs.declared.ending.Ending.{Ending}
+use Rattle.press_program.specs.declared.ending.Ending.TheVariants.{Printed, Replayed, Fault}
+use Rattle.press_kit.specs.declared.place.Place.{Place}
+use Rattle.press_kit.specs.SiteFile.{site_in}
+use Rattle.press_sockets.specs.Listening.{Where, listening_line}
+use Rattle.press_sockets.specs.Loops.{Loops}
+use Rattle.press_program.specs.Words.{Asked, OfFile, of_file, serve, is_input}
+use Rattle.press_program.specs.declared.task.Task.{Task}
+use Rattle.press_program.specs.declared.task.Task.TheVariants.{Page, Replay, Loop}
+use Rattle.press_text.specs.Streams.{AppendsFront}
+
+-- 0 for a page, 1 for any other reply
+abbrev pub exit_status : ℕ → ℕ
+exit_status status = if nat_eq status 200 then 0 else 1
+
+abbrev pub printed : Reply → Ending
+printed reply = Printed (exit_status reply.status) reply.body
+
+-- the end of a run on a file, where nothing outside fails: the reply to what is asked, after its commands
+abbrev pub page_ending : KitView → Target → Result (List Stamped) Place → Ending
+page_ending kit target (Err place) = Fault BadSchedule
+page_ending kit target (Ok commands) = printed (page_of kit (site_after kit (map (λ c. Cmd c) commands)) target)
+
+-- a fault ends a run as well
+abbrev pub ending_of : Result Ending ReplayFault → Ending
+ending_of (Ok end) = end
+ending_of (Err fault) = Fault fault
+
+-- want of memory and failed reads come from outside, and may come at any run
+abbrev pub IsOutside : Ending → Type 0
+IsOutside (Printed status body) = ⊥
+IsOutside Replayed = ⊥
+IsOutside (Fault NoMemory) = Unit {0}
+IsOutside (Fault ReadFault) = Unit {0}
+IsOutside (Fault WriteFault) = ⊥
+IsOutside (Fault BadSchedule) = ⊥
+
+abbrev pub EndsPage : KitView → Target → Ending → List ℕ → Type 0
+EndsPage kit target end input = (end ≡ page_ending kit target (site_in input)) ⊎ IsOutside end
+
+-- The end of a page's run on the bytes that a reader has left.
+unfoldable pub EndsOn : KitView → Target → Option (List ℕ) → Ending → Type 0
+EndsOn kit target remaining end = (input : List ℕ) × Has remaining input × EndsPage kit target end input
+
+abbrev pub replayed : Result (Unit {0}) ReplayFault
+replayed = Ok tt
+
+abbrev pub failed : ReplayFault → Result (Unit {0}) ReplayFault
+failed fault = Err fault
+
+-- The end of a replay of the schedule that a reader has left, over at most so many nodes of this kit, and what it has put on the output: the transcript, or
+-- a front of it where a write failed or memory was wanting; nothing where the file is bad or couldn't be read.
+unfoldable pub EndsReplay : KitView → ℕ → Option (List ℕ) → Option (List ℕ) → Option (List ℕ) → Ending → Type 0
+EndsReplay kit kits remaining out out' (Printed status body) = ⊥
+EndsReplay kit kits remaining out out' Replayed = Replays (schedule_in kits) (transcript kit) remaining out out' replayed
+EndsReplay kit kits remaining out out' (Fault fault) = Replays (schedule_in kits) (transcript kit) remaining out out' (failed fault)
+
+-- The same where the steps come over sockets, any of which may fail: then a front of the transcript is left.
+unfoldable pub EndsLoop : KitView → ℕ → Option (List ℕ) → Option (List ℕ) → Option (List ℕ) → Ending → Type 0
+EndsLoop kit kits remaining out out' (Printed status body) = ⊥
+EndsLoop kit kits remaining out out' Replayed = Loops (schedule_in kits) (transcript kit) remaining out out' replayed
+EndsLoop kit kits remaining out out' (Fault fault) = Loops (schedule_in kits) (transcript kit) remaining out out' (failed fault)
+
+-- how many kits are made for it
+abbrev pub kits_for : Task → ℕ
+kits_for (Page target) = 1
+kits_for Replay = 7
+kits_for Loop = 7
+
+-- The end for what is asked, and the output by then: a page is yet to be printed.
+abbrev pub EndsTask : KitView → Task → Option (List ℕ) → Option (List ℕ) → Option (List ℕ) → Ending → Type 0
+EndsTask kit (Page target) remaining out out' end = EndsOn kit target remaining end × (out' ≡ out)
+EndsTask kit Replay remaining out out' end = EndsReplay kit (kits_for Replay) remaining out out' end
+EndsTask kit Loop remaining out out' end = EndsLoop kit (kits_for Loop) remaining out out' end
+
+-- What is known of a file's bytes: on the standard input, what that tells. A file that is opened by its name has some bytes.
+abbrev pub known_of : List ℕ → Option (List ℕ) → Option (List ℕ)
+known_of file remaining = if is_input file then remaining else None
+
+abbrev pub fault_line : ReplayFault → List ℕ
+fault_line NoMemory = codes "press: fault 0\n"
+fault_line ReadFault = codes "press: fault 40\n"
+fault_line WriteFault = codes "press: fault 42\n"
+fault_line BadSchedule = codes "press: fault 72\n"
+
+abbrev pub usage_line : List ℕ
+usage_line = codes "press: usage\n"
+
+-- What is written of an ending: a body goes to the output, and nothing after a transcript; for a fault, or where the output has failed, which may be at any run, a line goes to
+-- the errors, as far as they take it.
+abbrev pub Finishes : Ending → ℕ → Option (List ℕ) → Option (List ℕ) → Option (List ℕ) → Option (List ℕ) → Type 0
+Finishes (Printed status body) result out out' err err' =
+    ((result ≡ status) × Appends out out' body × Keeps err err')
+    ⊎ ((result ≡ 2) × AppendsFront out out' body × AppendsFront err err' (fault_line WriteFault))
+Finishes Replayed result out out' err err' = (result ≡ 0) × Keeps out out' × Keeps err err'
+Finishes (Fault fault) result out out' err err' = (result ≡ 2) × Keeps out out' × AppendsFront err err' (fault_line fault)
+
+-- Refused words: the usage, or want of memory to read them.
+abbrev pub TellsUsage : ℕ → Option (List ℕ) → Option (List ℕ) → Option (List ℕ) → Option (List ℕ) → Type 0
+TellsUsage result out out' err err' = (result ≡ 2) × Keeps out out' × (AppendsFront err err' usage_line ⊎ AppendsFront err err' (fault_line NoMemory))
+
+-- What refused words come to, whatever there is to read: nothing is read.
+abbrev pub RefusesWords : Option Asked → ℕ → Option (List ℕ) → Option (List ℕ) → Option (List ℕ) → Option (List ℕ) → Option (List ℕ) → Option (List ℕ) → Type 0
+RefusesWords (Some asked) result input input' out out' err err' = Unit {0}
+RefusesWords None result input input' out out' err err' = Keeps input input' × TellsUsage result out out' err err'
+
+-- The standard input is read only where it is asked for. A server reads nothing of it.
+abbrev pub ReadsAsked : Option Asked → Option (List ℕ) → Option (List ℕ) → Type 0
+ReadsAsked None input input' = Keeps input input'
+ReadsAsked (Some (of_file wanted)) input input' = is_input wanted.0 ≡ false → Keeps input input'
+ReadsAsked (Some (serve server)) input input' = Keeps input input'
+
+-- A run for what is asked of a file: its end, with the output by then, and what is written of that.
+abbrev pub Shows : KitView → OfFile → Option (List ℕ) → ℕ → Option (List ℕ) → Option (List ℕ) → Option (List ℕ) → Option (List ℕ) → Type 0
+Shows kit wanted remaining result out out' err err' = (end : Ending) × (by_then : Option (List ℕ)) × EndsTask kit wanted.1 (known_of wanted.0 remaining) out by_then end × Finishes end result by_then out' err err'
+
+-- A server's run: what it told on the output, as far as that took it. Sockets tell nothing of their bytes, and its lines on the errors tell of them.
+abbrev pub Listens : Where → ℕ → Option (List ℕ) → Option (List ℕ) → Type 0
+Listens place result out out' = ((result ≡ 0) ⊎ (result ≡ 2)) × AppendsFront out out' (listening_line place)
+
+-- A run for what is asked.
+abbrev pub Runs : KitView → Option Asked → Option (List ℕ) → ℕ → Option (List ℕ) → Option (List ℕ) → Option (List ℕ) → Option (List ℕ) → Type 0
+Runs kit None remaining result out out' err err' = TellsUsage result out out' err err'
+Runs kit (Some (of_file wanted)) remaining result out out' err err' = Shows kit wanted remaining result out out' err err'
+Runs kit (Some (serve server)) remaining result out out' err err' = Listens server.place result out out'

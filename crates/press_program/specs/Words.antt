@@ -1,0 +1,194 @@
+-- What the words after the program's name ask for: `page FILE TARGET`, `replay FILE`, `loop FILE`, or `serve` with words by their names, as `clap` reads words; without any,
+-- post 1 of the standard input (own).
+use Rattle.std.specs.Prelude.{ℕ, List, [], ◌∷◌, ◌&&◌, Bool, true, bytes_eq, nat_le, if◌then◌else◌, Option, Some, None, option_and_then, option_map, codes}
+use Rattle.clap.specs.Kinds.{Kinds}
+use Rattle.clap.specs.Words.{App, Row, Rule, Text, fault_of, first_of, new_app, new_rule, subcommand_of, with_rule, with_subcommand}
+use Rattle.press_page.specs.declared.reply.Target.TheVariants.{Post}
+use Rattle.press_page.specs.Targets.{target_in}
+use Rattle.press_text.specs.Decimals.{decimal_in}
+use Rattle.press_program.specs.declared.wanted.Asked as declared
+use Rattle.press_program.specs.declared.wanted.Asked.TheVariants as told
+use Rattle.press_sockets.specs.Listening.Where.{alone_at, member_of}
+use Rattle.press_sockets.specs.Listening.{Where}
+use Rattle.press_sockets.specs.declared.setup.Place.TheVariants.{Alone, Member}
+use Rattle.press_sockets.specs.declared.setup.Place.{Place}
+use Rattle.press_sockets.specs.declared.setup.Setup.{Setup}
+use Rattle.press_program.specs.declared.wanted.Wanted.{Wanted}
+use Rattle.press_program.specs.declared.task.Task.{Task}
+use Rattle.press_program.specs.declared.task.Task.TheVariants.{Page, Replay, Loop}
+
+infixl 10 ◌>>=◌
+abbrev pub ◌>>=◌ : {A B : Type 0} → Option A → (A → Option B) → Option B
+None >>= f = None
+(Some x) >>= f = f x
+
+-- ---- the program, as it is told to `clap`
+
+-- a word that has to be there
+abbrev pub needed : Text → Rule
+needed id = record (new_rule id) { required = true }
+
+-- a word behind `--NAME`, which may be there
+abbrev pub named : Text → Rule
+named id = record (new_rule id) { long = Some id }
+
+-- a command without a call for help
+abbrev pub helpless : Text → App
+helpless name = record { top = record (new_app name).top { disable_help_flag = true }; subs = [] }
+
+abbrev pub page_words : App
+page_words = with_rule (with_rule (helpless (codes "page")) (needed (codes "FILE"))) (needed (codes "TARGET"))
+
+-- a command with a file alone
+abbrev pub file_words : Text → App
+file_words name = with_rule (helpless name) (needed (codes "FILE"))
+
+-- where a server stands
+abbrev pub place_words : App
+place_words =
+    with_rule (with_rule (with_rule (with_rule (helpless (codes "serve")) (named (codes "port"))) (named (codes "id"))) (named (codes "peers"))) (named (codes "tick"))
+
+abbrev pub serve_words : App
+serve_words =
+    with_rule (with_rule (with_rule (with_rule place_words (named (codes "store"))) (named (codes "turns"))) (named (codes "editor"))) (named (codes "ahead"))
+
+abbrev pub bare : App
+bare = record {
+  top = record (new_app (codes "press")).top { no_binary_name = true; disable_help_flag = true; disable_help_subcommand = true; subcommand_required = true };
+  subs = [];
+}
+
+unfoldable pub program : App
+program = with_subcommand (with_subcommand (with_subcommand (with_subcommand bare page_words.top) (file_words (codes "replay")).top) (file_words (codes "loop")).top) serve_words.top
+
+-- ---- what is asked for
+
+-- a file, and what is asked of it
+abbrev pub OfFile : Type 0
+OfFile = List ℕ × Task
+
+-- a server: where it stands, with the milliseconds of its tick; for so many connections, or until it is ended; over the store in a file, or in memory; with the file of a page for
+-- editors; and how many seconds ahead a command may be
+pub record Server : Type 0 where
+  pub place : Where
+  pub tick : ℕ
+  pub turns : Option ℕ
+  pub store : Option (List ℕ)
+  pub editor : Option (List ℕ)
+  pub ahead : Option ℕ
+
+pub data Asked : Type 0 where
+  of_file : OfFile → Asked
+  serve : Server → Asked
+
+abbrev pub page_in : List Row → Option OfFile
+page_in rows = do
+  file ← first_of (codes "FILE") rows
+  text ← first_of (codes "TARGET") rows
+  target ← target_in text
+  Some (file, Page target)
+
+-- what is asked of the file that is named
+abbrev pub file_in : Task → List Row → Option OfFile
+file_in task rows = do
+  file ← first_of (codes "FILE") rows
+  Some (file, task)
+
+abbrev pub if_within : ℕ → ℕ → ℕ → Option ℕ
+if_within least most n = if nat_le least n && nat_le n most then Some n else None
+
+-- digits alone, from a least to a most
+abbrev pub number_in : ℕ → ℕ → Text → Option ℕ
+number_in least most text = decimal_in text >>= if_within least most
+
+-- a number that may be told
+abbrev pub perhaps_number : ℕ → ℕ → Option Text → Option (Option ℕ)
+perhaps_number least most None = Some None
+perhaps_number least most (Some text) = option_map (λ n. Some n) (number_in least most text)
+
+abbrev pub tick_in : Option Text → Option ℕ
+tick_in None = Some 300
+tick_in (Some text) = number_in 10 60000 text
+
+-- something, where the word isn't there
+abbrev pub without : {A : Type 0} → Option Text → Option A → Option A
+without None found = found
+without (Some word) found = None
+
+-- with a port a node by itself, which has no word of a member
+abbrev pub alone_by : Text → List Row → Option (Where × ℕ)
+alone_by port rows =
+    without (first_of (codes "id") rows) (without (first_of (codes "peers") rows) (without (first_of (codes "tick") rows) (option_map (λ n. (alone_at n, 0)) (number_in 1 65535 port))))
+
+-- else a member of a cluster, which needs a store in a file
+abbrev pub member_by : List Row → Option (Where × ℕ)
+member_by rows = do
+  id ← first_of (codes "id") rows
+  number ← number_in 1 7 id
+  peers ← first_of (codes "peers") rows
+  store ← first_of (codes "store") rows
+  tick ← tick_in (first_of (codes "tick") rows)
+  Some (member_of number peers, tick)
+
+abbrev pub place_by : Option Text → List Row → Option (Where × ℕ)
+place_by (Some port) rows = alone_by port rows
+place_by None rows = member_by rows
+
+abbrev pub server_in : List Row → Option Server
+server_in rows = do
+  place ← place_by (first_of (codes "port") rows) rows
+  turns ← perhaps_number 0 1000000 (first_of (codes "turns") rows)
+  ahead ← perhaps_number 0 4294967295 (first_of (codes "ahead") rows)
+  Some (record {
+    place = place.0;
+    tick = place.1;
+    turns = turns;
+    store = first_of (codes "store") rows;
+    editor = first_of (codes "editor") rows;
+    ahead = ahead;
+  })
+
+-- by the name of the subcommand
+abbrev pub asked_in : Text → List Row → Option Asked
+asked_in name rows =
+    if bytes_eq name (codes "page") then option_map of_file (page_in rows) else
+    (if bytes_eq name (codes "replay") then option_map of_file (file_in Replay rows) else
+    (if bytes_eq name (codes "loop") then option_map of_file (file_in Loop rows) else
+    (if bytes_eq name (codes "serve") then option_map serve (server_in rows) else None)))
+
+-- nothing where `clap` has a fault to tell
+abbrev pub asked_where : Kinds → Option (Text × List Row) → Option Asked
+asked_where [] found = option_and_then (λ p. asked_in p.0 p.1) found
+asked_where (k ∷ ks) found = None
+
+abbrev pub asked_by : List Text → Option Asked
+asked_by [] = Some (of_file (codes "-", Page (Post 1)))
+asked_by (w ∷ ws) = asked_where (fault_of program (w ∷ ws)) (subcommand_of program (w ∷ ws))
+
+-- `-` is the standard input
+abbrev pub is_input : List ℕ → Bool
+is_input file = bytes_eq file (codes "-")
+
+-- ---- as it stands in memory
+
+abbrev pub wanted_of : Wanted → OfFile
+wanted_of w = (w.file.now, w.task)
+
+-- a node by itself has no tick
+abbrev pub place_of : Place → Where × ℕ
+place_of (Alone port) = (alone_at port, 0)
+place_of (Member id peers tick) = (member_of id peers.now, tick)
+
+abbrev pub server_of : Setup → Server
+server_of s = record {
+  place = (place_of s.place).0;
+  tick = (place_of s.place).1;
+  turns = s.turns;
+  store = option_map (λ file. file.now) s.store;
+  editor = option_map (λ file. file.now) s.editor;
+  ahead = s.ahead;
+}
+
+abbrev pub asked_of : declared.Asked → Asked
+asked_of (told.OfFile w) = of_file (wanted_of w)
+asked_of (told.Serve s) = serve (server_of s)

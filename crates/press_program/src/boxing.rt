@@ -1,0 +1,20 @@
+//! The demonstration kit, whose closures are boxed where it is made: a box may not be handed out, so a macro makes it, and no function.
+
+/// A kit, or the fault of its making. Whoever calls it brings in the names that stand here; want of memory goes on by `?`.
+#[macro_export]
+macro_rules! demonstration_kit {
+    ($alloc:ident) => {{
+        let parts = parts($alloc)?;
+        let mut callbacks: Vec<Stored> = Vec::new($alloc);
+        let call: BoxedTurns = Box::new($alloc, move |input: &CallIn| grow_turn($alloc, input))?;
+        callbacks.push(Stored::new(grow(), parts.growing, call))?;
+        for scripted in parts.played {
+            let own = scripted.own;
+            let call: BoxedTurns = Box::new($alloc, move |input: &CallIn| {
+                script_turn($alloc, &own, input)
+            })?;
+            callbacks.push(Stored::new(scripted.id, scripted.script, call))?;
+        }
+        Kit::build($alloc, callbacks, parts.plugins)
+    }};
+}

@@ -1,0 +1,274 @@
+//! The words of the program, by `clap`.
+
+ghost use Rattle.std.specs.Prelude.{◌≡◌, ◌≢◌, ◌≤◌, IfOk, IfSome, None, codes, false, map, option_and_then, option_map, string_bytes};
+ghost use Rattle.clap.specs.Words.{FailsBy, app_of, fault_of, first_of, found_of, rows_of, subcommand_of, subcommand_rows_of};
+ghost use Rattle.clap.specs.declared.builder.command.Command.TheViews.{out-Command};
+ghost use Rattle.clap.specs.Values.{kind_of};
+ghost use Rattle.press_program.specs.Words as spec;
+
+use crate::task::Task;
+use crate::wanted::{Asked, Wanted};
+use clap::error::ErrorKind;
+use clap::{Arg, ArgMatches, Command, Error};
+use press_page::Target;
+use press_sockets::{Place, Setup};
+use press_text::dec_u64;
+use std::alloc::{AllocError, Global};
+
+fn page_words<'a>(alloc: Global) -> Result<Command<'a>, AllocError>
+    ensures app { IfOk result (λ c. app_of c ≡ spec.page_words) }
+    ensures local { IfOk result (λ c. (out-Command c).has_globals ≡ false) }
+{
+    let file = Arg::new(alloc, "FILE").required(true);
+    let target = Arg::new(alloc, "TARGET").required(true);
+    let page = Command::new(alloc, "page")
+        .disable_help_flag(true)
+        .arg(file)?
+        .arg(target)?;
+    Ok(page)
+}
+
+// A command with a file alone.
+fn file_words<'a>(alloc: Global, name: &'a str) -> Result<Command<'a>, AllocError>
+    ensures app { IfOk result (λ c. app_of c ≡ spec.file_words name.now) }
+    ensures local { IfOk result (λ c. (out-Command c).has_globals ≡ false) }
+{
+    let file = Arg::new(alloc, "FILE").required(true);
+    let named = Command::new(alloc, name).disable_help_flag(true).arg(file)?;
+    Ok(named)
+}
+
+// The words of where a server stands.
+fn place_words<'a>(alloc: Global) -> Result<Command<'a>, AllocError>
+    ensures app { IfOk result (λ c. app_of c ≡ spec.place_words) }
+    ensures local { IfOk result (λ c. (out-Command c).has_globals ≡ false) }
+{
+    let port = Arg::new(alloc, "port").long("port");
+    let id = Arg::new(alloc, "id").long("id");
+    let peers = Arg::new(alloc, "peers").long("peers");
+    let tick = Arg::new(alloc, "tick").long("tick");
+    let serve = Command::new(alloc, "serve")
+        .disable_help_flag(true)
+        .arg(port)?
+        .arg(id)?
+        .arg(peers)?
+        .arg(tick)?;
+    Ok(serve)
+}
+
+fn serve_words<'a>(alloc: Global) -> Result<Command<'a>, AllocError>
+    ensures app { IfOk result (λ c. app_of c ≡ spec.serve_words) }
+    ensures local { IfOk result (λ c. (out-Command c).has_globals ≡ false) }
+{
+    let store = Arg::new(alloc, "store").long("store");
+    let turns = Arg::new(alloc, "turns").long("turns");
+    let editor = Arg::new(alloc, "editor").long("editor");
+    let ahead = Arg::new(alloc, "ahead").long("ahead");
+    let place = place_words(alloc)?;
+    let serve = place.arg(store)?.arg(turns)?.arg(editor)?.arg(ahead)?;
+    Ok(serve)
+}
+
+// What the words come to, as `clap` reads them.
+fn parsed<'a>(alloc: Global, words: &'a [String]) -> Result<ArgMatches<'a>, Error>
+    ensures kinds { FailsBy (fault_of spec.program (map string_bytes words.entry.now)) result }
+    ensures matches { IfOk result (λ m. subcommand_rows_of m ≡ subcommand_of spec.program (map string_bytes words.entry.now)) }
+{
+    let page = page_words(alloc)?;
+    let replay = file_words(alloc, "replay")?;
+    let looped = file_words(alloc, "loop")?;
+    let serve = serve_words(alloc)?;
+    let program = Command::new(alloc, "press")
+        .no_binary_name(true)
+        .disable_help_flag(true)
+        .disable_help_subcommand(true)
+        .subcommand_required(true)
+        .subcommand(page)?
+        .subcommand(replay)?
+        .subcommand(looped)?
+        .subcommand(serve)?;
+    program.try_get_matches_from(words)
+}
+
+#[tactic(auto, using(crate::proofs::FirstValue::first_is))]
+fn page_in<'a>(alloc: Global, inside: &ArgMatches<'a>) -> Result<Option<Wanted<'a>>, AllocError>
+    ensures { IfOk result (λ w. option_map (λ w. spec.wanted_of w) w ≡ spec.page_in (rows_of (found_of inside.now))) }
+{
+    let (Some(file), Some(text)) = (inside.get_str("FILE"), inside.get_str("TARGET")) else {
+        return Ok(None);
+    };
+    let target = Target::from_text(alloc, text)?;
+    Ok(target.map(|target| Wanted {
+        file,
+        task: Task::Page(target),
+    }))
+}
+
+#[tactic(auto, using(crate::proofs::FirstValue::first_is))]
+fn file_in<'a>(inside: &ArgMatches<'a>, task: Task) -> Option<Wanted<'a>>
+    ensures { option_map (λ w. spec.wanted_of w) result ≡ spec.file_in task (rows_of (found_of inside.now)) }
+{
+    let file = inside.get_str("FILE")?;
+    Some(Wanted { file, task })
+}
+
+// The number that digits alone spell, from a least to a most.
+fn number_in(text: &str, least: u32, most: u32) -> Option<u32>
+    ensures value { result ≡ spec.number_in least most text.now }
+    ensures most { IfSome result (λ n. n ≤ most) }
+{
+    match dec_u64(text) {
+        Some(n) if u64::from(least) <= n && n <= u64::from(most) => Some(n as u32),
+        _ => None,
+    }
+}
+
+fn port_in(text: &str) -> Option<u16>
+    ensures { result ≡ spec.number_in 1 65535 text.now }
+{
+    match number_in(text, 1, 65_535) {
+        Some(n) => Some(n as u16),
+        None => None,
+    }
+}
+
+fn perhaps_number(text: Option<&str>, least: u32, most: u32) -> Option<Option<u32>>
+    ensures { result ≡ spec.perhaps_number least most (option_map (λ t. t.now) text.entry) }
+{
+    match text {
+        None => Some(None),
+        Some(text) => Some(Some(number_in(text, least, most)?)),
+    }
+}
+
+fn tick_in(text: Option<&str>) -> Option<u32>
+    ensures { result ≡ spec.tick_in (option_map (λ t. t.now) text.entry) }
+{
+    match text {
+        None => Some(300),
+        Some(text) => number_in(text, 10, 60_000),
+    }
+}
+
+fn id_in(text: &str) -> Option<u8>
+    ensures { result ≡ spec.number_in 1 7 text.now }
+{
+    match number_in(text, 1, 7) {
+        Some(n) => Some(n as u8),
+        None => None,
+    }
+}
+
+#[tactic(auto, using(crate::proofs::FirstValue::first_is))]
+fn alone_in<'a>(inside: &ArgMatches<'a>, port: &str) -> Option<Place<'a>>
+    ensures { option_map (λ p. spec.place_of p) result
+        ≡ spec.alone_by port.now (rows_of (found_of inside.now)) }
+{
+    let (None, None, None) = (
+        inside.get_str("id"),
+        inside.get_str("peers"),
+        inside.get_str("tick"),
+    ) else {
+        return None;
+    };
+    let port = port_in(port)?;
+    Some(Place::Alone { port })
+}
+
+#[tactic(auto, using(crate::proofs::FirstValue::first_is))]
+fn member_in<'a>(inside: &ArgMatches<'a>) -> Option<Place<'a>>
+    ensures { option_map (λ p. spec.place_of p) result
+        ≡ spec.member_by (rows_of (found_of inside.now)) }
+{
+    let id = id_in(inside.get_str("id")?)?;
+    let peers = inside.get_str("peers")?;
+    let _store = inside.get_str("store")?;
+    let tick = tick_in(inside.get_str("tick"))?;
+    Some(Place::Member { id, peers, tick })
+}
+
+#[tactic(auto, using(crate::proofs::FirstValue::first_is))]
+fn place_in<'a>(inside: &ArgMatches<'a>) -> Option<Place<'a>>
+    ensures { option_map (λ p. spec.place_of p) result
+        ≡ spec.place_by (first_of (codes "port") (rows_of (found_of inside.now))) (rows_of (found_of inside.now)) }
+{
+    match inside.get_str("port") {
+        Some(port) => alone_in(inside, port),
+        None => member_in(inside),
+    }
+}
+
+#[tactic(auto, using(crate::proofs::FirstValue::first_is))]
+fn server_in<'a>(inside: &ArgMatches<'a>) -> Option<Setup<'a>>
+    ensures { option_map (λ s. spec.server_of s) result ≡ spec.server_in (rows_of (found_of inside.now)) }
+{
+    let place = place_in(inside)?;
+    let turns = perhaps_number(inside.get_str("turns"), 0, 1_000_000)?;
+    let ahead = perhaps_number(inside.get_str("ahead"), 0, u32::MAX)?;
+    Some(Setup {
+        place,
+        turns,
+        store: inside.get_str("store"),
+        editor: inside.get_str("editor"),
+        ahead,
+    })
+}
+
+fn wanted_in<'a>(
+    alloc: Global,
+    name: &str,
+    inside: &ArgMatches<'a>,
+) -> Result<Option<Asked<'a>>, AllocError>
+    ensures { IfOk result (λ a. option_map (λ a. spec.asked_of a) a ≡ spec.asked_in name.now (rows_of (found_of inside.now))) }
+{
+    if name == "page" {
+        let wanted = page_in(alloc, inside)?;
+        Ok(wanted.map(Asked::OfFile))
+    } else if name == "replay" {
+        Ok(file_in(inside, Task::Replay).map(Asked::OfFile))
+    } else if name == "loop" {
+        Ok(file_in(inside, Task::Loop).map(Asked::OfFile))
+    } else if name == "serve" {
+        Ok(server_in(inside).map(Asked::Serve))
+    } else {
+        Ok(None)
+    }
+}
+
+// What `clap` has found.
+fn found_in<'a>(alloc: Global, matches: &ArgMatches<'a>) -> Result<Option<Asked<'a>>, AllocError>
+    ensures { IfOk result (λ a. option_map (λ a. spec.asked_of a) a
+        ≡ option_and_then (λ p. spec.asked_in p.0 p.1) (subcommand_rows_of matches.now)) }
+{
+    match matches.subcommand() {
+        Some((name, inside)) => wanted_in(alloc, name, inside),
+        None => Ok(None),
+    }
+}
+
+// Nothing is asked, or memory was wanting.
+fn untold<'a>(e: Error) -> Result<Option<Asked<'a>>, AllocError>
+    ensures { IfOk result (λ a. (a ≡ None) × (kind_of e ≢ ErrorKind.OutOfMemory)) }
+{
+    if e.kind() == ErrorKind::OutOfMemory {
+        Err(AllocError)
+    } else {
+        Ok(None)
+    }
+}
+
+/// What the words after the program's name ask for, or nothing where they are refused.
+pub fn read_words<'a>(alloc: Global, words: &'a [String]) -> Result<Option<Asked<'a>>, AllocError>
+    ensures { IfOk result (λ a. option_map (λ a. spec.asked_of a) a ≡ spec.asked_by (map string_bytes words.entry.now)) }
+{
+    if words.is_empty() {
+        return Ok(Some(Asked::OfFile(Wanted {
+            file: "-",
+            task: Task::Page(Target::Post(1)),
+        })));
+    }
+    match parsed(alloc, words) {
+        Ok(matches) => found_in(alloc, &matches),
+        Err(e) => untold(e),
+    }
+}
