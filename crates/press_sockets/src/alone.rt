@@ -30,12 +30,7 @@ impl<S: PromiseStore + Drop> Drop for Alone<'_, S> {
 }
 
 impl<'s, S: PromiseStore> Alone<'s, S> {
-    pub fn new(
-        alloc: Global,
-        addr: SocketAddr,
-        node: Node<S>,
-        screen: &'s Screen,
-    ) -> Alone<'s, S> {
+    pub fn new(alloc: Global, addr: SocketAddr, node: Node<S>, screen: &'s Screen) -> Alone<'s, S> {
         let time = Time {
             millis: 0,
             seconds: 0,

@@ -37,12 +37,7 @@ pub trait Answers {
     fn addr(&self) -> SocketAddr;
 
     /// The reply to a request goes to `told`; its status. Ended where the request isn't whole.
-    fn answer(
-        &mut self,
-        from: IpAddr,
-        request: &[u8],
-        told: &mut Vec<u8>,
-    ) -> Result<u16, HttpFault>
+    fn answer(&mut self, from: IpAddr, request: &[u8], told: &mut Vec<u8>) -> Result<u16, HttpFault>
         requires always { Unit {0} };
 
     /// The next request that goes out, where one waits.

@@ -4,7 +4,9 @@ use crate::answers::{Answers, Errand, Outgoing, Time};
 use crate::gathered::words_of;
 use crate::pace::{Due, Pace};
 use crate::peers::{Peers, member_at};
-use crate::screen::{Screen, Sort, Standing, not_found, refuse_for_now, refuse_form, show_ready, sort_of};
+use crate::screen::{
+    Screen, Sort, Standing, not_found, refuse_for_now, refuse_form, show_ready, sort_of,
+};
 use press_acceptor::PromiseStore;
 use press_http::HttpFault;
 use press_node::{Event, Node, Served, serve_one};
@@ -321,12 +323,7 @@ impl<S: PromiseStore> Answers for Clustered<'_, S> {
         }
     }
 
-    fn answer(
-        &mut self,
-        from: IpAddr,
-        request: &[u8],
-        told: &mut Vec<u8>,
-    ) -> Result<u16, HttpFault>
+    fn answer(&mut self, from: IpAddr, request: &[u8], told: &mut Vec<u8>) -> Result<u16, HttpFault>
         requires always { Unit {0} }
     {
         let is_peer = self.peers.has(from);

@@ -115,7 +115,8 @@ fn tell(told: &mut Vec<u8>, line: &[u8]) -> Result<(), HttpFault> {
     }
 }
 
-const LATER: &str = "HTTP/1.1 503 Service Unavailable\r\nContent-Type: text/plain; charset=UTF-8\r\nContent-Length: 14\r\nRetry-After: 1\r\nConnection: close\r\n\r\nnot ready yet\n";
+const LATER: &str =
+    "HTTP/1.1 503 Service Unavailable\r\nContent-Type: text/plain; charset=UTF-8\r\nContent-Length: 14\r\nRetry-After: 1\r\nConnection: close\r\n\r\nnot ready yet\n";
 
 /// The node isn't ready yet.
 pub fn refuse_for_now(told: &mut Vec<u8>) -> Result<u16, HttpFault> {
@@ -155,7 +156,9 @@ pub fn show_ready(
         applied,
         near,
     } = standing;
-    let body = format!(in alloc; "{{\"ready\":{is_ready},\"applied\":{applied},\"members\":[{near}]}}\n")?;
+    let body = format!(in alloc;
+        "{{\"ready\":{is_ready},\"applied\":{applied},\"members\":[{near}]}}\n"
+    )?;
     let head = ready_head(alloc, is_ready, body.len())?;
     tell(told, head.as_bytes())?;
     tell(told, body.as_bytes())?;

@@ -112,11 +112,7 @@ struct Start<'a> {
 
 // Tells that it listens.
 #[tactic(auto, using(crate::proofs::Fronts::nothing))]
-fn announce<W: Write>(
-    alloc: Global,
-    place: &Place<'_>,
-    writer: &mut W,
-) -> Result<(), ServeFault>
+fn announce<W: Write>(alloc: Global, place: &Place<'_>, writer: &mut W) -> Result<(), ServeFault>
     ensures { AppendsFront (W.contents writer.old) (W.contents writer.new)
         (listening_line (where_of place.now)) }
 {

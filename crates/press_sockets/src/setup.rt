@@ -2,7 +2,9 @@
 #[derive(Clone, Copy, Debug)]
 pub enum Place<'a> {
     /// A node by itself, which listens at a port of 127.0.0.1.
-    Alone { port: u16 },
+    Alone {
+        port: u16,
+    },
     /// The member of that number among those whose addresses the text names, with commas between; it listens at its own.
     Member {
         id: u8,

@@ -149,12 +149,7 @@ impl Talk {
     }
 
     // What came is looked at, where that is due; whether the connection had its turn.
-    fn look<A: Answers, E: Write>(
-        &mut self,
-        answers: &mut A,
-        ended: bool,
-        log: &mut E,
-    ) -> bool
+    fn look<A: Answers, E: Write>(&mut self, answers: &mut A, ended: bool, log: &mut E) -> bool
         requires always { Unit {0} }
     {
         if !ended && !self.came.is_due() {

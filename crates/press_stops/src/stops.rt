@@ -67,9 +67,12 @@ fn files_of(store: Stored) -> Files<Stopped> {
 // ---- a round and two rows
 
 fn save_all<S: PromiseStore>(store: &mut S, told: &mut u32) -> Result<(), StoreFault> {
-    if let (Some(slot), Some(round), Some(first), Some(second)) =
-        (Slot::new(1), Round::new(7), row_of(9), row_of(11))
-    {
+    if let (Some(slot), Some(round), Some(first), Some(second)) = (
+        Slot::new(1),
+        Round::new(7),
+        row_of(9),
+        row_of(11),
+    ) {
         store.save_round(round)?;
         *told = 1;
         store.save(slot, &first)?;

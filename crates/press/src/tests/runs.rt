@@ -1,7 +1,7 @@
 use crate::tests::fakes::{Endless, Failing, Narrow};
 use crate::tests::fixtures::{LETTERS, ran};
-use press_program::run;
 use press_kit::FILE_LIMIT;
+use press_program::run;
 use std::alloc::Global;
 use std::test::Fail;
 
