@@ -16,4 +16,4 @@ pub no_memory : (kit : KitView) (asked : Option Asked) (remaining : Option (List
 no_memory kit None remaining status out err err' is kept told = (is, kept, inr told)
 no_memory kit (Some (of_file wanted)) remaining status out err err' is kept told =
     (Fault NoMemory, out, outside_task kit wanted.1 (known_of wanted.0 remaining) out NoMemory tt, (is, kept, told))
-no_memory kit (Some (serve server)) remaining status out err err' is kept told = (inr is, nothing (listening_line server.port) out)
+no_memory kit (Some (serve server)) remaining status out err err' is kept told = (inr is, nothing (listening_line server.place) out)

@@ -1,5 +1,5 @@
 use Rattle.std.proofs.Common.{rules, ap₂, codes, ◌≡◌, ◌∙◌}
-use Rattle.clap.specs.Words.{app_of, rule_of, with_rule}
+use Rattle.clap.specs.Words.{rule_of, with_rule}
 use Rattle.press_program.specs.Words as spec
 use Rattle.press_program.proofs.words.serve_words.Goals as goal
 
