@@ -18,11 +18,15 @@ use Rattle.press_program.specs.declared.ending.Ending.TheVariants.{Printed, Repl
 use Rattle.press_kit.specs.declared.place.Place.{Place}
 use Rattle.press_kit.specs.SiteFile.{site_in}
 use Rattle.press_sockets.specs.Listening.{Where, listening_line}
-use Rattle.press_sockets.specs.Loops.{Loops}
-use Rattle.press_program.specs.Words.{Asked, OfFile, of_file, serve, is_input}
+use Rattle.press_loop.specs.Loops.{Loops}
+use Rattle.press_program.specs.Words.{Asked, Job, OfFile, of_file, serve, is_input}
 use Rattle.press_program.specs.declared.task.Task.{Task}
 use Rattle.press_program.specs.declared.task.Task.TheVariants.{Page, Replay, Loop}
 use Rattle.press_text.specs.Streams.{AppendsFront}
+use Rattle.press_demonstration.specs.Demonstration.{demonstration}
+use Rattle.press_kit.specs.declared.kit_parts.KitParts.{KitParts}
+use Rattle.press_lint.specs.Slips.{slips}
+use Rattle.press_program.specs.KitFiles.{GivesKit, RefusesKit, fault_line, slip_front, view_in}
 
 -- 0 for a page, 1 for any other reply
 abbrev pub exit_status : ℕ → ℕ
@@ -92,12 +96,6 @@ EndsTask kit Loop remaining out out' end = EndsLoop kit (kits_for Loop) remainin
 abbrev pub known_of : List ℕ → Option (List ℕ) → Option (List ℕ)
 known_of file remaining = if is_input file then remaining else None
 
-abbrev pub fault_line : ReplayFault → List ℕ
-fault_line NoMemory = codes "press: fault 0\n"
-fault_line ReadFault = codes "press: fault 40\n"
-fault_line WriteFault = codes "press: fault 42\n"
-fault_line BadSchedule = codes "press: fault 72\n"
-
 abbrev pub usage_line : List ℕ
 usage_line = codes "press: usage\n"
 
@@ -120,10 +118,13 @@ RefusesWords (Some asked) result input input' out out' err err' = Unit {0}
 RefusesWords None result input input' out out' err err' = Keeps input input' × TellsUsage result out out' err err'
 
 -- The standard input is read only where it is asked for. A server reads nothing of it.
+abbrev pub ReadsFor : Job → Option (List ℕ) → Option (List ℕ) → Type 0
+ReadsFor (of_file wanted) input input' = is_input wanted.0 ≡ false → Keeps input input'
+ReadsFor (serve server) input input' = Keeps input input'
+
 abbrev pub ReadsAsked : Option Asked → Option (List ℕ) → Option (List ℕ) → Type 0
 ReadsAsked None input input' = Keeps input input'
-ReadsAsked (Some (of_file wanted)) input input' = is_input wanted.0 ≡ false → Keeps input input'
-ReadsAsked (Some (serve server)) input input' = Keeps input input'
+ReadsAsked (Some asked) input input' = ReadsFor asked.job input input'
 
 -- A run for what is asked of a file: its end, with the output by then, and what is written of that.
 abbrev pub Shows : KitView → OfFile → Option (List ℕ) → ℕ → Option (List ℕ) → Option (List ℕ) → Option (List ℕ) → Option (List ℕ) → Type 0
@@ -133,8 +134,19 @@ Shows kit wanted remaining result out out' err err' = (end : Ending) × (by_then
 abbrev pub Listens : Where → ℕ → Option (List ℕ) → Option (List ℕ) → Type 0
 Listens place result out out' = ((result ≡ 0) ⊎ (result ≡ 2)) × AppendsFront out out' (listening_line place)
 
+-- what is to be done, over a kit
+abbrev pub Does : KitView → Job → Option (List ℕ) → ℕ → Option (List ℕ) → Option (List ℕ) → Option (List ℕ) → Option (List ℕ) → Type 0
+Does kit (of_file wanted) remaining result out out' err err' = Shows kit wanted remaining result out out' err err'
+Does kit (serve server) remaining result out out' err err' = Listens server.place result out out'
+
+-- Over the demonstration kit, or over that of a kit file, whose slips are told before anything else; a kit file that can't be used is told, and nothing else is done.
+abbrev pub RunsOver : Option (List ℕ) → Job → Option (List ℕ) → ℕ → Option (List ℕ) → Option (List ℕ) → Option (List ℕ) → Option (List ℕ) → Type 0
+RunsOver None job remaining result out out' err err' = Does demonstration job remaining result out out' err err'
+RunsOver (Some file) job remaining result out out' err err' =
+    RefusesKit file result out out' err err'
+    ⊎ ((kit : KitParts) × (by_then : Option (List ℕ)) × GivesKit kit × AppendsFront err by_then (slips (slip_front file) kit []) × Does (view_in kit) job remaining result out out' by_then err')
+
 -- A run for what is asked.
-abbrev pub Runs : KitView → Option Asked → Option (List ℕ) → ℕ → Option (List ℕ) → Option (List ℕ) → Option (List ℕ) → Option (List ℕ) → Type 0
-Runs kit None remaining result out out' err err' = TellsUsage result out out' err err'
-Runs kit (Some (of_file wanted)) remaining result out out' err err' = Shows kit wanted remaining result out out' err err'
-Runs kit (Some (serve server)) remaining result out out' err err' = Listens server.place result out out'
+abbrev pub Runs : Option Asked → Option (List ℕ) → ℕ → Option (List ℕ) → Option (List ℕ) → Option (List ℕ) → Option (List ℕ) → Type 0
+Runs None remaining result out out' err err' = TellsUsage result out out' err err'
+Runs (Some asked) remaining result out out' err err' = RunsOver asked.kit asked.job remaining result out out' err err'

@@ -1,2 +1,3 @@
 pub mod Endings
+pub mod KitFiles
 pub mod Words

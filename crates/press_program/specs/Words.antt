@@ -1,13 +1,14 @@
--- What the words after the program's name ask for: `page FILE TARGET`, `replay FILE`, `loop FILE`, or `serve` with words by their names, as `clap` reads words; without any,
--- post 1 of the standard input (own).
+-- What the words after the program's name ask for: `page FILE TARGET`, `replay FILE`, `loop FILE`, or `serve` with words by their names, each of them with a kit file or without, as
+-- `clap` reads words; without any, post 1 of the standard input (own).
 use Rattle.std.specs.Prelude.{ℕ, List, [], ◌∷◌, ◌&&◌, Bool, true, bytes_eq, nat_le, if◌then◌else◌, Option, Some, None, option_and_then, option_map, codes}
 use Rattle.clap.specs.Kinds.{Kinds}
 use Rattle.clap.specs.Words.{App, Row, Rule, Text, fault_of, first_of, new_app, new_rule, subcommand_of, with_rule, with_subcommand}
 use Rattle.press_page.specs.declared.reply.Target.TheVariants.{Post}
 use Rattle.press_page.specs.Targets.{target_in}
 use Rattle.press_text.specs.Decimals.{decimal_in}
-use Rattle.press_program.specs.declared.wanted.Asked as declared
-use Rattle.press_program.specs.declared.wanted.Asked.TheVariants as told
+use Rattle.press_program.specs.declared.wanted.Asked as asked
+use Rattle.press_program.specs.declared.wanted.Job as declared
+use Rattle.press_program.specs.declared.wanted.Job.TheVariants as told
 use Rattle.press_sockets.specs.Listening.Where.{alone_at, member_of}
 use Rattle.press_sockets.specs.Listening.{Where}
 use Rattle.press_sockets.specs.declared.setup.Place.TheVariants.{Alone, Member}
@@ -37,11 +38,11 @@ abbrev pub helpless : Text → App
 helpless name = record { top = record (new_app name).top { disable_help_flag = true }; subs = [] }
 
 abbrev pub page_words : App
-page_words = with_rule (with_rule (helpless (codes "page")) (needed (codes "FILE"))) (needed (codes "TARGET"))
+page_words = with_rule (with_rule (with_rule (helpless (codes "page")) (needed (codes "FILE"))) (needed (codes "TARGET"))) (named (codes "kit"))
 
 -- a command with a file alone
 abbrev pub file_words : Text → App
-file_words name = with_rule (helpless name) (needed (codes "FILE"))
+file_words name = with_rule (with_rule (helpless name) (needed (codes "FILE"))) (named (codes "kit"))
 
 -- where a server stands
 abbrev pub place_words : App
@@ -50,7 +51,7 @@ place_words =
 
 abbrev pub serve_words : App
 serve_words =
-    with_rule (with_rule (with_rule (with_rule place_words (named (codes "store"))) (named (codes "turns"))) (named (codes "editor"))) (named (codes "ahead"))
+    with_rule (with_rule (with_rule (with_rule (with_rule place_words (named (codes "store"))) (named (codes "turns"))) (named (codes "editor"))) (named (codes "ahead"))) (named (codes "kit"))
 
 abbrev pub bare : App
 bare = record {
@@ -77,9 +78,14 @@ pub record Server : Type 0 where
   pub editor : Option (List ℕ)
   pub ahead : Option ℕ
 
-pub data Asked : Type 0 where
-  of_file : OfFile → Asked
-  serve : Server → Asked
+pub data Job : Type 0 where
+  of_file : OfFile → Job
+  serve : Server → Job
+
+-- over the kit of a file, or else the demonstration kit
+pub record Asked : Type 0 where
+  pub kit : Option (List ℕ)
+  pub job : Job
 
 abbrev pub page_in : List Row → Option OfFile
 page_in rows = do
@@ -149,12 +155,15 @@ server_in rows = do
   })
 
 -- by the name of the subcommand
-abbrev pub asked_in : Text → List Row → Option Asked
-asked_in name rows =
+abbrev pub job_in : Text → List Row → Option Job
+job_in name rows =
     if bytes_eq name (codes "page") then option_map of_file (page_in rows) else
     (if bytes_eq name (codes "replay") then option_map of_file (file_in Replay rows) else
     (if bytes_eq name (codes "loop") then option_map of_file (file_in Loop rows) else
     (if bytes_eq name (codes "serve") then option_map serve (server_in rows) else None)))
+
+abbrev pub asked_in : Text → List Row → Option Asked
+asked_in name rows = option_map (λ job. record { kit = first_of (codes "kit") rows; job = job }) (job_in name rows)
 
 -- nothing where `clap` has a fault to tell
 abbrev pub asked_where : Kinds → Option (Text × List Row) → Option Asked
@@ -162,7 +171,7 @@ asked_where [] found = option_and_then (λ p. asked_in p.0 p.1) found
 asked_where (k ∷ ks) found = None
 
 abbrev pub asked_by : List Text → Option Asked
-asked_by [] = Some (of_file (codes "-", Page (Post 1)))
+asked_by [] = Some (record { kit = None; job = of_file (codes "-", Page (Post 1)) })
 asked_by (w ∷ ws) = asked_where (fault_of program (w ∷ ws)) (subcommand_of program (w ∷ ws))
 
 -- `-` is the standard input
@@ -189,6 +198,9 @@ server_of s = record {
   ahead = s.ahead;
 }
 
-abbrev pub asked_of : declared.Asked → Asked
-asked_of (told.OfFile w) = of_file (wanted_of w)
-asked_of (told.Serve s) = serve (server_of s)
+abbrev pub job_of : declared.Job → Job
+job_of (told.OfFile w) = of_file (wanted_of w)
+job_of (told.Serve s) = serve (server_of s)
+
+abbrev pub asked_of : asked.Asked → Asked
+asked_of a = record { kit = option_map (λ kit. kit.now) a.kit; job = job_of a.job }

@@ -9,9 +9,17 @@ pub struct Wanted<'a> {
     pub task: Task,
 }
 
-/// What the words after the program's name ask for.
+/// What is to be done.
 #[derive(Debug, Drop)]
-pub enum Asked<'a> {
+pub enum Job<'a> {
     OfFile(Wanted<'a>),
     Serve(Setup<'a>),
+}
+
+/// What the words after the program's name ask for.
+#[derive(Debug, Drop)]
+pub struct Asked<'a> {
+    /// The name of a kit file; without one it is the demonstration kit.
+    pub kit: Option<&'a str>,
+    pub job: Job<'a>,
 }

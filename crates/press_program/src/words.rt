@@ -7,7 +7,7 @@ ghost use Rattle.clap.specs.Values.{kind_of};
 ghost use Rattle.press_program.specs.Words as spec;
 
 use crate::task::Task;
-use crate::wanted::{Asked, Wanted};
+use crate::wanted::{Asked, Job, Wanted};
 use clap::error::ErrorKind;
 use clap::{Arg, ArgMatches, Command, Error};
 use press_page::Target;
@@ -21,10 +21,12 @@ fn page_words<'a>(alloc: Global) -> Result<Command<'a>, AllocError>
 {
     let file = Arg::new(alloc, "FILE").required(true);
     let target = Arg::new(alloc, "TARGET").required(true);
+    let kit = Arg::new(alloc, "kit").long("kit");
     let page = Command::new(alloc, "page")
         .disable_help_flag(true)
         .arg(file)?
-        .arg(target)?;
+        .arg(target)?
+        .arg(kit)?;
     Ok(page)
 }
 
@@ -34,7 +36,11 @@ fn file_words<'a>(alloc: Global, name: &'a str) -> Result<Command<'a>, AllocErro
     ensures local { IfOk result (λ c. (out-Command c).has_globals ≡ false) }
 {
     let file = Arg::new(alloc, "FILE").required(true);
-    let named = Command::new(alloc, name).disable_help_flag(true).arg(file)?;
+    let kit = Arg::new(alloc, "kit").long("kit");
+    let named = Command::new(alloc, name)
+        .disable_help_flag(true)
+        .arg(file)?
+        .arg(kit)?;
     Ok(named)
 }
 
@@ -64,15 +70,22 @@ fn serve_words<'a>(alloc: Global) -> Result<Command<'a>, AllocError>
     let turns = Arg::new(alloc, "turns").long("turns");
     let editor = Arg::new(alloc, "editor").long("editor");
     let ahead = Arg::new(alloc, "ahead").long("ahead");
+    let kit = Arg::new(alloc, "kit").long("kit");
     let place = place_words(alloc)?;
-    let serve = place.arg(store)?.arg(turns)?.arg(editor)?.arg(ahead)?;
+    let serve = place
+        .arg(store)?
+        .arg(turns)?
+        .arg(editor)?
+        .arg(ahead)?
+        .arg(kit)?;
     Ok(serve)
 }
 
 // What the words come to, as `clap` reads them.
 fn parsed<'a>(alloc: Global, words: &'a [String]) -> Result<ArgMatches<'a>, Error>
     ensures kinds { FailsBy (fault_of spec.program (map string_bytes words.entry.now)) result }
-    ensures matches { IfOk result (λ m. subcommand_rows_of m ≡ subcommand_of spec.program (map string_bytes words.entry.now)) }
+    ensures matches { IfOk result (λ m. subcommand_rows_of m
+        ≡ subcommand_of spec.program (map string_bytes words.entry.now)) }
 {
     let page = page_words(alloc)?;
     let replay = file_words(alloc, "replay")?;
@@ -92,7 +105,8 @@ fn parsed<'a>(alloc: Global, words: &'a [String]) -> Result<ArgMatches<'a>, Erro
 
 #[tactic(auto, using(crate::proofs::FirstValue::first_is))]
 fn page_in<'a>(alloc: Global, inside: &ArgMatches<'a>) -> Result<Option<Wanted<'a>>, AllocError>
-    ensures { IfOk result (λ w. option_map (λ w. spec.wanted_of w) w ≡ spec.page_in (rows_of (found_of inside.now))) }
+    ensures { IfOk result (λ w. option_map (λ w. spec.wanted_of w) w
+        ≡ spec.page_in (rows_of (found_of inside.now))) }
 {
     let (Some(file), Some(text)) = (inside.get_str("FILE"), inside.get_str("TARGET")) else {
         return Ok(None);
@@ -106,7 +120,8 @@ fn page_in<'a>(alloc: Global, inside: &ArgMatches<'a>) -> Result<Option<Wanted<'
 
 #[tactic(auto, using(crate::proofs::FirstValue::first_is))]
 fn file_in<'a>(inside: &ArgMatches<'a>, task: Task) -> Option<Wanted<'a>>
-    ensures { option_map (λ w. spec.wanted_of w) result ≡ spec.file_in task (rows_of (found_of inside.now)) }
+    ensures { option_map (λ w. spec.wanted_of w) result
+        ≡ spec.file_in task (rows_of (found_of inside.now)) }
 {
     let file = inside.get_str("FILE")?;
     Some(Wanted { file, task })
@@ -190,7 +205,8 @@ fn member_in<'a>(inside: &ArgMatches<'a>) -> Option<Place<'a>>
 #[tactic(auto, using(crate::proofs::FirstValue::first_is))]
 fn place_in<'a>(inside: &ArgMatches<'a>) -> Option<Place<'a>>
     ensures { option_map (λ p. spec.place_of p) result
-        ≡ spec.place_by (first_of (codes "port") (rows_of (found_of inside.now))) (rows_of (found_of inside.now)) }
+        ≡ spec.place_by (first_of (codes "port") (rows_of (found_of inside.now)))
+        (rows_of (found_of inside.now)) }
 {
     match inside.get_str("port") {
         Some(port) => alone_in(inside, port),
@@ -200,7 +216,8 @@ fn place_in<'a>(inside: &ArgMatches<'a>) -> Option<Place<'a>>
 
 #[tactic(auto, using(crate::proofs::FirstValue::first_is))]
 fn server_in<'a>(inside: &ArgMatches<'a>) -> Option<Setup<'a>>
-    ensures { option_map (λ s. spec.server_of s) result ≡ spec.server_in (rows_of (found_of inside.now)) }
+    ensures { option_map (λ s. spec.server_of s) result
+        ≡ spec.server_in (rows_of (found_of inside.now)) }
 {
     let place = place_in(inside)?;
     let turns = perhaps_number(inside.get_str("turns"), 0, 1_000_000)?;
@@ -214,24 +231,43 @@ fn server_in<'a>(inside: &ArgMatches<'a>) -> Option<Setup<'a>>
     })
 }
 
-fn wanted_in<'a>(
+fn job_in<'a>(
+    alloc: Global,
+    name: &str,
+    inside: &ArgMatches<'a>,
+) -> Result<Option<Job<'a>>, AllocError>
+    ensures { IfOk result (λ j. option_map (λ j. spec.job_of j) j
+        ≡ spec.job_in name.now (rows_of (found_of inside.now))) }
+{
+    if name == "page" {
+        let wanted = page_in(alloc, inside)?;
+        Ok(wanted.map(Job::OfFile))
+    } else if name == "replay" {
+        Ok(file_in(inside, Task::Replay).map(Job::OfFile))
+    } else if name == "loop" {
+        Ok(file_in(inside, Task::Loop).map(Job::OfFile))
+    } else if name == "serve" {
+        Ok(server_in(inside).map(Job::Serve))
+    } else {
+        Ok(None)
+    }
+}
+
+#[tactic(auto, using(crate::proofs::FirstValue::first_is))]
+fn asked_in<'a>(
     alloc: Global,
     name: &str,
     inside: &ArgMatches<'a>,
 ) -> Result<Option<Asked<'a>>, AllocError>
-    ensures { IfOk result (λ a. option_map (λ a. spec.asked_of a) a ≡ spec.asked_in name.now (rows_of (found_of inside.now))) }
+    ensures { IfOk result (λ a. option_map (λ a. spec.asked_of a) a
+        ≡ spec.asked_in name.now (rows_of (found_of inside.now))) }
 {
-    if name == "page" {
-        let wanted = page_in(alloc, inside)?;
-        Ok(wanted.map(Asked::OfFile))
-    } else if name == "replay" {
-        Ok(file_in(inside, Task::Replay).map(Asked::OfFile))
-    } else if name == "loop" {
-        Ok(file_in(inside, Task::Loop).map(Asked::OfFile))
-    } else if name == "serve" {
-        Ok(server_in(inside).map(Asked::Serve))
-    } else {
-        Ok(None)
+    match job_in(alloc, name, inside)? {
+        Some(job) => Ok(Some(Asked {
+            kit: inside.get_str("kit"),
+            job,
+        })),
+        None => Ok(None),
     }
 }
 
@@ -241,7 +277,7 @@ fn found_in<'a>(alloc: Global, matches: &ArgMatches<'a>) -> Result<Option<Asked<
         ≡ option_and_then (λ p. spec.asked_in p.0 p.1) (subcommand_rows_of matches.now)) }
 {
     match matches.subcommand() {
-        Some((name, inside)) => wanted_in(alloc, name, inside),
+        Some((name, inside)) => asked_in(alloc, name, inside),
         None => Ok(None),
     }
 }
@@ -259,13 +295,17 @@ fn untold<'a>(e: Error) -> Result<Option<Asked<'a>>, AllocError>
 
 /// What the words after the program's name ask for, or nothing where they are refused.
 pub fn read_words<'a>(alloc: Global, words: &'a [String]) -> Result<Option<Asked<'a>>, AllocError>
-    ensures { IfOk result (λ a. option_map (λ a. spec.asked_of a) a ≡ spec.asked_by (map string_bytes words.entry.now)) }
+    ensures { IfOk result (λ a. option_map (λ a. spec.asked_of a) a
+        ≡ spec.asked_by (map string_bytes words.entry.now)) }
 {
     if words.is_empty() {
-        return Ok(Some(Asked::OfFile(Wanted {
-            file: "-",
-            task: Task::Page(Target::Post(1)),
-        })));
+        return Ok(Some(Asked {
+            kit: None,
+            job: Job::OfFile(Wanted {
+                file: "-",
+                task: Task::Page(Target::Post(1)),
+            }),
+        }));
     }
     match parsed(alloc, words) {
         Ok(matches) => found_in(alloc, &matches),

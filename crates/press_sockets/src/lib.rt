@@ -1,15 +1,11 @@
-//! Nodes behind sockets: a turn of a server, the server over readiness, a node of a cluster whose messages go out as requests, and schedules whose steps go over sockets of the loopback.
+//! Nodes behind sockets: a turn of a server, the server over readiness, and a node of a cluster whose messages go out as requests.
 #![tactic(auto)]
 
 mod alone;
-mod answering;
 mod answers;
-mod asking;
 mod call;
 mod calls;
-mod carrying;
 mod gathered;
-mod looping;
 mod member;
 mod pace;
 mod peers;
@@ -22,7 +18,6 @@ mod talk;
 mod talks;
 mod turn;
 
-pub use looping::loop_over;
 pub use serve_fault::ServeFault;
 pub use serving::{begin, serve};
 pub use setup::{Place, Setup};

@@ -1,0 +1,4 @@
+pub mod Alongs
+pub mod Mapped
+pub mod Names
+pub mod Refusals

@@ -1,0 +1,5 @@
+pub mod Bad
+pub mod Lints
+pub mod Mistakes
+pub mod Slips
+pub mod Told

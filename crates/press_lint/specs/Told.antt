@@ -1,0 +1,71 @@
+-- How a place in a kit is told to its author: what it is of, by its number and its name, and the step or load there (own).
+use Rattle.std.specs.Prelude.{ℕ, List, [], ◌++◌, Option, Some, None, option_map, slice_get, codes, decimal}
+use Rattle.press_callbacks.specs.declared.plugin.Plugin.{Plugin}
+use Rattle.press_kit.specs.Places.{place_text}
+use Rattle.press_kit.specs.declared.kit_parts.KitParts.{KitParts}
+use Rattle.press_kit.specs.declared.kit_parts.Scripted.{Scripted}
+use Rattle.press_kit.specs.declared.place.Place.{Place}
+use Rattle.press_kit.specs.declared.place.Place.TheVariants.{File, Callbacks, Callback, Op, Plugins, Plugin as OnePlugin, Load, Active, ActiveName, Commands, Command, Pages, Page, Plays, Play, Steps, Step}
+
+-- ` "name"`, where there is one
+abbrev pub quoted : Option (List ℕ) → List ℕ
+quoted None = []
+quoted (Some name) = codes " \"" ++ (name ++ codes "\"")
+
+-- `list[n] "name": `, with what stands behind it
+abbrev pub item_told : List ℕ → ℕ → Option (List ℕ) → List ℕ → List ℕ
+item_told list n name rest = list ++ (codes "[" ++ (decimal n ++ (codes "]" ++ (quoted name ++ (codes ": " ++ rest)))))
+
+-- `script[n] `
+abbrev pub within : List ℕ → ℕ → List ℕ
+within list n = list ++ (codes "[" ++ (decimal n ++ codes "] "))
+
+-- the place of something of that name, in front of what is told of it
+abbrev pub place_told : Option (List ℕ) → Place → List ℕ
+place_told name (Callback n) = item_told (codes "callbacks") n name []
+place_told name (Op c o) = item_told (codes "callbacks") c name (within (codes "script") o)
+place_told name (OnePlugin n) = item_told (codes "plugins") n name []
+place_told name (Load p l) = item_told (codes "plugins") p name (within (codes "load") l)
+place_told name File = place_text File ++ codes ": "
+place_told name Callbacks = place_text Callbacks ++ codes ": "
+place_told name Plugins = place_text Plugins ++ codes ": "
+place_told name Active = place_text Active ++ codes ": "
+place_told name (ActiveName n) = place_text (ActiveName n) ++ codes ": "
+place_told name Commands = place_text Commands ++ codes ": "
+place_told name (Command n) = place_text (Command n) ++ codes ": "
+place_told name Pages = place_text Pages ++ codes ": "
+place_told name (Page n) = place_text (Page n) ++ codes ": "
+place_told name Plays = place_text Plays ++ codes ": "
+place_told name (Play n) = place_text (Play n) ++ codes ": "
+place_told name Steps = place_text Steps ++ codes ": "
+place_told name (Step n) = place_text (Step n) ++ codes ": "
+
+-- the name of the callback or the plugin of that number
+abbrev pub callback_name : List Scripted → ℕ → Option (List ℕ)
+callback_name callbacks n = option_map (λ (c : Scripted). c.id) (slice_get callbacks n)
+
+abbrev pub plugin_name : List Plugin → ℕ → Option (List ℕ)
+plugin_name plugins n = option_map (λ (p : Plugin). p.name) (slice_get plugins n)
+
+-- what stands at a place by its name
+abbrev pub name_at : KitParts → Place → Option (List ℕ)
+name_at kit (Callback n) = callback_name kit.callbacks n
+name_at kit (Op c o) = callback_name kit.callbacks c
+name_at kit (OnePlugin n) = plugin_name kit.plugins n
+name_at kit (Load p l) = plugin_name kit.plugins p
+name_at kit File = None
+name_at kit Callbacks = None
+name_at kit Plugins = None
+name_at kit Active = None
+name_at kit (ActiveName n) = None
+name_at kit Commands = None
+name_at kit (Command n) = None
+name_at kit Pages = None
+name_at kit (Page n) = None
+name_at kit Plays = None
+name_at kit (Play n) = None
+name_at kit Steps = None
+name_at kit (Step n) = None
+
+abbrev pub place_in : KitParts → Place → List ℕ
+place_in kit at = place_told (name_at kit at) at

@@ -1,0 +1,71 @@
+//! How many loads the plugins have together.
+
+ghost use Rattle.std.specs.Prelude.{◌≡◌, count_by, nat_lt};
+ghost use Rattle.press_lint.specs.Mistakes as spec;
+
+use crate::mistake::{Mistake, Sort, Why};
+use press_callbacks::{Load, Plugin};
+use press_kit::Place;
+
+fn is_of(load: &Load, sort: Sort) -> bool
+    ensures { result ≡ spec.is_of sort load.now }
+{
+    match load {
+        Load::Hook { .. } => sort == Sort::Hooks,
+        Load::Tag { .. } => sort == Sort::Tags,
+    }
+}
+
+fn count_of(loads: &[Load], sort: Sort) -> usize
+    ensures { result ≡ count_by (spec.is_of sort) loads.now }
+{
+    loads.iter().filter(|l| is_of(l, sort)).count()
+}
+
+// Whether the plugins have more loads of a sort together than this.
+fn has_more(plugins: &[Plugin], sort: Sort, most: usize) -> bool
+    ensures { result ≡ nat_lt most (spec.loads_of sort plugins.now) }
+{
+    let mut left = most;
+    for p in plugins {
+        let loads = count_of(p.load.as_slice(), sort);
+        if loads > left {
+            return true;
+        }
+        left -= loads;
+    }
+    false
+}
+
+// The most that a kit may have.
+fn most_of(sort: Sort) -> usize
+    ensures { result ≡ spec.most_of sort }
+{
+    match sort {
+        Sort::Hooks => 1000,
+        Sort::Tags => 128,
+    }
+}
+
+fn too_many(plugins: &[Plugin], sort: Sort) -> Option<Mistake>
+    ensures { result ≡ spec.too_many sort plugins.now }
+{
+    if has_more(plugins, sort, most_of(sort)) {
+        Some(Mistake {
+            at: Place::Plugins,
+            why: Why::TooMany(sort),
+        })
+    } else {
+        None
+    }
+}
+
+/// More loads than a kit may have.
+pub fn loads_mistaken(plugins: &[Plugin]) -> Option<Mistake>
+    ensures { result ≡ spec.loads_mistaken plugins.now }
+{
+    match too_many(plugins, Sort::Hooks) {
+        Some(mistake) => Some(mistake),
+        None => too_many(plugins, Sort::Tags),
+    }
+}

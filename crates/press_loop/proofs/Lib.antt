@@ -1,0 +1,4 @@
+pub mod Carried
+pub mod Fronts
+pub mod Onward
+pub mod Outcomes

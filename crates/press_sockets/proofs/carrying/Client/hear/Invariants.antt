@@ -1,4 +1,0 @@
-use Rattle.press_sockets.proofs.carrying.Client.hear.Given as goal
-
-abbrev pub decreases-loop-left : goal.decreases-loop-left
-decreases-loop-left g l = l.left
