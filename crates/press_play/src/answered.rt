@@ -8,6 +8,7 @@ ghost use Rattle.press_play.specs.Answers.{Answers, Tells, Writes, answered, byt
 
 use crate::fault::PlayFault;
 use crate::line::fault_line;
+use crate::notes::Notes;
 use crate::played::read_lines;
 use press_text::{Text, WriteFault, write_once};
 use std::alloc::{AllocError, Global};
@@ -68,16 +69,17 @@ fn write_said<W: Write>(
     }
 }
 
-/// Plays the file that a reader has left, and writes its lines, or a line that tells its fault; answers the fault.
+/// Plays the file that a reader has left, and writes its lines, or a line that tells its fault; answers the fault. What its author is told beside them goes to the notes.
 pub fn play_input<R: Read, W: Write>(
     alloc: Global,
     reader: &mut R,
     writer: &mut W,
+    notes: &mut Notes,
 ) -> Result<Option<PlayFault>, WriteFault>
     ensures took { TakesAtMost (R.remaining reader.old) (R.remaining reader.new) (file_limit + 1) }
     ensures writes { IfSome (R.remaining reader.old) (λ input. (a : Said) × Answers input a × Writes a (W.contents writer.old) (W.contents writer.new) result) }
 {
-    let said = outcome(alloc, read_lines(alloc, reader));
+    let said = outcome(alloc, read_lines(alloc, reader, notes));
     write_said(writer, &said)
 }
 

@@ -1,12 +1,13 @@
 //! Plays kit files: `press_play [FILE ..]` plays the files in turn, or standard input, and prints a line of JSON for each command, page and play.
 //!
-//! A file with a fault gets a line that tells it, on the errors as well, and the program then ends with status 2.
+//! A file with a fault gets a line that tells it, on the errors as well, there with what is wrong and where, and the program then ends with status 2. What in a file is surely a slip is told on the errors alone.
 #![tactic(auto)]
 
 mod answered;
 mod commands;
 mod fault;
 mod line;
+mod notes;
 mod pages;
 mod played;
 mod sites;
@@ -14,37 +15,58 @@ mod stage;
 
 use crate::answered::{play_input, write_fault};
 use crate::fault::PlayFault;
-use press_text::WriteFault;
+use crate::notes::Notes;
+use press_text::{WriteFault, write_once};
+use std::io::Read;
 use std::process::ExitCode;
 use std::{env, fs, io};
 
-// Where the line can't be written there is nobody to tell.
-fn tell(rt: &HostRuntime, name: &str, fault: PlayFault) {
+// Where a line can't be written there is nobody to tell.
+fn tell(rt: &HostRuntime, name: &str, fault: PlayFault, why: &str) {
     let number = fault.number();
-    let _ = match fault.place() {
-        None => eprintln!(rt; "press_play: fault {number} in {name}"),
-        Some(place) => match place.text(rt.alloc()) {
-            Ok(at) => eprintln!(rt; "press_play: fault {number} at {at} in {name}"),
-            Err(_) => eprintln!(rt; "press_play: fault {number} in {name}"),
-        },
+    let _ = if why.is_empty() {
+        eprintln!(rt; "press_play: fault {number} in {name}")
+    } else {
+        eprintln!(rt; "press_play: fault {number} in {name}: {why}")
     };
+}
+
+// Plays what a reader has left; its fault.
+fn play_reader<R: Read>(
+    rt: &HostRuntime,
+    reader: &mut R,
+    notes: &mut Notes,
+) -> Result<Option<PlayFault>, WriteFault> {
+    play_input(rt.alloc(), reader, &mut rt.stdout(), notes)
+}
+
+// Plays a file by its name, or standard input for `-`; its fault.
+fn play_named(
+    rt: &HostRuntime,
+    name: &str,
+    notes: &mut Notes,
+) -> Result<Option<PlayFault>, WriteFault> {
+    if name == "-" {
+        return play_reader(rt, &mut rt.stdin(), notes);
+    }
+    match fs::open(rt, name) {
+        Ok(mut file) => play_reader(rt, &mut file, notes),
+        Err(_) => write_fault(rt.alloc(), PlayFault::ReadFault, &mut rt.stdout()),
+    }
 }
 
 // Plays a file, or standard input for `-`; whether it gave its lines.
 fn play(rt: &HostRuntime, name: &str) -> Result<bool, WriteFault> {
-    let mut output = rt.stdout();
-    let fault = if name == "-" {
-        play_input(rt.alloc(), &mut rt.stdin(), &mut output)?
-    } else {
-        match fs::open(rt, name) {
-            Ok(mut file) => play_input(rt.alloc(), &mut file, &mut output)?,
-            Err(_) => write_fault(rt.alloc(), PlayFault::ReadFault, &mut output)?,
-        }
+    let Ok(mut notes) = Notes::new(rt.alloc(), name) else {
+        tell(rt, name, PlayFault::NoMemory, "");
+        return Ok(false);
     };
+    let fault = play_named(rt, name, &mut notes)?;
+    let _ = write_once(&mut rt.stderr(), notes.slips.as_bytes());
     match fault {
         None => Ok(true),
         Some(fault) => {
-            tell(rt, name, fault);
+            tell(rt, name, fault, notes.why.as_str());
             Ok(false)
         }
     }

@@ -10,6 +10,7 @@ ghost use Rattle.press_play.specs.Played.{Refuses, all_lines, file_where, played
 
 use crate::commands::commands_on;
 use crate::fault::PlayFault;
+use crate::notes::Notes;
 use crate::pages::pages_on;
 use crate::sites::site_with;
 use crate::stage::lines_of;
@@ -23,7 +24,11 @@ use std::alloc::{AllocError, Global};
 use std::io::Read;
 
 #[tactic(auto, unfolding(press_kit::specs::PlayFile::play_file_in, press_kit::specs::KitFile::file_in))]
-fn file<R: Read>(alloc: Global, reader: &mut R) -> Result<PlayFile, PlayFault>
+fn file<R: Read>(
+    alloc: Global,
+    reader: &mut R,
+    notes: &mut Notes,
+) -> Result<PlayFile, PlayFault>
     ensures took { TakesAtMost (R.remaining reader.old) (R.remaining reader.new) (file_limit + 1) }
     ensures gives { IfSome (R.remaining reader.old) (λ input. Gives Refuses Ok result (file_where (play_file_in input))) }
 {
@@ -34,9 +39,15 @@ fn file<R: Read>(alloc: Global, reader: &mut R) -> Result<PlayFile, PlayFault>
         Err(ReadLimitedFault::TooLong) => return Err(PlayFault::BadKitFile(Place::File)),
     };
     match read_play_file(alloc, &bytes) {
-        Ok(file) => Ok(file),
+        Ok(file) => {
+            notes.note_kit(alloc, &file);
+            Ok(file)
+        }
         Err(KitFileFault::NoMemory) => Err(PlayFault::NoMemory),
-        Err(KitFileFault::BadKitFile(place)) => Err(PlayFault::BadKitFile(place)),
+        Err(KitFileFault::BadKitFile(place)) => {
+            notes.note_bad(alloc, &bytes, place);
+            Err(PlayFault::BadKitFile(place))
+        }
     }
 }
 
@@ -103,12 +114,16 @@ fn lines(alloc: Global, file: PlayFile) -> Result<String, PlayFault>
     Ok(lines)
 }
 
-/// The lines of the play file that a reader has left.
+/// The lines of the play file that a reader has left. What its author is told beside them goes to the notes.
 #[tactic(auto, using(crate::proofs::Refused::file_played))]
-pub fn read_lines<R: Read>(alloc: Global, reader: &mut R) -> Result<String, PlayFault>
+pub fn read_lines<R: Read>(
+    alloc: Global,
+    reader: &mut R,
+    notes: &mut Notes,
+) -> Result<String, PlayFault>
     ensures took { TakesAtMost (R.remaining reader.old) (R.remaining reader.new) (file_limit + 1) }
     ensures gives { IfSome (R.remaining reader.old) (λ input. Gives Refuses (λ t. Ok (string_bytes t)) result (played_in input)) }
 {
-    let file = file(alloc, reader)?;
+    let file = file(alloc, reader, notes)?;
     lines(alloc, file)
 }

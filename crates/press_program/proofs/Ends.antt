@@ -13,7 +13,7 @@ use Rattle.press_page.specs.declared.reply.Target.{Target}
 use Rattle.press_world.specs.declared.replay_fault.ReplayFault.{ReplayFault}
 use Rattle.press_world.specs.declared.replay_fault.ReplayFault.TheVariants.{NoMemory, ReadFault, WriteFault, BadSchedule}
 use Rattle.press_world.specs.ReadingFiles.{ReadsAs}
-use Rattle.press_sockets.specs.Loops.{WritesFront}
+use Rattle.press_loop.specs.Loops.{WritesFront}
 use Rattle.press_program.specs.declared.ending.Ending.{Ending}
 use Rattle.press_program.specs.declared.ending.Ending.TheVariants.{Printed, Replayed, Fault}
 use Rattle.press_program.specs.declared.task.Task.{Task}

@@ -1,5 +1,5 @@
 -- What the program does for its words and its input (own).
-use Rattle.std.specs.Prelude.{◌≡◌, ◌⊎◌, ℕ, List, map, nat_eq, if◌then◌else◌, false, Option, Some, None, Result, Ok, Err, codes}
+use Rattle.std.specs.Prelude.{◌≡◌, ◌⊎◌, ℕ, List, [], map, nat_eq, if◌then◌else◌, false, Option, Some, None, Result, Ok, Err, codes}
 use Rattle.std.specs.Io.KnownBytes.{Appends, Keeps}
 use Rattle.press_callbacks.specs.Kits.{KitView}
 use Rattle.press_apply.specs.declared.command.Stamped.{Stamped}
@@ -26,7 +26,7 @@ use Rattle.press_text.specs.Streams.{AppendsFront}
 use Rattle.press_demonstration.specs.Demonstration.{demonstration}
 use Rattle.press_kit.specs.declared.kit_parts.KitParts.{KitParts}
 use Rattle.press_lint.specs.Slips.{slips}
-use Rattle.press_program.specs.KitFiles.{GivesKit, RefusesKit, fault_line, slip_front, view_in}
+use Rattle.press_program.specs.KitFiles.{IsKitOf, RefusesKit, fault_line, slip_front, view_in}
 
 -- 0 for a page, 1 for any other reply
 abbrev pub exit_status : ℕ → ℕ
@@ -144,7 +144,8 @@ abbrev pub RunsOver : Option (List ℕ) → Job → Option (List ℕ) → ℕ �
 RunsOver None job remaining result out out' err err' = Does demonstration job remaining result out out' err err'
 RunsOver (Some file) job remaining result out out' err err' =
     RefusesKit file result out out' err err'
-    ⊎ ((kit : KitParts) × (by_then : Option (List ℕ)) × GivesKit kit × AppendsFront err by_then (slips (slip_front file) kit []) × Does (view_in kit) job remaining result out out' by_then err')
+    ⊎ ((bytes : List ℕ) × (kit : KitParts) × IsKitOf bytes kit
+    × (by_then : Option (List ℕ)) × AppendsFront err by_then (slips (slip_front file) kit []) × Does (view_in kit) job remaining result out out' by_then err')
 
 -- A run for what is asked.
 abbrev pub Runs : Option Asked → Option (List ℕ) → ℕ → Option (List ℕ) → Option (List ℕ) → Option (List ℕ) → Option (List ℕ) → Type 0

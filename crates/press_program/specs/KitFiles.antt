@@ -1,11 +1,12 @@
 -- The kit file of a run: what is told of it where it can't be used, and the kit that it gives (own).
-use Rattle.std.specs.Prelude.{◌≡◌, ℕ, List, ◌++◌, map, string_bytes, Option, Some, None, Ok, codes, decimal}
+use Rattle.std.specs.Prelude.{◌≡◌, ℕ, List, ◌++◌, map, [], string_bytes, Option, Some, None, Result, Ok, Err, codes, decimal}
 use Rattle.std.specs.Io.KnownBytes.{Keeps}
 use Rattle.press_callbacks.specs.Kits.{KitView, view_of}
 use Rattle.press_demonstration.specs.Demonstration.{demonstration}
 use Rattle.press_kit.specs.KitFile.{kit_in}
 use Rattle.press_kit.specs.declared.kit_parts.KitParts.{KitParts}
 use Rattle.press_kit.specs.declared.kit_parts.Scripted.{Scripted}
+use Rattle.press_kit.specs.declared.place.Place.{Place}
 use Rattle.press_lint.specs.Lints.{TellsFile}
 use Rattle.press_lint.specs.Mistakes.{mistake_in}
 use Rattle.press_program.specs.declared.kitting.Chosen.{Chosen}
@@ -26,14 +27,19 @@ fault_line BadSchedule = codes "press: fault 72\n"
 abbrev pub view_in : KitParts → KitView
 view_in kit = view_of (map (λ (c : Scripted). (c.id, c.script)) kit.callbacks) kit.plugins
 
--- as it stands in memory
+-- the kit of a file, where it is one
+abbrev pub view_where : Result KitParts Place → KitView
+view_where (Ok kit) = view_in kit
+view_where (Err place) = record { scripts = []; plugins = [] }
+
+-- the kit of a run
 abbrev pub view_chosen : Chosen → KitView
 view_chosen Demonstration = demonstration
-view_chosen (OfFile kit) = view_in kit
+view_chosen (OfFile bytes) = view_where (kit_in bytes.items)
 
--- some file gives it, and it has no mistake
-abbrev pub GivesKit : KitParts → Type 0
-GivesKit kit = (bytes : List ℕ) × (kit_in bytes ≡ Ok kit) × (mistake_in kit ≡ None)
+-- the kit of a file, which has no mistake
+abbrev pub IsKitOf : List ℕ → KitParts → Type 0
+IsKitOf bytes kit = (kit_in bytes ≡ Ok kit) × (mistake_in kit ≡ None)
 
 -- in front of what is told of a slip
 abbrev pub slip_front : List ℕ → List ℕ

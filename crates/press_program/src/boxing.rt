@@ -1,6 +1,6 @@
-//! The demonstration kit, whose closures are boxed where it is made: a box may not be handed out, so a macro makes it, and no function.
+//! Kits whose closures are boxed where they are made: a box may not be handed out, so macros make them, and no function.
 
-/// A kit, or the fault of its making. Whoever calls it brings in the names that stand here; want of memory goes on by `?`.
+/// The demonstration kit, or the fault of its making. Whoever calls it brings in the names that stand here; want of memory goes on by `?`.
 #[macro_export]
 macro_rules! demonstration_kit {
     ($alloc:ident) => {{
@@ -16,5 +16,21 @@ macro_rules! demonstration_kit {
             callbacks.push(Stored::new(scripted.id, scripted.script, call))?;
         }
         Kit::build($alloc, callbacks, parts.plugins)
+    }};
+}
+
+/// The kit of what a kit file gave, likewise.
+#[macro_export]
+macro_rules! filed_kit {
+    ($alloc:ident, $parts:ident) => {{
+        let mut callbacks: Vec<Stored> = Vec::new($alloc);
+        for scripted in $parts.callbacks.into_vec() {
+            let own = scripted.script.copied($alloc)?;
+            let call: BoxedTurns = Box::new($alloc, move |input: &CallIn| {
+                script_turn($alloc, &own, input)
+            })?;
+            callbacks.push(Stored::new(scripted.id, scripted.script, call))?;
+        }
+        Kit::build($alloc, callbacks, $parts.plugins.into_vec())
     }};
 }

@@ -4,9 +4,13 @@
 mod boxing;
 mod commands;
 mod ending;
+mod kitting;
+mod over;
 mod running;
 mod task;
+mod telling;
 mod wanted;
 mod words;
 
-pub use running::{fail, refuse, run};
+pub use running::run;
+pub use telling::{fail, refuse};

@@ -9,6 +9,7 @@ use press_node::Node;
 use std::alloc::Global;
 use std::net::{IpAddr, SocketAddr};
 
+/// A node by itself behind a server.
 pub struct Alone<'s, S: PromiseStore> {
     alloc: Global,
     addr: SocketAddr,
@@ -30,6 +31,7 @@ impl<S: PromiseStore + Drop> Drop for Alone<'_, S> {
 }
 
 impl<'s, S: PromiseStore> Alone<'s, S> {
+    /// The node at an address, with what its operator asked for.
     pub fn new(alloc: Global, addr: SocketAddr, node: Node<S>, screen: &'s Screen) -> Alone<'s, S> {
         let time = Time {
             millis: 0,

@@ -32,6 +32,7 @@ pub struct Outgoing {
     pub errand: Errand,
 }
 
+/// What a server serves: it is given requests and time, and has requests of its own to send.
 pub trait Answers {
     /// Where it listens.
     fn addr(&self) -> SocketAddr;

@@ -18,6 +18,7 @@ const LONGEST: usize = 512;
 // It takes no longer.
 const SECONDS: u64 = 2;
 
+/// How far a request is.
 #[derive(Clone, Copy, PartialEq, Eq)]
 pub enum Course {
     Goes,
@@ -55,6 +56,7 @@ impl Drop for Call {
 }
 
 impl Call {
+    /// A request that goes out over a stream that is being connected.
     pub fn new(alloc: Global, stream: TcpStream, outgoing: Outgoing, begun: Instant) -> Call {
         let Outgoing {
             place,
@@ -74,6 +76,7 @@ impl Call {
         }
     }
 
+    /// Its socket, for the poll.
     pub fn stream(&mut self) -> &mut TcpStream {
         &mut self.stream
     }
@@ -88,10 +91,12 @@ impl Call {
         &self.reply
     }
 
+    /// What it is for.
     pub fn errand(&self) -> Errand {
         self.errand
     }
 
+    /// How far it is.
     pub fn course(&self) -> Course {
         self.course
     }

@@ -27,6 +27,7 @@ impl Drop for Lane {
     }
 }
 
+/// Requests by the member that they are for: so many go out at once, and others wait their turn.
 #[derive(Drop)]
 pub struct Calls {
     alloc: Global,
@@ -35,6 +36,7 @@ pub struct Calls {
 }
 
 impl Calls {
+    /// None goes out, and none waits.
     pub fn new(alloc: Global) -> Calls {
         Calls {
             alloc,
@@ -104,6 +106,7 @@ impl Calls {
         }
     }
 
+    /// The one at a place.
     pub fn get_mut(&mut self, place: usize) -> Option<&mut Call> {
         match self.places.get_mut(place) {
             Some(Some(call)) => Some(call),

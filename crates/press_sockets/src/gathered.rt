@@ -98,6 +98,7 @@ impl Drop for Gathered {
 }
 
 impl Gathered {
+    /// Nothing yet.
     pub fn new(alloc: Global) -> Gathered {
         Gathered {
             bytes: Vec::new(alloc),
@@ -106,6 +107,7 @@ impl Gathered {
         }
     }
 
+    /// What there is by now.
     pub fn as_slice(&self) -> &[u8] {
         &self.bytes
     }

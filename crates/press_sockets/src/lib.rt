@@ -19,6 +19,6 @@ mod talks;
 mod turn;
 
 pub use serve_fault::ServeFault;
-pub use serving::{begin, serve};
+pub use serving::begin;
 pub use setup::{Place, Setup};
 pub use turn::{serve_turn, wake};

@@ -117,6 +117,7 @@ fn is_answer(message: &Message) -> bool {
 }
 
 impl<'s, S: PromiseStore> Clustered<'s, S> {
+    /// The node, which hasn't heard of any peer yet.
     pub fn new(alloc: Global, node: Node<S>, party: Party<'s>) -> Clustered<'s, S> {
         let Party {
             peers,

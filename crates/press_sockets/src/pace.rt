@@ -55,6 +55,7 @@ pub struct Pace {
 }
 
 impl Pace {
+    /// The pace of the member at a place, of so many, with so many milliseconds to a tick.
     pub fn new(place: usize, members: usize, tick: u64) -> Pace {
         Pace {
             place: place as u64,

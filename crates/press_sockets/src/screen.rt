@@ -58,6 +58,7 @@ pub struct Screen {
 }
 
 impl Screen {
+    /// The page for editors, and the most seconds that a command may be ahead; None asks for none.
     pub fn new(editor: Option<Text>, ahead: Option<u64>) -> Screen {
         Screen { editor, ahead }
     }
@@ -70,6 +71,7 @@ impl Screen {
         sort_of(alloc, bytes)
     }
 
+    /// Whether there is a page for editors.
     pub fn has_editor(&self) -> bool {
         self.editor.is_some()
     }
@@ -103,6 +105,7 @@ pub fn refuse_form(told: &mut Vec<u8>) -> Result<u16, HttpFault> {
     Ok(400)
 }
 
+/// Nothing is there.
 pub fn not_found(told: &mut Vec<u8>) -> Result<u16, HttpFault> {
     write_fault(told, 404)?;
     Ok(404)

@@ -217,31 +217,33 @@ fn serve_member<W: Write, E: Write>(
     serve_over(start, &mut clustered, writer, error)
 }
 
-/// Serves one node: it listens and tells so on the writer, and connections are served until so many had their turn, or until it is ended, with a line for each on the errors.
-/// One by itself is first woken until nothing more is applied; a member of a cluster answers no page and no command until its peers have nothing newer.
-#[tactic(auto, using(crate::proofs::Fronts::nothing))]
-pub fn serve<W: Write, E: Write>(
-    rt: &HostRuntime,
-    kit: Kit,
-    setup: &Setup<'_>,
-    writer: &mut W,
-    error: &mut E,
-) -> Result<(), ServeFault>
-    ensures { AppendsFront (W.contents writer.old) (W.contents writer.new)
-        (listening_line (where_of setup.now.place)) }
-{
-    let start = Start { rt, setup };
-    if matches!(setup.place, Place::Member { .. }) {
-        return serve_member(start, kit, writer, error);
-    }
-    match setup.store {
-        Some(file) => {
-            let node = begin(rt.alloc(), kit, SqlStore::open(rt, file)?)?;
-            serve_alone(start, node, writer, error)
+impl Setup<'_> {
+    /// Serves one node: it listens and tells so on the writer, and connections are served until so many had their turn, or until it is ended, with a line for each on the errors.
+    /// One by itself is first woken until nothing more is applied; a member of a cluster answers no page and no command until its peers have nothing newer.
+    #[tactic(auto, using(crate::proofs::Fronts::nothing))]
+    pub fn serve<W: Write, E: Write>(
+        &self,
+        rt: &HostRuntime,
+        kit: Kit,
+        writer: &mut W,
+        error: &mut E,
+    ) -> Result<(), ServeFault>
+        ensures { AppendsFront (W.contents writer.old) (W.contents writer.new)
+            (listening_line (where_of self.now.place)) }
+    {
+        let start = Start { rt, setup: self };
+        if matches!(self.place, Place::Member { .. }) {
+            return serve_member(start, kit, writer, error);
         }
-        None => {
-            let node = begin(rt.alloc(), kit, MemoryStore::new(rt.alloc()))?;
-            serve_alone(start, node, writer, error)
+        match self.store {
+            Some(file) => {
+                let node = begin(rt.alloc(), kit, SqlStore::open(rt, file)?)?;
+                serve_alone(start, node, writer, error)
+            }
+            None => {
+                let node = begin(rt.alloc(), kit, MemoryStore::new(rt.alloc()))?;
+                serve_alone(start, node, writer, error)
+            }
         }
     }
 }

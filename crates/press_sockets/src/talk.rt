@@ -94,6 +94,7 @@ fn log_served<E: Write>(alloc: Global, log: &mut E, came: &Gathered, status: u16
 }
 
 impl Talk {
+    /// A connection that has just come.
     pub fn new(alloc: Global, stream: TcpStream, arrival: Arrival) -> Talk {
         Talk {
             stream,
@@ -107,18 +108,22 @@ impl Talk {
         }
     }
 
+    /// How far it is.
     pub fn phase(&self) -> Phase {
         self.phase
     }
 
+    /// Its number among all that have come.
     pub fn number(&self) -> u64 {
         self.arrival.number
     }
 
+    /// Whether more may be read from it at once.
     pub fn has_more(&self) -> bool {
         self.has_more
     }
 
+    /// Its socket, for the poll.
     pub fn stream(&mut self) -> &mut TcpStream {
         &mut self.stream
     }

@@ -15,16 +15,19 @@ pub struct Talks {
 }
 
 impl Talks {
+    /// No connection.
     pub fn new(alloc: Global) -> Talks {
         Talks {
             places: Vec::new(alloc),
         }
     }
 
+    /// Whether none is open.
     pub fn is_empty(&self) -> bool {
         self.places.iter().all(|talk| talk.is_none())
     }
 
+    /// The one at a place.
     pub fn get_mut(&mut self, place: usize) -> Option<&mut Talk> {
         match self.places.get_mut(place) {
             Some(Some(talk)) => Some(talk),

@@ -3,6 +3,7 @@ mod callbacks;
 mod events;
 mod hooks;
 mod learner;
+mod lints;
 mod posts;
 mod proposer;
 mod runs;

@@ -18,6 +18,22 @@ fn a_file_that_is_not_there_cannot_be_read(rt: HostRuntime) -> Result<(), Fail> 
     Ok(())
 }
 
+// A kit file that is not there, before anything else is opened.
+#[test]
+fn a_kit_file_is_opened_first(rt: HostRuntime) -> Result<(), Fail> {
+    for words in [
+        &["page", "-", "post:1", "--kit", "no/such"][..],
+        &["replay", "--kit=no/such", "no/file"][..],
+        &["loop", "--kit", "no/such", "-"][..],
+        &["serve", "--port", "8080", "--store", "none/f", "--kit", "no/such"][..],
+    ] {
+        let unknown = asked(&rt, words)?;
+        assert!(rt; unknown.left(2, "", "press: fault 40 in no/such\n"));
+        assert_eq!(rt; unknown.rest, LETTERS.len());
+    }
+    Ok(())
+}
+
 #[test]
 fn other_words_are_refused(rt: HostRuntime) -> Result<(), Fail> {
     assert!(rt; asked(&rt, &["--help"])?.is_refused());

@@ -8,4 +8,7 @@ returns-clause-app c =
     let file_is : rule_of c.required-file.result ≡ spec.needed (codes "FILE") = search rules in
     let target_is : rule_of c.required-target.result ≡ spec.needed (codes "TARGET") = search rules in
     let helpless_is : app_of c.disable_help_flag.result ≡ spec.helpless (codes "page") = search rules in
-    c.in_ok-page.ensures.shape (search rules) ∙ ap₂ with_rule (c.in_ok-arg.ensures.shape (search rules) ∙ ap₂ with_rule helpless_is file_is) target_is
+    let kit_is : rule_of c.long.result ≡ spec.named (codes "kit") = search rules in
+    let one = c.in_ok-arg.ensures.shape (search rules) ∙ ap₂ with_rule helpless_is file_is in
+    let two = c.in_ok-arg-2.ensures.shape (search rules) ∙ ap₂ with_rule one target_is in
+    c.in_ok-page.ensures.shape (search rules) ∙ ap₂ with_rule two kit_is

@@ -6,7 +6,7 @@ use Rattle.press_demonstration.specs.Demonstration.{demonstration, scripts}
 use Rattle.press_kit.specs.KitFile.{file_limit}
 use Rattle.press_program.proofs.Kits.{pushed, untaken}
 use Rattle.press_program.proofs.Pushes.{is_done}
-use Rattle.press_program.proofs.running.demonstrated.Goals as goal
+use Rattle.press_program.proofs.over.Over.demonstrated.Goals as goal
 
 pub returns-in_err-new-2-clause-took : goal.returns-in_err-new-2-clause-took
 returns-in_err-new-2-clause-took g c = untaken (g.R.Read.remaining c.args.reader.now) (file_limit + 1)

@@ -1,0 +1,69 @@
+//! What the author of a file is told beside its lines.
+
+use press_kit::{Place, PlayFile, file};
+use press_lint::{active_slips, bad_line, mistake_in, no_json, slips};
+use std::alloc::{AllocError, Global};
+
+/// What is told of a file on the errors.
+#[derive(Drop)]
+pub struct Notes {
+    // In front of each slip.
+    front: String,
+    /// What is wrong with the file, where it is found wrong.
+    pub why: String,
+    /// A line for each slip.
+    pub slips: String,
+}
+
+// What is told of a file that is bad at a place.
+fn bad(alloc: Global, bytes: &[u8], at: Place) -> Result<String, AllocError> {
+    let Ok(value) = file(alloc, bytes) else {
+        return no_json(alloc, bytes);
+    };
+    match value.get("kit") {
+        Some(kit) => bad_line(alloc, kit, at),
+        None => bad_line(alloc, &value, at),
+    }
+}
+
+impl Notes {
+    /// Nothing yet, of the file of that name.
+    pub fn new(alloc: Global, name: &str) -> Result<Notes, AllocError> {
+        Ok(Notes {
+            front: format!(in alloc; "press_play: warning in {name}: ")?,
+            why: String::new(alloc),
+            slips: String::new(alloc),
+        })
+    }
+
+    /// The file is bad at a place.
+    pub fn note_bad(&mut self, alloc: Global, bytes: &[u8], at: Place) {
+        if let Ok(why) = bad(alloc, bytes, at) {
+            self.why = why;
+        }
+    }
+
+    fn slips_of(&self, alloc: Global, file: &PlayFile) -> Result<String, AllocError> {
+        let front = self.front.as_str();
+        let mut lines = slips(alloc, front, &file.kit, file.plays.as_slice())?;
+        let lacking = active_slips(alloc, front, &file.kit, file.active.as_slice())?;
+        lines.push_str(lacking.as_str())?;
+        Ok(lines)
+    }
+
+    /// The file was read: its kit's first mistake, or the slips.
+    pub fn note_kit(&mut self, alloc: Global, file: &PlayFile) {
+        match mistake_in(&file.kit) {
+            Some(mistake) => {
+                if let Ok(why) = mistake.told(alloc, &file.kit) {
+                    self.why = why;
+                }
+            }
+            None => {
+                if let Ok(slips) = self.slips_of(alloc, file) {
+                    self.slips = slips;
+                }
+            }
+        }
+    }
+}

@@ -1,0 +1,282 @@
+//! What is to be done, over a kit.
+
+ghost use Rattle.std.specs.Prelude.{◌≡◌, ◌+◌, None, false, IfOk, IfErr};
+ghost use Rattle.std.specs.Io.KnownBytes.{Keeps};
+ghost use Rattle.press_kit.specs.KitFile.{file_limit, kit_in};
+ghost use Rattle.press_text.specs.Streams.{AppendsFront, TakesAtMost};
+ghost use Rattle.press_program.specs.Endings as spec;
+ghost use Rattle.press_program.specs.Endings.{known_of, Does, EndsTask, Listens, ReadsFor, Shows};
+ghost use Rattle.press_program.specs.KitFiles.{view_chosen, view_where};
+ghost use Rattle.press_sockets.specs.Listening.{listening_line, where_of};
+ghost use Rattle.press_program.specs.Words.{is_input, job_of, wanted_of};
+ghost use Rattle.press_demonstration.specs.Demonstration.{demonstration};
+
+use crate::ending::{Ending, end_over};
+use crate::kitting::Chosen;
+use crate::task::Task;
+use crate::telling::{finish, tell};
+use crate::wanted::{Job, Wanted};
+use crate::{demonstration_kit, filed_kit};
+use press_callbacks::{BoxedTurns, CallIn, Kit, Stored, script_turn};
+use press_demonstration::{grow, grow_turn, parts};
+use press_kit::read_kit_file;
+use press_sockets::{ServeFault, Setup};
+use press_text::Copied;
+use press_world::ReplayFault;
+use std::io::{Read, Write};
+use std::net::Net;
+use std::rt::Files;
+use std::{fs, io};
+
+// How many kits are made for it.
+fn kits_for(task: &Task) -> usize
+    ensures { result ≡ spec.kits_for task.now }
+{
+    match task {
+        Task::Page(_) => 1,
+        Task::Replay | Task::Loop => 7,
+    }
+}
+
+// A program that runs over a kit.
+#[derive(Drop)]
+pub(crate) struct Over<'r, Rt> {
+    pub rt: &'r Rt,
+    pub kit: &'r Chosen,
+}
+
+impl<Rt: AllocGlobal + Net> Over<'_, Rt> {
+    // The end for what is asked of a file, over demonstration kits.
+    fn demonstrated<R: Read, W: Write>(
+        &self,
+        task: &Task,
+        reader: &mut R,
+        writer: &mut W,
+    ) -> Result<Ending, ReplayFault>
+        ensures took { TakesAtMost (R.remaining reader.old) (R.remaining reader.new) (file_limit + 1) }
+        ensures ends { IfOk result (λ end. EndsTask demonstration task.now (R.remaining reader.old)
+            (W.contents writer.old) (W.contents writer.new) end) }
+        ensures err { IfErr result (λ e. (e ≡ ReplayFault.NoMemory)
+            × (W.contents writer.new ≡ W.contents writer.old)) }
+    {
+        let alloc = self.rt.alloc();
+        let mut kits: Vec<Kit> = Vec::new(alloc);
+        for _i in 0..kits_for(task) {
+            match demonstration_kit!(alloc) {
+                Ok(kit) => kits.push(kit)?,
+                Err(_) => return Err(ReplayFault::NoMemory),
+            }
+        }
+        Ok(end_over(self.rt, kits, task, reader, writer))
+    }
+
+    // The same over kits of a kit file with these bytes.
+    fn filed<R: Read, W: Write>(
+        &self,
+        bytes: &[u8],
+        task: &Task,
+        reader: &mut R,
+        writer: &mut W,
+    ) -> Result<Ending, ReplayFault>
+        ensures took { TakesAtMost (R.remaining reader.old) (R.remaining reader.new) (file_limit + 1) }
+        ensures ends { IfOk result (λ end. EndsTask (view_where (kit_in bytes.now)) task.now
+            (R.remaining reader.old) (W.contents writer.old) (W.contents writer.new) end) }
+        ensures err { IfErr result (λ e. (e ≡ ReplayFault.NoMemory)
+            × (W.contents writer.new ≡ W.contents writer.old)) }
+    {
+        let alloc = self.rt.alloc();
+        let mut kits: Vec<Kit> = Vec::new(alloc);
+        for _i in 0..kits_for(task) {
+            let Ok(parts) = read_kit_file(alloc, bytes) else {
+                return Err(ReplayFault::NoMemory);
+            };
+            match filed_kit!(alloc, parts) {
+                Ok(kit) => kits.push(kit)?,
+                Err(_) => return Err(ReplayFault::NoMemory),
+            }
+        }
+        Ok(end_over(self.rt, kits, task, reader, writer))
+    }
+
+    fn tried<R: Read, W: Write>(
+        &self,
+        task: &Task,
+        reader: &mut R,
+        writer: &mut W,
+    ) -> Result<Ending, ReplayFault>
+        ensures took { TakesAtMost (R.remaining reader.old) (R.remaining reader.new) (file_limit + 1) }
+        ensures ends { IfOk result (λ end. EndsTask (view_chosen self.now.kit.now) task.now
+            (R.remaining reader.old) (W.contents writer.old) (W.contents writer.new) end) }
+        ensures err { IfErr result (λ e. (e ≡ ReplayFault.NoMemory)
+            × (W.contents writer.new ≡ W.contents writer.old)) }
+    {
+        match self.kit {
+            Chosen::Demonstration => self.demonstrated(task, reader, writer),
+            Chosen::OfFile(bytes) => self.filed(bytes, task, reader, writer),
+        }
+    }
+
+    // The end of a run on the file that a reader has left.
+    #[tactic(auto, using(crate::proofs::Ends::out_of_memory))]
+    fn shown<R: Read, W: Write>(&self, task: &Task, reader: &mut R, writer: &mut W) -> Ending
+        ensures took { TakesAtMost (R.remaining reader.old) (R.remaining reader.new) (file_limit + 1) }
+        ensures ends { EndsTask (view_chosen self.now.kit.now) task.now (R.remaining reader.old)
+            (W.contents writer.old) (W.contents writer.new) result }
+    {
+        match self.tried(task, reader, writer) {
+            Ok(end) => end,
+            Err(fault) => Ending::Fault(fault),
+        }
+    }
+}
+
+impl<Rt: AllocGlobal + Files + Net> Over<'_, Rt> {
+    // The end of a run on a file by its name. One that can't be opened can't be read.
+    fn shown_of<W: Write>(&self, wanted: &Wanted<'_>, writer: &mut W) -> Ending
+        ensures { EndsTask (view_chosen self.now.kit.now) wanted.now.task None
+            (W.contents writer.old) (W.contents writer.new) result }
+    {
+        match fs::open(self.rt, wanted.file) {
+            Ok(mut file) => self.shown(&wanted.task, &mut file, writer),
+            Err(e) if e.kind() == io::ErrorKind::OutOfMemory => {
+                Ending::Fault(ReplayFault::NoMemory)
+            }
+            Err(_) => Ending::Fault(ReplayFault::ReadFault),
+        }
+    }
+
+    fn ended<R: Read, W: Write>(
+        &self,
+        wanted: &Wanted<'_>,
+        reader: &mut R,
+        writer: &mut W,
+    ) -> Ending
+        ensures took { TakesAtMost (R.remaining reader.old) (R.remaining reader.new) (file_limit + 1) }
+        ensures stays { is_input wanted.now.file.now ≡ false →
+            Keeps (R.remaining reader.old) (R.remaining reader.new) }
+        ensures ends { EndsTask (view_chosen self.now.kit.now) wanted.now.task
+            (known_of wanted.now.file.now (R.remaining reader.old))
+            (W.contents writer.old) (W.contents writer.new) result }
+    {
+        if wanted.file == "-" {
+            self.shown(&wanted.task, reader, writer)
+        } else {
+            self.shown_of(wanted, writer)
+        }
+    }
+
+    // What is asked of a file, told.
+    fn show<R: Read, W: Write, E: Write>(
+        &self,
+        wanted: &Wanted<'_>,
+        reader: &mut R,
+        writer: &mut W,
+        error: &mut E,
+    ) -> u8
+        ensures took { TakesAtMost (R.remaining reader.old) (R.remaining reader.new) (file_limit + 1) }
+        ensures stays { is_input wanted.now.file.now ≡ false →
+            Keeps (R.remaining reader.old) (R.remaining reader.new) }
+        ensures shows { Shows (view_chosen self.now.kit.now) (wanted_of wanted.now)
+            (R.remaining reader.old) result (W.contents writer.old) (W.contents writer.new)
+            (E.contents error.old) (E.contents error.new) }
+    {
+        let end = self.ended(wanted, reader, writer);
+        finish(end, writer, error)
+    }
+}
+
+fn serve_line(fault: ServeFault) -> &'static [u8] {
+    match fault {
+        ServeFault::BadPeers => b"press: usage\n",
+        ServeFault::NoMemory => b"press: fault 0\n",
+        ServeFault::NoConnections | ServeFault::ReadFault => b"press: fault 40\n",
+        ServeFault::WriteFault => b"press: fault 42\n",
+        ServeFault::Disk => b"press: fault 50\n",
+        ServeFault::Damaged => b"press: fault 51\n",
+    }
+}
+
+impl Over<'_, HostRuntime> {
+    // A server over the demonstration kit.
+    #[tactic(auto, using(crate::proofs::Ends::nothing))]
+    fn served<W: Write, E: Write>(
+        &self,
+        setup: &Setup<'_>,
+        writer: &mut W,
+        error: &mut E,
+    ) -> Result<(), ServeFault>
+        ensures { AppendsFront (W.contents writer.old) (W.contents writer.new)
+            (listening_line (where_of setup.now.place)) }
+    {
+        let alloc = self.rt.alloc();
+        match demonstration_kit!(alloc) {
+            Ok(kit) => setup.serve(self.rt, kit, writer, error),
+            Err(_) => Err(ServeFault::NoMemory),
+        }
+    }
+
+    // A server over the kit of a kit file with these bytes.
+    #[tactic(auto, using(crate::proofs::Ends::nothing))]
+    fn served_filed<W: Write, E: Write>(
+        &self,
+        bytes: &[u8],
+        setup: &Setup<'_>,
+        writer: &mut W,
+        error: &mut E,
+    ) -> Result<(), ServeFault>
+        ensures { AppendsFront (W.contents writer.old) (W.contents writer.new)
+            (listening_line (where_of setup.now.place)) }
+    {
+        let alloc = self.rt.alloc();
+        let Ok(parts) = read_kit_file(alloc, bytes) else {
+            return Err(ServeFault::NoMemory);
+        };
+        match filed_kit!(alloc, parts) {
+            Ok(kit) => setup.serve(self.rt, kit, writer, error),
+            Err(_) => Err(ServeFault::NoMemory),
+        }
+    }
+
+    // A server, and what is told of its fault.
+    fn serve<W: Write, E: Write>(
+        &self,
+        setup: &Setup<'_>,
+        writer: &mut W,
+        error: &mut E,
+    ) -> u8
+        ensures { Listens (where_of setup.now.place) result
+            (W.contents writer.old) (W.contents writer.new) }
+    {
+        let served = match self.kit {
+            Chosen::Demonstration => self.served(setup, writer, error),
+            Chosen::OfFile(bytes) => self.served_filed(bytes, setup, writer, error),
+        };
+        match served {
+            Ok(()) => 0,
+            Err(fault) => {
+                tell(error, serve_line(fault));
+                2
+            }
+        }
+    }
+
+    /// What is to be done, over this kit.
+    pub fn does<R: Read, W: Write, E: Write>(
+        &self,
+        job: &Job<'_>,
+        reader: &mut R,
+        writer: &mut W,
+        error: &mut E,
+    ) -> u8
+        ensures took { TakesAtMost (R.remaining reader.old) (R.remaining reader.new) (file_limit + 1) }
+        ensures reads { ReadsFor (job_of job.now) (R.remaining reader.old) (R.remaining reader.new) }
+        ensures does { Does (view_chosen self.now.kit.now) (job_of job.now) (R.remaining reader.old)
+            result (W.contents writer.old) (W.contents writer.new)
+            (E.contents error.old) (E.contents error.new) }
+    {
+        match job {
+            Job::OfFile(wanted) => self.show(wanted, reader, writer, error),
+            Job::Serve(setup) => self.serve(setup, writer, error),
+        }
+    }
+}
