@@ -24,11 +24,7 @@ use std::alloc::{AllocError, Global};
 use std::io::Read;
 
 #[tactic(auto, unfolding(press_kit::specs::PlayFile::play_file_in, press_kit::specs::KitFile::file_in))]
-fn file<R: Read>(
-    alloc: Global,
-    reader: &mut R,
-    notes: &mut Notes,
-) -> Result<PlayFile, PlayFault>
+fn file<R: Read>(alloc: Global, reader: &mut R, notes: &mut Notes) -> Result<PlayFile, PlayFault>
     ensures took { TakesAtMost (R.remaining reader.old) (R.remaining reader.new) (file_limit + 1) }
     ensures gives { IfSome (R.remaining reader.old) (λ input. Gives Refuses Ok result (file_where (play_file_in input))) }
 {

@@ -1,5 +1,5 @@
 -- The kit file of a run: what is told of it where it can't be used, and the kit that it gives (own).
-use Rattle.std.specs.Prelude.{◌≡◌, ℕ, List, ◌++◌, map, [], string_bytes, Option, Some, None, Result, Ok, Err, codes, decimal}
+use Rattle.std.specs.Prelude.{◌≡◌, ℕ, List, ◌++◌, map, [], string_bytes, Option, None, Result, Ok, Err, codes, decimal}
 use Rattle.std.specs.Io.KnownBytes.{Keeps}
 use Rattle.press_callbacks.specs.Kits.{KitView, view_of}
 use Rattle.press_demonstration.specs.Demonstration.{demonstration}

@@ -37,21 +37,28 @@ named id = record (new_rule id) { long = Some id }
 abbrev pub helpless : Text → App
 helpless name = record { top = record (new_app name).top { disable_help_flag = true }; subs = [] }
 
+-- a command, over a kit file where that is named
+abbrev pub with_kit : App → App
+with_kit app = with_rule app (named (codes "kit"))
+
 abbrev pub page_words : App
-page_words = with_rule (with_rule (with_rule (helpless (codes "page")) (needed (codes "FILE"))) (needed (codes "TARGET"))) (named (codes "kit"))
+page_words = with_kit (with_rule (with_rule (helpless (codes "page")) (needed (codes "FILE"))) (needed (codes "TARGET")))
 
 -- a command with a file alone
 abbrev pub file_words : Text → App
-file_words name = with_rule (with_rule (helpless name) (needed (codes "FILE"))) (named (codes "kit"))
+file_words name = with_kit (with_rule (helpless name) (needed (codes "FILE")))
 
 -- where a server stands
 abbrev pub place_words : App
 place_words =
     with_rule (with_rule (with_rule (with_rule (helpless (codes "serve")) (named (codes "port"))) (named (codes "id"))) (named (codes "peers"))) (named (codes "tick"))
 
+abbrev pub server_words : App
+server_words =
+    with_rule (with_rule (with_rule (with_rule place_words (named (codes "store"))) (named (codes "turns"))) (named (codes "editor"))) (named (codes "ahead"))
+
 abbrev pub serve_words : App
-serve_words =
-    with_rule (with_rule (with_rule (with_rule (with_rule place_words (named (codes "store"))) (named (codes "turns"))) (named (codes "editor"))) (named (codes "ahead"))) (named (codes "kit"))
+serve_words = with_kit server_words
 
 abbrev pub bare : App
 bare = record {

@@ -238,12 +238,7 @@ impl Over<'_, HostRuntime> {
     }
 
     // A server, and what is told of its fault.
-    fn serve<W: Write, E: Write>(
-        &self,
-        setup: &Setup<'_>,
-        writer: &mut W,
-        error: &mut E,
-    ) -> u8
+    fn serve<W: Write, E: Write>(&self, setup: &Setup<'_>, writer: &mut W, error: &mut E) -> u8
         ensures { Listens (where_of setup.now.place) result
             (W.contents writer.old) (W.contents writer.new) }
     {

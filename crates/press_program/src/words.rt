@@ -15,19 +15,29 @@ use press_sockets::{Place, Setup};
 use press_text::dec_u64;
 use std::alloc::{AllocError, Global};
 
+// The word for a kit file, behind the others of a command.
+fn with_kit<'a>(alloc: Global, command: Command<'a>) -> Result<Command<'a>, AllocError>
+    requires local { (out-Command command).has_globals ≡ false }
+    ensures app { IfOk result (λ c. app_of c ≡ spec.with_kit (app_of command.entry)) }
+    ensures local { IfOk result (λ c. (out-Command c).has_globals ≡ false) }
+{
+    let kit = Arg::new(alloc, "kit").long("kit");
+    let with = command.arg(kit)?;
+    Ok(with)
+}
+
 fn page_words<'a>(alloc: Global) -> Result<Command<'a>, AllocError>
     ensures app { IfOk result (λ c. app_of c ≡ spec.page_words) }
     ensures local { IfOk result (λ c. (out-Command c).has_globals ≡ false) }
 {
     let file = Arg::new(alloc, "FILE").required(true);
     let target = Arg::new(alloc, "TARGET").required(true);
-    let kit = Arg::new(alloc, "kit").long("kit");
     let page = Command::new(alloc, "page")
         .disable_help_flag(true)
         .arg(file)?
-        .arg(target)?
-        .arg(kit)?;
-    Ok(page)
+        .arg(target)?;
+    let whole = with_kit(alloc, page)?;
+    Ok(whole)
 }
 
 // A command with a file alone.
@@ -36,12 +46,9 @@ fn file_words<'a>(alloc: Global, name: &'a str) -> Result<Command<'a>, AllocErro
     ensures local { IfOk result (λ c. (out-Command c).has_globals ≡ false) }
 {
     let file = Arg::new(alloc, "FILE").required(true);
-    let kit = Arg::new(alloc, "kit").long("kit");
-    let named = Command::new(alloc, name)
-        .disable_help_flag(true)
-        .arg(file)?
-        .arg(kit)?;
-    Ok(named)
+    let named = Command::new(alloc, name).disable_help_flag(true).arg(file)?;
+    let whole = with_kit(alloc, named)?;
+    Ok(whole)
 }
 
 // The words of where a server stands.
@@ -62,23 +69,27 @@ fn place_words<'a>(alloc: Global) -> Result<Command<'a>, AllocError>
     Ok(serve)
 }
 
-fn serve_words<'a>(alloc: Global) -> Result<Command<'a>, AllocError>
-    ensures app { IfOk result (λ c. app_of c ≡ spec.serve_words) }
+// The words of a server.
+fn server_words<'a>(alloc: Global) -> Result<Command<'a>, AllocError>
+    ensures app { IfOk result (λ c. app_of c ≡ spec.server_words) }
     ensures local { IfOk result (λ c. (out-Command c).has_globals ≡ false) }
 {
     let store = Arg::new(alloc, "store").long("store");
     let turns = Arg::new(alloc, "turns").long("turns");
     let editor = Arg::new(alloc, "editor").long("editor");
     let ahead = Arg::new(alloc, "ahead").long("ahead");
-    let kit = Arg::new(alloc, "kit").long("kit");
     let place = place_words(alloc)?;
-    let serve = place
-        .arg(store)?
-        .arg(turns)?
-        .arg(editor)?
-        .arg(ahead)?
-        .arg(kit)?;
+    let serve = place.arg(store)?.arg(turns)?.arg(editor)?.arg(ahead)?;
     Ok(serve)
+}
+
+fn serve_words<'a>(alloc: Global) -> Result<Command<'a>, AllocError>
+    ensures app { IfOk result (λ c. app_of c ≡ spec.serve_words) }
+    ensures local { IfOk result (λ c. (out-Command c).has_globals ≡ false) }
+{
+    let server = server_words(alloc)?;
+    let whole = with_kit(alloc, server)?;
+    Ok(whole)
 }
 
 // What the words come to, as `clap` reads them.

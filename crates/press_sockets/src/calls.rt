@@ -28,11 +28,20 @@ impl Drop for Lane {
 }
 
 /// Requests by the member that they are for: so many go out at once, and others wait their turn.
-#[derive(Drop)]
 pub struct Calls {
     alloc: Global,
     lanes: Vec<Lane>,
     places: Vec<Option<Call>>,
+}
+
+impl Drop for Calls {
+    fn drop(self) {
+        let Calls {
+            alloc: _,
+            lanes: _,
+            places: _,
+        } = self;
+    }
 }
 
 impl Calls {

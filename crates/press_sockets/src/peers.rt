@@ -35,10 +35,15 @@ impl Drop for Peer {
 }
 
 /// The members, of which one is this node.
-#[derive(Drop)]
 pub struct Peers {
     all: Vec<Peer>,
     own: Member,
+}
+
+impl Drop for Peers {
+    fn drop(self) {
+        let Peers { all: _, own: _ } = self;
+    }
 }
 
 // Why no peers were read.

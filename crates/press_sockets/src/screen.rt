@@ -51,10 +51,18 @@ pub fn sort_of(alloc: Global, bytes: &[u8]) -> Sort {
 }
 
 /// What an operator asked for: a page for editors, and how far ahead of the machine's clock a command may be, in seconds.
-#[derive(Drop)]
 pub struct Screen {
     editor: Option<Text>,
     ahead: Option<u64>,
+}
+
+impl Drop for Screen {
+    fn drop(self) {
+        let Screen {
+            editor: _,
+            ahead: _,
+        } = self;
+    }
 }
 
 impl Screen {

@@ -56,7 +56,6 @@ fn token_of_call(place: usize) -> Token {
 }
 
 /// A listener, the connections that came by it, and the requests that go out.
-#[derive(Drop)]
 pub struct Server {
     poll: Poll,
     listener: TcpListener,
@@ -72,6 +71,23 @@ pub struct Server {
     // Whether requests go out by time.
     is_timed: bool,
     alloc: Global,
+}
+
+impl Drop for Server {
+    fn drop(self) {
+        let Server {
+            poll: _,
+            listener: _,
+            talks: _,
+            calls: _,
+            came: _,
+            left: _,
+            begun: _,
+            now: _,
+            is_timed: _,
+            alloc: _,
+        } = self;
+    }
 }
 
 impl Server {

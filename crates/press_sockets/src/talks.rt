@@ -9,9 +9,14 @@ use std::time::Instant;
 const MOST: usize = 1024;
 
 /// Connections by their places. Where each place is taken, the oldest whose request isn't whole gives way.
-#[derive(Drop)]
 pub struct Talks {
     places: Vec<Option<Talk>>,
+}
+
+impl Drop for Talks {
+    fn drop(self) {
+        let Talks { places: _ } = self;
+    }
 }
 
 impl Talks {

@@ -25,7 +25,9 @@ fn a_kit_file_is_opened_first(rt: HostRuntime) -> Result<(), Fail> {
         &["page", "-", "post:1", "--kit", "no/such"][..],
         &["replay", "--kit=no/such", "no/file"][..],
         &["loop", "--kit", "no/such", "-"][..],
-        &["serve", "--port", "8080", "--store", "none/f", "--kit", "no/such"][..],
+        &[
+            "serve", "--port", "8080", "--store", "none/f", "--kit", "no/such",
+        ][..],
     ] {
         let unknown = asked(&rt, words)?;
         assert!(rt; unknown.left(2, "", "press: fault 40 in no/such\n"));

@@ -52,7 +52,11 @@ fn mistakes_are_told_with_their_places(rt: HostRuntime) {
         ),
         (r#"{"callbacks":[]}"#, 73, "plugins: is bad"),
         ("[]", 73, "file: is bad"),
-        ("{\n \"callbacks\": [}", 73, "invalid JSON at line 2 column 16"),
+        (
+            "{\n \"callbacks\": [}",
+            73,
+            "invalid JSON at line 2 column 16",
+        ),
     ] {
         let (found, line) = told(rt.alloc(), kit);
         assert_eq!(rt; found, number, "at {text}");
@@ -63,28 +67,43 @@ fn mistakes_are_told_with_their_places(rt: HostRuntime) {
 // A skip just behind the last step, hooks of the engine by their patterns, and one that a step runs are none.
 #[test]
 fn slips_are_told_in_their_order(rt: HostRuntime) {
-    let kit = r#"{"callbacks":[{"name":"a","script":[{"op":"skip_if","left":[],"right":[],"skip":2},{"op":"skip_if","left":[],"right":[],"skip":1},{"op":"add_hook","hook":"the_titel","callback":"a"},{"op":"do","hook":"mine"}]}],"plugins":[{"name":"p","load":[{"hook":"mine","callback":"a"},{"hook":"new_to_trash","callback":"a"},{"hook":"trash_to_new","callback":"a"},{"hook":"private_post","callback":"a"},{"hook":"add_option_x","callback":"a"},{"tag":"none","callback":"a"}]}]}"#;
+    let kit =
+        r#"{"callbacks":[{"name":"a","script":[{"op":"skip_if","left":[],"right":[],"skip":2},{"op":"skip_if","left":[],"right":[],"skip":1},{"op":"add_hook","hook":"the_titel","callback":"a"},{"op":"do","hook":"mine"}]}],"plugins":[{"name":"p","load":[{"hook":"mine","callback":"a"},{"hook":"new_to_trash","callback":"a"},{"hook":"trash_to_new","callback":"a"},{"hook":"private_post","callback":"a"},{"hook":"add_option_x","callback":"a"},{"tag":"none","callback":"a"}]}]}"#;
     let (number, slips) = told(rt.alloc(), kit);
     assert_eq!(rt; number, 0);
-    assert_eq!(rt; slips.as_str(), "> callbacks[0] \"a\": script[2] is on a hook that nothing runs: \"the_titel\"\n> plugins[0] \"p\": load[2] is on a hook that nothing runs: \"trash_to_new\"\n");
-    let past = r#"{"callbacks":[{"name":"a","script":[{"op":"skip_if","left":[],"right":[],"skip":1}]}],"plugins":[]}"#;
+    assert_eq!(rt;
+        slips.as_str(),
+        "> callbacks[0] \"a\": script[2] is on a hook that nothing runs: \"the_titel\"\n> plugins[0] \"p\": load[2] is on a hook that nothing runs: \"trash_to_new\"\n"
+    );
+    let past =
+        r#"{"callbacks":[{"name":"a","script":[{"op":"skip_if","left":[],"right":[],"skip":1}]}],"plugins":[]}"#;
     let (_, slips) = told(rt.alloc(), past);
-    assert_eq!(rt; slips.as_str(), "> callbacks[0] \"a\": script[0] skips past the end of its script\n");
+    assert_eq!(rt;
+        slips.as_str(),
+        "> callbacks[0] \"a\": script[0] skips past the end of its script\n"
+    );
 }
 
 // What a play runs is run.
 #[test]
 fn plays_run_hooks_too(rt: HostRuntime) -> Result<(), Fail> {
     let alloc = rt.alloc();
-    let file = br#"{"kit":{"callbacks":[{"name":"a","script":[]}],"plugins":[{"name":"p","load":[{"hook":"mine","callback":"a"}]}]},"active":["p","q"],"plays":[{"do":"mine"}]}"#;
+    let file =
+        br#"{"kit":{"callbacks":[{"name":"a","script":[]}],"plugins":[{"name":"p","load":[{"hook":"mine","callback":"a"}]}]},"active":["p","q"],"plays":[{"do":"mine"}]}"#;
     let Ok(play) = read_play_file(alloc, file) else {
         return Err(Fail::from("no play file"));
     };
     let told = slips(alloc, "> ", &play.kit, &[])?;
-    assert_eq!(rt; told.as_str(), "> plugins[0] \"p\": load[0] is on a hook that nothing runs: \"mine\"\n");
+    assert_eq!(rt;
+        told.as_str(),
+        "> plugins[0] \"p\": load[0] is on a hook that nothing runs: \"mine\"\n"
+    );
     let told = slips(alloc, "> ", &play.kit, play.plays.as_slice())?;
     assert_eq!(rt; told.as_str(), "");
     let told = active_slips(alloc, "> ", &play.kit, play.active.as_slice())?;
-    assert_eq!(rt; told.as_str(), "> active[1]: names a plugin that is not in the kit: \"q\"\n");
+    assert_eq!(rt;
+        told.as_str(),
+        "> active[1]: names a plugin that is not in the kit: \"q\"\n"
+    );
     Ok(())
 }

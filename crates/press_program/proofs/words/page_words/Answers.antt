@@ -1,4 +1,4 @@
-use Rattle.std.proofs.Common.{rules, ap₂, codes, ◌≡◌, ◌∙◌}
+use Rattle.std.proofs.Common.{rules, ap, ap₂, codes, ◌≡◌, ◌∙◌}
 use Rattle.clap.specs.Words.{app_of, rule_of, with_rule}
 use Rattle.press_program.specs.Words as spec
 use Rattle.press_program.proofs.words.page_words.Goals as goal
@@ -8,7 +8,6 @@ returns-clause-app c =
     let file_is : rule_of c.required-file.result ≡ spec.needed (codes "FILE") = search rules in
     let target_is : rule_of c.required-target.result ≡ spec.needed (codes "TARGET") = search rules in
     let helpless_is : app_of c.disable_help_flag.result ≡ spec.helpless (codes "page") = search rules in
-    let kit_is : rule_of c.long.result ≡ spec.named (codes "kit") = search rules in
     let one = c.in_ok-arg.ensures.shape (search rules) ∙ ap₂ with_rule helpless_is file_is in
-    let two = c.in_ok-arg-2.ensures.shape (search rules) ∙ ap₂ with_rule one target_is in
-    c.in_ok-page.ensures.shape (search rules) ∙ ap₂ with_rule two kit_is
+    let two = c.in_ok-page.ensures.shape (search rules) ∙ ap₂ with_rule one target_is in
+    c.in_ok-whole.ensures.app ∙ ap spec.with_kit two

@@ -1,17 +1,6 @@
-use Rattle.std.proofs.Common.{rules, ap₂, codes, ◌≡◌, ◌∙◌}
-use Rattle.clap.specs.Words.{rule_of, with_rule}
+use Rattle.std.proofs.Common.{ap, ◌∙◌}
 use Rattle.press_program.specs.Words as spec
 use Rattle.press_program.proofs.words.serve_words.Goals as goal
 
 pub returns-clause-app : goal.returns-clause-app
-returns-clause-app c =
-    let store_is : rule_of c.long-store.result ≡ spec.named (codes "store") = search rules in
-    let turns_is : rule_of c.long-turns.result ≡ spec.named (codes "turns") = search rules in
-    let editor_is : rule_of c.long-editor.result ≡ spec.named (codes "editor") = search rules in
-    let ahead_is : rule_of c.long-ahead.result ≡ spec.named (codes "ahead") = search rules in
-    let kit_is : rule_of c.long-kit.result ≡ spec.named (codes "kit") = search rules in
-    let one = c.in_ok-arg.ensures.shape (search rules) ∙ ap₂ with_rule c.in_ok-place.ensures.app store_is in
-    let two = c.in_ok-arg-2.ensures.shape (search rules) ∙ ap₂ with_rule one turns_is in
-    let three = c.in_ok-arg-3.ensures.shape (search rules) ∙ ap₂ with_rule two editor_is in
-    let four = c.in_ok-arg-4.ensures.shape (search rules) ∙ ap₂ with_rule three ahead_is in
-    c.in_ok-serve.ensures.shape (search rules) ∙ ap₂ with_rule four kit_is
+returns-clause-app c = c.in_ok-whole.ensures.app ∙ ap spec.with_kit c.in_ok-server.ensures.app
