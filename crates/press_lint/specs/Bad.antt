@@ -1,37 +1,169 @@
--- How a place is told at which a file is bad: with the name of what stands there, where that is one (own).
-use Rattle.std.specs.Prelude.{ℕ, List, ◌++◌, Option, None, option_and_then, slice_get, codes}
-use Rattle.serde_json.specs.Data.{Data}
-use Rattle.serde_json.specs.Find.{as_str, get}
-use Rattle.press_kit.specs.Fields.{list_in, name_in}
+-- How a place is told at which a file is bad: with the name of what stands there, where that is one, and what is wrong with it, as far as its keys tell (own).
+use Rattle.std.specs.Prelude.{ℕ, List, [], ◌∷◌, ◌++◌, Bool, true, false, not, ◌&&◌, if◌then◌else◌, is_none, is_some, Option, Some, None, option_and_then, option_map, slice_get, codes}
+use Rattle.serde_json.specs.Data.{Data, Members, no_members, member}
+use Rattle.serde_json.specs.Find.{as_object, as_str, get}
+use Rattle.press_kit.specs.Fields.{is_one_of, list_in, name_in}
+use Rattle.press_kit.specs.KitFile.{callback_keys, hook_load_keys, kit_keys, plugin_keys, tag_load_keys}
+use Rattle.press_kit.specs.Ops.{keys_of, kind_of}
 use Rattle.press_kit.specs.declared.place.Place.{Place}
 use Rattle.press_kit.specs.declared.place.Place.TheVariants.{File, Callbacks, Callback, Op, Plugins, Plugin, Load, Active, ActiveName, Commands, Command, Pages, Page, Plays, Play, Steps, Step}
 use Rattle.press_lint.specs.Told.{place_told}
 
+-- ---- items by their places
+
+abbrev pub listed : List ℕ → ℕ → Data → Option Data
+listed list n whole = option_and_then (λ items. slice_get items n) (option_and_then list_in (get list whole))
+
+abbrev pub callback_where : Data → ℕ → Option Data
+callback_where kit n = listed (codes "callbacks") n kit
+
+abbrev pub plugin_where : Data → ℕ → Option Data
+plugin_where kit n = listed (codes "plugins") n kit
+
+-- the callback or the plugin that a place is of
+abbrev pub owner_where : Data → Place → Option Data
+owner_where kit (Callback n) = callback_where kit n
+owner_where kit (Op c o) = callback_where kit c
+owner_where kit (Plugin n) = plugin_where kit n
+owner_where kit (Load p l) = plugin_where kit p
+owner_where kit File = None
+owner_where kit Callbacks = None
+owner_where kit Plugins = None
+owner_where kit Active = None
+owner_where kit (ActiveName n) = None
+owner_where kit Commands = None
+owner_where kit (Command n) = None
+owner_where kit Pages = None
+owner_where kit (Page n) = None
+owner_where kit Plays = None
+owner_where kit (Play n) = None
+owner_where kit Steps = None
+owner_where kit (Step n) = None
+
+-- what stands at a place
+abbrev pub item_where : Data → Place → Option Data
+item_where kit (Callback n) = callback_where kit n
+item_where kit (Op c o) = option_and_then (listed (codes "script") o) (callback_where kit c)
+item_where kit (Plugin n) = plugin_where kit n
+item_where kit (Load p l) = option_and_then (listed (codes "load") l) (plugin_where kit p)
+item_where kit File = Some kit
+item_where kit Callbacks = None
+item_where kit Plugins = None
+item_where kit Active = None
+item_where kit (ActiveName n) = None
+item_where kit Commands = None
+item_where kit (Command n) = None
+item_where kit Pages = None
+item_where kit (Page n) = None
+item_where kit Plays = None
+item_where kit (Play n) = None
+item_where kit Steps = None
+item_where kit (Step n) = None
+
 abbrev pub name_of : Data → Option (List ℕ)
 name_of item = option_and_then (name_in 32) (option_and_then as_str (get (codes "name") item))
 
--- the name of an item of a list, where it is one
-abbrev pub item_name : List ℕ → ℕ → Data → Option (List ℕ)
-item_name list n kit = option_and_then name_of (option_and_then (λ items. slice_get items n) (option_and_then list_in (get list kit)))
-
 abbrev pub name_where : Data → Place → Option (List ℕ)
-name_where kit (Callback n) = item_name (codes "callbacks") n kit
-name_where kit (Op c o) = item_name (codes "callbacks") c kit
-name_where kit (Plugin n) = item_name (codes "plugins") n kit
-name_where kit (Load p l) = item_name (codes "plugins") p kit
-name_where kit File = None
-name_where kit Callbacks = None
-name_where kit Plugins = None
-name_where kit Active = None
-name_where kit (ActiveName n) = None
-name_where kit Commands = None
-name_where kit (Command n) = None
-name_where kit Pages = None
-name_where kit (Page n) = None
-name_where kit Plays = None
-name_where kit (Play n) = None
-name_where kit Steps = None
-name_where kit (Step n) = None
+name_where kit at = option_and_then name_of (owner_where kit at)
+
+-- ---- keys
+
+-- those of a step, by its op
+abbrev pub op_keys : List ℕ → Option (List (List ℕ))
+op_keys word = option_map keys_of (kind_of word)
+
+abbrev pub load_keys : Data → List (List ℕ)
+load_keys item = if is_some (get (codes "hook") item) then hook_load_keys else tag_load_keys
+
+-- those that may stand in an item; of a step whose op nobody knows, none
+abbrev pub keys_for : Place → Data → Option (List (List ℕ))
+keys_for (Callback n) item = Some callback_keys
+keys_for (Op c o) item = option_and_then op_keys (option_and_then as_str (get (codes "op") item))
+keys_for (Plugin n) item = Some plugin_keys
+keys_for (Load p l) item = Some (load_keys item)
+keys_for File item = Some kit_keys
+keys_for Callbacks item = Some []
+keys_for Plugins item = Some []
+keys_for Active item = Some []
+keys_for (ActiveName n) item = Some []
+keys_for Commands item = Some []
+keys_for (Command n) item = Some []
+keys_for Pages item = Some []
+keys_for (Page n) item = Some []
+keys_for Plays item = Some []
+keys_for (Play n) item = Some []
+keys_for Steps item = Some []
+keys_for (Step n) item = Some []
+
+abbrev pub unknown_key : List (List ℕ) → Members → Option (List ℕ)
+unknown_key keys no_members = None
+unknown_key keys (member k d ms) = if is_one_of keys k then unknown_key keys ms else Some k
+
+-- those that may be left out
+abbrev pub is_optional : List ℕ → Bool
+is_optional key = is_one_of (codes "priority" ∷ codes "accepted" ∷ codes "more" ∷ codes "args" ∷ codes "every" ∷ []) key
+
+abbrev pub missing_key : List (List ℕ) → Data → Option (List ℕ)
+missing_key [] item = None
+missing_key (key ∷ keys) item = if not (is_optional key) && is_none (get key item) then Some key else missing_key keys item
+
+-- ---- what is told
+
+-- a word of the file, where it could be a name
+abbrev pub name_shown : Option (List ℕ) → List ℕ
+name_shown None = []
+name_shown (Some word) = codes " \"" ++ (word ++ codes "\"")
+
+abbrev pub shown : List ℕ → List ℕ
+shown word = name_shown (name_in 32 word)
+
+abbrev pub missing_told : Option (List ℕ) → List ℕ
+missing_told (Some key) = codes "lacks \"" ++ (key ++ codes "\"")
+missing_told None = codes "a value does not fit"
+
+abbrev pub unknown_told : Option (List ℕ) → List ℕ → List ℕ
+unknown_told (Some key) otherwise = codes "unknown key" ++ shown key
+unknown_told None otherwise = otherwise
+
+abbrev pub members_told : List (List ℕ) → Data → Option Members → List ℕ
+members_told keys item None = codes "no object"
+members_told keys item (Some ms) = unknown_told (unknown_key keys ms) (missing_told (missing_key keys item))
+
+abbrev pub op_told : Option (List ℕ) → List ℕ
+op_told None = codes "no op"
+op_told (Some word) = codes "unknown op" ++ shown word
+
+abbrev pub why_bad : Data → Option (List (List ℕ)) → List ℕ
+why_bad item None = op_told (option_and_then as_str (get (codes "op") item))
+why_bad item (Some keys) = members_told keys item (as_object item)
+
+abbrev pub item_told : Place → Option Data → List ℕ
+item_told at None = codes "is bad"
+item_told at (Some item) = codes "is bad: " ++ why_bad item (keys_for at item)
+
+abbrev pub is_file : Place → Bool
+is_file File = true
+is_file Callbacks = false
+is_file (Callback n) = false
+is_file (Op c o) = false
+is_file Plugins = false
+is_file (Plugin n) = false
+is_file (Load p l) = false
+is_file Active = false
+is_file (ActiveName n) = false
+is_file Commands = false
+is_file (Command n) = false
+is_file Pages = false
+is_file (Page n) = false
+is_file Plays = false
+is_file (Play n) = false
+is_file Steps = false
+is_file (Step n) = false
+
+-- a play file, of which the kit is a part, is easily taken for a kit file
+abbrev pub what_told : Data → Place → List ℕ
+what_told kit at =
+    if is_file at && is_some (get (codes "kit") kit) then codes "this is a play file: the kit is what stands at its \"kit\"" else item_told at (item_where kit at)
 
 abbrev pub bad_told : Data → Place → List ℕ
-bad_told kit at = place_told (name_where kit at) at ++ codes "is bad"
+bad_told kit at = place_told (name_where kit at) at ++ what_told kit at

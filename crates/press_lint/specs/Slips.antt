@@ -96,7 +96,7 @@ abbrev pub past_end : List ℕ
 past_end = codes "skips past the end of its script"
 
 abbrev pub unrun : List ℕ → List ℕ
-unrun hook = codes "is on a hook that nothing runs: \"" ++ (hook ++ codes "\"")
+unrun hook = codes "puts a callback on a hook that nothing runs: \"" ++ (hook ++ codes "\"")
 
 -- what each item of a list tells, by its number, itself and those behind it, one after the other
 abbrev pub along : {A : Type 0} → (ℕ → A → List A → List ℕ) → ℕ → List A → List ℕ

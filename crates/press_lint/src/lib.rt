@@ -6,6 +6,7 @@
 mod bad;
 mod fault;
 mod hooks;
+mod keys;
 mod linted;
 mod linting;
 mod loads;

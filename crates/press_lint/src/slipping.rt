@@ -36,7 +36,9 @@ impl Look<'_> {
             ≡ spec.slip self.now.front.now self.now.kit.now at (spec.unrun hook.now)) }
     {
         let hook = hook.as_str();
-        let what = format!(in self.alloc; "is on a hook that nothing runs: \"{hook}\"")?;
+        let what = format!(in self.alloc;
+            "puts a callback on a hook that nothing runs: \"{hook}\""
+        )?;
         self.slip(at, what.as_str())
     }
 

@@ -21,8 +21,8 @@ fn bad(alloc: Global, bytes: &[u8], at: Place) -> Result<String, AllocError> {
         return no_json(alloc, bytes);
     };
     match value.get("kit") {
-        Some(kit) => bad_line(alloc, kit, at),
-        None => bad_line(alloc, &value, at),
+        Some(kit) if at != Place::File => bad_line(alloc, kit, at),
+        _ => String::from_str(alloc, "file: is bad"),
     }
 }
 

@@ -48,15 +48,30 @@ fn mistakes_are_told_with_their_places(rt: HostRuntime) {
         (
             r#"{"callbacks":[{"name":"shout","script":[{"op":"echo","text":["a"]},{"op":"ehco","text":["a"]}]}],"plugins":[]}"#,
             73,
-            "callbacks[0] \"shout\": script[1] is bad",
+            "callbacks[0] \"shout\": script[1] is bad: unknown op \"ehco\"",
         ),
         (
             r#"{"callbacks":[{"name":"a b","script":[]}],"plugins":[]}"#,
             73,
-            "callbacks[0]: is bad",
+            "callbacks[0]: is bad: a value does not fit",
+        ),
+        (
+            r#"{"callbacks":[{"name":"a","script":[{"op":"has_hook","hook":"init"}]}],"plugins":[]}"#,
+            73,
+            "callbacks[0] \"a\": script[0] is bad: lacks \"callback\"",
+        ),
+        (
+            r#"{"callbacks":[{"name":"a","script":[]}],"plugins":[{"name":"p","load":[{"hook":"init","callback":"a","priorty":5}]}]}"#,
+            73,
+            "plugins[0] \"p\": load[0] is bad: unknown key \"priorty\"",
+        ),
+        (
+            r#"{"kit":{"callbacks":[],"plugins":[]},"plays":[]}"#,
+            73,
+            "file: this is a play file: the kit is what stands at its \"kit\"",
         ),
         (r#"{"callbacks":[]}"#, 73, "plugins: is bad"),
-        ("[]", 73, "file: is bad"),
+        ("[]", 73, "file: is bad: no object"),
         (
             "{\n \"callbacks\": [}",
             73,
@@ -76,7 +91,7 @@ fn slips_are_told_in_their_order(rt: HostRuntime) {
     assert_eq!(rt; number, 0);
     assert_eq!(rt;
         slips.as_str(),
-        "> callbacks[0] \"a\": script[2] is on a hook that nothing runs: \"the_titel\"\n> plugins[0] \"p\": load[2] is on a hook that nothing runs: \"trash_to_new\"\n"
+        "> callbacks[0] \"a\": script[2] puts a callback on a hook that nothing runs: \"the_titel\"\n> plugins[0] \"p\": load[2] puts a callback on a hook that nothing runs: \"trash_to_new\"\n"
     );
     let past =
         r#"{"callbacks":[{"name":"a","script":[{"op":"skip_if","left":[],"right":[],"skip":1}]}],"plugins":[]}"#;
@@ -99,7 +114,7 @@ fn plays_run_hooks_too(rt: HostRuntime) -> Result<(), Fail> {
     let told = slips(alloc, "> ", &play.kit, &[])?;
     assert_eq!(rt;
         told.as_str(),
-        "> plugins[0] \"p\": load[0] is on a hook that nothing runs: \"mine\"\n"
+        "> plugins[0] \"p\": load[0] puts a callback on a hook that nothing runs: \"mine\"\n"
     );
     let told = slips(alloc, "> ", &play.kit, play.plays.as_slice())?;
     assert_eq!(rt; told.as_str(), "");
