@@ -50,14 +50,16 @@ fn owner_where(kit: &Value, at: Place) -> Option<&Value>
 
 fn op_where(kit: &Value, callback: usize, op: usize) -> Option<&Value>
     ensures { option_map (λ v. view v.now) result
-        ≡ option_and_then (spec.listed (codes "script") op) (spec.callback_where (view kit.now) callback) }
+        ≡ option_and_then (spec.listed (codes "script") op)
+        (spec.callback_where (view kit.now) callback) }
 {
     listed(listed(kit, "callbacks", callback)?, "script", op)
 }
 
 fn load_where(kit: &Value, plugin: usize, load: usize) -> Option<&Value>
     ensures { option_map (λ v. view v.now) result
-        ≡ option_and_then (spec.listed (codes "load") load) (spec.plugin_where (view kit.now) plugin) }
+        ≡ option_and_then (spec.listed (codes "load") load)
+        (spec.plugin_where (view kit.now) plugin) }
 {
     listed(listed(kit, "plugins", plugin)?, "load", load)
 }
@@ -93,7 +95,8 @@ fn shown(alloc: Global, text: &str, word: &str) -> Result<String, AllocError>
 }
 
 fn missing_told(alloc: Global, key: Option<&'static str>) -> Result<String, AllocError>
-    ensures { IfOk result (λ t. string_bytes t ≡ spec.missing_told (option_map (λ k. k.now) key.entry)) }
+    ensures { IfOk result (λ t. string_bytes t
+        ≡ spec.missing_told (option_map (λ k. k.now) key.entry)) }
 {
     match key {
         Some(key) => format!(in alloc; "lacks \"{key}\""),
@@ -107,7 +110,8 @@ fn members_told(
     keys: &'static [&'static str],
 ) -> Result<String, AllocError>
     ensures { IfOk result (λ t. string_bytes t
-        ≡ spec.members_told (map (λ k. k.now) keys.now) (view item.now) (as_object (view item.now))) }
+        ≡ spec.members_told (map (λ k. k.now) keys.now) (view item.now)
+        (as_object (view item.now))) }
 {
     let Some(members) = item.as_object() else {
         return String::from_str(alloc, "no object");

@@ -13,7 +13,8 @@ use serde_json::{Map, Value};
 type Keys = &'static [&'static str];
 
 fn edit_keys(op: &str) -> Option<Keys>
-    ensures { option_map (λ ks. map (λ k. k.now) ks.now) result ≡ option_map keys_of (edit_named op.now) }
+    ensures { option_map (λ ks. map (λ k. k.now) ks.now) result
+        ≡ option_map keys_of (edit_named op.now) }
 {
     if op == "add_hook" {
         Some(&["op", "hook", "callback", "priority", "accepted"])
@@ -31,7 +32,8 @@ fn edit_keys(op: &str) -> Option<Keys>
 }
 
 fn question_keys(op: &str) -> Option<Keys>
-    ensures { option_map (λ ks. map (λ k. k.now) ks.now) result ≡ option_map keys_of (question_named op.now) }
+    ensures { option_map (λ ks. map (λ k. k.now) ks.now) result
+        ≡ option_map keys_of (question_named op.now) }
 {
     if op == "did" || op == "doing" {
         Some(&["op", "hook"])
@@ -47,7 +49,8 @@ fn question_keys(op: &str) -> Option<Keys>
 }
 
 fn change_keys(op: &str) -> Option<Keys>
-    ensures { option_map (λ ks. map (λ k. k.now) ks.now) result ≡ option_map keys_of (change_named op.now) }
+    ensures { option_map (λ ks. map (λ k. k.now) ks.now) result
+        ≡ option_map keys_of (change_named op.now) }
 {
     if op == "set_option" {
         Some(&["op", "name", "value"])
@@ -61,7 +64,8 @@ fn change_keys(op: &str) -> Option<Keys>
 }
 
 fn turn_keys(op: &str) -> Option<Keys>
-    ensures { option_map (λ ks. map (λ k. k.now) ks.now) result ≡ option_map keys_of (turn_named op.now) }
+    ensures { option_map (λ ks. map (λ k. k.now) ks.now) result
+        ≡ option_map keys_of (turn_named op.now) }
 {
     if op == "set" || op == "shortcodes" || op == "echo" || op == "return" {
         Some(&["op", "text"])

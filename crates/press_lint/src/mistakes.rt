@@ -95,7 +95,8 @@ fn built_in_name(callbacks: &[Scripted]) -> Option<Mistake>
 }
 
 fn callbacks_mistaken(callbacks: &[Scripted]) -> Option<Mistake>
-    ensures { result ≡ spec.or_else (spec.first (spec.same_name (λ c. c.id) place.Callback) 0 callbacks.now)
+    ensures { result
+        ≡ spec.or_else (spec.first (spec.same_name (λ c. c.id) place.Callback) 0 callbacks.now)
         (spec.first spec.built_in_name 0 callbacks.now) }
 {
     match same_name(callbacks) {

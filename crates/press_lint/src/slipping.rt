@@ -54,7 +54,8 @@ impl Look<'_> {
 
     fn op_slip(&self, at: Place, op: &Op, behind: &[Op]) -> Result<String, AllocError>
         ensures { IfOk result (λ t. string_bytes t
-            ≡ spec.op_slip self.now.front.now self.now.kit.now self.now.plays.now at op.now behind.now) }
+            ≡ spec.op_slip self.now.front.now self.now.kit.now self.now.plays.now
+            at op.now behind.now) }
     {
         match op {
             Op::SkipIf { n, .. } if behind.len() < *n as usize => {

@@ -63,7 +63,8 @@ fn quoted(alloc: Global, name: Option<&str>) -> Result<String, AllocError>
 
 /// A place of something of that name, in front of what is told of it.
 pub fn place_told(alloc: Global, name: Option<&str>, at: Place) -> Result<String, AllocError>
-    ensures { IfOk result (λ t. string_bytes t ≡ spec.place_told (option_map (λ t. t.now) name.entry) at) }
+    ensures { IfOk result (λ t. string_bytes t
+        ≡ spec.place_told (option_map (λ t. t.now) name.entry) at) }
 {
     let name = quoted(alloc, name)?;
     match at {

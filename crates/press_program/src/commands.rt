@@ -18,7 +18,8 @@ pub fn apply_all(
     kit: &Kit,
     commands: Items<Stamped>,
 ) -> Result<(), AllocError>
-    ensures { IfOk result (λ _. site.new ≡ folded (kit_view kit.now) site.old (map (λ c. Cmd c) commands)) }
+    ensures { IfOk result (λ _. site.new
+        ≡ folded (kit_view kit.now) site.old (map (λ c. Cmd c) commands)) }
 {
     for stamped in commands.into_vec() {
         apply(alloc, site, kit, &Value::Cmd(stamped))?;

@@ -59,7 +59,8 @@ fn try_page<R: Read>(
     reader: &mut R,
 ) -> Result<Ending, ReplayFault>
     ensures took { TakesAtMost (R.remaining reader.old) (R.remaining reader.new) (file_limit + 1) }
-    ensures ends { EndsOn (kit_view kit.now) target.now (R.remaining reader.old) (ending_of result) }
+    ensures ends { EndsOn (kit_view kit.now) target.now (R.remaining reader.old)
+        (ending_of result) }
 {
     let commands = read_site(alloc, reader)?;
     Ok(page_after(alloc, kit, target, commands)?)

@@ -53,7 +53,8 @@ impl<Rt: AllocGlobal + Net> Over<'_, Rt> {
         reader: &mut R,
         writer: &mut W,
     ) -> Result<Ending, ReplayFault>
-        ensures took { TakesAtMost (R.remaining reader.old) (R.remaining reader.new) (file_limit + 1) }
+        ensures took { TakesAtMost (R.remaining reader.old)
+            (R.remaining reader.new) (file_limit + 1) }
         ensures ends { IfOk result (λ end. EndsTask demonstration task.now (R.remaining reader.old)
             (W.contents writer.old) (W.contents writer.new) end) }
         ensures err { IfErr result (λ e. (e ≡ ReplayFault.NoMemory)
@@ -78,7 +79,8 @@ impl<Rt: AllocGlobal + Net> Over<'_, Rt> {
         reader: &mut R,
         writer: &mut W,
     ) -> Result<Ending, ReplayFault>
-        ensures took { TakesAtMost (R.remaining reader.old) (R.remaining reader.new) (file_limit + 1) }
+        ensures took { TakesAtMost (R.remaining reader.old)
+            (R.remaining reader.new) (file_limit + 1) }
         ensures ends { IfOk result (λ end. EndsTask (view_where (kit_in bytes.now)) task.now
             (R.remaining reader.old) (W.contents writer.old) (W.contents writer.new) end) }
         ensures err { IfErr result (λ e. (e ≡ ReplayFault.NoMemory)
@@ -104,7 +106,8 @@ impl<Rt: AllocGlobal + Net> Over<'_, Rt> {
         reader: &mut R,
         writer: &mut W,
     ) -> Result<Ending, ReplayFault>
-        ensures took { TakesAtMost (R.remaining reader.old) (R.remaining reader.new) (file_limit + 1) }
+        ensures took { TakesAtMost (R.remaining reader.old)
+            (R.remaining reader.new) (file_limit + 1) }
         ensures ends { IfOk result (λ end. EndsTask (view_chosen self.now.kit.now) task.now
             (R.remaining reader.old) (W.contents writer.old) (W.contents writer.new) end) }
         ensures err { IfErr result (λ e. (e ≡ ReplayFault.NoMemory)
@@ -119,7 +122,8 @@ impl<Rt: AllocGlobal + Net> Over<'_, Rt> {
     // The end of a run on the file that a reader has left.
     #[tactic(auto, using(crate::proofs::Ends::out_of_memory))]
     fn shown<R: Read, W: Write>(&self, task: &Task, reader: &mut R, writer: &mut W) -> Ending
-        ensures took { TakesAtMost (R.remaining reader.old) (R.remaining reader.new) (file_limit + 1) }
+        ensures took { TakesAtMost (R.remaining reader.old)
+            (R.remaining reader.new) (file_limit + 1) }
         ensures ends { EndsTask (view_chosen self.now.kit.now) task.now (R.remaining reader.old)
             (W.contents writer.old) (W.contents writer.new) result }
     {
@@ -151,7 +155,8 @@ impl<Rt: AllocGlobal + Files + Net> Over<'_, Rt> {
         reader: &mut R,
         writer: &mut W,
     ) -> Ending
-        ensures took { TakesAtMost (R.remaining reader.old) (R.remaining reader.new) (file_limit + 1) }
+        ensures took { TakesAtMost (R.remaining reader.old)
+            (R.remaining reader.new) (file_limit + 1) }
         ensures stays { is_input wanted.now.file.now ≡ false →
             Keeps (R.remaining reader.old) (R.remaining reader.new) }
         ensures ends { EndsTask (view_chosen self.now.kit.now) wanted.now.task
@@ -173,7 +178,8 @@ impl<Rt: AllocGlobal + Files + Net> Over<'_, Rt> {
         writer: &mut W,
         error: &mut E,
     ) -> u8
-        ensures took { TakesAtMost (R.remaining reader.old) (R.remaining reader.new) (file_limit + 1) }
+        ensures took { TakesAtMost (R.remaining reader.old)
+            (R.remaining reader.new) (file_limit + 1) }
         ensures stays { is_input wanted.now.file.now ≡ false →
             Keeps (R.remaining reader.old) (R.remaining reader.new) }
         ensures shows { Shows (view_chosen self.now.kit.now) (wanted_of wanted.now)
@@ -263,8 +269,10 @@ impl Over<'_, HostRuntime> {
         writer: &mut W,
         error: &mut E,
     ) -> u8
-        ensures took { TakesAtMost (R.remaining reader.old) (R.remaining reader.new) (file_limit + 1) }
-        ensures reads { ReadsFor (job_of job.now) (R.remaining reader.old) (R.remaining reader.new) }
+        ensures took { TakesAtMost (R.remaining reader.old)
+            (R.remaining reader.new) (file_limit + 1) }
+        ensures reads { ReadsFor (job_of job.now) (R.remaining reader.old)
+            (R.remaining reader.new) }
         ensures does { Does (view_chosen self.now.kit.now) (job_of job.now) (R.remaining reader.old)
             result (W.contents writer.old) (W.contents writer.new)
             (E.contents error.old) (E.contents error.new) }

@@ -23,8 +23,10 @@ impl Asked<'_> {
         writer: &mut W,
         error: &mut E,
     ) -> u8
-        ensures took { TakesAtMost (R.remaining reader.old) (R.remaining reader.new) (file_limit + 1) }
-        ensures reads { ReadsFor (job_of self.now.job) (R.remaining reader.old) (R.remaining reader.new) }
+        ensures took { TakesAtMost (R.remaining reader.old)
+            (R.remaining reader.new) (file_limit + 1) }
+        ensures reads { ReadsFor (job_of self.now.job) (R.remaining reader.old)
+            (R.remaining reader.new) }
         ensures runs { RunsOver (option_map (λ kit. kit.now) self.now.kit) (job_of self.now.job)
             (R.remaining reader.old) result (W.contents writer.old) (W.contents writer.new)
             (E.contents error.old) (E.contents error.new) }

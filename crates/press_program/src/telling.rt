@@ -66,7 +66,8 @@ pub(crate) fn finish<W: Write, E: Write>(end: Ending, writer: &mut W, error: &mu
 /// Tells a kit file that can't be used.
 pub(crate) fn refuse_kit<E: Write>(alloc: Global, file: &str, fault: &KitFault, error: &mut E) -> u8
     ensures status { result ≡ 2 }
-    ensures told { AppendsFront (E.contents error.old) (E.contents error.new) (line_of_kit file.now fault.now)
+    ensures told { AppendsFront (E.contents error.old) (E.contents error.new)
+        (line_of_kit file.now fault.now)
         ⊎ AppendsFront (E.contents error.old) (E.contents error.new) (fault_line ReplayFault.NoMemory) }
 {
     match kit_line(alloc, file, fault) {
