@@ -85,10 +85,10 @@ fn look_request(alloc: Global) -> Option<Vec<u8>> {
     Some(text.into_bytes())
 }
 
-// How many slots a member has applied, as its reply tells.
-fn applied_in(reply: &[u8]) -> Option<u64> {
+// How many slots are chosen as far as a member knows, as its reply tells.
+fn chosen_in(reply: &[u8]) -> Option<u64> {
     let text = from_utf8(reply).ok()?;
-    let (_, rest) = text.split_once("\"applied\":")?;
+    let (_, rest) = text.split_once("\"chosen\":")?;
     let (digits, _) = rest.split_once(',')?;
     digits.parse().ok()
 }
@@ -310,6 +310,7 @@ impl<'s, S: PromiseStore> Clustered<'s, S> {
         let standing = Standing {
             is_ready,
             applied: self.node.applied(),
+            chosen: self.pace.chosen(),
             near: &near,
         };
         show_ready(self.alloc, standing, told)
@@ -349,14 +350,14 @@ impl<S: PromiseStore> Answers for Clustered<'_, S> {
         if errand != Errand::Message {
             self.peers.asked(place);
         }
-        let told = applied_in(reply);
+        let told = chosen_in(reply);
         if told.is_some() || reply.starts_with(TAKEN) {
             let now = self.time.millis;
             self.peers.heard(place, now);
         }
-        if let (Errand::Look(round), Some(applied)) = (errand, told) {
+        if let (Errand::Look(round), Some(chosen)) = (errand, told) {
             self.peers.told(place, round);
-            self.pace.told(applied);
+            self.pace.told(chosen);
             self.note_round();
         }
     }

@@ -45,7 +45,7 @@ pub struct Pace {
     // When it looks again, and how often it did.
     look_at: u64,
     round: u64,
-    // The most slots that another has told to be applied, and whether enough have told.
+    // So many slots are chosen, as far as it knows by its own store and by what others have told, and whether enough have told.
     newest: u64,
     is_known: bool,
     // The last slot that it asked for, and when it asks again.
@@ -164,9 +164,14 @@ impl Pace {
         self.settle();
     }
 
-    /// Another has applied so many.
-    pub fn told(&mut self, applied: u64) {
-        self.newest = self.newest.max(applied);
+    /// So many slots are chosen, by its own store or as another tells.
+    pub fn told(&mut self, chosen: u64) {
+        self.newest = self.newest.max(chosen);
+    }
+
+    /// So many slots are chosen, as far as it knows.
+    pub fn chosen(&self) -> u64 {
+        self.newest.max(self.applied)
     }
 
     /// Enough have told how far they are.

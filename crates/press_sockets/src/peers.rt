@@ -64,6 +64,10 @@ fn addr_in<N: Net>(net: &N, text: &str) -> Option<SocketAddr> {
     found.next()
 }
 
+fn has_addr(all: &[Peer], addr: SocketAddr) -> bool {
+    all.iter().any(|peer| peer.addr == addr)
+}
+
 impl Peers {
     /// The members whose addresses stand in the text, with commas between; the node's number is its place there, from 1.
     pub fn read<N: Net>(
@@ -77,7 +81,7 @@ impl Peers {
             let Some(addr) = addr_in(net, part) else {
                 return Err(PeersFault::Unknown);
             };
-            if all.len() >= MOST {
+            if all.len() >= MOST || has_addr(&all, addr) {
                 return Err(PeersFault::Unknown);
             }
             all.push(Peer {

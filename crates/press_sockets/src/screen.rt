@@ -152,6 +152,8 @@ pub struct Standing<'a> {
     pub is_ready: bool,
     /// So many slots are applied.
     pub applied: u64,
+    /// So many are chosen, as far as it knows.
+    pub chosen: u64,
     /// The numbers of the members that answered lately, with commas between.
     pub near: &'a str,
 }
@@ -165,10 +167,11 @@ pub fn show_ready(
     let Standing {
         is_ready,
         applied,
+        chosen,
         near,
     } = standing;
     let body = format!(in alloc;
-        "{{\"ready\":{is_ready},\"applied\":{applied},\"members\":[{near}]}}\n"
+        "{{\"ready\":{is_ready},\"applied\":{applied},\"chosen\":{chosen},\"members\":[{near}]}}\n"
     )?;
     let head = ready_head(alloc, is_ready, body.len())?;
     tell(told, head.as_bytes())?;

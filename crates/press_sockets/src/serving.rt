@@ -20,7 +20,7 @@ use press_callbacks::Kit;
 use press_node::{Node, StartFault};
 use press_store::SqlStore;
 use press_text::{Text, write_once};
-use press_wire::Node as Member;
+use press_wire::{Node as Member, Slot};
 use std::alloc::{AllocError, Global};
 use std::fs;
 use std::io::Write;
@@ -66,6 +66,40 @@ fn begin_member<S: PromiseStore + Drop>(
         Ok(node) => Ok(node),
         Err(StartFault { fault, .. }) => Err(fault.into()),
     }
+}
+
+// With so many slots without a vote behind one, no other has a vote.
+const GAP: u64 = 1_024;
+
+// Whether the store keeps a vote for a slot from this one on.
+fn has_vote_from<S: PromiseStore>(store: &mut S, from: u64) -> Result<bool, StoreFault> {
+    for number in from..from.saturating_add(GAP) {
+        let Some(slot) = Slot::new(u32::try_from(number).unwrap_or(0)) else {
+            return Ok(false);
+        };
+        if store.load(slot)?.vote.is_some() {
+            return Ok(true);
+        }
+    }
+    Ok(false)
+}
+
+// So many slots are chosen, by what the store keeps: who proposes for a slot has applied those before it, so these are all before the last one with a vote. It is found by halves.
+fn chosen_by<S: PromiseStore>(store: &mut S) -> Result<u64, StoreFault> {
+    let mut low: u64 = 0;
+    let mut high: u64 = 1 << 20;
+    for _ in 0..64 {
+        let middle = low.saturating_add(high.saturating_sub(low) / 2);
+        if middle <= low {
+            break;
+        }
+        if has_vote_from(store, middle)? {
+            low = middle;
+        } else {
+            high = middle;
+        }
+    }
+    Ok(low.saturating_sub(1))
 }
 
 // What its store keeps is chosen again, and applied: it is woken until nothing more is.
@@ -203,11 +237,14 @@ fn serve_member<W: Write, E: Write>(
     };
     let peers = Peers::read(rt.alloc(), rt, id, peers)?;
     let screen = screen_of(rt, setup)?;
-    let mut node = begin_member(rt.alloc(), &peers, kit, SqlStore::open(rt, file)?)?;
+    let mut store = SqlStore::open(rt, file)?;
+    let chosen = chosen_by(&mut store)?;
+    let mut node = begin_member(rt.alloc(), &peers, kit, store)?;
     if peers.count() == 1 {
         catch_up(rt.alloc(), &mut node);
     }
-    let pace = Pace::new(peers.place(), peers.count(), u64::from(tick));
+    let mut pace = Pace::new(peers.place(), peers.count(), u64::from(tick));
+    pace.told(chosen);
     let party = Party {
         peers,
         pace,
