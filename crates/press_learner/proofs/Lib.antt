@@ -1,6 +1,7 @@
 mod Came
 mod Majorities
 mod Places
+mod Rings
 mod Settled
 mod Turns
 mod Views

@@ -13,7 +13,7 @@ use Rattle.press_learner.proofs.Places.{get_retained}
 abbrev IsUpTo : ℕ → Kept → Type 0
 IsUpTo top k = (slot member : ℕ) → IsSome (vote_at k slot member) → (k.applied < slot) × (slot ≤ top)
 
-in_window : (a slot : ℕ) → IsTrue (is_in_window a slot) → (a < slot) × (slot ≤ a + 64)
+pub in_window : (a slot : ℕ) → IsTrue (is_in_window a slot) → (a < slot) × (slot ≤ a + 64)
 unfolding is_in_window
 in_window a slot i = let p = and_parts (nat_lt a slot) _ i in (ltb-true a slot p.0, leb-true slot (a + 64) p.1)
 

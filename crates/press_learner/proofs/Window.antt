@@ -1,6 +1,6 @@
 -- Kept votes stay in the window.
-use Rattle.std.proofs.Common.{ℕ, ◌+◌, ◌<◌, ◌≡◌, Bool, true, false, cond, ◌&&◌, ◌||◌, nat_lt, nat_le, IsTrue, IsSome, is_some, List, [], ◌∷◌, Some, None, refl, sym, ap, subst, ◌∙◌, arith}
-use Rattle.std.proofs.lemmas.Bool.{and_from, and_parts, leb-true, le-leb, ltb-true, true≢false}
+use Rattle.std.proofs.Common.{ℕ, ◌+◌, ◌<◌, ◌≡◌, Bool, true, false, cond, ◌&&◌, ◌||◌, inl, inr, nat_lt, nat_le, IsTrue, IsSome, is_some, List, [], ◌∷◌, Some, None, refl, sym, ap, subst, ◌∙◌, arith}
+use Rattle.std.proofs.lemmas.Bool.{and_from, and_parts, leb-true, le-leb, ltb-true, lt-ltb, or_cases, or_left, or_right, true≢false}
 use Rattle.std.specs.Cmp.{eq_by_cmp_equiv}
 use Rattle.std.specs.FinMap.{keys, get-empty, get-insert, contains_key-keys}
 use Rattle.std.specs.List.{list_any}
@@ -40,17 +40,17 @@ found : (p : ℕ × ℕ → Bool) (xs : List (ℕ × ℕ)) → list_any p xs ≡
 found p [] h = absurd (true≢false (sym h))
 found p (x ∷ xs) h = go (p x) refl h (found p xs)
   where
-    here : (b c : Bool) → b ≡ true → (b || c) ≡ true
-    here true c e = refl
-    here false c e = absurd (true≢false (sym e))
-
-    there : (b c : Bool) → c ≡ true → (b || c) ≡ true
-    there true c e = refl
-    there false c e = e
-
     go : (t : Bool) → p x ≡ t → (t || list_any p xs) ≡ true → (list_any p xs ≡ true → (y : ℕ × ℕ) × (p y ≡ true) × (list_any (eq_by_cmp place_cmp y) xs ≡ true)) → (y : ℕ × ℕ) × (p y ≡ true) × (list_any (eq_by_cmp place_cmp y) (x ∷ xs) ≡ true)
-    go true e h later = (x, e, here (eq_by_cmp place_cmp x x) _ ((eq_by_cmp_equiv places_total).refl x))
-    go false e h later = let r = later h in (r.0, r.1, there (eq_by_cmp place_cmp r.0 x) _ r.2)
+    go true e h later = (x, e, or_left (eq_by_cmp place_cmp x x) _ ((eq_by_cmp_equiv places_total).refl x))
+    go false e h later = let r = later h in (r.0, r.1, or_right (eq_by_cmp place_cmp r.0 x) _ r.2)
+
+-- and one that is among them passes
+passes : (p : ℕ × ℕ → Bool) (q : ℕ × ℕ) (xs : List (ℕ × ℕ)) → p q ≡ true → list_any (eq_by_cmp place_cmp q) xs ≡ true → list_any p xs ≡ true
+passes p q [] h e = e
+passes p q (x ∷ xs) h e = elim (or_cases (eq_by_cmp place_cmp q x) (list_any (eq_by_cmp place_cmp q) xs) e) [
+  | inl same ↦ or_left (p x) (list_any p xs) (subst (λ (y : ℕ × ℕ). p y ≡ true) (same_place q x same) h)
+  | inr later ↦ or_right (p x) (list_any p xs) (passes p q xs h later)
+]
 
 -- a gap is a kept vote for a slot after the next one
 pub gap_vote : (k : Kept) → has_gap k ≡ true → (slot member : ℕ) × (k.applied + 1 < slot) × IsSome (vote_at k slot member)
@@ -58,6 +58,12 @@ unfolding has_gap
 gap_vote k h =
     let r = found (λ (p : ℕ × ℕ). nat_lt (k.applied + 1) p.0) (keys k.votes) h in
     (r.0.0, r.0.1, ltb-true (k.applied + 1) r.0.0 r.1, contains_key-keys k.votes r.0 ∙ r.2)
+
+pub gap_of_vote : (k : Kept) (slot member : ℕ) → k.applied + 1 < slot → IsSome (vote_at k slot member) → has_gap k ≡ true
+unfolding has_gap
+gap_of_vote k slot member later some =
+    passes (λ (p : ℕ × ℕ). nat_lt (k.applied + 1) p.0) (slot, member) (keys k.votes) (lt-ltb (k.applied + 1) slot later)
+    (sym (contains_key-keys k.votes (slot, member)) ∙ some)
 
 pub gap_before_last : (k : Kept) → IsWindow k → has_gap k ≡ true → k.applied < 999999
 gap_before_last k w h = let r = gap_vote k h in omega (arith, r.2, (w r.0 r.1 r.3).1)

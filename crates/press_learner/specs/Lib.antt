@@ -1,3 +1,4 @@
 pub mod Chosen
 pub mod Codes
+pub mod InRing
 pub mod Kept

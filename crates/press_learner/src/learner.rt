@@ -2,21 +2,21 @@
 
 ghost use Rattle.std.specs.Prelude.{◌≡◌, ◌<◌, ◌≤◌, ◌*◌, nat_lt, IsTrue, IsSome, IfSome, OnOk, OnErr, None, option_copied};
 ghost use Rattle.press_learner.specs.Chosen.{has_ballot, ballot_count, won, chosen_next, has_gap};
-ghost use Rattle.press_learner.specs.Kept.{IsWindow, new_learner, vote_at, is_in_window, is_news, kept_with, with_vote, advanced, next_slot};
+ghost use Rattle.press_learner.specs.InRing.{has_place};
+ghost use Rattle.press_learner.specs.Kept.{IsInPlace, IsWindow, new_learner, vote_at, is_in_window, is_news, kept_with, with_vote, advanced, next_slot};
 
+use crate::ring::{WINDOW, empty_slot, has_other, make_room, put_vote, vote_in};
 use press_apply::Value;
 use press_wire::{Ballot, Node, Slot, Vote};
 use std::alloc::{AllocError, Global};
-use std::collections::BTreeMap;
 use std::marker::Model;
 
-const WINDOW: u32 = 64;
-
 /// The votes of a cluster's members for the next 64 slots, and how many slots are applied.
+/// They stand in a ring, with a place for each of these slots and members: that of an applied slot is handed on to the slot 64 after it.
 #[derive(Debug)]
 pub struct Learner {
     members: u8,
-    votes: BTreeMap<(u32, u8), Vote>,
+    ring: Vec<Option<Vote>>,
     applied: u32,
     alloc: Global,
 }
@@ -25,7 +25,7 @@ impl Drop for Learner {
     fn drop(self) {
         let Learner {
             members: _,
-            votes: _,
+            ring: _,
             applied: _,
             alloc: _,
         } = self;
@@ -34,18 +34,18 @@ impl Drop for Learner {
 
 impl Model for Learner {
     ghost use Rattle.std.specs.Coded.{codes};
-    ghost use Rattle.std.specs.FinMap.{from_entries};
     ghost use Rattle.std.specs.Prelude.{◌≤◌};
     ghost use Rattle.press_learner.specs.Codes.{kept_code};
-    ghost use Rattle.press_learner.specs.Kept.{Kept, IsWindow, place_cmp};
+    ghost use Rattle.press_learner.specs.InRing.{HasRoom, kept_in};
+    ghost use Rattle.press_learner.specs.Kept.{Kept, IsWindow};
 
     ghost Value = { Kept };
 
     ghost coded = { kept_code (Prim.hlevel codes) };
 
-    ghost view = { λ a. record { members = a.members; votes = from_entries {R = place_cmp} a.votes.entries; applied = a.applied } };
+    ghost view = { λ a. kept_in a.members a.applied a.ring.items };
 
-    ghost invariant = { λ a. (a.members ≤ 7) × (a.applied ≤ 1000000) × IsWindow (record { members = a.members; votes = from_entries {R = place_cmp} a.votes.entries; applied = a.applied }) };
+    ghost invariant = { λ a. (a.members ≤ 7) × (a.applied ≤ 1000000) × IsWindow (kept_in a.members a.applied a.ring.items) × HasRoom a.members a.ring.items };
 }
 
 impl Learner {
@@ -57,7 +57,7 @@ impl Learner {
     {
         Learner {
             members,
-            votes: BTreeMap::new(alloc),
+            ring: Vec::new(alloc),
             applied: 0,
             alloc,
         }
@@ -72,10 +72,26 @@ impl Learner {
         u64::from(self.applied)
     }
 
+    fn is_within(&self, slot: u32) -> bool
+        ensures { result ≡ is_in_window self.now.applied slot }
+    {
+        self.applied < slot && slot <= self.applied + WINDOW
+    }
+
+    fn has_place(&self, slot: u32, member: u8) -> bool
+        ensures { result ≡ has_place self.now.members self.now.applied slot member }
+    {
+        self.is_within(slot) && 1 <= member && member <= self.members
+    }
+
     fn vote(&self, slot: u32, member: u8) -> Option<&Vote>
         ensures { option_copied result ≡ vote_at self.now slot member }
     {
-        self.votes.get(&(slot, member))
+        let votes = &self.ring;
+        if !self.has_place(slot, member) {
+            return None;
+        }
+        vote_in(votes, slot, member)
     }
 
     fn has_ballot(&self, slot: u32, member: u8, ballot: Ballot) -> bool
@@ -126,12 +142,6 @@ impl Learner {
         None
     }
 
-    fn is_within(&self, slot: u32) -> bool
-        ensures { result ≡ is_in_window self.now.applied slot }
-    {
-        self.applied < slot && slot <= self.applied + WINDOW
-    }
-
     fn is_news(&self, from: u8, slot: u32, ballot: Ballot) -> bool
         ensures { result ≡ is_news (vote_at self.now slot from) ballot }
     {
@@ -141,20 +151,20 @@ impl Learner {
         }
     }
 
-    fn put(&mut self, from: Node, slot: Slot, vote: Vote) -> Result<(), AllocError>
-        requires member { from ≤ self.old.members }
-        requires window { IsTrue (is_in_window self.old.applied slot) }
+    fn put(&mut self, from: u8, slot: u32, vote: Vote) -> Result<(), AllocError>
+        requires { IsInPlace self.old slot from }
         ensures ok { OnOk result (self.new ≡ kept_with self.old from slot vote) }
         ensures err { OnErr result (self.new ≡ self.old) }
         ensures members { self.new.members ≡ self.old.members }
         ensures memory { OnErr result (vote_at self.old slot from ≡ None) }
     {
-        self.votes.insert((slot.number(), from.number()), vote)?;
+        make_room(&mut self.ring, self.alloc, self.members)?;
+        put_vote(&mut self.ring, slot, from, vote);
         Ok(())
     }
 
     /// A vote that came. It is kept where its slot is one of the next 64 and the member has no kept vote of as great a ballot for it,
-    /// and else dropped. Only a member's first vote for a slot takes memory.
+    /// and else dropped. The first vote that is kept takes memory, for all that come.
     pub fn on_vote(&mut self, from: Node, slot: Slot, vote: Vote) -> Result<(), AllocError>
         requires { from ≤ self.old.members }
         ensures ok { OnOk result (self.new ≡ with_vote self.old from slot vote) }
@@ -162,9 +172,8 @@ impl Learner {
         ensures members { self.new.members ≡ self.old.members }
         ensures memory { OnErr result (IsTrue (is_in_window self.old.applied slot) × (vote_at self.old slot from ≡ None)) }
     {
-        if self.is_within(slot.number())
-            && self.is_news(from.number(), slot.number(), vote.ballot)
-        {
+        let (from, slot) = (from.number(), slot.number());
+        if self.is_within(slot) && self.is_news(from, slot, vote.ballot) {
             return self.put(from, slot, vote);
         }
         Ok(())
@@ -176,7 +185,7 @@ impl Learner {
         ensures { self.new ≡ advanced self.old }
     {
         let slot = self.applied + 1;
-        self.votes.retain(|place, _| slot < place.0);
+        empty_slot(&mut self.ring, slot, self.members);
         self.applied = slot;
     }
 
@@ -185,7 +194,6 @@ impl Learner {
         ensures value { result ≡ has_gap self.now }
         ensures last { IsTrue result → self.now.applied < 999999 }
     {
-        let slot = self.applied + 1;
-        self.votes.keys().any(|place| slot < place.0)
+        has_other(&self.ring, self.applied + 1)
     }
 }
