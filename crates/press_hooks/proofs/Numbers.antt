@@ -110,7 +110,7 @@ module _ (hook : List ℕ) (priority : ℤ) (callback : List ℕ) (accepted : �
   accepted_in_order rows = ap rows_of (sorted_by-map key_cmp (accepted_row hook priority callback accepted) unseen rows) ∙ accepted_rows (in_order rows)
 
 -- before the first row that passes, or last
-abbrev put_before : (Row → Bool) → Row → List Row → List Row
+abbrev pub put_before : (Row → Bool) → Row → List Row → List Row
 put_before t r [] = r ∷ []
 put_before t r (x ∷ xs) = cond (t x) (r ∷ x ∷ xs) (x ∷ put_before t r xs)
 
@@ -136,7 +136,7 @@ place_by : (b : Bool) (n m : ℕ) → nat_lt n m ≡ b → n ≤ m → unwrap_or
 place_by true n m e h = refl
 place_by false n m e h = grind arith
 
-put_is : (r : Row) (xs : List Row) → put_row r xs ≡ put_before (stands_after r.hook r.priority) r xs
+pub put_is : (r : Row) (xs : List Row) → put_row r xs ≡ put_before (stands_after r.hook r.priority) r xs
 put_is r xs =
     let t : Row → Bool = stands_after r.hook r.priority in
     ap (λ n. insert xs n r) (place_by (nat_lt (position_or_len t xs) (length xs)) (position_or_len t xs) (length xs) refl (within t xs)) ∙ inserted t r xs

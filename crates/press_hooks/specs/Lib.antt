@@ -1,3 +1,4 @@
+pub mod Hooked
 pub mod HookRows
 pub mod NextEntry
 pub mod Numbered

@@ -3,10 +3,14 @@
 //! A run takes the entries of one priority as they stand when it gets there; no edit changes what it has taken.
 #![tactic(auto)]
 
+mod entries;
 mod entry;
+mod hook;
+mod hooks;
 mod laws;
 mod open_run;
 mod row;
+mod rows;
 mod table;
 
 pub use entry::Entry;

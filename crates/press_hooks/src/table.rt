@@ -1,17 +1,15 @@
-ghost use Rattle.std.specs.Prelude.{◌≡◌, ℕ, false, IsOk, IfOk, OnOk, OnErr, IsTrue, length, map, filter, position, IfSome, not, ◌<◌, ◌≤◌};
+ghost use Rattle.std.specs.Prelude.{◌≡◌, false, IsOk, IfOk, OnErr, IsTrue, length};
 ghost use Rattle.std.specs.List.{list_any};
-ghost use Rattle.press_hooks.specs.HookRows.{is_row, is_at_any, stands_after, place_in, accepted_as, add_row, adds_row, remove_row, remove_rows, has_rows, priority_of, is_of_callback, least_priority, least_with};
+ghost use Rattle.press_hooks.specs.HookRows.{is_row, add_row, adds_row, remove_row, remove_rows, has_rows, priority_of};
 ghost use Rattle.press_hooks.specs.NextEntry.{no_rows, with_rows, is_innermost, run_begun, run_ended, entry_next, run_advanced};
 
+use crate::entries;
 use crate::entry::Entry;
-use crate::open_run::{OpenRun, lesser};
-use crate::row::Row;
-use press_text::{CallbackId, HookName, copied_all};
+use crate::open_run::OpenRun;
+use crate::rows::Rows;
+use press_text::{CallbackId, HookName};
 use std::alloc::{AllocError, Global};
 use std::marker::Model;
-
-/// How many rows a table holds at most.
-const MOST_ROWS: usize = 1024;
 
 /// The entries of every hook, and the runs that are open (`WP_Hook`).
 ///
@@ -19,7 +17,7 @@ const MOST_ROWS: usize = 1024;
 #[derive(Debug)]
 pub struct HookTable {
     alloc: Global,
-    rows: Vec<Row>,
+    rows: Rows,
     runs: Vec<OpenRun>,
 }
 
@@ -39,7 +37,7 @@ impl Model for HookTable {
 
     ghost Value = { Table };
 
-    ghost view = { λ t. record { rows = t.rows.items; open_runs = reverse t.runs.items } };
+    ghost view = { λ t. record { rows = t.rows; open_runs = reverse t.runs.items } };
 }
 
 /// Names a place in the stack of open runs: how many runs were open when this one began.
@@ -65,7 +63,7 @@ impl HookTable {
     {
         HookTable {
             alloc,
-            rows: Vec::new(alloc),
+            rows: Rows::new(alloc),
             runs: Vec::new(alloc),
         }
     }
@@ -74,7 +72,7 @@ impl HookTable {
     pub fn copy(&self) -> Result<HookTable, AllocError>
         ensures { IfOk result (λ t. t ≡ with_rows self.now.rows no_rows) }
     {
-        let rows = copied_all(self.alloc, self.rows.as_slice())?;
+        let rows = self.rows.copy(self.alloc)?;
         let runs = Vec::new(self.alloc);
         Ok(HookTable {
             alloc: self.alloc,
@@ -97,14 +95,12 @@ impl HookTable {
         ensures refused { OnErr result (self.new ≡ self.old) }
         ensures full { adds_row hook.now callback priority self.old.rows ≡ false → IsOk result }
     {
-        add_row(
-            self.alloc,
-            &mut self.rows,
-            hook,
-            callback,
+        let entry = Entry {
             priority,
+            callback,
             accepted,
-        )
+        };
+        self.rows.add(self.alloc, hook, entry)
     }
 
     /// Takes out the entry of that callback at that priority; whether one stood there (`remove_filter`).
@@ -112,8 +108,8 @@ impl HookTable {
         ensures answer { result ≡ list_any (is_row hook.now priority callback) self.old.rows }
         ensures rows { self.new ≡ with_rows (remove_row hook.now callback priority self.old.rows) self.old }
     {
-        let stood = has_row(&self.rows, hook, priority, callback);
-        remove_row(&mut self.rows, hook, priority, callback);
+        let stood = self.rows.has(hook, priority, callback);
+        self.rows.remove(hook, callback, priority);
         stood
     }
 
@@ -121,21 +117,21 @@ impl HookTable {
     pub fn remove_all(&mut self, hook: &HookName, priority: Option<i64>)
         ensures { self.new ≡ with_rows (remove_rows hook.now priority self.old.rows) self.old }
     {
-        remove_rows(&mut self.rows, hook, priority);
+        self.rows.remove_all(hook, priority);
     }
 
     /// The least priority at which the callback stands on the hook (`has_filter`).
     pub fn has(&self, hook: &HookName, callback: CallbackId) -> Option<i64>
         ensures { result ≡ priority_of hook.now callback self.now.rows }
     {
-        priority_of(&self.rows, hook, callback)
+        entries::priority_of(self.rows.entries_of(hook), callback)
     }
 
     /// Whether the hook has an entry at all.
     pub fn has_any(&self, hook: &HookName) -> bool
         ensures { result ≡ has_rows hook.now self.now.rows }
     {
-        self.rows.iter().any(|r| r.hook.is(hook))
+        !self.rows.entries_of(hook).is_empty()
     }
 
     /// Opens a run of the hook, which is the innermost from now on.
@@ -158,10 +154,8 @@ impl HookTable {
         ensures advanced { IfOk result (λ e. self.new ≡ run_advanced self.old) }
         ensures refused { OnErr result (self.new ≡ self.old) }
     {
-        let alloc = self.alloc;
-        let rows = self.rows.as_slice();
         let open = &mut self.runs[run.depth];
-        open.advance(alloc, rows)
+        open.advance(&self.rows)
     }
 
     /// Closes the innermost run.
@@ -178,100 +172,5 @@ impl HookTable {
         ensures { result ≡ is_innermost run self.now.open_runs }
     {
         !self.runs.is_empty() && run.depth == self.runs.len() - 1
-    }
-}
-
-// Sets `accepted` of the row that stands, or puts in a new one where there is room.
-fn add_row(
-    alloc: Global,
-    rows: &mut Vec<Row>,
-    hook: &HookName,
-    callback: CallbackId,
-    priority: i64,
-    accepted: u32,
-) -> Result<bool, AllocError>
-    ensures answer { IfOk result (λ b. b ≡ adds_row hook.now callback priority rows.old.items) }
-    ensures rows { OnOk result (rows.new.items ≡ add_row hook.now callback priority accepted rows.old.items) }
-    ensures refused { OnErr result (rows.new.items ≡ rows.old.items) }
-    ensures full { adds_row hook.now callback priority rows.old.items ≡ false → IsOk result }
-{
-    if has_row(rows, hook, priority, callback) {
-        accept_row(rows, hook, priority, callback, accepted);
-        return Ok(true);
-    }
-    if rows.len() >= MOST_ROWS {
-        return Ok(false);
-    }
-    let place = place_of(rows, hook, priority);
-    let row = Row {
-        hook: hook.copy(alloc)?,
-        priority,
-        callback,
-        accepted,
-    };
-    rows.insert(place, row)?;
-    Ok(true)
-}
-
-fn has_row(rows: &[Row], hook: &HookName, priority: i64, callback: CallbackId) -> bool
-    ensures { result ≡ list_any (is_row hook.now priority callback) rows.now }
-{
-    rows.iter().any(|r| r.is(hook, priority, callback))
-}
-
-// Sets `accepted` of the row where it stands.
-fn accept_row(rows: &mut [Row], hook: &HookName, priority: i64, callback: CallbackId, accepted: u32)
-    ensures { rows.new ≡ map (accepted_as hook.now priority callback accepted) rows.old }
-{
-    for r in rows.iter_mut() {
-        r.accept_as(hook, priority, callback, accepted);
-    }
-}
-
-fn remove_row(rows: &mut Vec<Row>, hook: &HookName, priority: i64, callback: CallbackId)
-    ensures { rows.new.items ≡ remove_row hook.now callback priority rows.old.items }
-{
-    rows.retain(|r| !r.is(hook, priority, callback));
-}
-
-fn remove_rows(rows: &mut Vec<Row>, hook: &HookName, priority: Option<i64>)
-    ensures { rows.new.items ≡ remove_rows hook.now priority rows.old.items }
-{
-    rows.retain(|r| !r.is_at_any(hook, priority));
-}
-
-fn place_of(rows: &[Row], hook: &HookName, priority: i64) -> usize
-    ensures place { result ≡ place_in hook.now priority rows.now }
-    ensures within { result ≤ length rows.now }
-{
-    first_after(rows, hook, priority).unwrap_or(rows.len())
-}
-
-fn first_after(rows: &[Row], hook: &HookName, priority: i64) -> Option<usize>
-    ensures place { result ≡ position (stands_after hook.now priority) rows.now }
-    ensures within { IfSome result (λ i. i < length rows.now) }
-{
-    rows.iter().position(|r| r.stands_after(hook, priority))
-}
-
-fn priority_of(rows: &[Row], hook: &HookName, callback: CallbackId) -> Option<i64>
-    ensures { result ≡ priority_of hook.now callback rows.now }
-{
-    let mut least: Option<i64> = None;
-    let mut left = rows.len();
-    while left > 0 {
-        left -= 1;
-        least = least_with(&rows[left], hook, callback, least);
-    }
-    least
-}
-
-fn least_with(r: &Row, hook: &HookName, callback: CallbackId, least: Option<i64>) -> Option<i64>
-    ensures { result ≡ least_with (is_of_callback hook.now callback) r.now least }
-{
-    if r.is_of_callback(hook, callback) {
-        Some(lesser(r.priority, least))
-    } else {
-        least
     }
 }

@@ -1,0 +1,25 @@
+use Rattle.std.proofs.Common.{◌∙◌, ap, sym, subst}
+use Rattle.std.proofs.lemmas.Result.{on_ok_weaker}
+use Rattle.press_hooks.specs.Hooked.{IsByName, table_rows}
+use Rattle.press_hooks.proofs.Named.{put_found, put_missing, order_missing, order_set}
+use Rattle.press_hooks.proofs.hooks.put.Goals as goal
+
+pub returns-in-Ok-clause-rows : goal.returns-in-Ok-clause-rows
+returns-in-Ok-clause-rows c =
+    let place = rw c.as_slice.ensures.value at c.in-Ok.ensures in
+    on_ok_weaker c.put.result (λ h. put_found c.args.name.now c.args.entry c.args.hooks.now.items c.in-Ok.place c.index_mut.result.now c.put.new.self c.requires place.0 place.1 c.index_mut.ensures.value h) c.put.ensures.put
+
+pub returns-in-Ok-clause-order : goal.returns-in-Ok-clause-order
+returns-in-Ok-clause-order c =
+    let place = rw c.as_slice.ensures.value at c.in-Ok.ensures in
+    on_ok_weaker c.put.result (λ h. order_set c.args.hooks.now.items c.in-Ok.place c.index_mut.result.now c.put.new.self place.0 (ap (λ g. g.name) h ∙ ap (λ g. g.name) c.index_mut.ensures.value) c.requires) c.put.ensures.put
+
+pub returns-in_ok-with_entry-in-Err-clause-rows : goal.returns-in_ok-with_entry-in-Err-clause-rows
+returns-in_ok-with_entry-in-Err-clause-rows c =
+    let place = rw c.as_slice.ensures.value at c.in-Err.ensures in
+    on_ok_weaker c.put_hook.result (λ h. ap table_rows h ∙ put_missing c.args.name.now c.args.entry c.in_ok-with_entry-in-Err.field-0 c.args.hooks.now.items c.in-Err.place c.in_ok-with_entry-in-Err.ensures place.0 place.1) c.put_hook.ensures.put
+
+pub returns-in_ok-with_entry-in-Err-clause-order : goal.returns-in_ok-with_entry-in-Err-clause-order
+returns-in_ok-with_entry-in-Err-clause-order c =
+    let place = rw c.as_slice.ensures.value at c.in-Err.ensures in
+    on_ok_weaker c.put_hook.result (λ h. subst IsByName (sym h) (order_missing c.args.name.now c.args.entry c.in_ok-with_entry-in-Err.field-0 c.args.hooks.now.items c.in-Err.place c.in_ok-with_entry-in-Err.ensures place.0 place.1 c.requires)) c.put_hook.ensures.put

@@ -1,5 +1,0 @@
-use Rattle.press_hooks.proofs.Lists.{mapped_step}
-use Rattle.press_hooks.proofs.table.accept_row.Goals as goal
-
-pub loop-r-preserved : goal.loop-r-preserved
-loop-r-preserved c = mapped_step _ _ _ _ _ _ c.loop-r.invariant c.loop-r-test.true c.accept_as.ensures

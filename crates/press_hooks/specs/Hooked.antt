@@ -1,0 +1,73 @@
+-- The rows of a table as they are kept: hook by hook in the order of names, each with its entries by priority, then in the order in which they were added.
+use Rattle.std.specs.Prelude.{◌≡◌, ℕ, ℤ, List, [], ◌∷◌, ◌++◌, length, Bool, true, false, ◌&&◌, cond, int_lt, bytes_eq, Option, Some, None, map, ◌<◌, ◌≤◌, Result, MatchResult}
+use Rattle.std.specs.List.{HoldsAt}
+use Rattle.std.specs.List.Sorted.{IsPartitionPoint}
+use Rattle.std.specs.Cmp.Lexicographic.{slice_cmp}
+use Rattle.std.specs.Ordering.{nat_cmp, int_eq}
+use Rattle.std.specs.declared.cmp.Ordering.TheVariants.{Less, Equal, Greater}
+use Rattle.press_hooks.specs.declared.row.Row.{Row}
+use Rattle.press_hooks.specs.declared.entry.Entry.{Entry}
+
+pub record Hooked : Type 0 where
+  pub name : List ℕ
+  pub entries : List Entry
+
+abbrev pub with_entries : List Entry → Hooked → Hooked
+with_entries entries h = record h { entries = entries }
+
+abbrev pub row_of : List ℕ → Entry → Row
+row_of hook e = record { hook = hook; priority = e.priority; callback = e.callback; accepted = e.accepted }
+
+abbrev pub hook_rows : Hooked → List Row
+hook_rows h = map (row_of h.name) h.entries
+
+abbrev pub table_rows : List Hooked → List Row
+table_rows [] = []
+table_rows (h ∷ hs) = hook_rows h ++ table_rows hs
+
+abbrev pub IsEach : {X : Type 0} → (X → Type 0) → List X → Type 0
+IsEach P [] = Unit {0}
+IsEach P (x ∷ xs) = P x × IsEach P xs
+
+-- no entry has a lesser priority than one before it
+abbrev pub IsByPriority : List Entry → Type 0
+IsByPriority [] = Unit {0}
+IsByPriority (e ∷ es) = IsEach (λ (f : Entry). int_lt f.priority e.priority ≡ false) es × IsByPriority es
+
+-- each name is before those behind it
+abbrev pub IsByName : List Hooked → Type 0
+IsByName [] = Unit {0}
+IsByName (h ∷ hs) = IsEach (λ (g : Hooked). slice_cmp nat_cmp h.name g.name ≡ Less) hs × IsByName hs
+
+-- where the hook of that name stands, or else the place between the names before it and those behind
+abbrev pub IsPlaceOf : List ℕ → List Hooked → Result ℕ ℕ → Type 0
+IsPlaceOf hook hs r =
+    MatchResult r (λ i. (i < length hs) × HoldsAt (λ (h : Hooked). slice_cmp nat_cmp h.name hook ≡ Equal) hs i)
+    (λ i. (i ≤ length hs) × IsPartitionPoint (λ (h : Hooked). slice_cmp nat_cmp h.name hook ≡ Less) (λ (h : Hooked). slice_cmp nat_cmp h.name hook ≡ Greater) hs i)
+
+-- whether an entry is of the priority and of the callback, where these are named
+abbrev pub is_at : Option ℤ → Entry → Bool
+is_at None e = true
+is_at (Some p) e = int_eq e.priority p
+
+abbrev pub is_of : Option (List ℕ) → Entry → Bool
+is_of None e = true
+is_of (Some callback) e = bytes_eq e.callback callback
+
+abbrev pub is_named : Option ℤ → Option (List ℕ) → Entry → Bool
+is_named priority callback e = is_at priority e && is_of callback e
+
+-- the entry with this `accepted`, where it is the one named
+abbrev pub accepted_where : ℤ → List ℕ → ℕ → Entry → Entry
+accepted_where priority callback accepted e = cond (is_named (Some priority) (Some callback) e) (record e { accepted = accepted }) e
+
+-- before the first entry of a greater priority, or last
+abbrev pub put_entry : Entry → List Entry → List Entry
+put_entry e [] = e ∷ []
+put_entry e (f ∷ fs) = cond (int_lt e.priority f.priority) (e ∷ f ∷ fs) (f ∷ put_entry e fs)
+
+abbrev pub entry_in : Row → Entry
+entry_in r = record { priority = r.priority; callback = r.callback; accepted = r.accepted }
+
+abbrev pub is_row_named : List ℕ → Option ℤ → Option (List ℕ) → Row → Bool
+is_row_named hook priority callback r = bytes_eq r.hook hook && is_named priority callback (entry_in r)

@@ -1,0 +1,98 @@
+ghost use Rattle.std.specs.Prelude.{◌≡◌, ◌+◌, ◌<◌, ◌≤◌, length, map, filter, insert, not, OnOk, OnErr};
+ghost use Rattle.press_hooks.specs.HookRows.{accepted_as, is_of_hook, put_row};
+ghost use Rattle.press_hooks.specs.Hooked.{IsByName, IsByPriority, IsPlaceOf, row_of, table_rows, is_row_named};
+
+use crate::entry::Entry;
+use crate::hook::Hook;
+use press_text::{CallbackId, HookName};
+use std::alloc::{AllocError, Global};
+
+// Where the hook of that name stands, or would stand, by halves.
+fn find(hooks: &[Hook], name: &HookName) -> Result<usize, usize>
+    requires { IsByName hooks.now }
+    ensures { IsPlaceOf name.now hooks.now result }
+{
+    hooks.binary_search_by(|h| h.cmp_name(name))
+}
+
+/// The entries of the hook of that name, none where there isn't one.
+pub(crate) fn entries_of<'a>(hooks: &'a [Hook], name: &HookName) -> &'a [Entry]
+    requires { IsByName hooks.now }
+    ensures rows { filter (is_of_hook name.now) (table_rows hooks.now) ≡ map (row_of name.now) result.now }
+    ensures order { IsByPriority result.now }
+{
+    match find(hooks, name) {
+        Ok(place) => hooks[place].entries(),
+        Err(_) => &[],
+    }
+}
+
+/// Sets `accepted` of the entry where it stands.
+pub(crate) fn accept(hooks: &mut Vec<Hook>, name: &HookName, entry: Entry)
+    requires { IsByName hooks.old.items }
+    ensures rows { table_rows hooks.new.items ≡ map (accepted_as name.now entry.priority entry.callback entry.accepted) (table_rows hooks.old.items) }
+    ensures order { IsByName hooks.new.items }
+{
+    if let Ok(place) = find(hooks.as_slice(), name) {
+        hooks[place].accept(entry);
+    }
+}
+
+/// Puts in an entry behind those of its hook and priority.
+pub(crate) fn put(
+    alloc: Global,
+    hooks: &mut Vec<Hook>,
+    name: &HookName,
+    entry: Entry,
+) -> Result<(), AllocError>
+    requires { IsByName hooks.old.items }
+    ensures rows { OnOk result (table_rows hooks.new.items ≡ put_row (row_of name.now entry) (table_rows hooks.old.items)) }
+    ensures order { OnOk result (IsByName hooks.new.items) }
+    ensures refused { OnErr result (hooks.new.items ≡ hooks.old.items) }
+{
+    match find(hooks.as_slice(), name) {
+        Ok(place) => hooks[place].put(entry),
+        Err(place) => put_hook(hooks, place, Hook::with_entry(alloc, name, entry)?),
+    }
+}
+
+fn put_hook(hooks: &mut Vec<Hook>, place: usize, hook: Hook) -> Result<(), AllocError>
+    requires { place ≤ length hooks.old.items }
+    ensures put { OnOk result (hooks.new.items ≡ insert hooks.old.items place hook) }
+    ensures refused { OnErr result (hooks.new.items ≡ hooks.old.items) }
+{
+    hooks.insert(place, hook)?;
+    Ok(())
+}
+
+/// Takes out the hook's entries of a priority and a callback, each where it is named; how many there were.
+pub(crate) fn remove(
+    hooks: &mut Vec<Hook>,
+    name: &HookName,
+    priority: Option<i64>,
+    callback: Option<CallbackId>,
+) -> usize
+    requires { IsByName hooks.old.items }
+    ensures rows { table_rows hooks.new.items ≡ filter (λ r. not (is_row_named name.now priority callback r)) (table_rows hooks.old.items) }
+    ensures gone { result + length (table_rows hooks.new.items) ≡ length (table_rows hooks.old.items) }
+    ensures order { IsByName hooks.new.items }
+{
+    let Ok(place) = find(hooks.as_slice(), name) else {
+        return 0;
+    };
+    let gone = hooks[place].remove(priority, callback);
+    drop_empty(hooks, place);
+    gone
+}
+
+// Takes out a hook that has no entry left.
+fn drop_empty(hooks: &mut Vec<Hook>, place: usize)
+    requires within { place < length hooks.old.items }
+    requires order { IsByName hooks.old.items }
+    ensures rows { table_rows hooks.new.items ≡ table_rows hooks.old.items }
+    ensures order { IsByName hooks.new.items }
+{
+    if hooks[place].entries().is_empty() {
+        drop(hooks.remove(place));
+    }
+}
