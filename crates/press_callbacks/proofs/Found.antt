@@ -2,12 +2,11 @@
 use Rattle.std.proofs.Common.{◌≡◌, refl, sym, ◌∙◌, ap, ℕ, zero, suc, ◌+◌, ◌<◌, ◌≤◌, true, false, cond, bytes_eq, List, [], ◌∷◌, map, length, get_or, drop, Bool, Option, Some, None, arith, add-one, drop-cons}
 use Rattle.std.specs.Prelude.{◌||◌, option_map, slice_get, IfSome, IsNone}
 use Rattle.std.proofs.lemmas.Slice.Eq.{bytes_eq-Decides}
-use Rattle.std.specs.List.{list_any}
 use Rattle.std.proofs.Math.ListN.{drop_of_length-le}
 use Rattle.std.proofs.lemmas.List.{length-map}
 use Rattle.press_callbacks.specs.declared.script.Op.{Op}
 use Rattle.press_callbacks.specs.declared.plugin.Plugin.{Plugin}
-use Rattle.press_callbacks.specs.Kits.{Scripts, script_of, script_at, name_at, is_named, plugin_of, has_two}
+use Rattle.press_callbacks.specs.Kits.{Scripts, script_of, script_at, name_at, is_named, plugin_of}
 use Rattle.press_callbacks.specs.Order.{place_of}
 
 script_step : {A : Type 0} (f : A → List ℕ × List Op) (id : List ℕ) (xs : List A) (i : ℕ) (x : A) → i < length xs → x ≡ get_or xs i x → script_of id (drop i (map f xs)) ≡ cond (bytes_eq (f x).0 id) (Some (f x).1) (script_of id (drop (i + 1) (map f xs)))
@@ -56,16 +55,6 @@ plugin_found name xs i x h e t = sym (plugin_step name xs i x h e ∙ ap (λ b. 
 
 pub plugin_passed : (name : List ℕ) (xs : List Plugin) (i : ℕ) (x : Plugin) → i < length xs → x ≡ get_or xs i x → bytes_eq x.name name ≡ false → plugin_of name (drop (i + 1) xs) ≡ plugin_of name (drop i xs)
 plugin_passed name xs i x h e t = sym (plugin_step name xs i x h e ∙ ap (λ b. cond b (Some x) (plugin_of name (drop (i + 1) xs))) t)
-
--- a name that stands once more further on, or not
-two_step : {A : Type 0} (name : A → List ℕ) (xs : List A) (i : ℕ) (x : A) → i < length xs → x ≡ get_or xs i x → has_two name (drop i xs) ≡ (list_any (λ y. bytes_eq (name y) (name x)) (drop (i + 1) xs) || has_two name (drop (i + 1) xs))
-two_step name xs i x h e = rw (add-one, drop-cons xs i x h, ← e) refl
-
-pub two_found : {A : Type 0} (name : A → List ℕ) (xs : List A) (i : ℕ) (x : A) → i < length xs → x ≡ get_or xs i x → list_any (λ y. bytes_eq (name y) (name x)) (drop (i + 1) xs) ≡ true → has_two name (drop i xs) ≡ true
-two_found name xs i x h e t = two_step name xs i x h e ∙ ap (λ b. b || has_two name (drop (i + 1) xs)) t
-
-pub two_passed : {A : Type 0} (name : A → List ℕ) (xs : List A) (i : ℕ) (x : A) → i < length xs → x ≡ get_or xs i x → list_any (λ y. bytes_eq (name y) (name x)) (drop (i + 1) xs) ≡ false → has_two name (drop (i + 1) xs) ≡ has_two name (drop i xs)
-two_passed name xs i x h e t = sym (two_step name xs i x h e ∙ ap (λ b. b || has_two name (drop (i + 1) xs)) t)
 
 -- ---- the first of a name, by its place
 

@@ -16,21 +16,21 @@ use Rattle.std.proofs.lemmas.Map.Text.{is_eq-slice_cmp}
 use Rattle.std.proofs.lemmas.Slice.Eq.{bytes_eq-Decides}
 use Rattle.press_callbacks.specs.Order.{is_before, place_by_name, by_name, in_order, place_of}
 
-weak : IsStrictWeakOrder is_before
+pub weak : IsStrictWeakOrder is_before
 weak = ranks_by nat_list_cmp_total (λ (x : List ℕ). x)
 
-both : (a b : Bool) → (a && b) ≡ true → (a ≡ true) × (b ≡ true)
+pub both : (a b : Bool) → (a && b) ≡ true → (a ≡ true) × (b ≡ true)
 both true b e = (refl, e)
 both false b e = absurd (cc)
 
-and : (a b : Bool) → a ≡ true → b ≡ true → (a && b) ≡ true
+pub and : (a b : Bool) → a ≡ true → b ≡ true → (a && b) ≡ true
 and a b e f = rw (e, f) refl
 
-not_true : (b : Bool) → not b ≡ true → b ≡ false
+pub not_true : (b : Bool) → not b ≡ true → b ≡ false
 not_true true e = cc
 not_true false e = refl
 
-clash : {X : Type 0} (b : Bool) → b ≡ true → b ≡ false → X
+pub clash : {X : Type 0} (b : Bool) → b ≡ true → b ≡ false → X
 clash true e f = absurd (cc)
 clash false e f = absurd (cc)
 
@@ -49,7 +49,7 @@ other_way Less e f = refl
 other_way Equal e f = cc
 other_way Greater e f = cc
 
-behind : (a b : List ℕ) → is_before a b ≡ false → bytes_eq a b ≡ false → is_before b a ≡ true
+pub behind : (a b : List ℕ) → is_before a b ≡ false → bytes_eq a b ≡ false → is_before b a ≡ true
 behind a b e f =
     let turned : slice_cmp nat_cmp a b ≡ ordering_reverse (slice_cmp nat_cmp b a) = nat_list_cmp_total.antisymm a b in
     other_way (slice_cmp nat_cmp b a) (ap is_lt (sym turned) ∙ e) (ap is_eq (sym turned) ∙ is_eq-slice_cmp a b ∙ f)
@@ -113,7 +113,7 @@ in_order_by_name name (x ∷ xs) =
 
 -- ---- a search by halves
 
-all_at : {A : Type 0} (p : A → Bool) (xs : List A) (i : ℕ) (d : A) → list_all p xs ≡ true → i < length xs → p (get_or xs i d) ≡ true
+pub all_at : {A : Type 0} (p : A → Bool) (xs : List A) (i : ℕ) (d : A) → list_all p xs ≡ true → i < length xs → p (get_or xs i d) ≡ true
 all_at p [] i d e h = absurd (omega arith)
 all_at p (x ∷ xs) zero d e h = (both (p x) (list_all p xs) e).0
 all_at p (x ∷ xs) (suc i) d e h =
@@ -148,7 +148,7 @@ halved name n (y ∷ ys) (suc i) x low h e t =
     ap (λ b. cond b (Some 0) (option_map suc (place_of name n ys))) (differs (name y) n first)
     ∙ ap (option_map suc) (halved name n ys i x (λ k d a b. low (suc k) d (omega arith) (omega arith)) lt e t)
 
-none_behind : {A : Type 0} (name : A → List ℕ) (n : List ℕ) (y : A) (zs : List A) → is_before n (name y) ≡ true → list_all (λ z. not (is_before (name z) (name y))) zs ≡ true → place_of name n zs ≡ None
+pub none_behind : {A : Type 0} (name : A → List ℕ) (n : List ℕ) (y : A) (zs : List A) → is_before n (name y) ≡ true → list_all (λ z. not (is_before (name z) (name y))) zs ≡ true → place_of name n zs ≡ None
 none_behind name n y [] h a = refl
 none_behind name n y (z ∷ zs) h a =
     let b = both (not (is_before (name z) (name y))) (list_all (λ w. not (is_before (name w) (name y))) zs) a in

@@ -1,6 +1,7 @@
 pub mod Found
 pub mod Halves
+pub mod Moved
 pub mod Naturals
+pub mod Ordered
 pub mod Plays
-pub mod Popped
 pub mod Sames

@@ -20,7 +20,7 @@ all-map : {A B : Type 0} (f : A → B) (p : B → Bool) (xs : List A) → list_a
 all-map f p [] = refl
 all-map f p (x ∷ xs) = ap (λ b. p (f x) && b) (all-map f p xs)
 
-all_alike : {A : Type 0} (p q : A → Bool) → ((x : A) → p x ≡ q x) → (xs : List A) → list_all p xs ≡ list_all q xs
+pub all_alike : {A : Type 0} (p q : A → Bool) → ((x : A) → p x ≡ q x) → (xs : List A) → list_all p xs ≡ list_all q xs
 all_alike p q h [] = refl
 all_alike p q h (x ∷ xs) = ap₂ (λ (a b : Bool). a && b) (h x) (all_alike p q h xs)
 

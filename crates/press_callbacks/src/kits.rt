@@ -16,20 +16,20 @@ use std::alloc::Global;
 impl Kit {
     /// Refuses by TwoNames (two callbacks or two plugins of one name, or a callback with the name of a built-in one), then
     /// UnknownCallback (a load or a script names a callback that is neither there nor built in), then BadLoad (more than 1,000
-    /// hook loads or 128 tag loads in all plugins together). The kit's callbacks are those given, closures and all.
+    /// hook loads or 128 tag loads in all plugins together). The kit's callbacks are those given, closures and all. Takes no memory.
     pub fn build(
-        alloc: Global,
+        _alloc: Global,
         callbacks: Vec<Stored>,
         plugins: Vec<Plugin>,
     ) -> Result<Kit, KitFault>
         ensures builds { Builds kit_view result (kit_fault (scripts_given callbacks.items) plugins.items) (view_of (scripts_given callbacks.items) plugins.items) }
         ensures kept { IfOk result (λ kit. callbacks_in kit ≡ by_name id_of callbacks.items) }
     {
+        let callbacks = sorted_by_name(callbacks);
+        let plugins = sorted_by_name(plugins);
         if let Some(fault) = fault_of(callbacks.as_slice(), plugins.as_slice()) {
             return Err(fault);
         }
-        let callbacks = sorted_by_name(alloc, callbacks)?;
-        let plugins = sorted_by_name(alloc, plugins)?;
         Ok(Kit { callbacks, plugins })
     }
 

@@ -1,17 +1,20 @@
 //! Why callbacks and plugins make no kit: whether every callback that a script or a load names is there.
 
-ghost use Rattle.std.specs.Prelude.{◌≡◌, ◌≢◌, ◌+◌, List, IfSome, nat_lt, count_by};
+ghost use Rattle.std.specs.Prelude.{◌≡◌, ◌≢◌, ◌+◌, List, IfSome, true, nat_lt, count_by};
 ghost use Rattle.std.specs.List.{list_all, list_any};
 ghost use Rattle.press_callbacks.specs.declared.script.Op.{Op};
+ghost use Rattle.press_callbacks.specs.declared.plugin.Plugin.{Plugin as OnePlugin};
+ghost use Rattle.press_callbacks.specs.Order.{in_order};
 ghost use Rattle.press_callbacks.specs.Kits.{kit_fault_by, knows_all, knows_script, knows_plugin, is_known_where, is_known, callback_named, callback_loaded, is_of_kind, loads_of_kind, has_many_loads, has_two_names};
 ghost use Rattle.press_callbacks.specs.declared.kit_fault.KitFault.TheVariants.{NoMemory};
 ghost use Rattle.press_callbacks.specs.BuiltIns.{is_built_in as built_in};
 
 use crate::built_in::is_built_in;
 use crate::kit_fault::KitFault;
-use crate::named::{Named, has_name, has_two};
+use crate::named::Named;
 use crate::plugin::{Load, LoadKind, Plugin};
 use crate::script::{Ask, Op};
+use crate::sorted::Sorted;
 use crate::stored::Stored;
 use press_text::CallbackId;
 
@@ -35,15 +38,18 @@ impl Scripted for Stored {
     }
 }
 
-/// The first reason why these make no kit.
+/// The first reason why these, which stand in the order of their names, make no kit.
 pub fn fault_of<T: Scripted>(callbacks: &[T], plugins: &[Plugin]) -> Option<KitFault>
+    requires callbacks { in_order T.name callbacks.now ≡ true }
+    requires plugins { in_order (λ (p : OnePlugin). p.name) plugins.now ≡ true }
     ensures fault { result ≡ kit_fault_by T.name T.script callbacks.now plugins.now }
     ensures own { IfSome result (λ f. f ≢ NoMemory) }
 {
-    if has_two_names(callbacks, plugins) {
+    let callbacks = Sorted::new(callbacks);
+    if has_two_names(&callbacks, &Sorted::new(plugins)) {
         return Some(KitFault::TwoNames);
     }
-    if !knows_all(callbacks, plugins) {
+    if !knows_all(&callbacks, plugins) {
         return Some(KitFault::UnknownCallback);
     }
     if has_many_loads(plugins) {
@@ -52,10 +58,10 @@ pub fn fault_of<T: Scripted>(callbacks: &[T], plugins: &[Plugin]) -> Option<KitF
     None
 }
 
-fn has_two_names<T: Named>(callbacks: &[T], plugins: &[Plugin]) -> bool
-    ensures { result ≡ has_two_names T.name callbacks.now plugins.now }
+fn has_two_names<T: Named>(callbacks: &Sorted<'_, T>, plugins: &Sorted<'_, Plugin>) -> bool
+    ensures { result ≡ has_two_names T.name callbacks.now.items.now plugins.now.items.now }
 {
-    has_two(callbacks) || has_built_in(callbacks) || has_two(plugins)
+    callbacks.has_two() || has_built_in(callbacks.as_slice()) || plugins.has_two()
 }
 
 fn has_built_in<T: Named>(callbacks: &[T]) -> bool
@@ -65,38 +71,38 @@ fn has_built_in<T: Named>(callbacks: &[T]) -> bool
 }
 
 // Whether a callback is built in or one of these.
-fn is_known<T: Named>(callbacks: &[T], callback: CallbackId) -> bool
-    ensures { result ≡ is_known T.name callbacks.now callback }
+fn is_known<T: Named>(callbacks: &Sorted<'_, T>, callback: CallbackId) -> bool
+    ensures { result ≡ is_known T.name callbacks.now.items.now callback }
 {
-    is_built_in(callback.as_bytes()) || has_name(callbacks, callback.as_bytes())
+    is_built_in(callback.as_bytes()) || callbacks.has_name(callback.as_bytes())
 }
 
-fn knows_all<T: Scripted>(callbacks: &[T], plugins: &[Plugin]) -> bool
-    ensures { result ≡ knows_all T.name T.script callbacks.now plugins.now }
+fn knows_all<T: Scripted>(callbacks: &Sorted<'_, T>, plugins: &[Plugin]) -> bool
+    ensures { result ≡ knows_all T.name T.script callbacks.now.items.now plugins.now }
 {
-    knows_scripts(callbacks, callbacks) && knows_plugins(callbacks, plugins)
+    knows_scripts(callbacks, callbacks.as_slice()) && knows_plugins(callbacks, plugins)
 }
 
-fn knows_scripts<T: Scripted>(all: &[T], callbacks: &[T]) -> bool
-    ensures { result ≡ list_all (λ c. knows_script T.name all.now (T.script c)) callbacks.now }
+fn knows_scripts<T: Scripted>(all: &Sorted<'_, T>, callbacks: &[T]) -> bool
+    ensures { result ≡ list_all (λ c. knows_script T.name all.now.items.now (T.script c)) callbacks.now }
 {
     callbacks.iter().all(|c| knows_script(all, c.ops()))
 }
 
-fn knows_plugins<T: Named>(callbacks: &[T], plugins: &[Plugin]) -> bool
-    ensures { result ≡ list_all (knows_plugin T.name callbacks.now) plugins.now }
+fn knows_plugins<T: Named>(callbacks: &Sorted<'_, T>, plugins: &[Plugin]) -> bool
+    ensures { result ≡ list_all (knows_plugin T.name callbacks.now.items.now) plugins.now }
 {
     plugins.iter().all(|p| knows_plugin(callbacks, p))
 }
 
-fn knows_script<T: Named>(callbacks: &[T], script: &[Op]) -> bool
-    ensures { result ≡ knows_script T.name callbacks.now script.now }
+fn knows_script<T: Named>(callbacks: &Sorted<'_, T>, script: &[Op]) -> bool
+    ensures { result ≡ knows_script T.name callbacks.now.items.now script.now }
 {
     script.iter().all(|o| knows_op(callbacks, o))
 }
 
-fn knows_op<T: Named>(callbacks: &[T], op: &Op) -> bool
-    ensures { result ≡ is_known_where T.name callbacks.now (callback_named op.now) }
+fn knows_op<T: Named>(callbacks: &Sorted<'_, T>, op: &Op) -> bool
+    ensures { result ≡ is_known_where T.name callbacks.now.items.now (callback_named op.now) }
 {
     match op {
         Op::AddHook { callback, .. } => is_known(callbacks, *callback),
@@ -112,20 +118,20 @@ fn knows_op<T: Named>(callbacks: &[T], op: &Op) -> bool
     }
 }
 
-fn knows_plugin<T: Named>(callbacks: &[T], plugin: &Plugin) -> bool
-    ensures { result ≡ knows_plugin T.name callbacks.now plugin.now }
+fn knows_plugin<T: Named>(callbacks: &Sorted<'_, T>, plugin: &Plugin) -> bool
+    ensures { result ≡ knows_plugin T.name callbacks.now.items.now plugin.now }
 {
     knows_loads(callbacks, plugin.load.as_slice())
 }
 
-fn knows_loads<T: Named>(callbacks: &[T], loads: &[Load]) -> bool
-    ensures { result ≡ list_all (λ l. is_known T.name callbacks.now (callback_loaded l)) loads.now }
+fn knows_loads<T: Named>(callbacks: &Sorted<'_, T>, loads: &[Load]) -> bool
+    ensures { result ≡ list_all (λ l. is_known T.name callbacks.now.items.now (callback_loaded l)) loads.now }
 {
     loads.iter().all(|l| knows_load(callbacks, l))
 }
 
-fn knows_load<T: Named>(callbacks: &[T], load: &Load) -> bool
-    ensures { result ≡ is_known T.name callbacks.now (callback_loaded load.now) }
+fn knows_load<T: Named>(callbacks: &Sorted<'_, T>, load: &Load) -> bool
+    ensures { result ≡ is_known T.name callbacks.now.items.now (callback_loaded load.now) }
 {
     match load {
         Load::Hook { callback, .. } => is_known(callbacks, *callback),

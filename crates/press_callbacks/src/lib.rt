@@ -14,6 +14,7 @@ mod named;
 mod plugin;
 mod same;
 mod script;
+mod sorted;
 mod stored;
 mod tables;
 mod turns;
@@ -22,7 +23,7 @@ pub use built_in::{check_and_publish_future_post, do_shortcode, is_built_in, is_
 pub use callback::Callback;
 pub use kit::Kit;
 pub use kit_fault::KitFault;
-pub use named::{Named, sorted_by_name};
+pub use named::Named;
 pub use plugin::{Load, Plugin};
 pub use script::{Ask, CallIn, Op, Part, Parts, Script, Turn};
 pub use stored::{BoxedTurns, Stored};

@@ -1,13 +1,17 @@
 //! Which hooks anything runs.
 
-ghost use Rattle.std.specs.Prelude.{◌≡◌, bytes_eq, map, option_map};
+ghost use Rattle.std.specs.Prelude.{◌≡◌, ◌||◌, ℕ, List, IfOk, OnOk, bytes_eq, map, option_map};
 ghost use Rattle.std.specs.List.{list_any};
 ghost use Rattle.press_kit.specs.declared.play_file.Play.{Play as Played};
+ghost use Rattle.press_lint.specs.NameSets.{holds};
 ghost use Rattle.press_lint.specs.Slips as spec;
 
+use crate::name_set::NameSet;
+use crate::run::Run;
 use press_callbacks::Op;
-use press_kit::{Play, Scripted};
+use press_kit::{KitParts, Play, Scripted};
 use press_text::HookName;
+use std::alloc::{AllocError, Global};
 
 const ENGINE: [&str; 18] = [
     "plugins_loaded",
@@ -114,51 +118,82 @@ fn is_engines(hook: &[u8]) -> bool
     is_among(hook, &ENGINE) || is_transition(hook) || is_reached(hook) || is_of_option(hook)
 }
 
-// Whether a step runs a hook, or has it run later.
-fn runs(hook: &[u8], op: &Op) -> bool
-    ensures { result ≡ spec.runs hook.now op.now }
+fn put<'k>(hooks: &mut NameSet<'k>, hook: &'k HookName) -> Result<(), AllocError>
+    ensures { OnOk result ((q : List ℕ) → holds hooks.new q ≡ (bytes_eq hook.now q || holds hooks.old q)) }
+{
+    hooks.insert(hook.as_str().as_bytes())?;
+    Ok(())
+}
+
+// The hook that a step runs, or has run later.
+fn put_op<'k>(hooks: &mut NameSet<'k>, op: &'k Op) -> Result<(), AllocError>
+    ensures { OnOk result ((q : List ℕ) → holds hooks.new q ≡ (spec.runs q op.now || holds hooks.old q)) }
 {
     match op {
-        Op::Apply { hook: it, .. } => it.as_str().as_bytes() == hook,
-        Op::Do { hook: it, .. } => it.as_str().as_bytes() == hook,
-        Op::Schedule { hook: it, .. } => it.as_str().as_bytes() == hook,
-        Op::Set(_) | Op::AddHook { .. } | Op::RemoveHook { .. } | Op::RemoveAll { .. } => false,
-        Op::AddTag { .. } | Op::RemoveTag { .. } | Op::SkipIf { .. } => false,
-        Op::Shortcodes(_) | Op::Ask(_) | Op::SetOption { .. } => false,
-        Op::Publish(_) | Op::Echo(_) | Op::Return(_) => false,
+        Op::Apply { hook, .. } => put(hooks, hook),
+        Op::Do { hook, .. } => put(hooks, hook),
+        Op::Schedule { hook, .. } => put(hooks, hook),
+        Op::Set(_) | Op::AddHook { .. } | Op::RemoveHook { .. } | Op::RemoveAll { .. } => Ok(()),
+        Op::AddTag { .. } | Op::RemoveTag { .. } | Op::SkipIf { .. } => Ok(()),
+        Op::Shortcodes(_) | Op::Ask(_) | Op::SetOption { .. } => Ok(()),
+        Op::Publish(_) | Op::Echo(_) | Op::Return(_) => Ok(()),
     }
 }
 
-fn is_run_in(hook: &[u8], script: &[Op]) -> bool
-    ensures { result ≡ list_any (spec.runs hook.now) script.now }
+#[tactic(auto, using(crate::proofs::Gathered::gathered))]
+fn put_script<'k>(hooks: &mut NameSet<'k>, script: &'k [Op]) -> Result<(), AllocError>
+    ensures { OnOk result ((q : List ℕ) → holds hooks.new q
+        ≡ (list_any (spec.runs q) script.now || holds hooks.old q)) }
 {
-    script.iter().any(|op| runs(hook, op))
+    for op in script {
+        put_op(hooks, op)?;
+    }
+    Ok(())
 }
 
-fn is_run_by(callbacks: &[Scripted], hook: &[u8]) -> bool
-    ensures { result ≡ spec.is_run_by callbacks.now hook.now }
+#[tactic(auto, using(crate::proofs::Gathered::gathered))]
+fn put_scripts<'k>(hooks: &mut NameSet<'k>, callbacks: &'k [Scripted]) -> Result<(), AllocError>
+    ensures { OnOk result ((q : List ℕ) → holds hooks.new q
+        ≡ (spec.is_run_by callbacks.now q || holds hooks.old q)) }
 {
-    callbacks
-        .iter()
-        .any(|c| is_run_in(hook, c.script.as_slice()))
+    for callback in callbacks {
+        put_script(hooks, callback.script.as_slice())?;
+    }
+    Ok(())
 }
 
-fn is_played(play: &Play, hook: &[u8]) -> bool
-    ensures { result ≡ bytes_eq play.now.hook hook.now }
+#[tactic(auto, using(crate::proofs::Gathered::gathered))]
+fn put_plays<'k>(hooks: &mut NameSet<'k>, plays: &'k [Play]) -> Result<(), AllocError>
+    ensures { OnOk result ((q : List ℕ) → holds hooks.new q
+        ≡ (list_any (λ (p : Played). bytes_eq p.hook q) plays.now || holds hooks.old q)) }
 {
-    play.hook.as_str().as_bytes() == hook
+    for play in plays {
+        put(hooks, &play.hook)?;
+    }
+    Ok(())
 }
 
-fn is_played_by(plays: &[Play], hook: &[u8]) -> bool
-    ensures { result ≡ list_any (λ (p : Played). bytes_eq p.hook hook.now) plays.now }
+/// The hooks that the scripts of a kit and these plays run.
+#[tactic(auto, using(crate::proofs::Gathered::alone))]
+pub fn hooks_run<'k>(
+    alloc: Global,
+    kit: &'k KitParts,
+    plays: &'k [Play],
+) -> Result<Run<'k>, AllocError>
+    ensures kit { IfOk result (λ run. run.kit.now ≡ kit.now) }
+    ensures plays { IfOk result (λ run. run.plays.now ≡ plays.now) }
 {
-    plays.iter().any(|p| is_played(p, hook))
+    let mut hooks = NameSet::new(alloc);
+    put_plays(&mut hooks, plays)?;
+    put_scripts(&mut hooks, kit.callbacks.as_slice())?;
+    Ok(Run { kit, plays, hooks })
 }
 
 /// Whether the engine, one of these scripts or one of these plays runs the hook.
-pub fn is_run(callbacks: &[Scripted], plays: &[Play], hook: &HookName) -> bool
-    ensures { result ≡ spec.is_run callbacks.now plays.now hook.now }
+#[tactic(auto, using(crate::proofs::Gathered::grouped))]
+pub fn is_run(run: &Run<'_>, hook: &HookName) -> bool
+    ensures { result ≡ spec.is_run run.now.kit.now.callbacks run.now.plays.now hook.now }
 {
     let hook = hook.as_str().as_bytes();
-    is_engines(hook) || is_run_by(callbacks, hook) || is_played_by(plays, hook)
+    is_engines(hook) || run.has(hook)
 }

@@ -3,23 +3,29 @@
 //! A kit file is refused exactly where a kit can't be built of it, with the same number; a slip refuses nothing.
 #![tactic(auto)]
 
+mod active;
 mod bad;
 mod fault;
 mod hooks;
+mod installed;
 mod keys;
+mod known;
 mod linted;
 mod linting;
 mod loads;
 mod mistake;
 mod mistakes;
+mod name_set;
+mod run;
 mod slipping;
 mod told;
 mod unknown;
 
+pub use active::active_slips;
 pub use bad::{bad_line, no_json};
 pub use fault::LintFault;
 pub use linted::Linted;
 pub use linting::{lint, refusals_are_mistakes};
 pub use mistake::{Mistake, Sort, Why};
 pub use mistakes::mistake_in;
-pub use slipping::{active_slips, slips};
+pub use slipping::slips;

@@ -33,7 +33,7 @@ fn bad(alloc: Global, bytes: &[u8], at: Place) -> Result<String, AllocError>
 fn linted(alloc: Global, front: &str, parts: KitParts) -> Result<Linted, LintFault>
     ensures { LintsKit front.now parts result }
 {
-    if let Some(mistake) = mistake_in(&parts) {
+    if let Some(mistake) = mistake_in(alloc, &parts)? {
         return Err(LintFault::Refused {
             number: mistake.why.number(),
             text: mistake.told(alloc, &parts)?,

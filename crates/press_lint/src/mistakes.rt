@@ -1,19 +1,23 @@
 //! The first mistake in a kit.
 
-ghost use Rattle.std.specs.Prelude.{◌≡◌, ℕ, List, bytes_eq};
+ghost use Rattle.std.specs.Prelude.{◌≡◌, ℕ, List, IfOk};
 ghost use Rattle.press_callbacks.specs.Kits.{is_named as named_among};
 ghost use Rattle.press_kit.specs.declared.place.Place.{Place as At};
 ghost use Rattle.press_kit.specs.declared.place.Place.TheVariants as place;
 ghost use Rattle.press_lint.specs.Mistakes as spec;
+ghost use Rattle.press_lint.specs.NameSets.{holds};
 
+use crate::known::Known;
 use crate::loads::loads_mistaken;
 use crate::mistake::{Mistake, Why};
+use crate::name_set::NameSet;
 use crate::unknown::unknown_in;
 use press_callbacks::{Plugin, is_built_in};
 use press_kit::{KitParts, Place, Scripted};
+use std::alloc::{AllocError, Global};
 
-// What has a name, and a place by its number.
-trait Titled {
+/// What has a name, and a place by its number.
+pub trait Titled {
     ghost title: { Self → List ℕ };
 
     ghost place: { ℕ → At };
@@ -53,31 +57,30 @@ impl Titled for Plugin {
     }
 }
 
-fn has_title<T: Titled>(item: &T, title: &[u8]) -> bool
-    ensures { result ≡ bytes_eq (T.title item.now) title.now }
-{
-    item.title() == title
+/// The names of these, and the first that has the name of one behind it.
+#[derive(Drop)]
+pub struct Titles<'k> {
+    pub names: NameSet<'k>,
+    pub same: Option<Mistake>,
 }
 
-fn is_among<T: Titled>(items: &[T], title: &[u8]) -> bool
-    ensures { result ≡ named_among T.title items.now title.now }
+pub fn titles_of<T: Titled>(alloc: Global, items: &[T]) -> Result<Titles<'_>, AllocError>
+    ensures names { IfOk result (λ t. (q : List ℕ) → holds t.names q ≡ named_among T.title items.now q) }
+    ensures same { IfOk result (λ t. t.same ≡ spec.first (spec.same_name T.title T.place) 0 items.now) }
 {
-    items.iter().any(|x| has_title(x, title))
-}
-
-// The first that has the name of one behind it.
-fn same_name<T: Titled>(items: &[T]) -> Option<Mistake>
-    ensures { result ≡ spec.first (spec.same_name T.title T.place) 0 items.now }
-{
-    for n in 0..items.len() {
-        if is_among(&items[n + 1..], items[n].title()) {
-            return Some(Mistake {
+    let mut names = NameSet::new(alloc);
+    let mut same = None;
+    let mut n = items.len();
+    while n > 0 {
+        n -= 1;
+        if !names.insert(items[n].title())? {
+            same = Some(Mistake {
                 at: T::place(n),
                 why: Why::SameName,
             });
         }
     }
-    None
+    Ok(Titles { names, same })
 }
 
 fn built_in_name(callbacks: &[Scripted]) -> Option<Mistake>
@@ -94,42 +97,43 @@ fn built_in_name(callbacks: &[Scripted]) -> Option<Mistake>
     None
 }
 
-fn callbacks_mistaken(callbacks: &[Scripted]) -> Option<Mistake>
-    ensures { result
-        ≡ spec.or_else (spec.first (spec.same_name (λ c. c.id) place.Callback) 0 callbacks.now)
-        (spec.first spec.built_in_name 0 callbacks.now) }
+// The first of these that has the name of one behind it.
+fn same_name<T: Titled>(alloc: Global, items: &[T]) -> Result<Option<Mistake>, AllocError>
+    ensures { IfOk result (λ m. m ≡ spec.first (spec.same_name T.title T.place) 0 items.now) }
 {
-    match same_name(callbacks) {
+    let Titles { names: _, same } = titles_of(alloc, items)?;
+    Ok(same)
+}
+
+// The first of two that is there.
+fn or_else(first: Option<Mistake>, other: Option<Mistake>) -> Option<Mistake>
+    ensures { result ≡ spec.or_else first other }
+{
+    match first {
         Some(mistake) => Some(mistake),
-        None => built_in_name(callbacks),
+        None => other,
     }
 }
 
-fn names_mistaken(callbacks: &[Scripted], plugins: &[Plugin]) -> Option<Mistake>
-    ensures { result ≡ spec.names_mistaken callbacks.now plugins.now }
+fn mistake_by(
+    alloc: Global,
+    callbacks: &[Scripted],
+    plugins: &[Plugin],
+) -> Result<Option<Mistake>, AllocError>
+    ensures { IfOk result (λ m. m ≡ spec.mistake_by callbacks.now plugins.now) }
 {
-    match callbacks_mistaken(callbacks) {
-        Some(mistake) => Some(mistake),
-        None => same_name(plugins),
-    }
-}
-
-fn mistake_by(callbacks: &[Scripted], plugins: &[Plugin]) -> Option<Mistake>
-    ensures { result ≡ spec.mistake_by callbacks.now plugins.now }
-{
-    if let Some(mistake) = names_mistaken(callbacks, plugins) {
-        return Some(mistake);
-    }
-    match unknown_in(callbacks, plugins) {
-        Some(mistake) => Some(mistake),
-        None => loads_mistaken(plugins),
-    }
+    let Titles { names, same } = titles_of(alloc, callbacks)?;
+    let plugin = same_name(alloc, plugins)?;
+    let mistaken = or_else(same, or_else(built_in_name(callbacks), plugin));
+    let known = Known::new(callbacks, names);
+    let unknown = unknown_in(&known, plugins);
+    Ok(or_else(mistaken, or_else(unknown, loads_mistaken(plugins))))
 }
 
 /// The first reason why these make no kit: two callbacks or plugins of one name or a callback with a built-in one, then a callback that
 /// is named and not there, then too many loads.
-pub fn mistake_in(kit: &KitParts) -> Option<Mistake>
-    ensures { result ≡ spec.mistake_in kit.now }
+pub fn mistake_in(alloc: Global, kit: &KitParts) -> Result<Option<Mistake>, AllocError>
+    ensures { IfOk result (λ m. m ≡ spec.mistake_in kit.now) }
 {
-    mistake_by(kit.callbacks.as_slice(), kit.plugins.as_slice())
+    mistake_by(alloc, kit.callbacks.as_slice(), kit.plugins.as_slice())
 }

@@ -1,39 +1,37 @@
 //! What in a kit is surely not meant, a line for each.
 
 ghost use Rattle.std.specs.Prelude.{◌≡◌, ◌++◌, IfOk, OnOk, string_bytes};
-ghost use Rattle.press_callbacks.specs.Kits.{is_named as named_among};
-ghost use Rattle.press_callbacks.specs.declared.plugin.Plugin.{Plugin as OnePlugin};
 ghost use Rattle.press_lint.specs.Slips as spec;
 
-use crate::hooks::is_run;
+use crate::hooks::{hooks_run, is_run};
+use crate::run::Run;
 use crate::told::place_in;
 use press_callbacks::{Load, Op, Plugin};
 use press_kit::{KitParts, Place, Play, Scripted};
-use press_text::{HookName, Name};
+use press_text::HookName;
 use std::alloc::{AllocError, Global};
 
-// A kit that is looked through, with a front for each line, and the plays beside it.
+// A kit that is looked through beside plays, with a front for each line.
 #[derive(Drop)]
 struct Look<'k> {
     alloc: Global,
     front: &'k str,
-    kit: &'k KitParts,
-    plays: &'k [Play],
+    run: Run<'k>,
 }
 
 impl Look<'_> {
     fn slip(&self, at: Place, what: &str) -> Result<String, AllocError>
         ensures { IfOk result (λ t. string_bytes t
-            ≡ spec.slip self.now.front.now self.now.kit.now at what.now) }
+            ≡ spec.slip self.now.front.now self.now.run.kit.now at what.now) }
     {
         let front = self.front;
-        let place = place_in(self.alloc, self.kit, at)?;
+        let place = place_in(self.alloc, self.run.kit, at)?;
         format!(in self.alloc; "{front}{place}{what}\n")
     }
 
     fn unrun(&self, at: Place, hook: &HookName) -> Result<String, AllocError>
         ensures { IfOk result (λ t. string_bytes t
-            ≡ spec.slip self.now.front.now self.now.kit.now at (spec.unrun hook.now)) }
+            ≡ spec.slip self.now.front.now self.now.run.kit.now at (spec.unrun hook.now)) }
     {
         let hook = hook.as_str();
         let what = format!(in self.alloc;
@@ -44,9 +42,9 @@ impl Look<'_> {
 
     fn hook_slip(&self, at: Place, hook: &HookName) -> Result<String, AllocError>
         ensures { IfOk result (λ t. string_bytes t
-            ≡ spec.hook_slip self.now.front.now self.now.kit.now self.now.plays.now at hook.now) }
+            ≡ spec.hook_slip self.now.front.now self.now.run.kit.now self.now.run.plays.now at hook.now) }
     {
-        if is_run(self.kit.callbacks.as_slice(), self.plays, hook) {
+        if is_run(&self.run, hook) {
             return Ok(String::new(self.alloc));
         }
         self.unrun(at, hook)
@@ -54,7 +52,7 @@ impl Look<'_> {
 
     fn op_slip(&self, at: Place, op: &Op, behind: &[Op]) -> Result<String, AllocError>
         ensures { IfOk result (λ t. string_bytes t
-            ≡ spec.op_slip self.now.front.now self.now.kit.now self.now.plays.now
+            ≡ spec.op_slip self.now.front.now self.now.run.kit.now self.now.run.plays.now
             at op.now behind.now) }
     {
         match op {
@@ -68,7 +66,7 @@ impl Look<'_> {
 
     fn load_slip(&self, at: Place, load: &Load) -> Result<String, AllocError>
         ensures { IfOk result (λ t. string_bytes t
-            ≡ spec.load_slip self.now.front.now self.now.kit.now self.now.plays.now at load.now) }
+            ≡ spec.load_slip self.now.front.now self.now.run.kit.now self.now.run.plays.now at load.now) }
     {
         match load {
             Load::Hook { hook, .. } => self.hook_slip(at, hook),
@@ -76,28 +74,9 @@ impl Look<'_> {
         }
     }
 
-    fn lacking(&self, n: usize, name: &Name) -> Result<String, AllocError>
-        ensures { IfOk result (λ t. string_bytes t ≡ spec.lacking self.now.front.now n name.now) }
-    {
-        let (front, name) = (self.front, name.as_str());
-        format!(in self.alloc;
-            "{front}active[{n}]: names a plugin that is not in the kit: \"{name}\"\n"
-        )
-    }
-
-    fn active_slip(&self, n: usize, name: &Name) -> Result<String, AllocError>
-        ensures { IfOk result (λ t. string_bytes t
-            ≡ spec.active_slip self.now.front.now self.now.kit.now n name.now) }
-    {
-        if is_there(self.kit.plugins.as_slice(), name) {
-            return Ok(String::new(self.alloc));
-        }
-        self.lacking(n, name)
-    }
-
     fn push_ops(&self, out: &mut String, callback: usize, script: &[Op]) -> Result<(), AllocError>
         ensures { OnOk result (string_bytes out.new ≡ string_bytes out.old
-            ++ spec.script_slips self.now.front.now self.now.kit.now self.now.plays.now callback script.now) }
+            ++ spec.script_slips self.now.front.now self.now.run.kit.now self.now.run.plays.now callback script.now) }
     {
         for op in 0..script.len() {
             let at = Place::Op { callback, op };
@@ -109,7 +88,7 @@ impl Look<'_> {
 
     fn push_loads(&self, out: &mut String, plugin: usize, loads: &[Load]) -> Result<(), AllocError>
         ensures { OnOk result (string_bytes out.new ≡ string_bytes out.old
-            ++ spec.loads_slips self.now.front.now self.now.kit.now self.now.plays.now plugin loads.now) }
+            ++ spec.loads_slips self.now.front.now self.now.run.kit.now self.now.run.plays.now plugin loads.now) }
     {
         for load in 0..loads.len() {
             let at = Place::Load { plugin, load };
@@ -121,7 +100,7 @@ impl Look<'_> {
 
     fn push_callbacks(&self, out: &mut String, callbacks: &[Scripted]) -> Result<(), AllocError>
         ensures { OnOk result (string_bytes out.new ≡ string_bytes out.old
-            ++ spec.along (spec.callback_slips self.now.front.now self.now.kit.now self.now.plays.now) 0 callbacks.now) }
+            ++ spec.along (spec.callback_slips self.now.front.now self.now.run.kit.now self.now.run.plays.now) 0 callbacks.now) }
     {
         for n in 0..callbacks.len() {
             self.push_ops(out, n, callbacks[n].script.as_slice())?;
@@ -131,30 +110,13 @@ impl Look<'_> {
 
     fn push_plugins(&self, out: &mut String, plugins: &[Plugin]) -> Result<(), AllocError>
         ensures { OnOk result (string_bytes out.new ≡ string_bytes out.old
-            ++ spec.along (spec.plugin_slips self.now.front.now self.now.kit.now self.now.plays.now) 0 plugins.now) }
+            ++ spec.along (spec.plugin_slips self.now.front.now self.now.run.kit.now self.now.run.plays.now) 0 plugins.now) }
     {
         for n in 0..plugins.len() {
             self.push_loads(out, n, plugins[n].load.as_slice())?;
         }
         Ok(())
     }
-
-    fn push_active(&self, out: &mut String, active: &[Name]) -> Result<(), AllocError>
-        ensures { OnOk result (string_bytes out.new ≡ string_bytes out.old
-            ++ spec.active_slips self.now.front.now self.now.kit.now active.now) }
-    {
-        for n in 0..active.len() {
-            let slip = self.active_slip(n, &active[n])?;
-            out.push_str(slip.as_str())?;
-        }
-        Ok(())
-    }
-}
-
-fn is_there(plugins: &[Plugin], name: &Name) -> bool
-    ensures { result ≡ named_among (λ (p : OnePlugin). p.name) plugins.now name.now }
-{
-    plugins.iter().any(|p| p.name.is(name))
 }
 
 /// The slips of a kit, a line for each behind this front. What these plays run is run.
@@ -169,31 +131,10 @@ pub fn slips(
     let look = Look {
         alloc,
         front,
-        kit,
-        plays,
+        run: hooks_run(alloc, kit, plays)?,
     };
     let mut out = String::new(alloc);
     look.push_callbacks(&mut out, kit.callbacks.as_slice())?;
     look.push_plugins(&mut out, kit.plugins.as_slice())?;
-    Ok(out)
-}
-
-/// A line for each active plugin that the kit lacks, behind this front.
-pub fn active_slips(
-    alloc: Global,
-    front: &str,
-    kit: &KitParts,
-    active: &[Name],
-) -> Result<String, AllocError>
-    ensures { IfOk result (λ t. string_bytes t ≡ spec.active_slips front.now kit.now active.now) }
-{
-    let look = Look {
-        alloc,
-        front,
-        kit,
-        plays: &[],
-    };
-    let mut out = String::new(alloc);
-    look.push_active(&mut out, active)?;
     Ok(out)
 }

@@ -1,31 +1,20 @@
 //! Callbacks that a step or a load names, and that are not there.
 
-ghost use Rattle.std.specs.Prelude.{◌≡◌, bytes_eq};
-ghost use Rattle.press_callbacks.specs.Kits.{callback_loaded, callback_named, is_known, is_named as named_among};
+ghost use Rattle.std.specs.Prelude.{◌≡◌};
+ghost use Rattle.press_callbacks.specs.Kits.{callback_loaded, callback_named, is_known};
 ghost use Rattle.press_kit.specs.declared.kit_parts.Scripted.{Scripted as Told};
 ghost use Rattle.press_lint.specs.Mistakes as spec;
 
+use crate::known::Known;
 use crate::mistake::{Mistake, Why};
 use press_callbacks::{Ask, Load, Op, Plugin, is_built_in};
 use press_kit::{Place, Scripted};
 use press_text::CallbackId;
 
-fn has_name(callback: &Scripted, id: CallbackId) -> bool
-    ensures { result ≡ bytes_eq callback.now.id id }
+fn is_known(known: &Known<'_>, id: CallbackId) -> bool
+    ensures { result ≡ is_known (λ (c : Told). c.id) known.now.callbacks.now id }
 {
-    callback.id.is(id)
-}
-
-fn is_there(callbacks: &[Scripted], id: CallbackId) -> bool
-    ensures { result ≡ named_among (λ (c : Told). c.id) callbacks.now id }
-{
-    callbacks.iter().any(|c| has_name(c, id))
-}
-
-fn is_known(callbacks: &[Scripted], id: CallbackId) -> bool
-    ensures { result ≡ is_known (λ (c : Told). c.id) callbacks.now id }
-{
-    is_built_in(id.as_bytes()) || is_there(callbacks, id)
+    is_built_in(id.as_bytes()) || known.has(id.as_bytes())
 }
 
 // The callback that a step names.
@@ -55,11 +44,11 @@ fn loaded_by(load: &Load) -> CallbackId
     }
 }
 
-fn unknown_at(callbacks: &[Scripted], at: Place, named: Option<CallbackId>) -> Option<Mistake>
-    ensures { result ≡ spec.unknown_at callbacks.now at named }
+fn unknown_at(known: &Known<'_>, at: Place, named: Option<CallbackId>) -> Option<Mistake>
+    ensures { result ≡ spec.unknown_at known.now.callbacks.now at named }
 {
     match named {
-        Some(id) if !is_known(callbacks, id) => Some(Mistake {
+        Some(id) if !is_known(known, id) => Some(Mistake {
             at,
             why: Why::Unknown(id),
         }),
@@ -67,12 +56,12 @@ fn unknown_at(callbacks: &[Scripted], at: Place, named: Option<CallbackId>) -> O
     }
 }
 
-fn unknown_in_script(callbacks: &[Scripted], callback: usize, script: &[Op]) -> Option<Mistake>
-    ensures { result ≡ spec.first (spec.unknown_op callbacks.now callback) 0 script.now }
+fn unknown_in_script(known: &Known<'_>, callback: usize, script: &[Op]) -> Option<Mistake>
+    ensures { result ≡ spec.first (spec.unknown_op known.now.callbacks.now callback) 0 script.now }
 {
     for op in 0..script.len() {
         let at = Place::Op { callback, op };
-        let found = unknown_at(callbacks, at, named_by(&script[op]));
+        let found = unknown_at(known, at, named_by(&script[op]));
         if found.is_some() {
             return found;
         }
@@ -80,11 +69,11 @@ fn unknown_in_script(callbacks: &[Scripted], callback: usize, script: &[Op]) -> 
     None
 }
 
-fn unknown_in_scripts(callbacks: &[Scripted]) -> Option<Mistake>
-    ensures { result ≡ spec.first (spec.unknown_in_script callbacks.now) 0 callbacks.now }
+fn unknown_in_scripts(known: &Known<'_>, callbacks: &[Scripted]) -> Option<Mistake>
+    ensures { result ≡ spec.first (spec.unknown_in_script known.now.callbacks.now) 0 callbacks.now }
 {
     for n in 0..callbacks.len() {
-        let found = unknown_in_script(callbacks, n, callbacks[n].script.as_slice());
+        let found = unknown_in_script(known, n, callbacks[n].script.as_slice());
         if found.is_some() {
             return found;
         }
@@ -92,12 +81,12 @@ fn unknown_in_scripts(callbacks: &[Scripted]) -> Option<Mistake>
     None
 }
 
-fn unknown_in_loads(callbacks: &[Scripted], plugin: usize, loads: &[Load]) -> Option<Mistake>
-    ensures { result ≡ spec.first (spec.unknown_load callbacks.now plugin) 0 loads.now }
+fn unknown_in_loads(known: &Known<'_>, plugin: usize, loads: &[Load]) -> Option<Mistake>
+    ensures { result ≡ spec.first (spec.unknown_load known.now.callbacks.now plugin) 0 loads.now }
 {
     for load in 0..loads.len() {
         let at = Place::Load { plugin, load };
-        let found = unknown_at(callbacks, at, Some(loaded_by(&loads[load])));
+        let found = unknown_at(known, at, Some(loaded_by(&loads[load])));
         if found.is_some() {
             return found;
         }
@@ -105,11 +94,11 @@ fn unknown_in_loads(callbacks: &[Scripted], plugin: usize, loads: &[Load]) -> Op
     None
 }
 
-fn unknown_in_plugins(callbacks: &[Scripted], plugins: &[Plugin]) -> Option<Mistake>
-    ensures { result ≡ spec.first (spec.unknown_in_plugin callbacks.now) 0 plugins.now }
+fn unknown_in_plugins(known: &Known<'_>, plugins: &[Plugin]) -> Option<Mistake>
+    ensures { result ≡ spec.first (spec.unknown_in_plugin known.now.callbacks.now) 0 plugins.now }
 {
     for n in 0..plugins.len() {
-        let found = unknown_in_loads(callbacks, n, plugins[n].load.as_slice());
+        let found = unknown_in_loads(known, n, plugins[n].load.as_slice());
         if found.is_some() {
             return found;
         }
@@ -118,11 +107,11 @@ fn unknown_in_plugins(callbacks: &[Scripted], plugins: &[Plugin]) -> Option<Mist
 }
 
 /// The first step or load that names a callback which is not there.
-pub fn unknown_in(callbacks: &[Scripted], plugins: &[Plugin]) -> Option<Mistake>
-    ensures { result ≡ spec.unknown_in callbacks.now plugins.now }
+pub fn unknown_in(known: &Known<'_>, plugins: &[Plugin]) -> Option<Mistake>
+    ensures { result ≡ spec.unknown_in known.now.callbacks.now plugins.now }
 {
-    match unknown_in_scripts(callbacks) {
+    match unknown_in_scripts(known, known.callbacks()) {
         Some(mistake) => Some(mistake),
-        None => unknown_in_plugins(callbacks, plugins),
+        None => unknown_in_plugins(known, plugins),
     }
 }

@@ -1,6 +1,7 @@
 mod Beside
 mod Bytes
 mod Copies
+mod Halves
 mod Hooks
 mod Joined
 mod Lifted

@@ -3,6 +3,7 @@ pub mod ContentView
 pub mod Contents
 pub mod Effects
 pub mod Faults
+pub mod InOrder
 pub mod Options
 pub mod Outcomes
 pub mod Plugins

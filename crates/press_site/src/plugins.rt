@@ -1,4 +1,6 @@
-ghost use Rattle.std.specs.Prelude.{◌≡◌, [], ◌<◌, ◌≤◌, length, position, unwrap_or, IfSome, IfOk};
+ghost use Rattle.std.specs.Prelude.{◌≡◌, [], ◌≤◌, length, true, false, not, IfOk};
+ghost use Rattle.std.specs.List.Sorted.{IsPartitionPoint};
+ghost use Rattle.press_site.specs.InOrder.{in_order};
 ghost use Rattle.press_site.specs.Becomes.{Turns};
 ghost use Rattle.press_site.specs.Plugins.{is_active, is_before, place_in, activated, deactivated, without};
 
@@ -21,11 +23,14 @@ impl Drop for Plugins {
 }
 
 impl Model for Plugins {
-    ghost use Rattle.std.specs.Prelude.{ℕ, List};
+    ghost use Rattle.std.specs.Prelude.{◌≡◌, ℕ, List, true};
+    ghost use Rattle.press_site.specs.InOrder.{in_order};
 
     ghost Value = { List (List ℕ) };
 
     ghost view = { λ p. p.names.items };
+
+    ghost invariant = { λ p. in_order p.names.items ≡ true };
 }
 
 impl Plugins {
@@ -65,6 +70,7 @@ impl Plugins {
     }
 
     /// Takes a plugin off the active ones, without memory; refused by NotActive.
+    #[tactic(auto, using(crate::proofs::Halves::in_order_without))]
     pub fn deactivate(&mut self, plugin: &Name) -> Result<(), SiteFault>
         ensures { Turns result (deactivated plugin.now self.old) self.old self.new }
     {
@@ -82,24 +88,26 @@ fn take_out(names: &mut Vec<Name>, name: &Name)
     names.retain(|n| !n.is(name));
 }
 
+// Whether a name is among names in their order: it would stand last of those that don't stand behind it.
 fn has_name(names: &[Name], name: &Name) -> bool
+    requires { in_order names.now ≡ true }
     ensures { result ≡ is_active name.now names.now }
 {
-    names.iter().any(|n| name.is(n))
+    let place = place_of(names, name);
+    if place == 0 {
+        return false;
+    }
+    names[place - 1].is(name)
 }
 
+// Where a name belongs among names in their order, found by halves.
 fn place_of(names: &[Name], name: &Name) -> usize
+    requires { in_order names.now ≡ true }
     ensures place { result ≡ place_in name.now names.now }
+    ensures parts { IsPartitionPoint (λ n. not (is_before name.now n) ≡ true) (λ n. not (is_before name.now n) ≡ false) names.now result }
     ensures within { result ≤ length names.now }
 {
-    first_after(names, name).unwrap_or(names.len())
-}
-
-fn first_after(names: &[Name], name: &Name) -> Option<usize>
-    ensures place { result ≡ position (is_before name.now) names.now }
-    ensures within { IfSome result (λ i. i < length names.now) }
-{
-    names.iter().position(|n| is_before(name, n))
+    names.partition_point(|n| !is_before(name, n))
 }
 
 fn is_before(a: &Name, b: &Name) -> bool
