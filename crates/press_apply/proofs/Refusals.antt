@@ -79,7 +79,7 @@ work_refused (Site f) m rest s e h = ap (λ x. site_of (x >>= rest)) e ∙ ap si
 pub work_done : (m : Result State ApplyFault) (rest : State → Result (State × ℕ) ApplyFault) (s s' : State) (id : ℕ) → m ≡ Ok s → rest s ≡ Ok (s', id) → site_of (m >>= rest) ≡ Ok (s'.site, id)
 work_done m rest s s' id e h = ap (λ x. site_of (x >>= rest)) e ∙ ap site_of h
 
-pub work_ended : (m : Result State ApplyFault) (rest : State → Result (State × ℕ) ApplyFault) (site : SiteView) (old new : Work) (id : Result ℕ ApplyFault) (result : Result (SiteView × ℕ) ApplyFault) → m ≡ Ok (state_in old) → kept old.site ≡ kept site → Steps (λ s n. (s, n)) (rest (state_in old)) old new id → MatchResult id (λ n. result ≡ Ok (new.site, n)) (λ fault. result ≡ Err fault) → Works (site_of (m >>= rest)) site result
+pub work_ended : (m : Result State ApplyFault) (rest : State → Result (State × ℕ) ApplyFault) (site : SiteView) (old new : Work) (id : Result ℕ ApplyFault) (result : Result (SiteView × ℕ) ApplyFault) → m ≡ Ok (state_in old) → kept old.stage.site ≡ kept site → Steps (λ s n. (s, n)) (rest (state_in old)) old new id → MatchResult id (λ n. result ≡ Ok (new.stage.site, n)) (λ fault. result ≡ Err fault) → Works (site_of (m >>= rest)) site result
 work_ended m rest site old new (Ok n) result b k h e = subst (λ r. Works (site_of (m >>= rest)) site r) (sym e) (work_done m rest (state_in old) (state_in new) n b h.0, h.1 ∙ k)
 work_ended m rest site old new (Err fault) result b k h e = subst (λ r. Works (site_of (m >>= rest)) site r) (sym e) (work_refused fault m rest (state_in old) b h)
 

@@ -2,13 +2,19 @@
 -- touches the site's moment or its outcomes.
 use Rattle.std.specs.Prelude.{◌≡◌, ℕ, Some, IfSome, Result, Ok, Err, MatchResult}
 use Rattle.std.specs.declared.alloc.AllocError.{AllocError}
+use Rattle.press_callbacks.specs.Kits.{kit_view}
+use Rattle.press_callbacks.specs.declared.kit.Kit.{Kit}
 use Rattle.press_run.specs.Links.{kept}
-use Rattle.press_run.specs.Outcome.{stage, state_of}
-use Rattle.press_run.specs.Run.{State}
+use Rattle.press_run.specs.Outcome.{state_of}
+use Rattle.press_run.specs.Run.{Meaning, State}
+use Rattle.press_run.specs.Standing.{standing}
 use Rattle.press_site.specs.declared.token.Outcome.{Outcome}
 use Rattle.press_site.specs.declared.token.Outcome.TheVariants.{Done}
 use Rattle.press_site.specs.Outcomes.{outcome_of}
 use Rattle.press_site.specs.SiteView.{SiteView}
+use Rattle.press_apply.specs.Apply.{callbacks_on, inserts, updates}
+use Rattle.press_apply.specs.declared.draft.Draft.{Draft}
+use Rattle.press_apply.specs.declared.draft.Edit.{Edit}
 use Rattle.press_apply.specs.declared.fault.ApplyFault.{ApplyFault}
 use Rattle.press_apply.specs.declared.fault.ApplyFault.TheVariants.{NoMemory, Limit, NoSuchPlugin, Site}
 use Rattle.press_apply.specs.declared.value.Value.{Value}
@@ -17,7 +23,17 @@ use Rattle.press_apply.specs.declared.work.Work.{Work}
 
 -- what a command's work stands at
 abbrev pub state_in : Work → State
-state_in w = state_of (stage w.tables w.machine w.site (Some (kept w.site)) w.out)
+state_in w = state_of (standing (λ s. s) (λ s. Some (kept s)) w.stage)
+
+-- what a kit's callbacks come to
+abbrev pub meaning_in : {t : _} {F : _} {g : _} → Kit t F g → Meaning
+meaning_in kit = callbacks_on (kit_view kit)
+
+abbrev pub inserts_draft : Meaning → Draft → State → Result (State × ℕ) ApplyFault
+inserts_draft callback d s = inserts callback d.title.now d.content.now d.status d.date s
+
+abbrev pub updates_by : Meaning → Edit → State → Result (State × ℕ) ApplyFault
+updates_by callback e s = updates callback e.id e.draft.title.now e.draft.content.now e.draft.status e.draft.date s
 
 -- a refusal is the meaning's own; want of memory says nothing
 abbrev pub Refuses : {A : Type 0} → ApplyFault → Result A ApplyFault → Type 0
@@ -27,11 +43,11 @@ Refuses NoSuchPlugin meant = meant ≡ Err NoSuchPlugin
 Refuses (Site fault) meant = meant ≡ Err (Site fault)
 
 abbrev pub Boots : Result State ApplyFault → SiteView → Result Work ApplyFault → Type 0
-Boots meant site result = MatchResult result (λ work. (meant ≡ Ok (state_in work)) × (kept work.site ≡ kept site)) (λ fault. Refuses fault meant)
+Boots meant site result = MatchResult result (λ work. (meant ≡ Ok (state_in work)) × (kept work.stage.site ≡ kept site)) (λ fault. Refuses fault meant)
 
 -- what a step shows of the state after it and of its answer
 abbrev pub Steps : {A M : Type 0} → (State → A → M) → Result M ApplyFault → Work → Work → Result A ApplyFault → Type 0
-Steps shows meant old new result = MatchResult result (λ x. (meant ≡ Ok (shows (state_in new) x)) × (kept new.site ≡ kept old.site)) (λ fault. Refuses fault meant)
+Steps shows meant old new result = MatchResult result (λ x. (meant ≡ Ok (shows (state_in new) x)) × (kept new.stage.site ≡ kept old.stage.site)) (λ fault. Refuses fault meant)
 
 -- the site after the whole work, and the id of the post that it is about, or 0
 abbrev pub Works : Result (SiteView × ℕ) ApplyFault → SiteView → Result (SiteView × ℕ) ApplyFault → Type 0

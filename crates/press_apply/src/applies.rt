@@ -3,19 +3,20 @@
 ghost use Rattle.std.specs.Prelude.{◌≡◌, None, Ok, max, IfOk, IfSome, OnErr, OnOk, is_some};
 ghost use Rattle.press_callbacks.specs.Kits.{kit_view, plugin_of, plugins_in};
 ghost use Rattle.press_site.specs.Effects.{effect_on};
-ghost use Rattle.press_site.specs.Outcomes.{outcome_of, with_outcome};
-ghost use Rattle.press_apply.specs.Apply.{alone, applied, applied_where, at_moment, booted, callbacks_on, deletes, does, inserts, ticks, trashes, untrashes, updates, work_of};
+ghost use Rattle.press_site.specs.Outcomes.{outcome_of};
+ghost use Rattle.press_apply.specs.Apply.{alone, applied, applied_where, at_moment, booted};
+ghost use Rattle.press_apply.specs.Apply.{deletes, does, ticks, trashes, untrashes, with_kept, work_of};
 ghost use Rattle.press_apply.specs.Faults.{apply_fault_number};
-ghost use Rattle.press_apply.specs.Works.{TakesNone, Works};
+ghost use Rattle.press_apply.specs.Works.{TakesNone, Works, inserts_draft, meaning_in, updates_by};
 
 use crate::command::{Command, Stamped};
+use crate::draft::{Draft, Edit, Setting};
 use crate::fault::ApplyFault;
 use crate::value::Value;
 use crate::work::Work;
 use press_callbacks::Kit;
-use press_posts::Status;
 use press_site::{Effect, Outcome, Site, Token};
-use press_text::{Copied, Moment, Name, OptName, Text};
+use press_text::{Copied, Moment, Name};
 use std::alloc::{AllocError, Global};
 
 /// Applies a value: its outcome, which the site keeps under the command's token. A known token answers the outcome that it has and moves
@@ -27,7 +28,8 @@ pub fn apply(
     kit: &Kit,
     value: &Value,
 ) -> Result<Outcome, AllocError>
-    ensures applied { IfOk result (λ outcome. (site.new, outcome) ≡ applied (kit_view kit.now) site.old value.now) }
+    ensures applied { IfOk result (λ outcome.
+        (site.new, outcome) ≡ applied (kit_view kit.now) site.old value.now) }
     ensures known { TakesNone value.now site.old result }
     ensures err { OnErr result (site.new ≡ site.old) }
 {
@@ -52,8 +54,11 @@ fn apply_command(
     kit: &Kit,
     stamped: &Stamped,
 ) -> Result<Outcome, AllocError>
-    ensures applied { IfOk result (λ outcome. (site.new, outcome) ≡ applied_where (kit_view kit.now) (at_moment stamped.now.at site.old) stamped.now (outcome_of stamped.now.token site.old.outcomes)) }
-    ensures known { IfSome (outcome_of stamped.now.token site.old.outcomes) (λ outcome. result ≡ Ok outcome) }
+    ensures applied { IfOk result (λ outcome.
+        (site.new, outcome) ≡ applied_where (kit_view kit.now) (at_moment stamped.now.at site.old)
+        stamped.now (outcome_of stamped.now.token site.old.outcomes)) }
+    ensures known { IfSome (outcome_of stamped.now.token site.old.outcomes)
+        (λ outcome. result ≡ Ok outcome) }
     ensures err { OnErr result (site.new ≡ site.old) }
 {
     match site.result_of(&stamped.token) {
@@ -79,16 +84,16 @@ fn apply_new(
     stamped: &Stamped,
 ) -> Result<Outcome, AllocError>
     requires { outcome_of stamped.now.token site.old.outcomes ≡ None }
-    ensures applied { IfOk result (λ outcome. (site.new, outcome) ≡ applied_where (kit_view kit.now) (at_moment stamped.now.at site.old) stamped.now None) }
+    ensures applied { IfOk result (λ outcome. (site.new, outcome)
+        ≡ applied_where (kit_view kit.now) (at_moment stamped.now.at site.old) stamped.now None) }
     ensures err { OnErr result (site.new ≡ site.old) }
 {
-    let now = later(site.now(), stamped.at);
     let mut before = site.copy()?;
-    before.set_now(now);
+    before.set_now(later(site.now(), stamped.at));
     match work(alloc, kit, before, &stamped.command) {
-        Ok((after, id)) => done(alloc, site, after, &stamped.token, id),
+        Ok(worked) => done(alloc, site, worked, &stamped.token),
         Err(ApplyFault::NoMemory) => Err(AllocError),
-        Err(fault) => refused(alloc, site, now, stamped, fault),
+        Err(fault) => refused(alloc, site, stamped, fault),
     }
 }
 
@@ -96,14 +101,16 @@ fn apply_new(
 fn done(
     alloc: Global,
     site: &mut Site,
-    mut after: Site,
+    worked: (Site, u64),
     token: &Token,
-    id: u64,
 ) -> Result<Outcome, AllocError>
-    requires { outcome_of token.now after.outcomes ≡ None }
-    ensures ok { IfOk result (λ outcome. (outcome ≡ Outcome.Done id) × (site.new ≡ record after { outcomes = with_outcome token.now (Outcome.Done id) after.outcomes })) }
+    requires { outcome_of token.now worked.0.outcomes ≡ None }
+    ensures outcome { IfOk result (λ outcome. outcome ≡ Outcome.Done worked.1) }
+    ensures site { OnOk result
+        (site.new ≡ with_kept token.now (Outcome.Done worked.1) worked.0 worked.0) }
     ensures err { OnErr result (site.new ≡ site.old) }
 {
+    let (mut after, id) = worked;
     let outcome = Outcome::Done(id);
     after.keep(token.copied(alloc)?, outcome)?;
     *site = after;
@@ -114,18 +121,19 @@ fn done(
 fn refused(
     alloc: Global,
     site: &mut Site,
-    now: Moment,
     stamped: &Stamped,
     fault: ApplyFault,
 ) -> Result<Outcome, AllocError>
     requires { outcome_of stamped.now.token site.old.outcomes ≡ None }
-    ensures outcome { IfOk result (λ outcome. outcome ≡ Outcome.Refused (apply_fault_number fault)) }
-    ensures site { OnOk result (site.new ≡ record site.old { moment = now; outcomes = with_outcome stamped.now.token (Outcome.Refused (apply_fault_number fault)) site.old.outcomes }) }
+    ensures outcome { IfOk result (λ outcome.
+        outcome ≡ Outcome.Refused (apply_fault_number fault)) }
+    ensures site { OnOk result (site.new ≡ with_kept stamped.now.token
+        (Outcome.Refused (apply_fault_number fault)) site.old (at_moment stamped.now.at site.old)) }
     ensures err { OnErr result (site.new ≡ site.old) }
 {
     let outcome = Outcome::Refused(fault.number());
     site.keep(stamped.token.copied(alloc)?, outcome)?;
-    site.set_now(now);
+    site.set_now(later(site.now(), stamped.at));
     Ok(outcome)
 }
 
@@ -139,18 +147,41 @@ fn work(alloc: Global, kit: &Kit, site: Site, command: &Command) -> Result<(Site
             content,
             status,
             date,
-        } => insert(alloc, kit, site, title, content, *status, *date),
+        } => {
+            let (status, date) = (*status, *date);
+            let draft = Draft {
+                title,
+                content,
+                status,
+                date,
+            };
+            insert(alloc, kit, site, &draft)
+        }
         Command::Update {
             id,
             title,
             content,
             status,
             date,
-        } => update(alloc, kit, site, *id, title, content, *status, *date),
+        } => {
+            let (id, status, date) = (*id, *status, *date);
+            let draft = Draft {
+                title,
+                content,
+                status,
+                date,
+            };
+            update(alloc, kit, site, &Edit { id, draft })
+        }
         Command::Trash { id } => trash(alloc, kit, site, *id),
         Command::Untrash { id } => untrash(alloc, kit, site, *id),
         Command::Delete { id } => delete(alloc, kit, site, *id),
-        Command::SetOption { name, value } => set_option(alloc, kit, site, name, value),
+        Command::SetOption { name, value } => set_option(
+            alloc,
+            kit,
+            site,
+            &Setting { name, value },
+        ),
         Command::Activate { plugin } => activate(alloc, kit, site, plugin),
         Command::Deactivate { plugin } => {
             let plugin = plugin.copy(alloc)?;
@@ -165,60 +196,51 @@ fn insert(
     alloc: Global,
     kit: &Kit,
     site: Site,
-    title: &Text,
-    content: &Text,
-    status: Status,
-    date: Moment,
+    draft: &Draft<'_>,
 ) -> Result<(Site, u64), ApplyFault>
-    ensures { Works (booted (kit_view kit.now) site (inserts (callbacks_on (kit_view kit.now)) title.now content.now status date)) site result }
+    ensures { Works (booted (kit_view kit.now) site (inserts_draft (meaning_in kit.now) draft.now))
+        site result }
 {
     let mut work = Work::booted(alloc, kit, site)?;
-    let id = work.insert(alloc, kit, title, content, status, date);
+    let id = work.insert(kit, draft);
     work.ended(id)
 }
 
 #[tactic(auto, using(crate::proofs::Refusals::boot_refused, crate::proofs::Refusals::work_ended))]
-fn update(
-    alloc: Global,
-    kit: &Kit,
-    site: Site,
-    id: u64,
-    title: &Text,
-    content: &Text,
-    status: Status,
-    date: Moment,
-) -> Result<(Site, u64), ApplyFault>
-    ensures { Works (booted (kit_view kit.now) site (updates (callbacks_on (kit_view kit.now)) id title.now content.now status date)) site result }
+fn update(alloc: Global, kit: &Kit, site: Site, edit: &Edit<'_>) -> Result<(Site, u64), ApplyFault>
+    ensures { Works (booted (kit_view kit.now) site (updates_by (meaning_in kit.now) edit.now))
+        site result }
 {
     let mut work = Work::booted(alloc, kit, site)?;
-    let id = work.update(alloc, kit, id, title, content, status, date);
+    let id = work.update(kit, edit);
     work.ended(id)
 }
 
 #[tactic(auto, using(crate::proofs::Refusals::boot_refused, crate::proofs::Refusals::work_ended))]
 fn trash(alloc: Global, kit: &Kit, site: Site, id: u64) -> Result<(Site, u64), ApplyFault>
-    ensures { Works (booted (kit_view kit.now) site (trashes (callbacks_on (kit_view kit.now)) id)) site result }
+    ensures { Works (booted (kit_view kit.now) site (trashes (meaning_in kit.now) id)) site result }
 {
     let mut work = Work::booted(alloc, kit, site)?;
-    let id = work.trash(alloc, kit, id);
+    let id = work.trash(kit, id);
     work.ended(id)
 }
 
 #[tactic(auto, using(crate::proofs::Refusals::boot_refused, crate::proofs::Refusals::work_ended))]
 fn untrash(alloc: Global, kit: &Kit, site: Site, id: u64) -> Result<(Site, u64), ApplyFault>
-    ensures { Works (booted (kit_view kit.now) site (untrashes (callbacks_on (kit_view kit.now)) id)) site result }
+    ensures { Works (booted (kit_view kit.now) site (untrashes (meaning_in kit.now) id))
+        site result }
 {
     let mut work = Work::booted(alloc, kit, site)?;
-    let id = work.untrash(alloc, kit, id);
+    let id = work.untrash(kit, id);
     work.ended(id)
 }
 
 #[tactic(auto, using(crate::proofs::Refusals::boot_refused, crate::proofs::Refusals::work_ended))]
 fn delete(alloc: Global, kit: &Kit, site: Site, id: u64) -> Result<(Site, u64), ApplyFault>
-    ensures { Works (booted (kit_view kit.now) site (deletes (callbacks_on (kit_view kit.now)) id)) site result }
+    ensures { Works (booted (kit_view kit.now) site (deletes (meaning_in kit.now) id)) site result }
 {
     let mut work = Work::booted(alloc, kit, site)?;
-    let id = work.delete(alloc, kit, id);
+    let id = work.delete(kit, id);
     work.ended(id)
 }
 
@@ -227,25 +249,26 @@ fn set_option(
     alloc: Global,
     kit: &Kit,
     site: Site,
-    name: &OptName,
-    value: &Text,
+    setting: &Setting<'_>,
 ) -> Result<(Site, u64), ApplyFault>
-    ensures { Works (booted (kit_view kit.now) site (does (callbacks_on (kit_view kit.now)) (Effect.SetOption name.now value.now))) site result }
+    ensures { Works (booted (kit_view kit.now) site
+        (does (meaning_in kit.now)
+        (Effect.SetOption setting.now.name.now setting.now.value.now))) site result }
 {
     let mut work = Work::booted(alloc, kit, site)?;
-    let id = work.set_option(alloc, kit, name, value);
+    let id = work.set_option(kit, setting.name, setting.value);
     work.ended(id)
 }
 
 // What is due is listed after the boot.
-#[tactic(auto, using(crate::proofs::Refusals::boot_refused, crate::proofs::Refusals::work_refused, crate::proofs::Refusals::work_done))]
+#[tactic(auto, using(crate::proofs::Refusals::boot_refused, crate::proofs::Refusals::work_ended))]
 fn tick(alloc: Global, kit: &Kit, site: Site) -> Result<(Site, u64), ApplyFault>
-    ensures { Works (booted (kit_view kit.now) site (ticks (callbacks_on (kit_view kit.now)))) site result }
+    ensures { Works (booted (kit_view kit.now) site (ticks (meaning_in kit.now))) site result }
 {
     let mut loaded = Work::booted(alloc, kit, site)?;
-    let due = loaded.site.due()?;
-    let id = loaded.tick(alloc, kit, due.as_slice())?;
-    Ok((loaded.site, id))
+    let due = loaded.stage.site.due()?;
+    let id = loaded.tick(kit, due.as_slice());
+    loaded.ended(id)
 }
 
 fn activate(alloc: Global, kit: &Kit, site: Site, plugin: &Name) -> Result<(Site, u64), ApplyFault>

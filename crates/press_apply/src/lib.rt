@@ -5,6 +5,7 @@ mod actions;
 mod applies;
 mod checks;
 mod command;
+mod draft;
 mod fault;
 mod kind;
 mod laws;

@@ -3,12 +3,13 @@
 ghost use Rattle.std.specs.Prelude.{◌≡◌, IfOk, false, option_map, Some};
 ghost use Rattle.serde_json.specs.View.{view};
 ghost use Rattle.serde_json.specs.Written.{compact_text, has_float};
-ghost use Rattle.press_callbacks.specs.Kits.{kit_view, scripts_in};
-ghost use Rattle.press_run.specs.Links.{read_only};
-ghost use Rattle.press_run.specs.Run.{callbacks_of, within};
-ghost use Rattle.press_page.specs.Json.{json_reply, outcome_data, post_body, post_data, post_reply, result_reply, status_data, status_reply};
+ghost use Rattle.press_callbacks.specs.Kits.{kit_view};
 ghost use Rattle.press_run.specs.Outcome.{Refuses};
+ghost use Rattle.press_run.specs.Run.{within};
 ghost use Rattle.press_text.specs.Gives.{Gives};
+ghost use Rattle.press_page.specs.Json.{json_reply, outcome_data, post_body, post_data, post_reply};
+ghost use Rattle.press_page.specs.Json.{result_reply, status_data, status_reply};
+ghost use Rattle.press_page.specs.Rendering.{meaning_in};
 ghost use Rattle.press_page.specs.Steps.{booted};
 
 use crate::filtered::Filtered;
@@ -32,7 +33,8 @@ pub fn post_reply(
     kit: &Kit,
     post: Option<&Post>,
 ) -> Result<Reply, AllocError>
-    ensures { IfOk result (λ r. r ≡ post_reply (kit_view kit.now) site.now (option_map (λ p. p.now) post.entry)) }
+    ensures { IfOk result (λ r.
+        r ≡ post_reply (kit_view kit.now) site.now (option_map (λ p. p.now) post.entry)) }
 {
     match post {
         Some(post) => shown(alloc, site, kit, post),
@@ -56,10 +58,11 @@ fn shown(alloc: Global, site: &Site, kit: &Kit, post: &Post) -> Result<Reply, Al
 
 #[tactic(auto, unfolding(crate::specs::Json::post_body))]
 fn post_body(alloc: Global, site: &Site, kit: &Kit, post: &Post) -> Result<Text, RunFault>
-    ensures { Gives Refuses Some result (post_body (callbacks_of read_only (scripts_in kit.now)) post.now (booted (kit_view kit.now) site.now)) }
+    ensures { Gives Refuses Some result
+        (post_body (meaning_in kit.now) post.now (booted (kit_view kit.now) site.now)) }
 {
-    let mut rendering = Rendering::new(alloc, site, kit)?;
-    let texts = rendering.filtered(alloc, site, kit, post)?;
+    let mut rendering = Rendering::new(alloc, kit, site)?;
+    let texts = rendering.filtered(kit, post)?;
     let value = post_value(alloc, post, &texts)?;
     let body = text_of(alloc, &value)?;
     within(body)

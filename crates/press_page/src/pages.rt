@@ -1,11 +1,10 @@
 //! The reply to what is asked of a site.
 
 ghost use Rattle.std.specs.Prelude.{◌≡◌, ◌∷◌, [], IfOk, codes, option_map, string_bytes, take};
-ghost use Rattle.press_callbacks.specs.Kits.{kit_view, scripts_in};
+ghost use Rattle.press_callbacks.specs.Kits.{kit_view};
 ghost use Rattle.press_posts.specs.Published.{published};
-ghost use Rattle.press_run.specs.Links.{read_only};
-ghost use Rattle.press_run.specs.Run.{callbacks_of};
 ghost use Rattle.press_page.specs.Page.{Shows, page_of, page_with, public_post, site_name, whole_page};
+ghost use Rattle.press_page.specs.Rendering.{meaning_in};
 ghost use Rattle.press_page.specs.Steps.{booted};
 ghost use Rattle.press_page.specs.Template.{fixed_body};
 
@@ -36,7 +35,8 @@ pub fn page(alloc: Global, site: &Site, kit: &Kit, target: &Target) -> Result<Re
 }
 
 fn front(alloc: Global, site: &Site, kit: &Kit) -> Result<Reply, AllocError>
-    ensures { IfOk result (λ r. r ≡ page_with (kit_view kit.now) site.now (take 10 (published site.now.posts))) }
+    ensures { IfOk result (λ r.
+        r ≡ page_with (kit_view kit.now) site.now (take 10 (published site.now.posts))) }
 {
     let ids = site.newest(MOST_LISTED)?;
     page_with(alloc, site, kit, ids.as_slice())
@@ -62,7 +62,8 @@ fn public_post<'a>(post: Option<&'a Post>) -> Option<&'a Post>
 }
 
 fn fixed(alloc: Global, status: u16, line: &str) -> Result<Reply, AllocError>
-    ensures { IfOk result (λ r. r ≡ record { status = status; kind = ContentKind.Html; body = fixed_body line.now }) }
+    ensures { IfOk result (λ r.
+        r ≡ record { status = status; kind = ContentKind.Html; body = fixed_body line.now }) }
 {
     Ok(Reply {
         status,
@@ -88,12 +89,13 @@ fn page_with(alloc: Global, site: &Site, kit: &Kit, ids: &[u64]) -> Result<Reply
 
 // What that page shows.
 fn body_of(alloc: Global, site: &Site, kit: &Kit, ids: &[u64]) -> Result<Text, RunFault>
-    ensures { Shows (whole_page (callbacks_of read_only (scripts_in kit.now)) (site_name site.now) site.now.posts ids.now (booted (kit_view kit.now) site.now)) result }
+    ensures { Shows (whole_page (meaning_in kit.now) (site_name site.now) site.now.posts ids.now
+        (booted (kit_view kit.now) site.now)) result }
 {
     let name = site_name(alloc, site)?;
-    let mut rendering = Rendering::new(alloc, site, kit)?;
-    rendering.whole_page(alloc, site, kit, name.as_str(), ids)?;
-    let body = Text::from_string(rendering.out.into_text())?;
+    let mut rendering = Rendering::new(alloc, kit, site)?;
+    rendering.whole_page(kit, name.as_str(), ids)?;
+    let body = Text::from_string(rendering.into_text())?;
     Ok(body)
 }
 

@@ -1,5 +1,5 @@
 -- What a part of a play file answers, and what its lines then are.
-use Rattle.std.proofs.Common.{◌≡◌, ap, sym, ◌∙◌, append-nil, ℕ, List, [], ◌++◌, Option, Some, None, Result, Ok, Err}
+use Rattle.std.proofs.Common.{◌≡◌, ap, sym, ◌∙◌, append-nil, ℕ, List, [], ◌++◌, Option, Result, Ok, Err}
 use Rattle.press_callbacks.specs.declared.kit_fault.KitFault.{KitFault}
 use Rattle.press_callbacks.specs.declared.kit_fault.KitFault.TheVariants as kit
 use Rattle.press_callbacks.specs.declared.plugin.Plugin.{Plugin}
@@ -8,7 +8,6 @@ use Rattle.press_callbacks.specs.Kits.{Scripts, kit_fault}
 use Rattle.press_kit.specs.declared.kit_parts.Scripted.{Scripted}
 use Rattle.press_kit.specs.declared.place.Place.{Place}
 use Rattle.press_kit.specs.declared.play_file.PlayFile.{PlayFile}
-use Rattle.press_play.specs.declared.fault.PlayFault.{PlayFault}
 use Rattle.press_play.specs.Faults.{of_kit}
 use Rattle.press_play.specs.Played.{Refuses, file_where, played, played_where, scripts_of, unless}
 

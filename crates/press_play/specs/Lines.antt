@@ -11,11 +11,12 @@ use Rattle.press_run.specs.declared.job.Job.TheVariants as job
 use Rattle.press_run.specs.Run.{Answer, State, answer}
 use Rattle.press_run.specs.Links.{kept}
 use Rattle.press_run.specs.Outcome.{state_of, job_meaning}
-use Rattle.press_run.specs.Outcome as run
+use Rattle.press_run.specs.Standing.{standing}
+use Rattle.press_run.specs.declared.stage.Stage.{Stage}
+use Rattle.press_site.specs.SiteView.{SiteView}
 use Rattle.press_kit.specs.declared.play_file.PlayKind.{PlayKind}
 use Rattle.press_kit.specs.declared.play_file.PlayKind.TheVariants.{Apply, Do}
 use Rattle.press_kit.specs.declared.play_file.Play.{Play}
-use Rattle.press_play.specs.declared.stage.Stage.{Stage}
 
 -- a value on a line of its own
 abbrev pub line : Data → List ℕ
@@ -46,11 +47,8 @@ lines scripts (p ∷ ps) s = lines_where (λ s'. lines scripts ps s') (job_meani
 
 -- ---- what a stage of plays stands for, and what one play writes
 
-abbrev pub standing : Stage → run.Stage
-standing p = run.stage p.tables p.machine p.site (Some (kept p.site)) p.out
-
-abbrev pub state_in : Stage → State
-state_in p = state_of (standing p)
+abbrev pub state_in : Stage SiteView → State
+state_in stage = state_of (standing (λ s. s) (λ s. Some (kept s)) stage)
 
 -- a play was shown on the stage: its line was written, and the stage is as it left it
 pub record Shows (meaning : Option Answer) (after : State) (old new : List ℕ) : Type 0 where

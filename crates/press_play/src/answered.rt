@@ -55,7 +55,8 @@ fn write_said<W: Write>(
     writer: &mut W,
     said: &Result<Answered, AllocError>,
 ) -> Result<Option<PlayFault>, WriteFault>
-    ensures { Writes (or_no_memory said.now) (W.contents writer.old) (W.contents writer.new) result }
+    ensures { Writes (or_no_memory said.now)
+        (W.contents writer.old) (W.contents writer.new) result }
 {
     match said {
         Ok(answered) => {
@@ -77,7 +78,8 @@ pub fn play_input<R: Read, W: Write>(
     notes: &mut Notes,
 ) -> Result<Option<PlayFault>, WriteFault>
     ensures took { TakesAtMost (R.remaining reader.old) (R.remaining reader.new) (file_limit + 1) }
-    ensures writes { IfSome (R.remaining reader.old) (λ input. (a : Said) × Answers input a × Writes a (W.contents writer.old) (W.contents writer.new) result) }
+    ensures writes { IfSome (R.remaining reader.old) (λ input. (a : Said) × Answers input a
+        × Writes a (W.contents writer.old) (W.contents writer.new) result) }
 {
     let said = outcome(alloc, read_lines(alloc, reader, notes));
     write_said(writer, &said)
@@ -89,7 +91,8 @@ pub fn write_fault<W: Write>(
     fault: PlayFault,
     writer: &mut W,
 ) -> Result<Option<PlayFault>, WriteFault>
-    ensures { (a : Said) × Tells fault a × Writes a (W.contents writer.old) (W.contents writer.new) result }
+    ensures { (a : Said) × Tells fault a
+        × Writes a (W.contents writer.old) (W.contents writer.new) result }
 {
     let said = told(alloc, fault);
     write_said(writer, &said)

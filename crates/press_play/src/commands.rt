@@ -1,6 +1,6 @@
 //! Commands, applied before the plays.
 
-ghost use Rattle.std.specs.Prelude.{◌≡◌, ◌++◌, IfOk, OnOk, string_bytes};
+ghost use Rattle.std.specs.Prelude.{◌≡◌, IfOk, OnOk, string_bytes};
 ghost use Rattle.press_callbacks.specs.Kits.{kit_view};
 ghost use Rattle.press_apply.specs.Apply.{applied};
 ghost use Rattle.press_apply.specs.declared.value.Value.TheVariants.{Cmd};
@@ -15,22 +15,21 @@ use press_site::Site;
 use press_text::Items;
 use std::alloc::{AllocError, Global};
 
-// One command, whose line is put at the end.
+// One command; its line.
 fn command(
     alloc: Global,
     kit: &Kit,
     site: &mut Site,
     stamped: Stamped,
-    lines: &mut String,
-) -> Result<(), AllocError>
-    ensures after { OnOk result (site.new ≡ (applied (kit_view kit.now) site.old (Cmd stamped)).0) }
-    ensures told { OnOk result (string_bytes lines.new ≡ string_bytes lines.old ++ line (outcome_data (applied (kit_view kit.now) site.old (Cmd stamped)).1)) }
+) -> Result<String, AllocError>
+    ensures after { OnOk result
+        (site.new ≡ (applied (kit_view kit.now) site.old (Cmd stamped)).0) }
+    ensures told { IfOk result (λ t. string_bytes t
+        ≡ line (outcome_data (applied (kit_view kit.now) site.old (Cmd stamped)).1)) }
 {
     let value = Value::Cmd(stamped);
     let outcome = apply(alloc, site, kit, &value)?;
-    let line = outcome_line(alloc, outcome)?;
-    lines.push_str(line.as_str())?;
-    Ok(())
+    outcome_line(alloc, outcome)
 }
 
 /// Applies the commands in turn; the lines of what became of them.
@@ -41,11 +40,13 @@ pub fn commands_on(
     commands: Items<Stamped>,
 ) -> Result<String, AllocError>
     ensures after { OnOk result (site.new ≡ site_after (kit_view kit.now) commands site.old) }
-    ensures told { IfOk result (λ t. string_bytes t ≡ outcome_lines (kit_view kit.now) commands site.old) }
+    ensures told { IfOk result (λ t.
+        string_bytes t ≡ outcome_lines (kit_view kit.now) commands site.old) }
 {
     let mut lines = String::new(alloc);
     for stamped in commands.into_vec() {
-        command(alloc, kit, site, stamped, &mut lines)?;
+        let line = command(alloc, kit, site, stamped)?;
+        lines.push_str(line.as_str())?;
     }
     Ok(lines)
 }

@@ -10,8 +10,8 @@ mod line;
 mod notes;
 mod pages;
 mod played;
+mod plays;
 mod sites;
-mod stage;
 
 use crate::answered::{play_input, write_fault};
 use crate::fault::PlayFault;

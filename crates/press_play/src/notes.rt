@@ -53,17 +53,18 @@ impl Notes {
 
     /// The file was read: its kit's first mistake, or the slips.
     pub fn note_kit(&mut self, alloc: Global, file: &PlayFile) {
-        match mistake_in(&file.kit) {
-            Some(mistake) => {
+        match mistake_in(alloc, &file.kit) {
+            Ok(Some(mistake)) => {
                 if let Ok(why) = mistake.told(alloc, &file.kit) {
                     self.why = why;
                 }
             }
-            None => {
+            Ok(None) => {
                 if let Ok(slips) = self.slips_of(alloc, file) {
                     self.slips = slips;
                 }
             }
+            Err(_) => {}
         }
     }
 }

@@ -1,6 +1,6 @@
 //! Pages, shown before the plays.
 
-ghost use Rattle.std.specs.Prelude.{◌≡◌, ◌++◌, IfOk, OnOk, string_bytes};
+ghost use Rattle.std.specs.Prelude.{◌≡◌, IfOk, string_bytes};
 ghost use Rattle.press_callbacks.specs.Kits.{kit_view};
 ghost use Rattle.press_page.specs.Page.{page_of};
 ghost use Rattle.press_play.specs.Lines.{line};
@@ -13,20 +13,13 @@ use press_site::Site;
 use press_text::Items;
 use std::alloc::{AllocError, Global};
 
-// One page, whose line is put at the end.
-fn show(
-    alloc: Global,
-    kit: &Kit,
-    site: &Site,
-    target: Target,
-    lines: &mut String,
-) -> Result<(), AllocError>
-    ensures { OnOk result (string_bytes lines.new ≡ string_bytes lines.old ++ line (reply_data (page_of (kit_view kit.now) site.now target))) }
+// One page; its line.
+fn show(alloc: Global, kit: &Kit, site: &Site, target: Target) -> Result<String, AllocError>
+    ensures { IfOk result (λ t.
+        string_bytes t ≡ line (reply_data (page_of (kit_view kit.now) site.now target))) }
 {
     let reply = page(alloc, site, kit, &target)?;
-    let line = reply_line(alloc, &reply)?;
-    lines.push_str(line.as_str())?;
-    Ok(())
+    reply_line(alloc, &reply)
 }
 
 /// The lines of the replies to these targets, in turn.
@@ -40,7 +33,8 @@ pub fn pages_on(
 {
     let mut lines = String::new(alloc);
     for target in targets.into_vec() {
-        show(alloc, kit, site, target, &mut lines)?;
+        let line = show(alloc, kit, site, target)?;
+        lines.push_str(line.as_str())?;
     }
     Ok(lines)
 }

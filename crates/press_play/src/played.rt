@@ -6,14 +6,14 @@ ghost use Rattle.press_text.specs.Streams.{TakesAtMost};
 ghost use Rattle.press_kit.specs.KitFile.{file_limit};
 ghost use Rattle.press_kit.specs.PlayFile.{play_file_in};
 ghost use Rattle.press_text.specs.Gives.{Gives};
-ghost use Rattle.press_play.specs.Played.{Refuses, all_lines, file_where, played, played_in, shown_lines};
+ghost use Rattle.press_play.specs.Played.{Refuses, all_lines, file_where, played, played_in};
 
 use crate::commands::commands_on;
 use crate::fault::PlayFault;
 use crate::notes::Notes;
 use crate::pages::pages_on;
+use crate::plays::lines_of;
 use crate::sites::site_with;
-use crate::stage::lines_of;
 use press_apply::Stamped;
 use press_callbacks::{BoxedTurns, CallIn, Kit, Stored, script_turn};
 use press_kit::{FILE_LIMIT, KitFileFault, KitParts, Place, Play, PlayFile, read_play_file};
@@ -26,7 +26,8 @@ use std::io::Read;
 #[tactic(auto, unfolding(press_kit::specs::PlayFile::play_file_in, press_kit::specs::KitFile::file_in))]
 fn file<R: Read>(alloc: Global, reader: &mut R, notes: &mut Notes) -> Result<PlayFile, PlayFault>
     ensures took { TakesAtMost (R.remaining reader.old) (R.remaining reader.new) (file_limit + 1) }
-    ensures gives { IfSome (R.remaining reader.old) (λ input. Gives Refuses Ok result (file_where (play_file_in input))) }
+    ensures gives { IfSome (R.remaining reader.old)
+        (λ input. Gives Refuses Ok result (file_where (play_file_in input))) }
 {
     let bytes = match read_limited(alloc, reader, FILE_LIMIT) {
         Ok(bytes) => bytes,
@@ -47,37 +48,41 @@ fn file<R: Read>(alloc: Global, reader: &mut R, notes: &mut Notes) -> Result<Pla
     }
 }
 
-// The lines of the pages of a site, and those of the plays on it.
-fn shown_lines(
-    alloc: Global,
-    kit: &Kit,
-    site: Site,
-    pages: Items<Target>,
-    plays: &[Play],
-) -> Result<String, AllocError>
-    ensures { IfOk result (λ t. string_bytes t ≡ shown_lines (kit_view kit.now) site pages plays.now) }
-{
-    let mut lines = pages_on(alloc, kit, &site, pages)?;
-    let played = lines_of(alloc, kit, site, plays)?;
-    lines.push_str(played.as_str())?;
-    Ok(lines)
-}
-
-// The lines of the commands, and what is shown of the site after them.
-fn all_lines(
-    alloc: Global,
-    kit: &Kit,
-    mut site: Site,
+// What a play file asks for, once its kit is built.
+struct Asked {
     commands: Items<Stamped>,
     pages: Items<Target>,
-    plays: &[Play],
-) -> Result<String, AllocError>
-    ensures { IfOk result (λ t. string_bytes t ≡ all_lines (kit_view kit.now) site commands pages plays.now) }
-{
-    let mut lines = commands_on(alloc, kit, &mut site, commands)?;
-    let shown = shown_lines(alloc, kit, site, pages, plays)?;
-    lines.push_str(shown.as_str())?;
-    Ok(lines)
+    plays: Items<Play>,
+}
+
+impl Drop for Asked {
+    fn drop(self) {
+        let Asked {
+            commands: _,
+            pages: _,
+            plays: _,
+        } = self;
+    }
+}
+
+impl Asked {
+    // The lines of the commands, and those of the pages and plays on the site after them.
+    fn lines(self, alloc: Global, kit: &Kit, mut site: Site) -> Result<String, AllocError>
+        ensures { IfOk result (λ t. string_bytes t
+            ≡ all_lines (kit_view kit.now) site self.commands self.pages self.plays) }
+    {
+        let Asked {
+            commands,
+            pages,
+            plays,
+        } = self;
+        let mut lines = commands_on(alloc, kit, &mut site, commands)?;
+        let mut shown = pages_on(alloc, kit, &site, pages)?;
+        let played = lines_of(alloc, kit, site, plays.as_slice())?;
+        shown.push_str(played.as_str())?;
+        lines.push_str(shown.as_str())?;
+        Ok(lines)
+    }
 }
 
 // The lines of a play file. The kit's closures are boxed here: a box may not be handed out.
@@ -106,7 +111,12 @@ fn lines(alloc: Global, file: PlayFile) -> Result<String, PlayFault>
     }
     let kit = Kit::build(alloc, callbacks, plugins.into_vec())?;
     let site = site_with(alloc, active)?;
-    let lines = all_lines(alloc, &kit, site, commands, pages, plays.as_slice())?;
+    let asked = Asked {
+        commands,
+        pages,
+        plays,
+    };
+    let lines = asked.lines(alloc, &kit, site)?;
     Ok(lines)
 }
 
@@ -118,7 +128,8 @@ pub fn read_lines<R: Read>(
     notes: &mut Notes,
 ) -> Result<String, PlayFault>
     ensures took { TakesAtMost (R.remaining reader.old) (R.remaining reader.new) (file_limit + 1) }
-    ensures gives { IfSome (R.remaining reader.old) (λ input. Gives Refuses (λ t. Ok (string_bytes t)) result (played_in input)) }
+    ensures gives { IfSome (R.remaining reader.old)
+        (λ input. Gives Refuses (λ t. Ok (string_bytes t)) result (played_in input)) }
 {
     let file = file(alloc, reader, notes)?;
     lines(alloc, file)

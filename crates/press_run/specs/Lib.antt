@@ -5,3 +5,4 @@ pub mod Links
 pub mod Outcome
 pub mod Run
 pub mod Scanning
+pub mod Standing

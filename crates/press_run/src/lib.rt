@@ -15,6 +15,7 @@ mod machine;
 mod out;
 mod run_fault;
 mod shortcodes;
+mod stage;
 mod step;
 mod texts;
 
@@ -25,3 +26,4 @@ pub use link::{Read, SiteLink};
 pub use machine::Machine;
 pub use out::Out;
 pub use run_fault::RunFault;
+pub use stage::Stage;

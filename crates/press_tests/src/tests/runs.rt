@@ -1,6 +1,6 @@
 use super::scripts::{appending, fails_once, plugin};
 use press_callbacks::{BoxedTurns, CallIn, Kit, Stored, script_turn};
-use press_run::{Job, Machine, Out, RunFault, boot};
+use press_run::{Job, Out, RunFault, Stage};
 use press_site::{Effect, Site};
 use press_text::{CallbackId, HookName, Name, Text, Texts};
 use std::alloc::Global;
@@ -31,10 +31,9 @@ fn filter_of(alloc: Global, text: &str) -> Result<Job, Fail> {
 }
 
 // What the filter gives from a fresh boot.
-fn filtered(alloc: Global, kit: &Kit, site: &mut Site, job: Job) -> Result<String, RunFault> {
-    let mut tables = boot(alloc, kit, site)?;
-    let mut machine = Machine::new(alloc);
-    machine.run(kit, &mut tables, site, job, &mut Out::new(alloc))
+fn filtered(alloc: Global, kit: &Kit, site: Site, job: Job) -> Result<String, RunFault> {
+    let mut stage = Stage::new(alloc, kit, site)?;
+    stage.run(kit, job)
 }
 
 #[test]
@@ -44,8 +43,8 @@ fn a_filter_runs(rt: HostRuntime) -> Result<(), Fail> {
     let own = appending(alloc, "q")?;
     let call: BoxedTurns = Box::new(alloc, move |i: &CallIn| script_turn(alloc, &own, i))?;
     let kit = kit_of(alloc, Stored::new(CallbackId::new("add_q")?, script, call))?;
-    let mut site = site_of(alloc)?;
-    let text = filtered(alloc, &kit, &mut site, filter_of(alloc, "x")?)?;
+    let site = site_of(alloc)?;
+    let text = filtered(alloc, &kit, site, filter_of(alloc, "x")?)?;
     assert_eq!(rt; text.as_str(), "xq");
     Ok(())
 }
@@ -59,8 +58,8 @@ fn a_closure_wants_memory(rt: HostRuntime) -> Result<(), Fail> {
     let calls = Cell::new(0u32);
     let call: BoxedTurns = Box::new(alloc, move |i: &CallIn| fails_once(alloc, &calls, &own, i))?;
     let kit = kit_of(alloc, Stored::new(CallbackId::new("add_q")?, script, call))?;
-    let mut site = site_of(alloc)?;
-    let text = filtered(alloc, &kit, &mut site, filter_of(alloc, "x")?);
+    let site = site_of(alloc)?;
+    let text = filtered(alloc, &kit, site, filter_of(alloc, "x")?);
     assert_eq!(rt; text.err(), Some(RunFault::NoMemory));
     Ok(())
 }

@@ -4,5 +4,6 @@ use Rattle.press_page.proofs.pages.body_of.Goals as goal
 
 pub returns : goal.returns
 returns g c =
-    let shown = rw (c.as_str.ensures.value, c.in_ok-name.ensures, c.in_ok-rendering.ensures) at c.in_ok-whole_page.ensures in
-    (state_in c.args.site.now c.whole_page.new.self, shown, sym (c.in_ok-body.ensures ∙ c.into_text.ensures))
+    let e = c.in_ok-rendering.ensures in
+    let shown = rw (c.as_str.ensures.value, c.in_ok-name.ensures, e.booted, e.site) at c.in_ok-whole_page.ensures in
+    (state_in c.whole_page.new.self, shown, sym (c.in_ok-body.ensures ∙ c.into_text.ensures))

@@ -8,5 +8,5 @@ use Rattle.press_apply.proofs.work.Work.take_all.Given as goal
 abbrev pub invariant-loop-event : goal.invariant-loop-event
 invariant-loop-event g l = record {
   meaning : takes_all (callbacks_on (kit_view l.kit)) (drop l.event-index l.events) (state_in l.self) ≡ takes_all (callbacks_on (kit_view l.kit)) l.events (state_in l.fn.self);
-  same : kept l.self.site ≡ kept l.fn.self.site;
+  same : kept l.self.stage.site ≡ kept l.fn.self.stage.site;
 }

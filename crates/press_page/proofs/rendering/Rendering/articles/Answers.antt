@@ -1,23 +1,20 @@
 use Rattle.std.proofs.Common.{◌∙◌, sym, length, ◌≤◌, arith}
 use Rattle.std.proofs.lemmas.Result.{err_from_is_err_and}
-use Rattle.press_callbacks.specs.Kits.{scripts_in}
-use Rattle.press_run.specs.Links.{read_only}
-use Rattle.press_run.specs.Run.{callbacks_of}
-use Rattle.press_page.specs.Rendering.{state_in}
+use Rattle.press_page.specs.Rendering.{meaning_in, state_in}
 use Rattle.press_page.proofs.Steps.{articles_stop, articles_more, articles_end}
 use Rattle.press_page.proofs.rendering.Rendering.articles.Goals as goal
 
 pub returns-in_err-article : goal.returns-in_err-article
 returns-in_err-article g c =
     let p = err_from_is_err_and c.from_residual.result c.from_residual.ensures.1 in
-    rw (p.1, p.2) (articles_stop c.in_err-article.field-0.0 (callbacks_of read_only (scripts_in c.args.kit.now)) c.args.site.now.posts c.args.ids.now c.loop-id.id-index 0 _ (state_in c.args.site.now c.loop-id.self) _ c.loop-id-test.true c.post.ensures c.loop-id.invariant.meaning c.in_err-article.ensures)
+    rw (p.1, p.2) (articles_stop c.in_err-article.field-0.0 (meaning_in c.args.kit.now) c.args.site.now.posts c.args.ids.now c.loop-id.id-index 0 _ (state_in c.loop-id.self) _ c.loop-id-test.true c.post.ensures c.loop-id.invariant.meaning c.in_err-article.ensures)
 
 pub loop-id-preserved : goal.loop-id-preserved
 loop-id-preserved g c = record {
-  meaning = sym (articles_more (callbacks_of read_only (scripts_in c.args.kit.now)) c.args.site.now.posts c.args.ids.now c.loop-id.id-index 0 _ (state_in c.args.site.now c.loop-id.self) (state_in c.args.site.now c.article.new.self) c.loop-id-test.true c.post.ensures c.in_ok-article.ensures) ∙ c.loop-id.invariant.meaning;
+  meaning = sym (articles_more (meaning_in c.args.kit.now) c.args.site.now.posts c.args.ids.now c.loop-id.id-index 0 _ (state_in c.loop-id.self) (state_in c.article.new.self) c.loop-id-test.true c.post.ensures c.in_ok-article.ensures) ∙ c.loop-id.invariant.meaning;
 }
 
 pub returns : goal.returns
 returns g c =
     let done : length c.args.ids.now ≤ c.loop-id.id-index = omega arith in
-    sym c.loop-id.invariant.meaning ∙ articles_end (callbacks_of read_only (scripts_in c.args.kit.now)) c.args.site.now.posts c.args.ids.now c.loop-id.id-index (state_in c.args.site.now c.loop-id.self) done
+    sym c.loop-id.invariant.meaning ∙ articles_end (meaning_in c.args.kit.now) c.args.site.now.posts c.args.ids.now c.loop-id.id-index (state_in c.loop-id.self) done

@@ -1,0 +1,125 @@
+//! Plays, each on the stage as the ones before it left it.
+
+ghost use Rattle.std.specs.Prelude.{◌≡◌, [], IfOk, string_bytes};
+ghost use Rattle.press_site.specs.Effects.{effect_on};
+ghost use Rattle.press_callbacks.specs.Kits.{scripts_in, plugins_in};
+ghost use Rattle.press_run.specs.Boot.{booted_with};
+ghost use Rattle.press_run.specs.Outcome.{job_meaning, started};
+ghost use Rattle.press_play.specs.Lines.{Plays, job_of, lines, state_in};
+
+use crate::line::{answer_line, limit_line};
+use press_callbacks::Kit;
+use press_kit::{Play, PlayKind};
+use press_posts::Fire;
+use press_run::{Job, RunFault, Stage};
+use press_site::Site;
+use press_text::Items;
+use std::alloc::{AllocError, Global};
+
+/// The stage as the plays so far left it, and their lines.
+#[derive(Debug)]
+struct Playing {
+    alloc: Global,
+    stage: Stage<Site>,
+    lines: String,
+}
+
+impl Drop for Playing {
+    fn drop(self) {
+        let Playing {
+            alloc: _,
+            stage: _,
+            lines: _,
+        } = self;
+    }
+}
+
+impl Playing {
+    // A fresh boot of the site, and no line.
+    fn new(alloc: Global, kit: &Kit, site: Site) -> Result<Playing, AllocError>
+        ensures started { IfOk result (λ p. state_in p.stage
+            ≡ started (booted_with (plugins_in kit.now) site.active) site) }
+        ensures lines { IfOk result (λ p. string_bytes p.lines ≡ []) }
+    {
+        let stage = Stage::new(alloc, kit, site)?;
+        let lines = String::new(alloc);
+        Ok(Playing {
+            alloc,
+            stage,
+            lines,
+        })
+    }
+
+    // Does a play once less than it says, each time from where it begins.
+    fn rehearse(&self, kit: &Kit, play: &Play) -> Result<(), AllocError> {
+        for _time in 1..play.times {
+            let mut again = self.stage.copy(self.alloc)?;
+            if let Err(RunFault::NoMemory) = again.run(kit, job(self.alloc, play)?) {
+                return Err(AllocError);
+            }
+        }
+        Ok(())
+    }
+
+    // One play, whose line is put at the end; whether the plays go on.
+    fn play(&mut self, kit: &Kit, play: &Play) -> Result<bool, AllocError>
+        ensures { Plays
+            (job_meaning effect_on (scripts_in kit.now) (job_of play.now) (state_in self.old.stage))
+            (state_in self.new.stage)
+            (string_bytes self.old.lines) (string_bytes self.new.lines) result }
+    {
+        match self.stage.run(kit, job(self.alloc, play)?) {
+            Ok(text) => {
+                let line = answer_line(self.alloc, text.as_str(), self.stage.out.as_str())?;
+                self.lines.push_str(line.as_str())?;
+                Ok(true)
+            }
+            Err(RunFault::Limit) => {
+                let line = limit_line(self.alloc)?;
+                self.lines.push_str(line.as_str())?;
+                Ok(false)
+            }
+            Err(RunFault::NoMemory) => Err(AllocError),
+        }
+    }
+
+    fn into_lines(self) -> String
+        ensures { result ≡ self.lines }
+    {
+        let Playing {
+            alloc: _,
+            stage: _,
+            lines,
+        } = self;
+        lines
+    }
+}
+
+fn job(alloc: Global, play: &Play) -> Result<Job, AllocError>
+    ensures { IfOk result (λ j. j ≡ job_of play.now) }
+{
+    let hook = play.hook.copy(alloc)?;
+    let args = play.args.copy()?;
+    match play.kind {
+        PlayKind::Apply => Ok(Job::Apply { hook, args }),
+        PlayKind::Do => {
+            let fires = vec![in alloc; Fire { hook, args }]?;
+            Ok(Job::Fires(Items::from_vec(fires)))
+        }
+    }
+}
+
+/// The lines of the plays on a fresh boot of the site.
+pub fn lines_of(alloc: Global, kit: &Kit, site: Site, plays: &[Play]) -> Result<String, AllocError>
+    ensures { IfOk result (λ t. string_bytes t ≡ lines (scripts_in kit.now) plays.now
+        (started (booted_with (plugins_in kit.now) site.active) site)) }
+{
+    let mut playing = Playing::new(alloc, kit, site)?;
+    for play in plays {
+        playing.rehearse(kit, play)?;
+        if !playing.play(kit, play)? {
+            return Ok(playing.into_lines());
+        }
+    }
+    Ok(playing.into_lines())
+}

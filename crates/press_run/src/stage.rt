@@ -1,0 +1,98 @@
+//! What runs go on with, and one run on it.
+
+ghost use Rattle.std.specs.Prelude.{◌≡◌, IfOk, Some};
+ghost use Rattle.press_callbacks.specs.Kits.{plugins_in, scripts_in};
+ghost use Rattle.press_run.specs.Boot.{booted_with};
+ghost use Rattle.press_run.specs.Links.{kept};
+ghost use Rattle.press_run.specs.Outcome.{GivesJob, around, job_meaning, started, state_of};
+ghost use Rattle.press_run.specs.Standing.{standing};
+
+use crate::boots::boot;
+use crate::job::Job;
+use crate::link::SiteLink;
+use crate::machine::Machine;
+use crate::out::Out;
+use crate::run_fault::RunFault;
+use press_callbacks::{Kit, Tables};
+use press_site::Site;
+use std::alloc::{AllocError, Global};
+
+/// What one boot has and counts: its tables, the counts of a machine, the site as runs have it, and what was written.
+#[derive(Debug)]
+pub struct Stage<L> {
+    pub tables: Tables,
+    pub machine: Machine,
+    pub site: L,
+    pub out: Out,
+}
+
+impl<L: Drop> Drop for Stage<L> {
+    fn drop(self) {
+        let Stage {
+            tables: _,
+            machine: _,
+            site: _,
+            out: _,
+        } = self;
+    }
+}
+
+impl<L: SiteLink + Drop> Stage<L> {
+    /// A fresh boot of the site: its tables, nothing counted and nothing written.
+    pub fn new(alloc: Global, kit: &Kit, site: L) -> Result<Stage<L>, AllocError>
+        ensures started { IfOk result (λ s. state_of (standing L.view L.fixed s)
+            ≡ started (booted_with (plugins_in kit.now) (L.view site).active) (L.view site)) }
+        ensures site { IfOk result (λ s. s.site ≡ site) }
+    {
+        let tables = boot(alloc, kit, site.site())?;
+        let (machine, out) = (Machine::new(alloc), Out::new(alloc));
+        Ok(Stage {
+            tables,
+            machine,
+            site,
+            out,
+        })
+    }
+
+    /// Runs a job: actions one after the other, which answer the empty text, or one filter, which answers what its last callback gave.
+    ///
+    /// Callbacks may edit the tables, change the site, and write to the output. What a change of the site fires is done within the run.
+    /// Limit stands where a 33rd callback would be open at once, a 10,001st turn would be played, or a text would pass 1,048,576 bytes.
+    /// After a fault the stage is in no stated state: drop it.
+    pub fn run(&mut self, kit: &Kit, job: Job) -> Result<String, RunFault>
+        ensures { GivesJob
+            (job_meaning L.changes (scripts_in kit.now) job (state_of (standing L.view L.fixed self.old)))
+            (around (standing L.view L.fixed self.old)) (standing L.view L.fixed self.new) result }
+    {
+        self.machine
+            .run(kit, &mut self.tables, &mut self.site, job, &mut self.out)
+    }
+
+    /// The site as the runs left it, and what was written.
+    pub fn into_parts(self) -> (L, Out)
+        ensures { result ≡ (self.site, self.out) }
+    {
+        let Stage {
+            tables: _,
+            machine: _,
+            site,
+            out,
+        } = self;
+        (site, out)
+    }
+}
+
+impl Stage<Site> {
+    /// A stage with the same rows, tags, counts, site and output, and no open run.
+    pub fn copy(&self, alloc: Global) -> Result<Stage<Site>, AllocError>
+        ensures { IfOk result (λ s. state_of (standing (λ x. x) (λ x. Some (kept x)) s)
+            ≡ state_of (standing (λ x. x) (λ x. Some (kept x)) self.now)) }
+    {
+        Ok(Stage {
+            tables: self.tables.copy()?,
+            machine: self.machine.copy()?,
+            site: self.site.copy()?,
+            out: self.out.copy(alloc)?,
+        })
+    }
+}
