@@ -6,6 +6,7 @@ mod answers;
 mod call;
 mod calls;
 mod gathered;
+mod joining;
 mod member;
 mod pace;
 mod peers;

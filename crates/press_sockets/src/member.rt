@@ -243,7 +243,7 @@ impl<'s, S: PromiseStore> Clustered<'s, S> {
         }
     }
 
-    // Each member that isn't busy is asked for the slots that are not applied, up to this one.
+    // Each member that isn't busy is asked for the slots that are not applied, up to the one behind this: a vote there is the gap that has this one proposed anew, where too few members voted.
     fn ask(&mut self, last: u64)
         requires always { Unit {0} }
     {
@@ -253,7 +253,7 @@ impl<'s, S: PromiseStore> Clustered<'s, S> {
                 continue;
             };
             if !self.peers.is_busy(place) {
-                for number in next..last.saturating_add(1) {
+                for number in next..last.saturating_add(2) {
                     self.ask_for(to, number);
                 }
             }

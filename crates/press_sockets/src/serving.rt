@@ -7,9 +7,7 @@ ghost use Rattle.press_sockets.specs.Listening.Where.{alone_at, member_of};
 
 use crate::alone::Alone;
 use crate::answers::Answers;
-use crate::member::{Clustered, Party};
-use crate::pace::Pace;
-use crate::peers::Peers;
+use crate::joining::{join, seat_of};
 use crate::screen::Screen;
 use crate::serve_fault::ServeFault;
 use crate::server::Server;
@@ -20,7 +18,7 @@ use press_callbacks::Kit;
 use press_node::{Node, StartFault};
 use press_store::SqlStore;
 use press_text::{Text, write_once};
-use press_wire::{Node as Member, Slot};
+use press_wire::Node as Member;
 use std::alloc::{AllocError, Global};
 use std::fs;
 use std::io::Write;
@@ -48,62 +46,8 @@ pub fn begin<S: PromiseStore + Drop>(
     }
 }
 
-// A member of a cluster begins over its store.
-fn begin_member<S: PromiseStore + Drop>(
-    alloc: Global,
-    peers: &Peers,
-    kit: Kit,
-    store: S,
-) -> Result<Node<S>, ServeFault> {
-    let member = peers.own();
-    let Ok(count) = u8::try_from(peers.count()) else {
-        return Err(ServeFault::BadPeers);
-    };
-    if count > 7 || member.number() > count {
-        return Err(ServeFault::BadPeers);
-    }
-    match Node::start(alloc, member, count, kit, store) {
-        Ok(node) => Ok(node),
-        Err(StartFault { fault, .. }) => Err(fault.into()),
-    }
-}
-
-// With so many slots without a vote behind one, no other has a vote.
-const GAP: u64 = 1_024;
-
-// Whether the store keeps a vote for a slot from this one on.
-fn has_vote_from<S: PromiseStore>(store: &mut S, from: u64) -> Result<bool, StoreFault> {
-    for number in from..from.saturating_add(GAP) {
-        let Some(slot) = Slot::new(u32::try_from(number).unwrap_or(0)) else {
-            return Ok(false);
-        };
-        if store.load(slot)?.vote.is_some() {
-            return Ok(true);
-        }
-    }
-    Ok(false)
-}
-
-// So many slots are chosen, by what the store keeps: who proposes for a slot has applied those before it, so these are all before the last one with a vote. It is found by halves.
-fn chosen_by<S: PromiseStore>(store: &mut S) -> Result<u64, StoreFault> {
-    let mut low: u64 = 0;
-    let mut high: u64 = 1 << 20;
-    for _ in 0..64 {
-        let middle = low.saturating_add(high.saturating_sub(low) / 2);
-        if middle <= low {
-            break;
-        }
-        if has_vote_from(store, middle)? {
-            low = middle;
-        } else {
-            high = middle;
-        }
-    }
-    Ok(low.saturating_sub(1))
-}
-
-// What its store keeps is chosen again, and applied: it is woken until nothing more is.
-fn catch_up<S: PromiseStore>(alloc: Global, node: &mut Node<S>)
+/// What its store keeps is chosen again, and applied: it is woken until nothing more is.
+pub fn catch_up<S: PromiseStore>(alloc: Global, node: &mut Node<S>)
     requires always { Unit {0} }
 {
     for _ in 0..u64::MAX {
@@ -137,11 +81,11 @@ fn listening_line(alloc: Global, place: &Place<'_>) -> Result<String, AllocError
     }
 }
 
-// What a server begins with.
+/// What a server begins with.
 #[derive(Clone, Copy)]
-struct Start<'a> {
-    rt: &'a HostRuntime,
-    setup: &'a Setup<'a>,
+pub struct Start<'a> {
+    pub rt: &'a HostRuntime,
+    pub setup: &'a Setup<'a>,
 }
 
 // Tells that it listens.
@@ -232,25 +176,9 @@ fn serve_member<W: Write, E: Write>(
         (listening_line (where_of start.entry.setup.now.place)) }
 {
     let Start { rt, setup } = start;
-    let (Place::Member { id, peers, tick }, Some(file)) = (setup.place, setup.store) else {
-        return Err(ServeFault::BadPeers);
-    };
-    let peers = Peers::read(rt.alloc(), rt, id, peers)?;
+    let seat = seat_of(start)?;
     let screen = screen_of(rt, setup)?;
-    let mut store = SqlStore::open(rt, file)?;
-    let chosen = chosen_by(&mut store)?;
-    let mut node = begin_member(rt.alloc(), &peers, kit, store)?;
-    if peers.count() == 1 {
-        catch_up(rt.alloc(), &mut node);
-    }
-    let mut pace = Pace::new(peers.place(), peers.count(), u64::from(tick));
-    pace.told(chosen);
-    let party = Party {
-        peers,
-        pace,
-        screen: &screen,
-    };
-    let mut clustered = Clustered::new(rt.alloc(), node, party);
+    let mut clustered = join(rt, seat, kit, &screen)?;
     serve_over(start, &mut clustered, writer, error)
 }
 

@@ -1,4 +1,5 @@
 mod Adopting
+mod Lasts
 mod Looked
 mod Made
 mod Maps

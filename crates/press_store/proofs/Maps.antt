@@ -37,7 +37,7 @@ inside (suc n) row q low high = elim (last_or q n high) [
   | inr less ↦ there (rows_to n row) (suc n) (row (suc n)) q (λ same. absurd (omega (arith, less, same))) ∙ inside n row q low less
 ]
 
-within : (n q : ℕ) → ((1 ≤ q) × (q ≤ n)) ⊎ (q ≤ n → q ≡ 0)
+pub within : (n q : ℕ) → ((1 ≤ q) × (q ≤ n)) ⊎ (q ≤ n → q ≡ 0)
 within n zero = inr (λ _. refl)
 within n (suc q) = elim (leb_tells (suc q) n) [ inl low ↦ inl (omega arith, low.1) | inr more ↦ inr (λ low. absurd (omega (arith, low, more.1))) ]
 
@@ -78,6 +78,10 @@ store_rounded c round = refl
 pub store_rows : (c : Contents) (slot : ℕ) → 1 ≤ slot → slot ≤ 1000000 → get (store_of c).rows slot ≡ c.row slot
 unfolding store_of
 store_rows c slot low high = inside 1000000 c.row slot low high
+
+pub store_outside : (c : Contents) (slot : ℕ) → (slot ≤ 1000000 → slot ≡ 0) → get (store_of c).rows slot ≡ None
+unfolding store_of
+store_outside c slot out = outside 1000000 c.row slot out
 
 none_to : (n : ℕ) (row : ℕ → Option SlotRow) → ((s : ℕ) → row s ≡ None) → rows_to n row ≡ empty
 none_to n row none = same_map nat_cmp_total nat_cmp-IsAntisymmetric _ _ (λ q. elim (within n q) [

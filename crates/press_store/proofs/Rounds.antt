@@ -66,7 +66,7 @@ put_among p new (r ∷ rows) on none = elim (cases_Bool (p r)) [
   | inr off ↦ let less : filter p rows ≡ [] = rw off at none in place p new r rows (value_cmp (rowid r) (rowid new)) on less (put_among p new rows on less) off
 ]
 
-filter_turned : {X : Type 0} (p q : X → Bool) (xs : List X) → filter p (filter q xs) ≡ filter q (filter p xs)
+pub filter_turned : {X : Type 0} (p q : X → Bool) (xs : List X) → filter p (filter q xs) ≡ filter q (filter p xs)
 filter_turned p q [] = refl
 filter_turned p q (x ∷ xs) = elim (cases_Bool (p x)) [
   | inl a ↦ elim (cases_Bool (q x)) [ inl b ↦ rw (b, a, b, filter_turned p q xs) | inr b ↦ rw (b, a, b, filter_turned p q xs) ]

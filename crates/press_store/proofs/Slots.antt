@@ -46,7 +46,7 @@ use Rattle.press_store.specs.Tables.{promise, meta_key, store_schema}
 use Rattle.press_store.proofs.Queries.{equals_int}
 use Rattle.press_store.proofs.Rounds.{put_among, same_int, went, same_value, cast_int, either}
 
-is_equal : (o : Ordering) → is_eq o ≡ true → o ≡ Equal
+pub is_equal : (o : Ordering) → is_eq o ≡ true → o ≡ Equal
 is_equal Equal h = refl
 is_equal Less h = absurd (let e = h in cc)
 is_equal Greater h = absurd (let e = h in cc)

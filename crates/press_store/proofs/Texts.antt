@@ -1,20 +1,21 @@
 -- What the texts of the store mean.
-use Rattle.std.proofs.Common.{◌≡◌, ℕ, pos, negsuc, List, [], ◌∷◌, codes, false, None, Ok, refl}
+use Rattle.std.proofs.Common.{◌≡◌, ℕ, pos, negsuc, List, [], ◌∷◌, codes, true, false, None, Ok, refl}
 use Rattle.sqlite.specs.Compile.{table_defined_by}
 use Rattle.sqlite.specs.Command.TheVariants.{Select, Update, InsertOr}
 use Rattle.sqlite.specs.Source.TheVariants.{Values}
 use Rattle.sqlite_schema.specs.declared.command.Conflict.TheVariants.{Replace}
+use Rattle.sqlite_sql.specs.declared.ops.UnaryOp.TheVariants.{Not}
 use Rattle.sqlite_sql.specs.declared.ops.BinaryOp.TheVariants as by
 use Rattle.sqlite_sql.specs.declared.ops.CompareOp.TheVariants.{Eq}
 use Rattle.sqlite.specs.Collation.TheVariants.{Binary}
 use Rattle.sqlite.specs.declared.types.Value.TheVariants.{Null, Int, Text}
-use Rattle.sqlite.specs.Term.{Term, lit, col, op2}
+use Rattle.sqlite.specs.Term.{Term, lit, col, op1, op2}
 use Rattle.sqlite.specs.Query.{Query, inner, end}
 use Rattle.sqlite_tied.specs.Compute.{everything}
 use Rattle.sqlite.specs.Listing.{understood, reads_listing}
 use Rattle.sqlite.proofs.Callers.{IsPlain, command_of}
 use Rattle.sqlite.specs.Change.{created}
-use Rattle.press_store.specs.Tables.{make_promise, make_meta, load_text, save_text, round_text, save_round_text, promise, meta, store_schema, no_schema}
+use Rattle.press_store.specs.Tables.{make_promise, make_meta, load_text, save_text, round_text, save_round_text, last_vote_text, promise, meta, store_schema, no_schema}
 
 pub t1 : table_defined_by make_promise ≡ Ok promise
 unfolding understood everything
@@ -109,3 +110,27 @@ c6 = refl
 pub p6 : IsPlain (understood store_schema version_query_text) × (reads_listing store_schema version_query_text ≡ false)
 unfolding understood everything
 p6 = ((refl, refl), refl)
+
+abbrev pub has_vote : Term
+has_vote = op1 Not (op2 (by.Is Binary) (col 1 4) (lit Null))
+
+abbrev pub last_vote_query : Query
+last_vote_query = record {
+  from = inner 0 end;
+  filter = has_vote ∷ [];
+  group = None;
+  project = col 1 0 ∷ [];
+  distinct = false;
+  collations = [];
+  order = (col 1 0, record { collation = Binary; descending = true }) ∷ [];
+  limit = lit (Int (pos 1));
+  offset = lit (Int (pos 0));
+}
+
+pub c7 : command_of (understood store_schema last_vote_text) ≡ Select (record { lets = []; body = last_vote_query }) (codes "slot" ∷ [])
+unfolding understood everything
+c7 = refl
+
+pub p7 : IsPlain (understood store_schema last_vote_text) × (reads_listing store_schema last_vote_text ≡ false)
+unfolding understood everything
+p7 = ((refl, refl), refl)

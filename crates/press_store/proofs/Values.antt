@@ -65,7 +65,7 @@ decoded_same (r ∷ s ∷ xs) [] h = absurd (omega (arith, length_permutation _ 
 decoded_same (r ∷ s ∷ xs) (v ∷ []) h = absurd (omega (arith, length_permutation _ _ h))
 decoded_same (r ∷ s ∷ xs) (v ∷ w ∷ rows) h = tt
 
-at_slot : (db : Trees) (slot : ℕ) → 1 ≤ slot → slot ≤ 1000000 → row_at (store_in db) slot ≡ unwrap_or (row_in (filter (has_rowid (pos slot)) (db 0))) new_row
+pub at_slot : (db : Trees) (slot : ℕ) → 1 ≤ slot → slot ≤ 1000000 → row_at (store_in db) slot ≡ unwrap_or (row_in (filter (has_rowid (pos slot)) (db 0))) new_row
 unfolding store_in contents_of
 at_slot db slot low high =
     let some : slot ≡ 0 → ⊥ = omega (arith, low) in

@@ -8,3 +8,4 @@ pub mod Making
 pub mod Opened
 pub mod Shown
 pub mod Tables
+pub mod Voted

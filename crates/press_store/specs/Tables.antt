@@ -28,6 +28,9 @@ round_text = codes "SELECT n FROM meta WHERE name = 'last_round'"
 abbrev pub save_round_text : List ℕ
 save_round_text = codes "UPDATE meta SET n = ?1 WHERE name = 'last_round'"
 
+abbrev pub last_vote_text : List ℕ
+last_vote_text = codes "SELECT slot FROM promise WHERE vround IS NOT NULL ORDER BY slot DESC LIMIT 1"
+
 abbrev pub plainly : List ℕ → Kind → Column
 plainly name kind = record { name = name; kind = kind; is_strict = true; not_null = false; default = Null; collation = Binary }
 

@@ -3,6 +3,7 @@
 
 mod adopt;
 mod fault;
+mod last;
 mod make;
 mod meta;
 mod ours;

@@ -8,9 +8,13 @@ ghost use Rattle.sqlite.specs.WalFiles.{image_at};
 ghost use Rattle.press_store.specs.Adopted.{Adopts, IsServed, IsHandedBack};
 ghost use Rattle.press_store.specs.Opened.{Finds, IsUp};
 ghost use Rattle.press_store.specs.Attempt.{IsReady};
+ghost use Rattle.press_store.specs.Kept.{seen_of};
+ghost use Rattle.press_store.specs.Voted.{IsLastVote};
+ghost use Rattle.press_acceptor.specs.Seen.{Counts, Looks, fault_in};
 
 use crate::adopt::prepare;
 use crate::fault::fault_of;
+use crate::last::read_last;
 use crate::meta::{put_round, read_round};
 use crate::rows::{put_row, read_row, spell};
 use press_acceptor::{PromiseStore, Row, StoreFault};
@@ -78,6 +82,24 @@ impl<D: Alter> SqlStore<D> {
                 alloc,
             }),
             Err(fault) => Err((fault, conn)),
+        }
+    }
+
+    /// The last slot with a vote, by the store's order of slots and not by its search: one statement, however many slots stand. None where no slot has a vote.
+    pub fn last_vote(&mut self) -> Result<Option<Slot>, StoreFault>
+        ensures honest { (seen_of D.Store self.new).is_honest →
+            (seen_of D.Store self.old).is_honest }
+        ensures counts { Counts (seen_of D.Store self.old) (seen_of D.Store self.new)
+            (fault_in result) }
+        ensures last { (seen_of D.Store self.new).is_honest →
+            IfOk result (IsLastVote (seen_of D.Store self.old).kept) }
+        ensures looks { (seen_of D.Store self.new).is_honest →
+            Looks (seen_of D.Store self.old) (seen_of D.Store self.new) }
+    {
+        match read_last(self.alloc, &mut self.conn) {
+            Ok(Some(last)) => Ok(last),
+            Ok(None) => Err(StoreFault::Damaged),
+            Err(error) => Err(counted(&mut self.faults, error)),
         }
     }
 
