@@ -18,8 +18,8 @@ pub enum Errand {
     Message,
     /// A message too: a question for a vote.
     Question,
-    /// How far a member is; the number of the look.
-    Look(u64),
+    /// How far a member is.
+    Look,
 }
 
 /// A request that goes out.

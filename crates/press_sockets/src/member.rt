@@ -265,25 +265,23 @@ impl<'s, S: PromiseStore> Clustered<'s, S> {
     fn look(&mut self)
         requires always { Unit {0} }
     {
-        let round = self.pace.round();
         let own = self.peers.place();
         for place in 0..self.peers.count() {
             if place != own && !self.peers.is_busy(place) {
                 if let Some(bytes) = look_request(self.alloc) {
-                    self.put(place, bytes, Errand::Look(round));
+                    self.put(place, bytes, Errand::Look);
                 }
             }
         }
         if !self.pace.is_waiting() {
             self.wake();
         }
-        self.note_round();
+        self.note_told();
     }
 
     // Whether enough have told how far they are. A member by itself has nobody to wait for.
-    fn note_round(&mut self) {
-        let round = self.pace.round();
-        if self.peers.is_round_taken(round) {
+    fn note_told(&mut self) {
+        if self.peers.has_told() {
             self.pace.known();
         }
     }
@@ -355,10 +353,10 @@ impl<S: PromiseStore> Answers for Clustered<'_, S> {
             let now = self.time.millis;
             self.peers.heard(place, now);
         }
-        if let (Errand::Look(round), Some(chosen)) = (errand, told) {
-            self.peers.told(place, round);
+        if let (Errand::Look, Some(chosen)) = (errand, told) {
+            self.peers.told(place);
             self.pace.told(chosen);
-            self.note_round();
+            self.note_told();
         }
     }
 

@@ -42,9 +42,8 @@ pub struct Pace {
     applied: u64,
     // When it wakes, where a command may wait.
     wake_at: Option<u64>,
-    // When it looks again, and how often it did.
+    // When it looks again.
     look_at: u64,
-    round: u64,
     // So many slots are chosen, as far as it knows by its own store and by what others have told, and whether enough have told.
     newest: u64,
     is_known: bool,
@@ -65,7 +64,6 @@ impl Pace {
             applied: 0,
             wake_at: None,
             look_at: 0,
-            round: 0,
             newest: 0,
             is_known: false,
             asked_to: 0,
@@ -77,11 +75,6 @@ impl Pace {
     /// Whether it has once had what a majority had.
     pub fn is_settled(&self) -> bool {
         self.is_settled
-    }
-
-    /// The last look.
-    pub fn round(&self) -> u64 {
-        self.round
     }
 
     // How many nodes have their turn before this one, for the next slot.
@@ -181,7 +174,6 @@ impl Pace {
     }
 
     fn look(&mut self) {
-        self.round = self.round.saturating_add(1);
         let share = self.tick.saturating_mul(self.place) / 16;
         let wait = if self.is_known {
             self.tick.saturating_add(share)

@@ -17,8 +17,8 @@ struct Peer {
     addr: SocketAddr,
     // When it last took a request of this node.
     heard: Option<u64>,
-    // The last look in which it told how far it is.
-    round: u64,
+    // Whether it has told how far it is.
+    has_told: bool,
     // So many looks and questions are on their way to it.
     asked: u32,
 }
@@ -28,7 +28,7 @@ impl Drop for Peer {
         let Peer {
             addr: _,
             heard: _,
-            round: _,
+            has_told: _,
             asked: _,
         } = self;
     }
@@ -87,7 +87,7 @@ impl Peers {
             all.push(Peer {
                 addr,
                 heard: None,
-                round: 0,
+                has_told: false,
                 asked: 0,
             })?;
         }
@@ -129,10 +129,10 @@ impl Peers {
         }
     }
 
-    /// A member told how far it is, in this look.
-    pub fn told(&mut self, place: usize, round: u64) {
+    /// A member told how far it is.
+    pub fn told(&mut self, place: usize) {
         if let Some(peer) = self.all.get_mut(place) {
-            peer.round = peer.round.max(round);
+            peer.has_told = true;
         }
     }
 
@@ -163,12 +163,12 @@ impl Peers {
         self.all.len() < others.saturating_add(1).saturating_mul(2)
     }
 
-    /// Whether a majority, this node among it, has told how far it is in that look.
-    pub fn is_round_taken(&self, round: u64) -> bool {
+    /// Whether a majority, this node among it, has told how far it is, in whichever looks.
+    pub fn has_told(&self) -> bool {
         let own = self.place();
         let mut others: usize = 0;
         for (place, peer) in self.all.iter().enumerate() {
-            if place != own && peer.round >= round {
+            if place != own && peer.has_told {
                 others = others.saturating_add(1);
             }
         }
