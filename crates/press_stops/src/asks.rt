@@ -4,13 +4,17 @@ use crate::lines::{fault_line, row_line};
 use crate::rows::row_of;
 use crate::words::number_behind;
 use press_acceptor::{PromiseStore, Row, StoreFault};
+use press_store::SqlStore;
 use press_wire::{Round, Slot};
+use sqlite::Alter;
 use std::alloc::{AllocError, Global};
 use std::io::Write;
 
 #[derive(Clone, Copy)]
 enum Ask {
     LastRound,
+    /// The last slot with a vote.
+    LastVote,
     SaveRound(u64),
     /// The row of a slot.
     Load(u32),
@@ -22,6 +26,9 @@ impl Ask {
     fn from_word(word: &str) -> Option<Ask> {
         if word == "last" {
             return Some(Ask::LastRound);
+        }
+        if word == "vote" {
+            return Some(Ask::LastVote);
         }
         if let Some(number) = number_behind("round=", word) {
             return Some(Ask::SaveRound(u64::from(number)));
@@ -55,9 +62,27 @@ fn load<S: PromiseStore>(store: &mut S, slot: u32) -> Result<Row, StoreFault> {
     }
 }
 
+fn vote_line(alloc: Global, last: Option<Slot>) -> Result<String, AllocError> {
+    match last {
+        Some(slot) => {
+            let slot = slot.number();
+            format!(in alloc; "last vote in slot {slot}\n")
+        }
+        None => format!(in alloc; "no slot has a vote\n"),
+    }
+}
+
 // The line of what came of it.
-fn asked<S: PromiseStore>(alloc: Global, store: &mut S, ask: Ask) -> Result<String, AllocError> {
+fn asked<D: Alter>(
+    alloc: Global,
+    store: &mut SqlStore<D>,
+    ask: Ask,
+) -> Result<String, AllocError> {
     match ask {
+        Ask::LastVote => match store.last_vote() {
+            Ok(last) => vote_line(alloc, last),
+            Err(fault) => fault_line(alloc, fault),
+        },
         Ask::LastRound => match store.last_round() {
             Ok(round) => format!(in alloc; "last round {round}\n"),
             Err(fault) => fault_line(alloc, fault),
@@ -77,10 +102,10 @@ fn asked<S: PromiseStore>(alloc: Global, store: &mut S, ask: Ask) -> Result<Stri
     }
 }
 
-/// Asks by each word in turn: `last`, `round=N`, `load=SLOT`, `save=SLOT:ROUND`.
-pub fn ask_all<S: PromiseStore>(
+/// Asks by each word in turn: `last`, `vote`, `round=N`, `load=SLOT`, `save=SLOT:ROUND`.
+pub fn ask_all<D: Alter>(
     rt: &HostRuntime,
-    store: &mut S,
+    store: &mut SqlStore<D>,
     words: &[&str],
 ) -> anyhow::Result<()> {
     for word in words.iter() {
