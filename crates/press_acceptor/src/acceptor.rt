@@ -76,7 +76,8 @@ impl Acceptor {
     pub fn on_query<S: PromiseStore>(store: &mut S, slot: Slot) -> Result<Said, StoreFault>
         ensures said { Says (reads slot) (λ said. said) (λ kept. (query_turn kept slot).said)
             (moved S.seen store.old store.new) result }
-        ensures turned { Turned (query_plan slot) (moved S.seen store.old store.new) (fault_in result) }
+        ensures turned { Turned (query_plan slot) (moved S.seen store.old store.new)
+            (fault_in result) }
     {
         let row = store.load(slot)?;
         Ok(Said::of_vote(row.vote))

@@ -27,7 +27,8 @@ pub fn at_most_one_value_chosen()
 
 /// A legal trace can choose any value: that of one member, in four facts.
 pub fn some_value_chosen()
-    ensures { (v : Value) → (trace : List Fact) × Legal 1 (λ slot. slot) trace × Chosen 1 trace 1 v }
+    ensures { (v : Value) → (trace : List Fact) × Legal 1 (λ slot. slot) trace
+        × Chosen 1 trace 1 v }
 {}
 
 /// Where a member's store holds what the trace says of the member, each save of its acceptor is a legal fact, and the store holds it again

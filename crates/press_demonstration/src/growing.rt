@@ -38,7 +38,8 @@ fn push_add(
     priority: i64,
 ) -> Result<(), AllocError>
     requires { name_fault 32 callback.now ≡ None }
-    ensures { OnOk result (ops.new.items ≡ ops.old.items ++ Op.AddHook spec.the_title callback.now priority 1 ∷ []) }
+    ensures { OnOk result (ops.new.items ≡ ops.old.items
+        ++ Op.AddHook spec.the_title callback.now priority 1 ∷ []) }
 {
     ops.push(add_op(alloc, callback, priority)?)?;
     Ok(())

@@ -55,7 +55,8 @@ fn push_on_title(
     callback: &str,
 ) -> Result<(), AllocError>
     requires { name_fault 32 callback.now ≡ None }
-    ensures { OnOk result (load.new.items ≡ load.old.items ++ Load.Hook spec.the_title priority callback.now 1 ∷ []) }
+    ensures { OnOk result (load.new.items ≡ load.old.items
+        ++ Load.Hook spec.the_title priority callback.now 1 ∷ []) }
 {
     load.push(on_title(alloc, priority, callback)?)?;
     Ok(())

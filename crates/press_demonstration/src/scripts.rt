@@ -31,14 +31,16 @@ pub fn played(alloc: Global) -> Result<Vec<Scripted>, AllocError>
 }
 
 fn push_greet(alloc: Global, scripts: &mut Vec<Scripted>) -> Result<(), AllocError>
-    ensures { OnOk result (spec.told scripts.new.items ≡ spec.told scripts.old.items ++ (codes "greet", spec.greeting) ∷ []) }
+    ensures { OnOk result (spec.told scripts.new.items ≡ spec.told scripts.old.items
+        ++ (codes "greet", spec.greeting) ∷ []) }
 {
     let greet = greet(alloc)?;
     push_scripted(scripts, greet)
 }
 
 fn push_box(alloc: Global, scripts: &mut Vec<Scripted>) -> Result<(), AllocError>
-    ensures { OnOk result (spec.told scripts.new.items ≡ spec.told scripts.old.items ++ (codes "box", spec.boxing) ∷ []) }
+    ensures { OnOk result (spec.told scripts.new.items ≡ spec.told scripts.old.items
+        ++ (codes "box", spec.boxing) ∷ []) }
 {
     let of_content = box_of_content(alloc)?;
     push_scripted(scripts, of_content)
@@ -52,14 +54,16 @@ fn push_again(
 ) -> Result<(), AllocError>
     requires name { name_fault 32 name.now ≡ None }
     requires hook { name_fault 64 hook.now ≡ None }
-    ensures { OnOk result (spec.told scripts.new.items ≡ spec.told scripts.old.items ++ (name.now, spec.running hook.now) ∷ []) }
+    ensures { OnOk result (spec.told scripts.new.items ≡ spec.told scripts.old.items
+        ++ (name.now, spec.running hook.now) ∷ []) }
 {
     let again = again(alloc, name, hook)?;
     push_scripted(scripts, again)
 }
 
 fn push_note(alloc: Global, scripts: &mut Vec<Scripted>) -> Result<(), AllocError>
-    ensures { OnOk result (spec.told scripts.new.items ≡ spec.told scripts.old.items ++ (codes "note", spec.noting) ∷ []) }
+    ensures { OnOk result (spec.told scripts.new.items ≡ spec.told scripts.old.items
+        ++ (codes "note", spec.noting) ∷ []) }
 {
     let note = note(alloc)?;
     push_scripted(scripts, note)
@@ -72,7 +76,8 @@ fn push_letter(
     text: &str,
 ) -> Result<(), AllocError>
     requires { name_fault 32 name.now ≡ None }
-    ensures { OnOk result (spec.told scripts.new.items ≡ spec.told scripts.old.items ++ (name.now, spec.appending text.now) ∷ []) }
+    ensures { OnOk result (spec.told scripts.new.items ≡ spec.told scripts.old.items
+        ++ (name.now, spec.appending text.now) ∷ []) }
 {
     let letter = letter(alloc, name, text)?;
     push_scripted(scripts, letter)
@@ -80,7 +85,8 @@ fn push_letter(
 
 #[tactic(auto, using(crate::proofs::Pushes::one_more))]
 fn push_scripted(scripts: &mut Vec<Scripted>, scripted: Scripted) -> Result<(), AllocError>
-    ensures { OnOk result (spec.told scripts.new.items ≡ spec.told scripts.old.items ++ (scripted.id, scripted.script) ∷ []) }
+    ensures { OnOk result (spec.told scripts.new.items ≡ spec.told scripts.old.items
+        ++ (scripted.id, scripted.script) ∷ []) }
 {
     scripts.push(scripted)?;
     Ok(())

@@ -144,7 +144,8 @@ impl<'f> Form<'f> {
     #[tactic(auto, unfolding(crate::specs::Forms::token_at))]
     fn token(&self) -> Result<Token, HttpFault>
         ensures value { Gives Refuses Ok result (spec.token_at self.now.bytes.now) }
-        ensures memory { spec.LacksPlainly (codes "editor") self.now.bytes.now → result ≡ Err HttpFault.BadForm }
+        ensures memory { spec.LacksPlainly (codes "editor") self.now.bytes.now → result
+            ≡ Err HttpFault.BadForm }
     {
         Ok(Token {
             editor: self.name("editor")?,

@@ -71,7 +71,8 @@ fn text_of(digits: &[u8]) -> &str
 // The number that digits write, where it is below 2^64.
 fn number_of(digits: &str) -> Option<u64>
     requires { are_digits digits.now ≡ true }
-    ensures { MatchOption result (2 ^ 64 ≤ digits_value 10 digits.now) (λ n. n ≡ digits_value 10 digits.now) }
+    ensures { MatchOption result (2 ^ 64 ≤ digits_value 10 digits.now)
+        (λ n. n ≡ digits_value 10 digits.now) }
 {
     digits.parse::<u64>().ok()
 }
@@ -101,7 +102,8 @@ fn length_by(values: Values<'_>) -> Result<usize, HttpFault>
 
 fn has_coding(buf: &[u8], fields: &[HeaderSpan]) -> bool
     requires { All (IsHeaderWithin (length buf.now)) fields.now }
-    ensures { result ≡ not (is_empty (values_of (codes "Transfer-Encoding") (map (header_bytes buf.now) fields.now))) }
+    ensures { result ≡ not (is_empty (values_of (codes "Transfer-Encoding")
+        (map (header_bytes buf.now) fields.now))) }
 {
     match values_of(buf, fields, "Transfer-Encoding") {
         Values::Nothing => false,
@@ -111,7 +113,8 @@ fn has_coding(buf: &[u8], fields: &[HeaderSpan]) -> bool
 
 fn told_length(buf: &[u8], fields: &[HeaderSpan]) -> Result<usize, HttpFault>
     requires { All (IsHeaderWithin (length buf.now)) fields.now }
-    ensures { result ≡ length_by (values_of (codes "Content-Length") (map (header_bytes buf.now) fields.now)) }
+    ensures { result ≡ length_by (values_of (codes "Content-Length")
+        (map (header_bytes buf.now) fields.now)) }
 {
     length_by(values_of(buf, fields, "Content-Length"))
 }

@@ -46,7 +46,8 @@ pub struct Form<'f> {
 impl<'f> Form<'f> {
     /// The text of a field, where it is there.
     pub fn found(&self, name: &str) -> Result<Option<Text>, HttpFault>
-        ensures value { Gives Refuses Ok result (Ok (spec.first_named name.now self.now.bytes.now)) }
+        ensures value { Gives Refuses Ok result
+            (Ok (spec.first_named name.now self.now.bytes.now)) }
         ensures memory { spec.LacksPlainly name.now self.now.bytes.now → result ≡ Ok None }
     {
         let found = first_value(self.alloc, self.bytes, name)?;
@@ -56,7 +57,8 @@ impl<'f> Form<'f> {
     /// A text.
     pub fn text(&self, name: &str) -> Result<Text, HttpFault>
         ensures value { Gives Refuses Ok result (spec.text_at name.now self.now.bytes.now) }
-        ensures memory { spec.LacksPlainly name.now self.now.bytes.now → result ≡ Err HttpFault.BadForm }
+        ensures memory { spec.LacksPlainly name.now self.now.bytes.now → result
+            ≡ Err HttpFault.BadForm }
     {
         match self.found(name)? {
             Some(text) => Ok(text),
@@ -67,7 +69,8 @@ impl<'f> Form<'f> {
     /// The name of an editor or a plugin.
     pub fn name(&self, name: &str) -> Result<Name, HttpFault>
         ensures value { Gives Refuses Ok result (spec.name_at name.now self.now.bytes.now) }
-        ensures memory { spec.LacksPlainly name.now self.now.bytes.now → result ≡ Err HttpFault.BadForm }
+        ensures memory { spec.LacksPlainly name.now self.now.bytes.now → result
+            ≡ Err HttpFault.BadForm }
     {
         let text = self.text(name)?;
         match Name::new(self.alloc, text.as_str()) {

@@ -61,7 +61,8 @@ fn head_of(alloc: Global, reply: &Reply) -> Result<String, AllocError>
 
 fn write_bytes<W: Write>(writer: &mut W, bytes: &[u8]) -> Result<(), HttpFault>
     ensures ok { OnOk result (Appends (W.contents writer.old) (W.contents writer.new) bytes.now) }
-    ensures err { OnErr result (AppendsFront (W.contents writer.old) (W.contents writer.new) bytes.now) }
+    ensures err { OnErr result (AppendsFront (W.contents writer.old) (W.contents writer.new)
+        bytes.now) }
     ensures fault { IfErr result (λ e. e ≡ HttpFault.WriteFault) }
 {
     match write_once(writer, bytes) {
@@ -72,8 +73,10 @@ fn write_bytes<W: Write>(writer: &mut W, bytes: &[u8]) -> Result<(), HttpFault>
 
 // Two runs of bytes, one behind the other.
 fn write_both<W: Write>(writer: &mut W, first: &[u8], second: &[u8]) -> Result<(), HttpFault>
-    ensures ok { OnOk result (Appends (W.contents writer.old) (W.contents writer.new) (first.now ++ second.now)) }
-    ensures err { OnErr result (AppendsFront (W.contents writer.old) (W.contents writer.new) (first.now ++ second.now)) }
+    ensures ok { OnOk result (Appends (W.contents writer.old) (W.contents writer.new) (first.now
+        ++ second.now)) }
+    ensures err { OnErr result (AppendsFront (W.contents writer.old) (W.contents writer.new)
+        (first.now ++ second.now)) }
     ensures fault { IfErr result (λ e. e ≡ HttpFault.WriteFault) }
 {
     write_bytes(writer, first)?;
@@ -83,10 +86,13 @@ fn write_both<W: Write>(writer: &mut W, first: &[u8], second: &[u8]) -> Result<(
 
 /// Writes a reply, each byte once. Want of memory is told before anything is written; a write that failed, or took nothing, is not tried again.
 pub fn write_reply<W: Write>(alloc: Global, writer: &mut W, reply: &Reply) -> Result<(), HttpFault>
-    ensures ok { OnOk result (Appends (W.contents writer.old) (W.contents writer.new) (reply_bytes reply.now)) }
+    ensures ok { OnOk result (Appends (W.contents writer.old) (W.contents writer.new)
+        (reply_bytes reply.now)) }
     ensures err { IfErr result (λ e. (e ≡ HttpFault.WriteFault) ⊎ (e ≡ HttpFault.NoMemory)) }
-    ensures part { IsErrOf result HttpFault.WriteFault → AppendsFront (W.contents writer.old) (W.contents writer.new) (reply_bytes reply.now) }
-    ensures nothing { IsErrOf result HttpFault.NoMemory → Keeps (W.contents writer.old) (W.contents writer.new) }
+    ensures part { IsErrOf result HttpFault.WriteFault
+        → AppendsFront (W.contents writer.old) (W.contents writer.new) (reply_bytes reply.now) }
+    ensures nothing { IsErrOf result HttpFault.NoMemory
+        → Keeps (W.contents writer.old) (W.contents writer.new) }
 {
     let head = head_of(alloc, reply)?;
     write_both(writer, head.as_bytes(), reply.body.as_bytes())
@@ -134,8 +140,10 @@ fn fixed_reply(status: u16) -> &'static str
 /// Writes the reply of a status with its fixed body, each byte once, and takes no memory. A write that failed, or took nothing, is not tried again.
 pub fn write_fault<W: Write>(writer: &mut W, status: u16) -> Result<(), HttpFault>
     requires { IsTold status }
-    ensures ok { OnOk result (Appends (W.contents writer.old) (W.contents writer.new) (fault_bytes status)) }
-    ensures err { OnErr result (AppendsFront (W.contents writer.old) (W.contents writer.new) (fault_bytes status)) }
+    ensures ok { OnOk result (Appends (W.contents writer.old) (W.contents writer.new)
+        (fault_bytes status)) }
+    ensures err { OnErr result (AppendsFront (W.contents writer.old) (W.contents writer.new)
+        (fault_bytes status)) }
     ensures fault { IfErr result (λ e. e ≡ HttpFault.WriteFault) }
 {
     write_bytes(writer, fixed_reply(status).as_bytes())

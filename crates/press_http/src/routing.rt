@@ -156,7 +156,8 @@ fn allowed(method: &str, place: Place) -> Result<Place, HttpFault>
 /// doesn't read; NotAllowed for another method; BadForm and BadPeer for what a command or a message can't be read from.
 #[tactic(auto, unfolding(crate::specs::Routes::asked))]
 pub fn route(alloc: Global, request: &Request) -> Result<Asked, HttpFault>
-    ensures { Gives Refuses Ok result (spec.asked request.now.method request.now.target request.now.body) }
+    ensures { Gives Refuses Ok result (spec.asked request.now.method request.now.target
+        request.now.body) }
 {
     let target = request.target.as_str();
     let place = Place::at(alloc, path(target))?;

@@ -54,7 +54,9 @@ fn target_of(alloc: Global, bytes: &[u8]) -> Result<Text, AllocError>
 // How many bytes of body there are.
 fn count_of(seen: &[u8], headers: &[HeaderSpan], spans: &RequestSpans) -> Result<usize, HttpFault>
     requires { IsRequestWithin seen.now headers.now spans.now }
-    ensures { result ≡ body_length (span_bytes seen.now spans.now.method) (span_bytes seen.now spans.now.path) (map (header_bytes seen.now) (take spans.now.headers headers.now)) }
+    ensures { result ≡ body_length (span_bytes seen.now spans.now.method)
+        (span_bytes seen.now spans.now.path)
+        (map (header_bytes seen.now) (take spans.now.headers headers.now)) }
 {
     let method = spans.method.of(seen);
     let target = spans.path.of(seen);

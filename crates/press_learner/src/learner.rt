@@ -170,7 +170,8 @@ impl Learner {
         ensures ok { OnOk result (self.new ≡ with_vote self.old from slot vote) }
         ensures err { OnErr result (self.new ≡ self.old) }
         ensures members { self.new.members ≡ self.old.members }
-        ensures memory { OnErr result (IsTrue (is_in_window self.old.applied slot) × (vote_at self.old slot from ≡ None)) }
+        ensures memory { OnErr result (IsTrue (is_in_window self.old.applied slot)
+            × (vote_at self.old slot from ≡ None)) }
     {
         let (from, slot) = (from.number(), slot.number());
         if self.is_within(slot) && self.is_news(from, slot, vote.ballot) {

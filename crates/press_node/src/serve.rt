@@ -123,7 +123,8 @@ fn told<W: Write>(
     ensures outbox { IfOk result (λ s. s.outbox.items ≡ outbox.items) }
     ensures ok { IfOk result
         (λ s. Tells (W.contents writer.old) (W.contents writer.new) reply.now s.status) }
-    ensures err { OnErr result (TellsFront (W.contents writer.old) (W.contents writer.new) reply.now) }
+    ensures err { OnErr result (TellsFront (W.contents writer.old) (W.contents writer.new)
+        reply.now) }
     ensures fault { IfErr result (λ e. e ≡ HttpFault.WriteFault) }
 {
     match write_reply(alloc, writer, reply) {
@@ -183,7 +184,8 @@ fn played<S: PromiseStore, W: Write>(
 
 /// A request that asks for nothing. A read that failed and an end before the whole request close the connection without a reply.
 fn closed<W: Write>(alloc: Global, writer: &mut W, fault: HttpFault) -> Result<Served, HttpFault>
-    ensures { IsClosed fault (status_of fault) (W.contents writer.old) (W.contents writer.new) result }
+    ensures { IsClosed fault (status_of fault) (W.contents writer.old) (W.contents writer.new)
+        result }
 {
     match fault.status() {
         Some(status) => refused(alloc, writer, status),

@@ -143,7 +143,8 @@ impl State {
         ensures whole { IsWhole self.new }
         ensures plays { StatePlays S.seen store.old store.new self.old self.new event
             (λ out. out.items) result }
-        ensures folded { IsFolded (kit_view kit.now) self.old → IsFolded (kit_view kit.now) self.new }
+        ensures folded { IsFolded (kit_view kit.now) self.old
+            → IsFolded (kit_view kit.now) self.new }
     {
         let (alloc, id, members) = (self.alloc, self.id, self.members);
         let done = match &mut self.up {

@@ -231,7 +231,8 @@ impl Up {
         ensures fault { IfErr result
             (λ fault. stops fault ≡ false →
             refusal_up (running_of self.old) (Event.Submit command) ≡ Some fault) }
-        ensures passes { OnOk result (refusal_up (running_of self.old) (Event.Submit command) ≡ None) }
+        ensures passes { OnOk result (refusal_up (running_of self.old) (Event.Submit command)
+            ≡ None) }
         ensures memory { IfErr result (λ fault. stops fault ≡ true → fault ≡ NodeFault.NoMemory) }
         ensures err { OnErr result (self.new ≡ self.old) }
     {

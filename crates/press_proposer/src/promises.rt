@@ -78,7 +78,8 @@ impl Promises {
 
 /// Whether one more is a majority.
 pub fn lacks_one(promises: &[Promise], members: u8) -> bool
-    ensures { (promise : Promise) → result ≡ model.is_majority members (promises.now ++ promise ∷ []) }
+    ensures { (promise : Promise) → result
+        ≡ model.is_majority members (promises.now ++ promise ∷ []) }
 {
     usize::from(members) / 2 <= promises.len()
 }

@@ -146,7 +146,8 @@ impl Proposer {
     ) -> Result<Vec<Message>, AllocError>
         requires { from ≤ self.old.members }
         ensures kept { self.new ≡ in_phase self.old self.new.phase }
-        ensures after { OnOk result (self.new ≡ (promise_turn self.old from slot ballot vote).after) }
+        ensures after { OnOk result (self.new
+            ≡ (promise_turn self.old from slot ballot vote).after) }
         ensures out { IfOk result
             (λ out. out.items ≡ (promise_turn self.old from slot ballot vote).out) }
         ensures unchanged { OnErr result (self.new ≡ self.old) }

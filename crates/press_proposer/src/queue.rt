@@ -86,7 +86,8 @@ impl Queue {
 
 /// The first command that is the value.
 fn place_of(commands: &[Stamped], value: &Value) -> Option<usize>
-    ensures place { result ≡ position (λ command. is_same_value (Cmd command) value.now) commands.now }
+    ensures place { result ≡ position (λ command.
+        is_same_value (Cmd command) value.now) commands.now }
     ensures within { IfSome result (λ place. place < length commands.now) }
 {
     commands.iter().position(|command| is_value(command, value))

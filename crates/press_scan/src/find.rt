@@ -13,7 +13,10 @@ use crate::tag_table::TagTable;
 // The registered name that begins at a place, with nothing between.
 fn tag_at(text: &[u8], start: usize, tags: &TagTable) -> Option<Span>
     requires { start ≤ length text.now }
-    ensures { MatchOption result ((tag : Span) → tag.start ≡ start → IsTag text.now (names_of tags.now) tag → ⊥) (λ tag. (tag.start ≡ start) × IsTag text.now (names_of tags.now) tag × (tag.end ≤ length text.now)) }
+    ensures { MatchOption result ((tag : Span) → tag.start ≡ start
+        → IsTag text.now (names_of tags.now) tag → ⊥)
+        (λ tag. (tag.start ≡ start) × IsTag text.now (names_of tags.now) tag
+        × (tag.end ≤ length text.now)) }
 {
     let end = name_end(text, start);
     if start < end && tags.has(&text[start..end]) {
@@ -33,7 +36,9 @@ pub struct Head {
 /// What opens at a place.
 pub fn head_at(text: &[u8], place: usize, tags: &TagTable) -> Option<Head>
     requires { place < length text.now }
-    ensures { MatchOption result (NoHead text.now (names_of tags.now) place) (λ h. IsHead text.now (names_of tags.now) place h.lead h.tag × (h.tag.end ≤ length text.now)) }
+    ensures { MatchOption result (NoHead text.now (names_of tags.now) place)
+        (λ h. IsHead text.now (names_of tags.now) place h.lead h.tag
+        × (h.tag.end ≤ length text.now)) }
 {
     if text[place] != b'[' {
         return None;
@@ -63,7 +68,9 @@ fn is_closing(text: &[u8], name: &[u8], place: usize) -> bool
 
 /// The first `[/name]` at or after a place.
 pub fn find_closing(text: &[u8], name: &[u8], from: usize) -> Option<usize>
-    ensures { MatchOption result (NoneFrom (IsClosing text.now name.now) from) (λ p. IsFirst (IsClosing text.now name.now) from p × (p + 3 + length name.now ≤ length text.now)) }
+    ensures { MatchOption result (NoneFrom (IsClosing text.now name.now) from)
+        (λ p. IsFirst (IsClosing text.now name.now) from p
+        × (p + 3 + length name.now ≤ length text.now)) }
 {
     for place in from..text.len() {
         if is_closing(text, name, place) {

@@ -78,7 +78,8 @@ impl Gathering {
     #[tactic(auto, using(crate::proofs::MapAtts::own_inserted, crate::proofs::MapAtts::before_numbered, crate::proofs::MapAtts::number_inserted))]
     fn put_number(&mut self, value: Text) -> Result<(), AllocError>
         requires { self.old.next < 2 ^ 32 - 1 }
-        ensures atts { OnOk result (self.new.atts ≡ self.old.atts ++ record { key = Place self.old.next; value = value } ∷ []) }
+        ensures atts { OnOk result (self.new.atts ≡ self.old.atts
+            ++ record { key = Place self.old.next; value = value } ∷ []) }
         ensures next { OnOk result (self.new.next ≡ self.old.next + 1) }
     {
         let att = Att {
@@ -116,7 +117,8 @@ fn lower(alloc: Global, text: &str, span: Span) -> Result<Text, AllocError>
 fn take(alloc: Global, text: &str, found: &mut Gathering, token: Token) -> Result<(), AllocError>
     requires token { IsCutAt text.now token }
     requires room { found.old.next < 2 ^ 32 - 1 }
-    ensures { OnOk result (Gathers found.old.atts found.old.next found.new.atts found.new.next text.now token) }
+    ensures { OnOk result (Gathers found.old.atts found.old.next found.new.atts found.new.next
+        text.now token) }
 {
     match token.name {
         Some(name) => {

@@ -17,23 +17,28 @@ use crate::tag_table::TagTable;
 /// A text and a place have at most one reading.
 #[tactic(auto, using(crate::proofs::OneReading::one_reading))]
 pub fn one_reading()
-    ensures { (text : List ℕ) (tags : List (List ℕ)) (place : ℕ) (s t : Shortcode) → IsShortcode text tags place s → IsShortcode text tags place t → s ≡ t }
+    ensures { (text : List ℕ) (tags : List (List ℕ)) (place : ℕ) (s t : Shortcode)
+        → IsShortcode text tags place s → IsShortcode text tags place t → s ≡ t }
 {}
 
 /// A shortcode ends behind the place where it stands, and within its text.
 pub fn ends_within()
-    ensures { (text : List ℕ) (tags : List (List ℕ)) (place : ℕ) (s : Shortcode) → IsShortcode text tags place s → (place < s.end) × (s.end ≤ length text) }
+    ensures { (text : List ℕ) (tags : List (List ℕ)) (place : ℕ) (s : Shortcode)
+        → IsShortcode text tags place s → (place < s.end) × (s.end ≤ length text) }
 {}
 
 /// The first shortcode as it is computed is the first by the relation; none is computed exactly where no place has one.
 pub fn computes_first()
-    ensures some { (text : List ℕ) (tags : List (List ℕ)) (from : ℕ) (s : Shortcode) → (shortcode_from text tags from ≡ Some s) ↔ IsNext text tags from s }
-    ensures none { (text : List ℕ) (tags : List (List ℕ)) (from : ℕ) → (shortcode_from text tags from ≡ None) ↔ NoneFrom (HasShortcode text tags) from }
+    ensures some { (text : List ℕ) (tags : List (List ℕ)) (from : ℕ) (s : Shortcode)
+        → (shortcode_from text tags from ≡ Some s) ↔ IsNext text tags from s }
+    ensures none { (text : List ℕ) (tags : List (List ℕ)) (from : ℕ)
+        → (shortcode_from text tags from ≡ None) ↔ NoneFrom (HasShortcode text tags) from }
 {}
 
 /// The attributes of a text are those that are computed, and what is computed is its attributes.
 pub fn computes_attributes()
-    ensures { (text : List ℕ) (atts : List Att) → IsAttributes text atts ↔ (atts ≡ attributes_of text) }
+    ensures { (text : List ℕ) (atts : List Att) → IsAttributes text atts
+        ↔ (atts ≡ attributes_of text) }
 {}
 
 /// A shortcode, its name, its attribute text and its content are cut between characters, so each is a text.

@@ -48,7 +48,8 @@ pub fn shortcode_of(
 ) -> Result<Shortcode, AllocError>
     requires closes { IsFirst (At text.now 93) opening.head.tag.end opening.close }
     requires within { opening.close < length text.now }
-    requires name { (opening.head.tag.start < opening.head.tag.end) × (opening.head.tag.end ≤ length text.now) }
+    requires name { (opening.head.tag.start < opening.head.tag.end)
+        × (opening.head.tag.end ≤ length text.now) }
     requires missing { AreMissing text.now missing.old.items }
     ensures made { IfOk result (λ s. IsMade text.now opening s) }
     ensures missing { AreMissing text.now missing.new.items }

@@ -28,7 +28,8 @@ pub struct Opening {
 /// The first opening at or after a place.
 pub fn next_opening(text: &[u8], from: usize, tags: &TagTable) -> Option<Opening>
     ensures none { IfNone result (NoneFrom (HasShortcode text.now (names_of tags.now)) from) }
-    ensures some { IfSome result (λ o. IsOpening text.now (names_of tags.now) from o × (o.head.tag.end ≤ length text.now) × (o.close < length text.now)) }
+    ensures some { IfSome result (λ o. IsOpening text.now (names_of tags.now) from o
+        × (o.head.tag.end ≤ length text.now) × (o.close < length text.now)) }
 {
     for place in from..text.len() {
         if let Some(head) = head_at(text, place, tags) {
@@ -61,7 +62,8 @@ fn with_tail(
     content: Option<Span>,
     after: usize,
 ) -> Shortcode
-    ensures same { (result.start ≡ opening.start) × (result.lead ≡ opening.head.lead) × (result.tag ≡ opening.head.tag) × (result.content ≡ content) }
+    ensures same { (result.start ≡ opening.start) × (result.lead ≡ opening.head.lead)
+        × (result.tag ≡ opening.head.tag) × (result.content ≡ content) }
     ensures atts { (result.atts.start ≡ opening.head.tag.end) × (result.atts.end ≡ atts_end) }
     ensures tail { result.tail ≡ true → At text.now 93 after }
     ensures no_tail { result.tail ≡ false → At text.now 93 after → ⊥ }
@@ -98,7 +100,8 @@ pub fn alone(text: &[u8], opening: Opening) -> Shortcode
     requires closes { IsFirst (At text.now 93) opening.head.tag.end opening.close }
     requires within { opening.close < length text.now }
     requires no_slash { At text.now 47 (opening.close - 1) → ⊥ }
-    requires no_closing { NoneFrom (IsClosing text.now (cut text.now opening.head.tag)) (opening.close + 1) }
+    requires no_closing { NoneFrom (IsClosing text.now (cut text.now opening.head.tag))
+        (opening.close + 1) }
     ensures { IsMade text.now opening result }
 {
     with_tail(text, opening, opening.close, None, opening.close + 1)
@@ -108,9 +111,11 @@ pub fn alone(text: &[u8], opening: Opening) -> Shortcode
 pub fn enclosing(text: &[u8], opening: Opening, closing: usize) -> Shortcode
     requires closes { IsFirst (At text.now 93) opening.head.tag.end opening.close }
     requires within { closing + 3 + length (cut text.now opening.head.tag) ≤ length text.now }
-    requires name { (opening.head.tag.start ≤ opening.head.tag.end) × (opening.head.tag.end ≤ length text.now) }
+    requires name { (opening.head.tag.start ≤ opening.head.tag.end)
+        × (opening.head.tag.end ≤ length text.now) }
     requires no_slash { At text.now 47 (opening.close - 1) → ⊥ }
-    requires first { IsFirst (IsClosing text.now (cut text.now opening.head.tag)) (opening.close + 1) closing }
+    requires first { IsFirst (IsClosing text.now (cut text.now opening.head.tag)) (opening.close
+        + 1) closing }
     ensures { IsMade text.now opening result }
 {
     let tag = opening.head.tag;
@@ -124,7 +129,8 @@ pub fn enclosing(text: &[u8], opening: Opening, closing: usize) -> Shortcode
 
 // The first shortcode at or after a place.
 fn shortcode_in(text: &[u8], from: usize, tags: &TagTable) -> Option<Shortcode>
-    ensures { MatchOption result (NoneFrom (HasShortcode text.now (names_of tags.now)) from) (λ s. IsNext text.now (names_of tags.now) from s) }
+    ensures { MatchOption result (NoneFrom (HasShortcode text.now (names_of tags.now)) from)
+        (λ s. IsNext text.now (names_of tags.now) from s) }
 {
     let opening = match next_opening(text, from, tags) {
         Some(opening) => opening,
@@ -144,7 +150,8 @@ fn shortcode_in(text: &[u8], from: usize, tags: &TagTable) -> Option<Shortcode>
 pub fn next_shortcode(text: &str, from: usize, tags: &TagTable) -> Option<Shortcode>
     requires { IsCharBoundary text.now from }
     ensures computed { result ≡ shortcode_from text.now (names_of tags.now) from }
-    ensures first { MatchOption result (NoneFrom (HasShortcode text.now (names_of tags.now)) from) (λ s. IsNext text.now (names_of tags.now) from s) }
+    ensures first { MatchOption result (NoneFrom (HasShortcode text.now (names_of tags.now)) from)
+        (λ s. IsNext text.now (names_of tags.now) from s) }
 {
     shortcode_in(text.as_bytes(), from, tags)
 }

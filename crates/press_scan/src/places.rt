@@ -39,7 +39,8 @@ pub fn name_end(text: &[u8], from: usize) -> usize
 // The first such byte at or after a place.
 pub fn find_byte(text: &[u8], byte: u8, from: usize) -> Option<usize>
     requires { 0 < byte }
-    ensures { MatchOption result (NoneFrom (At text.now byte) from) (λ p. IsFirst (At text.now byte) from p) }
+    ensures { MatchOption result (NoneFrom (At text.now byte) from)
+        (λ p. IsFirst (At text.now byte) from p) }
 {
     for place in from..text.len() {
         if text[place] == byte {

@@ -64,7 +64,8 @@ fn push_part(out: &mut String, text: &str, from: usize, to: usize) -> Result<(),
     requires order { from ≤ to }
     requires from { IsCharBoundary text.now from }
     requires to { IsCharBoundary text.now to }
-    ensures ok { OnOk result (string_bytes out.new ≡ string_bytes out.old ++ slice_range text.now from to) }
+    ensures ok { OnOk result (string_bytes out.new ≡ string_bytes out.old
+        ++ slice_range text.now from to) }
     ensures err { OnErr result (string_bytes out.new ≡ string_bytes out.old) }
 {
     out.push_str(&text[from..to])
@@ -78,7 +79,8 @@ fn with_second(alloc: Global, answer: &str) -> Result<String, AllocError>
 
 // An answer with the brackets that its shortcode leaves standing.
 fn in_brackets(alloc: Global, shortcode: Shortcode, answer: &str) -> Result<String, AllocError>
-    ensures { IfOk result (λ t. string_bytes t ≡ before shortcode ++ (answer.now ++ behind shortcode)) }
+    ensures { IfOk result (λ t. string_bytes t ≡ before shortcode
+        ++ (answer.now ++ behind shortcode)) }
 {
     match (shortcode.lead, shortcode.tail) {
         (false, false) => String::from_str(alloc, answer),
@@ -117,8 +119,10 @@ impl Scan {
 
     // The next opening.
     fn opening(&self, tags: &TagTable) -> Option<Opening>
-        ensures none { IfNone result (NoneFrom (HasShortcode self.now.text (names_of tags.now)) self.now.at) }
-        ensures some { IfSome result (λ o. IsOpening self.now.text (names_of tags.now) self.now.at o × (o.head.tag.end ≤ length self.now.text) × (o.close < length self.now.text)) }
+        ensures none { IfNone result (NoneFrom (HasShortcode self.now.text (names_of tags.now))
+            self.now.at) }
+        ensures some { IfSome result (λ o. IsOpening self.now.text (names_of tags.now) self.now.at
+            o × (o.head.tag.end ≤ length self.now.text) × (o.close < length self.now.text)) }
     {
         next_opening(self.text.as_bytes(), self.at, tags)
     }
@@ -128,7 +132,11 @@ impl Scan {
         requires order { self.old.at ≤ to }
         requires to { IsCharBoundary self.old.text to }
         requires waiting { self.old.waiting ≡ None }
-        ensures ok { OnOk result (self.new ≡ record self.old { at = to; output = self.old.output ++ slice_range self.old.text self.old.at to }) }
+        ensures ok { OnOk result (self.new ≡ record self.old {
+          at = to;
+          output = self.old.output
+              ++ slice_range self.old.text self.old.at to;
+        }) }
         ensures err { OnErr result (self.new ≡ self.old) }
     {
         push_part(&mut self.output, self.text.as_str(), self.at, to)?;
@@ -143,7 +151,11 @@ impl Scan {
         requires to { IsCharBoundary self.old.text (escape.end - 1) }
         requires end { IsCharBoundary self.old.text escape.end }
         requires waiting { self.old.waiting ≡ None }
-        ensures ok { OnOk result (self.new ≡ record self.old { at = escape.end; output = self.old.output ++ slice_range self.old.text (escape.start + 1) (escape.end - 1) }) }
+        ensures ok { OnOk result (self.new ≡ record self.old {
+          at = escape.end;
+          output = self.old.output ++ slice_range self.old.text (escape.start + 1) (escape.end
+              - 1);
+        }) }
         ensures err { OnErr result (self.new ≡ self.old) }
     {
         push_part(
@@ -158,7 +170,12 @@ impl Scan {
 
     /// A scan at the start of a text, which takes no memory.
     pub fn new(alloc: Global, text: String) -> Scan
-        ensures { result ≡ record { text = string_bytes text; at = 0; output = []; waiting = None } }
+        ensures { result ≡ record {
+          text = string_bytes text;
+          at = 0;
+          output = [];
+          waiting = None;
+        } }
     {
         begins_well(text.as_str());
         Scan {
@@ -213,7 +230,8 @@ impl Scan {
     // The shortcode that an opening makes; the scan is as it was.
     fn shortcode_of(&mut self, tags: &TagTable, opening: Opening) -> Result<Shortcode, AllocError>
         requires opening { IsOpening self.old.text (names_of tags.now) self.old.at opening }
-        requires within { (opening.head.tag.end ≤ length self.old.text) × (opening.close < length self.old.text) }
+        requires within { (opening.head.tag.end ≤ length self.old.text)
+            × (opening.close < length self.old.text) }
         ensures same { self.new ≡ self.old }
         ensures next { IfOk result (λ s. IsNext self.old.text (names_of tags.now) self.old.at s) }
         ensures edges { IfOk result (λ s. HasEdges self.old.text s) }

@@ -95,7 +95,9 @@ fn bare_end(text: &[u8], from: usize) -> usize
 
 fn named(text: &[u8], place: usize) -> Option<NamePart>
     requires { place ≤ length text.now }
-    ensures { MatchOption result ((p : NamePart) → IsNamed text.now place p.name p.next → ⊥) (λ p. IsNamed text.now place p.name p.next × (place < p.next) × (p.next ≤ length text.now)) }
+    ensures { MatchOption result ((p : NamePart) → IsNamed text.now place p.name p.next → ⊥)
+        (λ p. IsNamed text.now place p.name p.next × (place < p.next)
+        × (p.next ≤ length text.now)) }
 {
     let end = name_end(text, place);
     if end == place {
@@ -115,7 +117,9 @@ fn named(text: &[u8], place: usize) -> Option<NamePart>
 fn quoted(text: &[u8], quote: u8, place: usize) -> Option<ValuePart>
     requires quote { 0 < quote }
     requires place { place ≤ length text.now }
-    ensures { MatchOption result ((p : ValuePart) → IsQuoted quote text.now place p.value p.end → ⊥) (λ p. IsQuoted quote text.now place p.value p.end × (place < p.end) × (p.end ≤ length text.now)) }
+    ensures { MatchOption result ((p : ValuePart) → IsQuoted quote text.now place p.value p.end
+        → ⊥) (λ p. IsQuoted quote text.now place p.value p.end × (place < p.end)
+        × (p.end ≤ length text.now)) }
 {
     if place == text.len() || text[place] != quote {
         return None;
@@ -140,7 +144,8 @@ fn quoted(text: &[u8], quote: u8, place: usize) -> Option<ValuePart>
 
 fn bare(text: &[u8], place: usize) -> Option<ValuePart>
     requires { place ≤ length text.now }
-    ensures { MatchOption result ((p : ValuePart) → IsBare text.now place p.value p.end → ⊥) (λ p. IsBare text.now place p.value p.end × (place < p.end) × (p.end ≤ length text.now)) }
+    ensures { MatchOption result ((p : ValuePart) → IsBare text.now place p.value p.end → ⊥)
+        (λ p. IsBare text.now place p.value p.end × (place < p.end) × (p.end ≤ length text.now)) }
 {
     let end = bare_end(text, place);
     if place < end && ends(text, end) {
@@ -167,7 +172,8 @@ fn with_value(name: Option<Span>, part: ValuePart) -> Token
 fn named_token(text: &[u8], place: usize) -> Option<Token>
     requires { place ≤ length text.now }
     ensures none { IfNone result (NoNamedToken text.now place) }
-    ensures some { IfSome result (λ t. IsNamedToken text.now place t × (place < t.end) × (t.end ≤ length text.now)) }
+    ensures some { IfSome result (λ t. IsNamedToken text.now place t × (place < t.end)
+        × (t.end ≤ length text.now)) }
 {
     let part = match named(text, place) {
         Some(part) => part,

@@ -94,7 +94,8 @@ impl Content {
         date: Moment,
         now: Moment,
     ) -> Result<Changed, SiteFault>
-        ensures { Becomes result (post_effect self.old (Insert title content status date) now) self.old self.new }
+        ensures { Becomes result (post_effect self.old (Insert title content status date) now)
+            self.old self.new }
     {
         if let Some(fault) = self
             .posts
@@ -119,7 +120,8 @@ impl Content {
         date: Moment,
         now: Moment,
     ) -> Result<Changed, SiteFault>
-        ensures { Becomes result (post_effect self.old (Edit id title content status date) now) self.old self.new }
+        ensures { Becomes result (post_effect self.old (Edit id title content status date) now)
+            self.old self.new }
     {
         let Some(post) = self.posts.get(id) else {
             return Err(SiteFault::NoSuchPost);
@@ -135,7 +137,8 @@ impl Content {
     }
 
     pub fn set_status(&mut self, id: u64, to: Move) -> Result<Changed, SiteFault>
-        ensures { (now : ℕ) → Becomes result (post_effect self.old (Moves id to) now) self.old self.new }
+        ensures { (now : ℕ) → Becomes result (post_effect self.old (Moves id to) now) self.old
+            self.new }
     {
         let wanted = to;
         let Some(events) = self.beside_move(id, wanted)? else {
@@ -145,7 +148,8 @@ impl Content {
     }
 
     pub fn delete(&mut self, id: u64) -> Result<Changed, SiteFault>
-        ensures { (now : ℕ) → Becomes result (post_effect self.old (Delete id) now) self.old self.new }
+        ensures { (now : ℕ) → Becomes result (post_effect self.old (Delete id) now) self.old
+            self.new }
     {
         let Some(post) = self.posts.get(id) else {
             return Err(SiteFault::NoSuchPost);
@@ -189,8 +193,10 @@ impl Content {
     }
 
     fn turn(&mut self, id: u64, to: Move, events: Events) -> Result<Changed, SiteFault>
-        requires { beside_move (post_at self.old.posts id) to id self.old.events ≡ Ok (Some events) }
-        ensures { (now : ℕ) → Becomes result (post_effect self.old (Moves id to) now) self.old self.new }
+        requires { beside_move (post_at self.old.posts id) to id self.old.events
+            ≡ Ok (Some events) }
+        ensures { (now : ℕ) → Becomes result (post_effect self.old (Moves id to) now) self.old
+            self.new }
     {
         let fires = self.posts.set_status(id, to)?;
         self.events = events;
@@ -200,7 +206,8 @@ impl Content {
 
     // The events beside a post that is moved; None where the move leaves the post as it is.
     fn beside_move(&self, id: u64, to: Move) -> Result<Option<Events>, SiteFault>
-        ensures { Gives Refuses Ok result (beside_move (post_at self.now.posts id) to id self.now.events) }
+        ensures { Gives Refuses Ok result (beside_move (post_at self.now.posts id) to id
+            self.now.events) }
     {
         let Some(post) = self.posts.get(id) else {
             return Err(SiteFault::NoSuchPost);

@@ -104,7 +104,8 @@ fn has_name(names: &[Name], name: &Name) -> bool
 fn place_of(names: &[Name], name: &Name) -> usize
     requires { in_order names.now ≡ true }
     ensures place { result ≡ place_in name.now names.now }
-    ensures parts { IsPartitionPoint (λ n. not (is_before name.now n) ≡ true) (λ n. not (is_before name.now n) ≡ false) names.now result }
+    ensures parts { IsPartitionPoint (λ n. not (is_before name.now n) ≡ true)
+        (λ n. not (is_before name.now n) ≡ false) names.now result }
     ensures within { result ≤ length names.now }
 {
     names.partition_point(|n| !is_before(name, n))

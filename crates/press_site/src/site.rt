@@ -160,7 +160,8 @@ impl Site {
     /// Keeps what became of a command, for good.
     pub fn keep(&mut self, token: Token, outcome: Outcome) -> Result<(), AllocError>
         requires { outcome_of token self.old.outcomes ≡ None }
-        ensures ok { OnOk result (self.new ≡ record self.old { outcomes = with_outcome token outcome self.old.outcomes }) }
+        ensures ok { OnOk result (self.new ≡ record self.old
+            { outcomes = with_outcome token outcome self.old.outcomes }) }
         ensures err { OnErr result (self.new ≡ self.old) }
     {
         self.outcomes.keep(token, outcome)
@@ -202,7 +203,8 @@ impl Site {
         status: Status,
         date: Moment,
     ) -> Result<Changed, SiteFault>
-        ensures { Becomes result (effect_on self.old (Effect.Insert title content status date)) self.old self.new }
+        ensures { Becomes result (effect_on self.old (Effect.Insert title content status date))
+            self.old self.new }
     {
         let now = self.moment;
         self.content.insert(title, content, status, date, now)
@@ -217,7 +219,8 @@ impl Site {
         status: Status,
         date: Moment,
     ) -> Result<Changed, SiteFault>
-        ensures { Becomes result (effect_on self.old (Effect.Edit id title content status date)) self.old self.new }
+        ensures { Becomes result (effect_on self.old (Effect.Edit id title content status date))
+            self.old self.new }
     {
         let now = self.moment;
         self.content.edit(id, title, content, status, date, now)
@@ -251,7 +254,8 @@ impl Site {
 
     #[tactic(auto, using(crate::proofs::Lifted::options_refused))]
     fn set_option(&mut self, name: &OptName, value: Text) -> Result<Changed, SiteFault>
-        ensures { Becomes result (effect_on self.old (Effect.SetOption name.now value)) self.old self.new }
+        ensures { Becomes result (effect_on self.old (Effect.SetOption name.now value)) self.old
+            self.new }
     {
         let fires = self.options.set(name, value)?;
         Ok(fired(self.alloc, fires))
@@ -267,7 +271,8 @@ impl Site {
 
     #[tactic(auto, using(crate::proofs::Lifted::plugins_refused))]
     fn deactivate(&mut self, plugin: &Name) -> Result<Changed, SiteFault>
-        ensures { Becomes result (effect_on self.old (Effect.Deactivate plugin.now)) self.old self.new }
+        ensures { Becomes result (effect_on self.old (Effect.Deactivate plugin.now)) self.old
+            self.new }
     {
         self.plugins.deactivate(plugin)?;
         Ok(no_post(self.alloc))

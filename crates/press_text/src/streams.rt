@@ -78,7 +78,8 @@ pub fn read_limited<R: Read>(
     ensures whole { IfOk result (λ v. IfSome (R.remaining reader.old) (λ input. v.items ≡ input)) }
     ensures end { OnOk result (IsAtEnd (R.remaining reader.new)) }
     ensures fits { IfOk result (λ v. length v.items ≤ limit) }
-    ensures over { IsErrOf result ReadLimitedFault.TooLong → IfSome (R.remaining reader.old) (λ input. limit < length input) }
+    ensures over { IsErrOf result ReadLimitedFault.TooLong → IfSome (R.remaining reader.old)
+        (λ input. limit < length input) }
 {
     let mut out = Vec::new(alloc);
     while out.len() <= limit {
@@ -95,7 +96,8 @@ pub fn read_limited<R: Read>(
 /// A write that takes none of them has failed, and after a failed write there is no other.
 pub fn write_once<W: Write>(writer: &mut W, bytes: &[u8]) -> Result<(), WriteFault>
     ensures ok { OnOk result (Appends (W.contents writer.old) (W.contents writer.new) bytes.now) }
-    ensures err { OnErr result (AppendsFront (W.contents writer.old) (W.contents writer.new) bytes.now) }
+    ensures err { OnErr result (AppendsFront (W.contents writer.old) (W.contents writer.new)
+        bytes.now) }
 {
     let mut done = 0;
     while done < bytes.len() {

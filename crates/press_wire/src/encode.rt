@@ -31,7 +31,8 @@ pub fn encode_cmd(alloc: Global, value: &Value) -> Result<Vec<u8>, WireFault>
     ensures short { IfOk result (λ _. is_too_long value.now ≡ false) }
     // What is written is read as the value.
     ensures reads { IfOk result (λ bytes. read_command bytes.items ≡ Ok value.now) }
-    ensures fault { IfErr result (λ fault. fault ≡ (if is_too_long value.now then WireFault.TooLong else WireFault.NoMemory)) }
+    ensures fault { IfErr result (λ fault. fault
+        ≡ (if is_too_long value.now then WireFault.TooLong else WireFault.NoMemory)) }
 {
     hold_value(value);
     let Some(len) = spelled_len(value) else {
@@ -47,7 +48,8 @@ pub fn encode_msg(alloc: Global, message: &Message) -> Result<Vec<u8>, WireFault
     ensures short { IfOk result (λ _. is_too_long_message message.now ≡ false) }
     // What is written is read as the message.
     ensures reads { IfOk result (λ bytes. read_message bytes.items ≡ Ok message.now) }
-    ensures fault { IfErr result (λ fault. fault ≡ (if is_too_long_message message.now then WireFault.TooLong else WireFault.NoMemory)) }
+    ensures fault { IfErr result (λ fault. fault
+        ≡ (if is_too_long_message message.now then WireFault.TooLong else WireFault.NoMemory)) }
 {
     hold_message(message);
     let Some(len) = len_inside(message) else {
@@ -77,7 +79,8 @@ fn written_message(alloc: Global, message: &Message, room: usize) -> Result<Vec<
 
 // How many bytes spell the value in the message, 0 without one; None where they are too many.
 fn len_inside(message: &Message) -> Option<usize>
-    ensures { MatchOption result (is_too_long_message message.now ≡ true) (λ len. (is_too_long_message message.now ≡ false) × (len ≤ longest)) }
+    ensures { MatchOption result (is_too_long_message message.now ≡ true)
+        (λ len. (is_too_long_message message.now ≡ false) × (len ≤ longest)) }
 {
     match message.body.value() {
         Some(value) => spelled_len(value),

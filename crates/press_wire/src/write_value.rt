@@ -27,7 +27,8 @@ impl Writer {
         date: Moment,
     ) -> Result<(), AllocError>
         requires { (length title.now ≤ longest) × (length content.now ≤ longest) }
-        ensures { OnOk result (self.new ≡ self.old ++ spell.post title.now content.now status date) }
+        ensures { OnOk result (self.new ≡ self.old
+            ++ spell.post title.now content.now status date) }
     {
         self.text(title)?;
         self.text(content)?;

@@ -188,7 +188,8 @@ pub fn read_schedule_file(
 ) -> Result<(usize, Items<Step>), KitFileFault>
     ensures gives { Gives Refuses Ok result (spec.schedule_in kits bytes.now) }
     ensures nodes { IfOk result (λ s. (1 ≤ s.0) × (s.0 ≤ kits)) }
-    ensures long { file_limit < length bytes.now → IsErrOf result (KitFileFault.BadKitFile place.File) }
+    ensures long { file_limit < length bytes.now
+        → IsErrOf result (KitFileFault.BadKitFile place.File) }
 {
     let value = file(alloc, bytes)?;
     schedule(alloc, &value, kits)

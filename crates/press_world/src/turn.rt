@@ -82,7 +82,8 @@ impl Cluster {
         cut: Option<Cut>,
     ) -> Result<usize, NodeFault>
         requires inside { index < length self.old.seats.items }
-        requires members { ∥ ((kit : KitView) × AreMembers kit (statics_of self.old.seats.items)) ∥₁ }
+        requires members { ∥ ((kit : KitView)
+            × AreMembers kit (statics_of self.old.seats.items)) ∥₁ }
         requires few { length self.old.seats.items ≤ 7 }
         requires about { (p : Place) → slice_get (places_of self.old.seats.items) index ≡ Some p →
             IsAbout p.up coming.event coming.slot }
@@ -137,7 +138,8 @@ impl Cluster {
     /// The node at this index starts anew over its store.
     pub(crate) fn restart(&mut self, index: usize)
         requires inside { index < length self.old.seats.items }
-        requires members { ∥ ((kit : KitView) × AreMembers kit (statics_of self.old.seats.items)) ∥₁ }
+        requires members { ∥ ((kit : KitView)
+            × AreMembers kit (statics_of self.old.seats.items)) ∥₁ }
         ensures statics { statics_of self.new.seats.items ≡ statics_of self.old.seats.items }
         ensures restarted { kept_in self.new ≡ stored_restarted (length self.old.seats.items)
             (kept_in self.old) index (slice_get (places_of self.old.seats.items) index) }
