@@ -1,3 +1,3 @@
-pub mod Newest
+pub mod Oldest
 pub mod Order
 pub mod Vectors

@@ -1,4 +1,6 @@
 pub mod Faults
+pub mod Kept
 pub mod PostChange
 pub mod Published
+pub mod Restored
 pub mod Transitions

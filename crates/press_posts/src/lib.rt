@@ -3,6 +3,7 @@
 
 mod fault;
 mod fire;
+mod in_order;
 mod laws;
 mod post;
 mod posts;
