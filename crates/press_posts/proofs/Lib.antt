@@ -1,3 +1,4 @@
+pub mod Keeping
 pub mod Oldest
 pub mod Order
 pub mod Vectors
