@@ -1,6 +1,6 @@
 //! The posts of a site, each at the place of its id.
 
-ghost use Rattle.std.specs.Prelude.{◌≡◌, ℕ, ◌+◌, [], ◌<◌, ◌≤◌, length, map, option_map, IfOk, IfSome, OnOk, OnErr, is_some, take, true, false, Some};
+ghost use Rattle.std.specs.Prelude.{◌≡◌, ℕ, [], ◌∷◌, ◌++◌, ◌+◌, ◌-◌, ◌≤◌, length, map, option_map, IfOk, OnOk, OnErr, is_some, take, false, Some, None};
 ghost use Rattle.press_posts.specs.PostChange.{Changes, post_change, post_at, put_at, with_status, is_full, insert_fault};
 ghost use Rattle.press_posts.specs.Transitions.{transition};
 ghost use Rattle.press_posts.specs.PostChange.Change.{Insert, Edit, Moves, Delete};
