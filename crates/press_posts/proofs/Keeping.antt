@@ -1,10 +1,11 @@
 -- What is kept beside the posts stays so where a place is emptied or filled, comes or goes.
-use Rattle.std.proofs.Common.{◌≡◌, refl, sym, ◌∙◌, ap, ℕ, zero, suc, ◌+◌, ◌-◌, ◌<◌, ◌≤◌, List, [], ◌∷◌, ◌++◌, length, get_or, set, Option, Some, None, arith, length-append, length-set}
+use Rattle.std.proofs.Common.{◌≡◌, refl, sym, ◌∙◌, ap, ℕ, zero, suc, ◌+◌, ◌-◌, ◌<◌, ◌≤◌, List, [], ◌∷◌, ◌++◌, length, get_or, set, Option, Some, None, arith, length-append, length-set, map, take, take_all, reverse}
+use Rattle.std.proofs.lemmas.List.{take-map, reverse-reverse, length-map, length-reverse}
 use Rattle.press_posts.specs.declared.post.Post.{Post}
 use Rattle.press_posts.specs.declared.posts.Dated.{Dated}
 use Rattle.press_posts.specs.Kept.{oldest_first, put_in, taken_out, IsAmong, IsKept}
 use Rattle.press_posts.specs.PostChange.{post_at, standing}
-use Rattle.press_posts.specs.Published.{dated_of, IsOldestFirst}
+use Rattle.press_posts.specs.Published.{dated_of, newest_first, published, IsOldestFirst}
 use Rattle.press_posts.specs.Restored.{IsGiven}
 use Rattle.press_posts.proofs.Order.{put_with, oldest_none, order}
 use Rattle.press_posts.proofs.Oldest.{out_with, among_with, in_with, emptied, filled, more, counted, counted_more, fewer_stand, few_stand, few_published}
@@ -95,3 +96,19 @@ module _ (posts : List (Option Post)) (count : ℕ) (ds : List Dated) (room : �
 
 pub none : (room : ℕ) → IsKept [] 0 [] room
 none room = record { counted = refl; ordered = sym oldest_none; roomy = omega arith }
+
+pub newest_of : (posts : List (Option Post)) (ds : List Dated) (most : ℕ) → ds ≡ oldest_first posts → map (λ (d : Dated). d.id) (take most (reverse ds)) ≡ take most (published posts)
+unfolding oldest_first
+newest_of posts ds most e =
+    ap (λ (es : List Dated). map (λ (d : Dated). d.id) (take most (reverse es))) e ∙ ap (λ (es : List Dated). map (λ (d : Dated). d.id) (take most es)) (reverse-reverse (newest_first posts))
+    ∙ sym (take-map (λ (d : Dated). d.id) most (newest_first posts))
+
+few_newest : (posts : List (Option Post)) → length (newest_first posts) ≤ standing posts
+unfolding oldest_first
+few_newest posts = omega (arith, length-reverse (newest_first posts), few_published posts)
+
+pub all_published : (posts : List (Option Post)) → take (length posts) (published posts) ≡ published posts
+all_published posts = take_all (length posts) (published posts) (few_of posts)
+  where
+    few_of : (posts : List (Option Post)) → length (published posts) ≤ length posts
+    few_of posts = omega (arith, length-map (newest_first posts) (λ (d : Dated). d.id), few_newest posts, few_stand posts)

@@ -1,11 +1,11 @@
 //! Published posts in their order, oldest first: where one stands is found by halves.
 
-ghost use Rattle.std.specs.Prelude.{◌≡◌, ◌<◌, ◌≤◌, length, vec_len, vec_capacity, OnOk};
+ghost use Rattle.std.specs.Prelude.{◌≡◌, ◌<◌, ◌≤◌, length, map, take, reverse, vec_len, vec_capacity, IfOk, OnOk};
 ghost use Rattle.press_posts.specs.Kept.{place_among, put_in, taken_out, IsAmong};
 ghost use Rattle.press_posts.specs.Published.{is_older, IsOldestFirst};
 
 use crate::posts::Dated;
-use std::alloc::AllocError;
+use std::alloc::{AllocError, Global};
 
 /// Room for so many published posts.
 pub fn make_room(order: &mut Vec<Dated>, most: usize) -> Result<(), AllocError>
@@ -44,6 +44,13 @@ pub fn take_out(order: &mut Vec<Dated>, dated: Option<Dated>)
     };
     let place = place_among(order, &dated);
     order.remove(place);
+}
+
+/// The ids of so many, newest first.
+pub fn newest(alloc: Global, order: &[Dated], most: usize) -> Result<Vec<u64>, AllocError>
+    ensures { IfOk result (λ ids. ids.items ≡ map (λ d. d.id) (take most (reverse order.now))) }
+{
+    order.iter().rev().take(most).map(|d| d.id).collect(alloc)
 }
 
 fn place_among(order: &[Dated], dated: &Dated) -> usize

@@ -9,7 +9,7 @@ ghost use Rattle.press_posts.specs.Restored.{restored, IsGiven, IsRestorable};
 
 use crate::fault::PostFault;
 use crate::fire::{Fire, inserts, transition, updates};
-use crate::in_order::{make_room, put_in, take_out};
+use crate::in_order::{make_room, newest, put_in, take_out};
 use crate::post::{Move, Post, is_too_long};
 use crate::status::Status;
 use press_text::{Copied, Items, Moment, Text};
@@ -199,8 +199,8 @@ impl Posts {
     pub fn newest(&self, most: usize) -> Result<Items<u64>, AllocError>
         ensures { IfOk result (λ ids. ids ≡ take most (published self.now)) }
     {
-        let newest = self.order.iter().rev().take(most);
-        Ok(Items::from_vec(newest.map(|d| d.id).collect(self.alloc)?))
+        let ids = newest(self.alloc, &self.order, most)?;
+        Ok(Items::from_vec(ids))
     }
 
     /// The same posts once more.
