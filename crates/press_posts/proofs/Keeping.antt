@@ -1,6 +1,6 @@
 -- What is kept beside the posts stays so where a place is emptied or filled, comes or goes.
 use Rattle.std.proofs.Common.{◌≡◌, refl, sym, ◌∙◌, ap, ℕ, zero, suc, ◌+◌, ◌-◌, ◌<◌, ◌≤◌, List, [], ◌∷◌, ◌++◌, length, get_or, set, Option, Some, None, arith, length-append, length-set, map, take, take_all, reverse}
-use Rattle.std.proofs.lemmas.List.{take-map, reverse-reverse, length-map, length-reverse}
+use Rattle.std.proofs.lemmas.List.{set_at, take-map, reverse-reverse, length-map, length-reverse}
 use Rattle.press_posts.specs.declared.post.Post.{Post}
 use Rattle.press_posts.specs.declared.posts.Dated.{Dated}
 use Rattle.press_posts.specs.Kept.{oldest_first, put_in, taken_out, IsAmong, IsKept}
@@ -93,6 +93,11 @@ module _ (posts : List (Option Post)) (count : ℕ) (ds : List Dated) (room : �
     ordered = k.ordered ∙ more posts;
     roomy = omega (arith, length-append posts (None ∷ []), k.roomy);
   }
+
+pub pushed : (posts longer : List (Option Post)) (n : ℕ) (p : Post) → longer ≡ posts ++ None ∷ [] → n ≡ length longer → set longer (n - 1) (Some p) ≡ posts ++ Some p ∷ []
+pushed posts longer n p at len =
+    let k : length posts ≡ n - 1 = omega (arith, ap length at, length-append posts (None ∷ [])) in
+    ap (λ (ps : List (Option Post)). set ps (n - 1) (Some p)) at ∙ set_at posts None [] (Some p) (n - 1) k
 
 pub none : (room : ℕ) → IsKept [] 0 [] room
 none room = record { counted = refl; ordered = sym oldest_none; roomy = omega arith }

@@ -1,6 +1,6 @@
 //! The posts of a site, each at the place of its id.
 
-ghost use Rattle.std.specs.Prelude.{◌≡◌, ℕ, [], ◌∷◌, ◌++◌, ◌+◌, ◌-◌, ◌≤◌, length, map, option_map, IfOk, OnOk, OnErr, is_some, take, false, Some, None};
+ghost use Rattle.std.specs.Prelude.{◌≡◌, ℕ, [], ◌∷◌, ◌++◌, ◌+◌, ◌-◌, ◌≤◌, length, map, option_map, IfOk, OnOk, OnErr, is_some, take, true, false, Some, None};
 ghost use Rattle.press_posts.specs.PostChange.{Changes, post_change, post_at, put_at, with_status, is_full, insert_fault};
 ghost use Rattle.press_posts.specs.Transitions.{transition};
 ghost use Rattle.press_posts.specs.PostChange.Change.{Insert, Edit, Moves, Delete};
@@ -89,15 +89,13 @@ impl Posts {
         let status = status.settled(date, now);
         let id = self.places.len() as u64 + 1;
         let fires = inserts(self.alloc, status, id)?;
-        self.add_place()?;
-        let post = Post {
+        self.push(Post {
             id,
             title,
             content,
             status,
             date,
-        };
-        self.fill(id, post);
+        })?;
         Ok((id, fires))
     }
 
@@ -129,8 +127,7 @@ impl Posts {
             status,
             date,
         };
-        drop(self.empty(id));
-        self.fill(id, post);
+        self.put(id, post);
         Ok(fires)
     }
 
@@ -181,10 +178,12 @@ impl Posts {
         requires { IsRestorable id post self.old }
         ensures { self.new ≡ restored id post self.old }
     {
-        drop(self.empty(id));
         match post {
-            Some(post) => self.fill(id, post),
-            None => self.give_back(),
+            Some(post) => self.put(id, post),
+            None => {
+                drop(self.empty(id));
+                self.give_back();
+            }
         }
     }
 
@@ -262,6 +261,27 @@ impl Posts {
         post.status = status;
         self.fill(id, post);
         Ok(Items::from_vec(fires))
+    }
+
+    // A post at a place more.
+    fn push(&mut self, post: Post) -> Result<(), AllocError>
+        requires { is_full self.old ≡ false }
+        ensures ok { OnOk result (self.new ≡ self.old ++ Some post ∷ []) }
+        ensures err { OnErr result (self.new ≡ self.old) }
+    {
+        self.add_place()?;
+        let id = self.places.len() as u64;
+        self.fill(id, post);
+        Ok(())
+    }
+
+    // A post at a place that was given out, in place of what stood there.
+    fn put(&mut self, id: u64, post: Post)
+        requires { IsGiven id self.old }
+        ensures { self.new ≡ put_at self.old id (Some post) }
+    {
+        drop(self.empty(id));
+        self.fill(id, post);
     }
 
     // A place more, which is empty.
