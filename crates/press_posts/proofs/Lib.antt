@@ -1,4 +1,5 @@
 pub mod Keeping
 pub mod Oldest
 pub mod Order
+pub mod Taking
 pub mod Vectors
