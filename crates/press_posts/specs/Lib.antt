@@ -1,4 +1,5 @@
 pub mod Faults
+pub mod Ids
 pub mod Kept
 pub mod PostChange
 pub mod Published
