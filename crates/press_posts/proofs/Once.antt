@@ -1,6 +1,6 @@
 -- Where posts have the ids of their places, no id is published twice.
-use Rattle.std.proofs.Common.{◌≡◌, refl, sym, ◌∙◌, ap, subst, ℕ, zero, suc, ◌+◌, ◌-◌, ◌<◌, ◌≤◌, List, [], ◌∷◌, ◌++◌, length, get_or, set, map, nat_eq, cond, Bool, true, false, Option, Some, None, arith}
-use Rattle.std.specs.Prelude.{IfSome, IfOk}
+use Rattle.std.proofs.Common.{◌≡◌, subst, ℕ, suc, ◌+◌, ◌≤◌, List, [], ◌∷◌, get_or, map, nat_eq, cond, Bool, true, false, Option, Some, None, arith}
+use Rattle.std.specs.Prelude.{IfSome}
 use Rattle.std.specs.List.{IsDistinct, AllByRecursion}
 use Rattle.std.proofs.lemmas.Bool.Decides.{nat_tests}
 use Rattle.std.proofs.lemmas.List.Sorted.{IsPermutation-map}
@@ -8,8 +8,8 @@ use Rattle.std.proofs.lemmas.Map.Keys.{IsDistinct-cons, IsDistinct-IsPermutation
 use Rattle.press_posts.specs.declared.post.Post.{Post}
 use Rattle.press_posts.specs.declared.posts.Dated.{Dated}
 use Rattle.press_posts.specs.Ids.{HaveIds}
-use Rattle.press_posts.specs.PostChange.{post_at, is_publish}
-use Rattle.press_posts.specs.Published.{dated_of, with_listed, listed, newest_first, published}
+use Rattle.press_posts.specs.PostChange.{is_publish}
+use Rattle.press_posts.specs.Published.{with_listed, listed, newest_first, published}
 use Rattle.press_posts.proofs.Order.{in_order}
 
 -- posts behind so many places

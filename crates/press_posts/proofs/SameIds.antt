@@ -1,9 +1,8 @@
 -- A change leaves posts with the ids of their places.
-use Rattle.std.proofs.Common.{◌≡◌, refl, sym, ◌∙◌, ap, subst, ℕ, zero, suc, ◌+◌, ◌-◌, ◌≤◌, List, [], ◌∷◌, ◌++◌, length, get_or, set, cond, Bool, true, false, Option, Some, None, Result, Ok, Err, arith}
+use Rattle.std.proofs.Common.{◌≡◌, refl, subst, ℕ, zero, suc, ◌+◌, ◌-◌, ◌≤◌, List, [], ◌∷◌, ◌++◌, length, get_or, set, cond, Bool, true, false, Option, Some, None, Result, Ok, Err, arith}
 use Rattle.std.specs.Prelude.{IfSome, IfOk}
 use Rattle.press_posts.specs.declared.fault.PostFault.{PostFault}
 use Rattle.press_posts.specs.declared.fault.PostFault.TheVariants.{NotTrashed}
-use Rattle.press_posts.specs.declared.post.Move.{Move}
 use Rattle.press_posts.specs.declared.post.Post.{Post}
 use Rattle.press_posts.specs.declared.status.Status.{Status}
 use Rattle.press_posts.specs.Ids.{HaveIds}

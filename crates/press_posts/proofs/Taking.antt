@@ -1,5 +1,5 @@
 -- Each change that is done is taken back.
-use Rattle.std.proofs.Common.{◌≡◌, refl, sym, ◌∙◌, ap, ℕ, zero, suc, ◌+◌, ◌-◌, ◌<◌, ◌≤◌, List, [], ◌∷◌, ◌++◌, length, get_or, set, cond, Bool, true, false, Option, Some, None, Result, Ok, Err, arith, length-append, length-set, set-set, take_at}
+use Rattle.std.proofs.Common.{◌≡◌, refl, sym, ◌∙◌, ap, ℕ, zero, suc, ◌+◌, ◌-◌, ◌<◌, List, [], ◌∷◌, ◌++◌, length, get_or, set, cond, Bool, true, false, Option, Some, None, Result, Ok, Err, arith, length-append, length-set, set-set, take_at}
 use Rattle.std.specs.Prelude.{IfOk}
 use Rattle.std.proofs.lemmas.List.{set-get_or}
 use Rattle.press_posts.specs.declared.fault.PostFault.{PostFault}

@@ -1,5 +1,5 @@
 -- What is kept beside the posts, so that a change looks at no others: how many stand, and the published ones in their order, the oldest first.
-use Rattle.std.specs.Prelude.{◌≡◌, ℕ, ◌<◌, ◌≤◌, List, ◌∷◌, length, insert, remove, reverse, Option, Some, None}
+use Rattle.std.specs.Prelude.{◌≡◌, ℕ, ◌<◌, ◌≤◌, List, length, insert, remove, reverse, Option, Some, None}
 use Rattle.std.specs.List.{prefix_len}
 use Rattle.press_posts.specs.declared.post.Post.{Post}
 use Rattle.press_posts.specs.declared.posts.Dated.{Dated}

@@ -1,4 +1,4 @@
-use Rattle.std.proofs.Common.{◌∙◌, ap, sym}
+use Rattle.std.proofs.Common.{sym}
 use Rattle.press_posts.proofs.Keeping.{in_order, some_stand, is_among, empties}
 use Rattle.press_posts.proofs.posts.Posts.empty.Goals as goal
 

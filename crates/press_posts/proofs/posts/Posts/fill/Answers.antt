@@ -1,6 +1,4 @@
-use Rattle.std.proofs.Common.{◌≡◌, ◌∙◌, ap, ◌≤◌, ◌+◌, length, None, arith}
-use Rattle.press_posts.specs.PostChange.{post_at}
-use Rattle.press_posts.specs.Restored.{IsGiven}
+use Rattle.std.proofs.Common.{arith}
 use Rattle.press_posts.proofs.Keeping.{in_order, few, has_room, fills}
 use Rattle.press_posts.proofs.posts.Posts.fill.Goals as goal
 
