@@ -1,3 +1,4 @@
 pub mod ByTime
+pub mod Halves
 pub mod Moments
 pub mod Vectors

@@ -26,6 +26,9 @@ place_of event events = position (λ e. is_same e event) events
 abbrev pub stands : Event → List Event → Bool
 stands event events = list_any (λ e. is_same e event) events
 
+abbrev pub is_earlier : ℕ → Event → Bool
+is_earlier moment e = nat_lt e.time moment
+
 abbrev pub is_later : ℕ → Event → Bool
 is_later moment e = nat_lt moment e.time
 
