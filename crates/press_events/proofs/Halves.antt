@@ -1,13 +1,13 @@
 -- Events by time are found by halves, and one of an identity among those of its time.
 use Rattle.std.proofs.Common.{◌≡◌, refl, sym, ◌∙◌, ap, ℕ, zero, suc, ◌+◌, ◌-◌, ◌<◌, ◌≤◌, List, [], ◌∷◌, length, get_or, take, drop, filter, Bool, true, false, not, cond, nat_lt, Option, Some, None, arith, inl, inr, get_or-take, get_or-drop, length-take, length-drop}
-use Rattle.std.specs.Prelude.{◌||◌, ◌&&◌, nat_eq, option_map, is_some, position, bytes_eq}
+use Rattle.std.specs.Prelude.{◌||◌, ◌&&◌, nat_eq, nat_le, option_map, is_some, position, bytes_eq}
 use Rattle.std.specs.List.{AllWithin, list_any, position_or_len, prefix_len}
 use Rattle.std.specs.List.Sorted.{IsPartitionedBy}
 use Rattle.std.proofs.lemmas.Bool.{cases_lt, ltb-true, ltb-false}
 use Rattle.std.proofs.lemmas.Bool.Decides.{nat_tests}
 use Rattle.std.proofs.lemmas.List.Sums.{prefix_len_is, prefix_len_passes, prefix_len_stops, prefix_len-le-length}
 use Rattle.press_events.specs.declared.event.Event.{Event}
-use Rattle.press_events.specs.DueEvents.{NoneBefore, IsByTime, is_same, is_earlier, is_later, is_due, is_of, place_in, place_of, stands, cancelled, cancels}
+use Rattle.press_events.specs.DueEvents.{NoneBefore, IsByTime, is_same, is_earlier, is_later, is_due, is_of, place_in, place_of, stands, cancelled, cancels, is_full_without}
 use Rattle.press_events.proofs.ByTime.{or_last}
 
 -- ---- a test that only early events pass
@@ -190,3 +190,12 @@ cancels_is hook arg es = (fewer (is_of hook arg) es).0
 
 pub fewer_left : (hook arg : List ℕ) (es : List Event) → length (cancelled hook arg es) ≤ length es
 fewer_left hook arg es = (fewer (is_of hook arg) es).1
+
+pub told : (hook arg : List ℕ) (es : List Event) (n m : ℕ) → n ≡ length (cancelled hook arg es) → m ≡ length es → nat_lt n m ≡ cancels hook arg es
+told hook arg es n m e f = rw (e, f) (cancels_is hook arg es)
+
+none_left : (limit n k : ℕ) → n < limit → k ≤ n → nat_le limit n ≡ nat_le limit k
+none_left limit n k h le = grind (arith, nat_tests)
+
+pub not_full : (hook arg : List ℕ) (es : List Event) (n : ℕ) → n ≡ length es → n < 4096 → nat_le 4096 n ≡ is_full_without hook arg es
+not_full hook arg es n e lt = none_left 4096 n (length (cancelled hook arg es)) lt (omega (arith, fewer_left hook arg es))
