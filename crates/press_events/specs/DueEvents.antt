@@ -117,6 +117,12 @@ taken_at (Some i) event now events = let e = slice_index_or events i event in ag
 abbrev pub take_event : Event → ℕ → List Event → List Event
 take_event event now events = taken_at (place_of event events) event now events
 
+-- ---- one event of each identity
+
+abbrev pub HasEachOnce : List Event → Type 0
+HasEachOnce [] = Unit {0}
+HasEachOnce (e ∷ es) = (stands e es ≡ false) × HasEachOnce es
+
 -- ---- what `add` answers: a fault leaves the events as they were; want of memory stands only where the event would be put in
 
 abbrev pub IsPutIn : Result (List Event × Bool) EventFault → Type 0
