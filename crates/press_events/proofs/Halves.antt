@@ -1,11 +1,11 @@
 -- Events by time are found by halves, and one of an identity among those of its time.
 use Rattle.std.proofs.Common.{◌≡◌, refl, sym, ◌∙◌, ap, ℕ, zero, suc, ◌+◌, ◌-◌, ◌<◌, ◌≤◌, List, [], ◌∷◌, length, get_or, take, drop, filter, Bool, true, false, not, cond, nat_lt, Option, Some, None, arith, inl, inr, get_or-take, get_or-drop, length-take, length-drop}
-use Rattle.std.specs.Prelude.{◌||◌, ◌&&◌, nat_eq, nat_le, option_map, is_some, position, bytes_eq}
+use Rattle.std.specs.Prelude.{◌||◌, ◌&&◌, nat_eq, nat_le, option_map, is_some, position}
 use Rattle.std.specs.List.{AllWithin, list_any, position_or_len, prefix_len}
 use Rattle.std.specs.List.Sorted.{IsPartitionedBy}
 use Rattle.std.proofs.lemmas.Bool.{cases_lt, ltb-true, ltb-false}
 use Rattle.std.proofs.lemmas.Bool.Decides.{nat_tests}
-use Rattle.std.proofs.lemmas.List.Sums.{prefix_len_is, prefix_len_passes, prefix_len_stops, prefix_len-le-length}
+use Rattle.std.proofs.lemmas.List.Sums.{prefix_len_is, prefix_len_passes, prefix_len_stops}
 use Rattle.press_events.specs.declared.event.Event.{Event}
 use Rattle.press_events.specs.DueEvents.{NoneBefore, IsByTime, is_same, is_earlier, is_later, is_due, is_of, place_in, place_of, stands, cancelled, cancels, is_full_without}
 use Rattle.press_events.proofs.ByTime.{or_last}
@@ -119,11 +119,11 @@ module _ (p : Event → Bool) (es : List Event) (a b : ℕ) (d : Event) (front :
       (λ k l. elim (cases_lt k a) [
         | inl early ↦ ap not (front k d (omega arith) early)
         | inr late ↦ elim (cases_lt k b) [
-            | inl within ↦
-                let on : a + (k - a) ≡ k = omega arith in
-                ap (λ (j : ℕ). other (get_or es j d)) (sym on) ∙ ap other (sym (between es a b (k - a) d (omega arith))) ∙ prefix_len_passes other inner (k - a) d (omega (arith, few))
-            | inr past ↦ ap not (back k d past l)
-          ]
+          | inl within ↦
+              let on : a + (k - a) ≡ k = omega arith in
+              ap (λ (j : ℕ). other (get_or es j d)) (sym on) ∙ ap other (sym (between es a b (k - a) d (omega arith))) ∙ prefix_len_passes other inner (k - a) d (omega (arith, few))
+          | inr past ↦ ap not (back k d past l)
+        ]
       ])
       (λ l. absurd (omega arith))
 

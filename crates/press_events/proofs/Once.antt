@@ -1,14 +1,13 @@
 -- Scheduling and taking events leave one of each identity, and not too many.
-use Rattle.std.proofs.Common.{◌≡◌, refl, sym, ◌∙◌, ap, ap₂, ℕ, zero, suc, ◌+◌, ◌≤◌, List, [], ◌∷◌, length, Bool, true, false, nat_lt, nat_eq, cond, Option, Some, None, Result, Ok, Err, arith}
+use Rattle.std.proofs.Common.{◌≡◌, refl, sym, ◌∙◌, ap₂, ℕ, zero, suc, ◌+◌, ◌≤◌, List, [], ◌∷◌, length, Bool, true, false, nat_lt, nat_eq, cond, Option, Some, None, Result, Ok, Err, arith}
 use Rattle.std.specs.Prelude.{◌||◌, ◌&&◌, insert, remove, nat_le, bytes_eq, slice_index_or, IfOk}
 use Rattle.std.specs.List.{list_any}
-use Rattle.std.proofs.lemmas.Bool.{ltb-false}
 use Rattle.std.proofs.lemmas.Bool.Decides.{nat_tests}
 use Rattle.std.proofs.lemmas.Slice.Eq.{bytes_eq-Decides}
 use Rattle.press_events.specs.declared.event.Event.{Event}
 use Rattle.press_events.specs.declared.fault.EventFault.{EventFault}
 use Rattle.press_events.specs.declared.fault.EventFault.TheVariants.{TooLong, TooManyEvents}
-use Rattle.press_events.specs.DueEvents.{is_same, is_of, stands, scheduled, place_in, place_of, add_event, again, put_again, taken_at, take_event, moment_next, HasEachOnce}
+use Rattle.press_events.specs.DueEvents.{is_same, stands, scheduled, place_in, place_of, add_event, again, taken_at, take_event, moment_next, HasEachOnce}
 
 bytes_flip : (a b : List ℕ) → bytes_eq a b ≡ bytes_eq b a
 bytes_flip a b = alike (bytes_eq a b) (bytes_eq b a) refl refl
