@@ -65,7 +65,7 @@ within : (e : Event) (es : List Event) → place e es ≤ length es
 within e [] = omega arith
 within e (x ∷ xs) = within_by (is_later e.time x) (place e xs) (length xs) (within e xs)
 
-or_last : (n m : ℕ) → n ≤ m → unwrap_or (cond (nat_lt n m) (Some n) None) m ≡ n
+pub or_last : (n m : ℕ) → n ≤ m → unwrap_or (cond (nat_lt n m) (Some n) None) m ≡ n
 or_last n m h = grind (arith, nat_tests)
 
 none_put_by : (b : Bool) (t : ℕ) (e x : Event) (xs : List Event) → t ≤ e.time → t ≤ x.time → NoneBefore t xs → NoneBefore t (put e xs) → NoneBefore t (cond b (e ∷ x ∷ xs) (x ∷ put e xs))

@@ -26,6 +26,9 @@ place_of event events = position (λ e. is_same e event) events
 abbrev pub stands : Event → List Event → Bool
 stands event events = list_any (λ e. is_same e event) events
 
+abbrev pub is_earlier : ℕ → Event → Bool
+is_earlier moment e = nat_lt e.time moment
+
 abbrev pub is_later : ℕ → Event → Bool
 is_later moment e = nat_lt moment e.time
 
@@ -113,6 +116,12 @@ taken_at (Some i) event now events = let e = slice_index_or events i event in ag
 
 abbrev pub take_event : Event → ℕ → List Event → List Event
 take_event event now events = taken_at (place_of event events) event now events
+
+-- ---- one event of each identity
+
+abbrev pub HasEachOnce : List Event → Type 0
+HasEachOnce [] = Unit {0}
+HasEachOnce (e ∷ es) = (stands e es ≡ false) × HasEachOnce es
 
 -- ---- what `add` answers: a fault leaves the events as they were; want of memory stands only where the event would be put in
 

@@ -1,5 +1,5 @@
 ghost use Rattle.std.specs.Prelude.{◌≡◌, ◌<◌, ◌≤◌, IfSome};
-ghost use Rattle.press_events.specs.DueEvents.{is_same, is_of, is_later, is_due, interval, moment_after, moment_next};
+ghost use Rattle.press_events.specs.DueEvents.{is_same, is_of, is_earlier, is_later, is_due, interval, moment_after, moment_next};
 
 use press_text::{Copied, Every, HookName, Moment, Text};
 use std::alloc::{AllocError, Global};
@@ -38,6 +38,13 @@ impl Event {
         ensures { result ≡ is_of hook.now arg.now self.now }
     {
         self.hook.as_str() == hook && self.arg.as_str() == arg
+    }
+
+    /// Whether its time is before that moment.
+    pub fn is_earlier(&self, moment: Moment) -> bool
+        ensures { result ≡ is_earlier moment self.now }
+    {
+        self.time.seconds() < moment.seconds()
     }
 
     /// Whether its time is after that moment.

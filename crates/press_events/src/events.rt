@@ -1,8 +1,8 @@
 //! The events that stand.
 
-ghost use Rattle.std.specs.Prelude.{◌≡◌, [], ◌<◌, ◌≤◌, length, position, unwrap_or, IfOk, IfSome, is_some, vec_len, vec_capacity};
-ghost use Rattle.std.specs.List.{list_any};
-ghost use Rattle.press_events.specs.DueEvents.{is_later, place_of, stands, place_in, IsByTime, Adds, add_event, cancelled, cancels, is_full_without, due, take_event, put_again};
+ghost use Rattle.std.specs.Prelude.{◌≡◌, [], ◌<◌, ◌≤◌, length, true, false, IfOk, IfSome, is_some, vec_len, vec_capacity};
+ghost use Rattle.std.specs.List.Sorted.{IsPartitionPoint};
+ghost use Rattle.press_events.specs.DueEvents.{is_earlier, is_later, place_of, stands, place_in, IsByTime, Adds, add_event, cancelled, cancels, is_full_without, due, take_event, put_again};
 
 use crate::event::Event;
 use crate::fault::EventFault;
@@ -76,16 +76,16 @@ impl Events {
         ensures answer { result ≡ cancels hook.now arg.now self.old }
         ensures after { self.new ≡ cancelled hook.now arg.now self.old }
     {
-        let stood = self.events.iter().any(|e| e.is_of(hook.as_str(), arg));
+        let all = self.events.len();
         cancel(&mut self.events, hook, arg);
-        stood
+        self.events.len() < all
     }
 
     /// Whether no event more may stand once every event of that hook and argument is out.
     pub fn is_full_without(&self, hook: &str, arg: &str) -> bool
         ensures { result ≡ is_full_without hook.now arg.now self.now }
     {
-        others(&self.events, hook, arg) >= MOST_EVENTS
+        self.events.len() >= MOST_EVENTS && others(&self.events, hook, arg) >= MOST_EVENTS
     }
 
     /// The events whose time has come.
@@ -138,35 +138,54 @@ fn others(events: &[Event], hook: &str, arg: &str) -> usize
 }
 
 fn stands(events: &[Event], event: &Event) -> bool
+    requires { IsByTime events.now }
     ensures { result ≡ stands event.now events.now }
 {
-    events.iter().any(|e| e.is_same(event))
+    place_of(events, event).is_some()
 }
 
+// Looked for among the events of its time alone.
 fn place_of(events: &[Event], event: &Event) -> Option<usize>
+    requires { IsByTime events.now }
+    ensures place { result ≡ place_of event.now events.now }
+    ensures within { IfSome result (λ i. i < length events.now) }
+{
+    let start = start_of(events, event.time);
+    let end = place_in(events, event.time);
+    let place = place_among(&events[start..end], event)?;
+    Some(start + place)
+}
+
+fn place_among(events: &[Event], event: &Event) -> Option<usize>
     ensures place { result ≡ place_of event.now events.now }
     ensures within { IfSome result (λ i. i < length events.now) }
 {
     events.iter().position(|e| e.is_same(event))
 }
 
-fn place_in(events: &[Event], time: Moment) -> usize
-    ensures place { result ≡ place_in time events.now }
+// Where the earlier events end, by halves.
+fn start_of(events: &[Event], time: Moment) -> usize
+    requires { IsByTime events.now }
+    ensures parts { IsPartitionPoint (λ e. is_earlier time e ≡ true) (λ e. is_earlier time e ≡ false) events.now result }
     ensures within { result ≤ length events.now }
 {
-    first_later(events, time).unwrap_or(events.len())
+    events.partition_point(|e| e.is_earlier(time))
 }
 
-fn first_later(events: &[Event], time: Moment) -> Option<usize>
-    ensures place { result ≡ position (is_later time) events.now }
-    ensures within { IfSome result (λ i. i < length events.now) }
+// Where the later events begin, by halves.
+fn place_in(events: &[Event], time: Moment) -> usize
+    requires { IsByTime events.now }
+    ensures place { result ≡ place_in time events.now }
+    ensures parts { IsPartitionPoint (λ e. is_later time e ≡ false) (λ e. is_later time e ≡ true) events.now result }
+    ensures within { result ≤ length events.now }
 {
-    events.iter().position(|e| e.is_later(time))
+    events.partition_point(|e| !e.is_later(time))
 }
 
 // Schedules an event in the room that it left, if none of its identity stands.
 fn put_again(events: &mut Vec<Event>, event: Event)
-    requires { vec_len events.old < vec_capacity events.old }
+    requires order { IsByTime events.old.items }
+    requires room { vec_len events.old < vec_capacity events.old }
     ensures { events.new.items ≡ put_again event events.old.items }
 {
     if stands(events, &event) {
@@ -178,14 +197,11 @@ fn put_again(events: &mut Vec<Event>, event: Event)
     };
 }
 
+// They are the first ones: found by halves.
 fn due(alloc: Global, events: &[Event], now: Moment) -> Result<Items<Event>, AllocError>
+    requires { IsByTime events.now }
     ensures { IfOk result (λ es. es ≡ due now events.now) }
 {
-    let mut found = Vec::new(alloc);
-    for event in events {
-        if event.is_due(now) {
-            found.push(event.copied(alloc)?)?;
-        }
-    }
-    Ok(Items::from_vec(found))
+    let end = events.partition_point(|e| e.is_due(now));
+    Ok(Items::from_vec(copied_all(alloc, &events[..end])?))
 }

@@ -11,4 +11,4 @@ mod laws;
 pub use event::Event;
 pub use events::Events;
 pub use fault::EventFault;
-pub use laws::comes_again_first;
+pub use laws::{comes_again_first, schedules_each_once, schedules_few, takes_each_once};

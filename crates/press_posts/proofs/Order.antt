@@ -1,12 +1,12 @@
 -- Published posts, put in one by one, stand in their order, each once.
 use Rattle.std.proofs.Common.{◌≡◌, refl, sym, ◌∙◌, ap, ℕ, suc, ◌+◌, ◌-◌, ◌≤◌, List, [], ◌∷◌, ◌++◌, length, take, drop, reverse, Bool, true, false, cond, Option, Some, None, arith, take-append-drop, append_assoc, length-drop}
 use Rattle.std.specs.Prelude.{insert, IsPermutation}
-use Rattle.std.specs.List.{prefix_len}
 use Rattle.std.proofs.lemmas.Bool.Decides.{nat_tests}
 use Rattle.std.proofs.lemmas.List.{reverse-append, length-reverse}
 use Rattle.std.proofs.lemmas.List.Sorted.{IsPermutation-refl, IsPermutation-cons, IsPermutation-trans, IsPermutation-insert}
 use Rattle.press_posts.specs.declared.post.Post.{Post}
 use Rattle.press_posts.specs.declared.posts.Dated.{Dated}
+use Rattle.press_posts.specs.Kept.{oldest_first, place_among}
 use Rattle.press_posts.specs.Published.{dated_of, is_older, place_in, with_dated, newest_first, with_listed, listed, NoneOlder, IsOldestFirst, IsInOrder}
 
 -- ---- each once
@@ -31,18 +31,15 @@ none_further : (d e : Dated) (es : List Dated) → is_older e d ≡ false → No
 none_further d e [] h k = tt
 none_further d e (x ∷ xs) h k = (passes_on x e d k.0 h, none_further d e xs h k.1)
 
-abbrev put : Dated → List Dated → List Dated
+abbrev pub put : Dated → List Dated → List Dated
 put d [] = d ∷ []
 put d (e ∷ es) = cond (is_older e d) (e ∷ put d es) (d ∷ e ∷ es)
 
-abbrev older : Dated → List Dated → ℕ
-older d es = prefix_len (λ e. is_older e d) es
-
-puts_by : (b : Bool) (d e : Dated) (es : List Dated) → insert es (older d es) d ≡ put d es → insert (e ∷ es) (cond b (1 + older d es) 0) d ≡ cond b (e ∷ put d es) (d ∷ e ∷ es)
-puts_by true d e es h = let one : 1 + older d es ≡ suc (older d es) = omega arith in rw one (ap (λ (ys : List Dated). e ∷ ys) h)
+puts_by : (b : Bool) (d e : Dated) (es : List Dated) → insert es (place_among d es) d ≡ put d es → insert (e ∷ es) (cond b (1 + place_among d es) 0) d ≡ cond b (e ∷ put d es) (d ∷ e ∷ es)
+puts_by true d e es h = let one : 1 + place_among d es ≡ suc (place_among d es) = omega arith in rw one (ap (λ (ys : List Dated). e ∷ ys) h)
 puts_by false d e es h = refl
 
-puts : (d : Dated) (es : List Dated) → insert es (older d es) d ≡ put d es
+pub puts : (d : Dated) (es : List Dated) → insert es (place_among d es) d ≡ put d es
 puts d [] = refl
 puts d (e ∷ es) = puts_by (is_older e d) d e es (puts d es)
 
@@ -66,9 +63,9 @@ few_by : (b : Bool) (n m : ℕ) → n ≤ m → cond b (1 + n) 0 ≤ suc m
 few_by true n m h = omega arith
 few_by false n m h = omega arith
 
-older_few : (d : Dated) (es : List Dated) → older d es ≤ length es
+older_few : (d : Dated) (es : List Dated) → place_among d es ≤ length es
 older_few d [] = omega arith
-older_few d (e ∷ es) = few_by (is_older e d) (older d es) (length es) (older_few d es)
+older_few d (e ∷ es) = few_by (is_older e d) (place_among d es) (length es) (older_few d es)
 
 seam : (d : Dated) (xs ys : List Dated) → insert (xs ++ ys) (length xs) d ≡ xs ++ d ∷ ys
 seam d [] ys = refl
@@ -86,16 +83,33 @@ turned d ds k h =
     let e : length (drop n ds) ≡ k = omega (arith, length-drop n ds) in
     turned_at d (take n ds) (drop n ds) ∙ ap (λ (m : ℕ). insert (reverse (take n ds ++ drop n ds)) m d) e ∙ ap (λ (zs : List Dated). insert (reverse zs) k d) (take-append-drop n ds)
 
-order_with : (o : Option Dated) (ds : List Dated) → IsOldestFirst (reverse ds) → IsOldestFirst (reverse (with_dated o ds))
-order_with None ds h = h
-order_with (Some d) ds h =
-    let k = older d (reverse ds) in
-    let few : k ≤ length ds = omega (arith, older_few d (reverse ds), length-reverse ds) in
-    rw (turned d ds k few, puts d (reverse ds)) (order_put d (reverse ds) h)
+abbrev pub put_with : Option Dated → List Dated → List Dated
+put_with None es = es
+put_with (Some d) es = put d es
 
-order : (posts : List (Option Post)) → IsOldestFirst (reverse (newest_first posts))
-order [] = tt
-order (p ∷ ps) = order_with (dated_of p) (newest_first ps) (order ps)
+reverse_with : (o : Option Dated) (ds : List Dated) → reverse (with_dated o ds) ≡ put_with o (reverse ds)
+reverse_with None ds = refl
+reverse_with (Some d) ds =
+    let k = place_among d (reverse ds) in
+    let few : k ≤ length ds = omega (arith, older_few d (reverse ds), length-reverse ds) in
+    turned d ds k few ∙ puts d (reverse ds)
+
+pub oldest_none : oldest_first [] ≡ []
+unfolding oldest_first
+oldest_none = refl
+
+pub oldest_more : (p : Option Post) (ps : List (Option Post)) → oldest_first (p ∷ ps) ≡ put_with (dated_of p) (oldest_first ps)
+unfolding oldest_first
+oldest_more p ps = reverse_with (dated_of p) (newest_first ps)
+
+order_with : (o : Option Dated) (es : List Dated) → IsOldestFirst es → IsOldestFirst (put_with o es)
+order_with None es h = h
+order_with (Some d) es h = order_put d es h
+
+pub order : (posts : List (Option Post)) → IsOldestFirst (oldest_first posts)
+order [] = rw oldest_none tt
+order (p ∷ ps) = rw (oldest_more p ps) (order_with (dated_of p) (oldest_first ps) (order ps))
 
 pub in_order : (posts : List (Option Post)) → IsInOrder posts
+unfolding oldest_first
 in_order posts = record { once = once posts; order = order posts }

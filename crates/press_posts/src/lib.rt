@@ -3,6 +3,7 @@
 
 mod fault;
 mod fire;
+mod in_order;
 mod laws;
 mod post;
 mod posts;
@@ -10,7 +11,7 @@ mod status;
 
 pub use fault::PostFault;
 pub use fire::Fire;
-pub use laws::published_in_order;
+pub use laws::{changes_are_taken_back, changes_keep_ids, published_in_order, published_once};
 pub use post::{Move, Post};
 pub use posts::Posts;
 pub use status::Status;

@@ -1,7 +1,9 @@
-ghost use Rattle.std.specs.Prelude.{◌≡◌};
+ghost use Rattle.std.specs.Prelude.{◌≡◌, Some};
 ghost use Rattle.press_posts.specs.PostChange.{is_due, is_too_long, edit_fault, status_moved};
+ghost use Rattle.press_posts.specs.Published.{dated_of};
 
 use crate::fault::PostFault;
+use crate::posts::Dated;
 use crate::status::Status;
 use press_text::{Copied, Moment, Text};
 use std::alloc::{AllocError, Global};
@@ -43,6 +45,16 @@ pub enum Move {
 }
 
 impl Post {
+    // Where it stands among the published posts, if it is one.
+    pub(crate) fn dated(&self) -> Option<Dated>
+        ensures { result ≡ dated_of (Some self.now) }
+    {
+        self.status.is_publish().then_some(Dated {
+            date: self.date,
+            id: self.id,
+        })
+    }
+
     /// Whether it is to be published at that moment.
     pub fn is_due(&self, now: Moment) -> bool
         ensures { result ≡ is_due now self.now }

@@ -1,13 +1,15 @@
 //! The posts of a site, each at the place of its id.
 
-ghost use Rattle.std.specs.Prelude.{◌≡◌, ℕ, ◌+◌, [], ◌<◌, ◌≤◌, length, map, option_map, IfOk, IfSome, OnOk, OnErr, is_some, take, true, false, Some};
-ghost use Rattle.press_posts.specs.PostChange.{Changes, post_change, post_at, put_at, with_status, standing, is_full, insert_fault};
+ghost use Rattle.std.specs.Prelude.{◌≡◌, ℕ, [], ◌∷◌, ◌++◌, ◌+◌, ◌-◌, ◌≤◌, length, map, option_map, IfOk, OnOk, OnErr, is_some, take, true, false, Some, None};
+ghost use Rattle.press_posts.specs.PostChange.{Changes, post_change, post_at, put_at, with_status, is_full, insert_fault};
 ghost use Rattle.press_posts.specs.Transitions.{transition};
 ghost use Rattle.press_posts.specs.PostChange.Change.{Insert, Edit, Moves, Delete};
-ghost use Rattle.press_posts.specs.Published.{dated_of, is_older, place_in, with_dated, newest_first, published};
+ghost use Rattle.press_posts.specs.Published.{published};
+ghost use Rattle.press_posts.specs.Restored.{restored, IsGiven, IsRestorable};
 
 use crate::fault::PostFault;
 use crate::fire::{Fire, inserts, transition, updates};
+use crate::in_order::{make_room, newest, put_in, take_out};
 use crate::post::{Move, Post, is_too_long};
 use crate::status::Status;
 use press_text::{Copied, Items, Moment, Text};
@@ -21,6 +23,10 @@ const MOST_POSTS: usize = 10_000;
 pub struct Posts {
     alloc: Global,
     places: Vec<Option<Post>>,
+    // How many stand.
+    count: usize,
+    // The published ones, oldest date first, then least id; with room for one at each place.
+    order: Vec<Dated>,
 }
 
 impl Drop for Posts {
@@ -28,17 +34,22 @@ impl Drop for Posts {
         let Posts {
             alloc: _,
             places: _,
+            count: _,
+            order: _,
         } = self;
     }
 }
 
 impl Model for Posts {
-    ghost use Rattle.std.specs.Prelude.{List, Option};
+    ghost use Rattle.std.specs.Prelude.{List, Option, vec_capacity};
     ghost use Rattle.press_posts.specs.declared.post.Post.{Post};
+    ghost use Rattle.press_posts.specs.Kept.{IsKept};
 
     ghost Value = { List (Option Post) };
 
     ghost view = { λ p. p.places.items };
+
+    ghost invariant = { λ p. IsKept p.places.items p.count p.order.items (vec_capacity p.order) };
 }
 
 // Where a published post stands among the others.
@@ -56,6 +67,8 @@ impl Posts {
         Posts {
             alloc,
             places: Vec::new(alloc),
+            count: 0,
+            order: Vec::new(alloc),
         }
     }
 
@@ -76,13 +89,13 @@ impl Posts {
         let status = status.settled(date, now);
         let id = self.places.len() as u64 + 1;
         let fires = inserts(self.alloc, status, id)?;
-        self.places.push(Some(Post {
+        self.push(Post {
             id,
             title,
             content,
             status,
             date,
-        }))?;
+        })?;
         Ok((id, fires))
     }
 
@@ -114,7 +127,7 @@ impl Posts {
             status,
             date,
         };
-        put(&mut self.places, id, Some(post));
+        self.put(id, post);
         Ok(fires)
     }
 
@@ -142,7 +155,7 @@ impl Posts {
         if !post.status.is_trash() {
             return Err(PostFault::NotTrashed);
         }
-        put(&mut self.places, id, None);
+        drop(self.empty(id));
         Ok(())
     }
 
@@ -159,19 +172,33 @@ impl Posts {
         }
     }
 
-    /// The published posts, newest date first, then greatest id. It puts them in order anew at each call, in one pass where they are dated in the order of their ids.
+    /// Puts what stood at the place of an id there again; without a post, the id is the last one given, and goes back. So a change is taken back: an insert without
+    /// a post, any other with the post as it was. Takes no memory.
+    pub fn restore(&mut self, id: u64, post: Option<Post>)
+        requires { IsRestorable id post self.old }
+        ensures { self.new ≡ restored id post self.old }
+    {
+        match post {
+            Some(post) => self.put(id, post),
+            None => {
+                drop(self.empty(id));
+                self.give_back();
+            }
+        }
+    }
+
+    /// The published posts, newest date first, then greatest id.
     pub fn published(&self) -> Result<Items<u64>, AllocError>
         ensures { IfOk result (λ ids. ids ≡ published self.now) }
     {
         self.newest(self.places.len())
     }
 
-    /// The first so many of the published posts. It looks at each post once, and keeps no more than it gives.
+    /// The first so many of the published posts. It looks at no others.
     pub fn newest(&self, most: usize) -> Result<Items<u64>, AllocError>
         ensures { IfOk result (λ ids. ids ≡ take most (published self.now)) }
     {
-        let found = newest_first(self.alloc, self.places.as_slice(), most)?;
-        let ids = found.iter().map(|d| d.id).collect(self.alloc)?;
+        let ids = newest(self.alloc, &self.order, most)?;
         Ok(Items::from_vec(ids))
     }
 
@@ -179,9 +206,13 @@ impl Posts {
     pub fn copy(&self) -> Result<Posts, AllocError>
         ensures { IfOk result (λ p. p ≡ self.now) }
     {
+        let mut order = Vec::with_capacity(self.alloc, self.places.len())?;
+        order.extend_from_slice(&self.order)?;
         Ok(Posts {
             alloc: self.alloc,
             places: copied_places(self.alloc, self.places.as_slice())?,
+            count: self.count,
+            order,
         })
     }
 
@@ -203,10 +234,17 @@ impl Posts {
         if is_too_long(title, content) {
             return Some(PostFault::TooLong);
         }
-        if is_full(self.places.as_slice()) {
+        if self.is_full() {
             return Some(PostFault::TooManyPosts);
         }
         None
+    }
+
+    // Whether no post more may stand.
+    fn is_full(&self) -> bool
+        ensures { result ≡ is_full self.now }
+    {
+        self.count >= MOST_POSTS || self.places.len() == usize::MAX
     }
 
     // Another status for the post that stands with the old one.
@@ -217,102 +255,75 @@ impl Posts {
         ensures err { OnErr result (self.new ≡ self.old) }
     {
         let fires = transition(self.alloc, Some(old), status, id)?;
-        set_status(&mut self.places, id, status);
+        let Some(mut post) = self.empty(id) else {
+            unreachable!()
+        };
+        post.status = status;
+        self.fill(id, post);
         Ok(Items::from_vec(fires))
     }
-}
 
-// Whether no post more may stand.
-fn is_full(places: &[Option<Post>]) -> bool
-    ensures { result ≡ is_full places.now }
-{
-    standing(places) >= MOST_POSTS || places.len() == usize::MAX
-}
-
-fn standing(places: &[Option<Post>]) -> usize
-    ensures { result ≡ standing places.now }
-{
-    places.iter().filter(|p| p.is_some()).count()
-}
-
-fn put(places: &mut [Option<Post>], id: u64, post: Option<Post>)
-    requires { is_some (post_at places.old id) ≡ true }
-    ensures { places.new ≡ put_at places.old id post }
-{
-    places[(id - 1) as usize] = post;
-}
-
-fn set_status(places: &mut [Option<Post>], id: u64, status: Status)
-    requires { is_some (post_at places.old id) ≡ true }
-    ensures { places.new ≡ put_at places.old id (option_map (with_status status) (post_at places.old id)) }
-{
-    if let Some(post) = &mut places[(id - 1) as usize] {
-        post.status = status;
+    // A post at a place more.
+    fn push(&mut self, post: Post) -> Result<(), AllocError>
+        requires { is_full self.old ≡ false }
+        ensures ok { OnOk result (self.new ≡ self.old ++ Some post ∷ []) }
+        ensures err { OnErr result (self.new ≡ self.old) }
+    {
+        self.add_place()?;
+        let id = self.places.len() as u64;
+        self.fill(id, post);
+        Ok(())
     }
-}
 
-// The first so many of the published posts, put in from the last id to the first.
-fn newest_first(
-    alloc: Global,
-    places: &[Option<Post>],
-    most: usize,
-) -> Result<Vec<Dated>, AllocError>
-    ensures { IfOk result (λ ds. ds.items ≡ take most (newest_first places.now)) }
-{
-    let mut found = Vec::new(alloc);
-    let mut left = places.len();
-    while left > 0 {
-        left -= 1;
-        keep_newest(&mut found, dated_of(&places[left]), most)?;
+    // A post at a place that was given out, in place of what stood there.
+    fn put(&mut self, id: u64, post: Post)
+        requires { IsGiven id self.old }
+        ensures { self.new ≡ put_at self.old id (Some post) }
+    {
+        drop(self.empty(id));
+        self.fill(id, post);
     }
-    Ok(found)
-}
 
-// A post behind so many newer ones moves nothing.
-fn keep_newest(found: &mut Vec<Dated>, dated: Option<Dated>, most: usize) -> Result<(), AllocError>
-    requires { length found.old.items ≤ most }
-    ensures { OnOk result (found.new.items ≡ take most (with_dated dated found.old.items)) }
-{
-    let Some(dated) = dated else {
-        return Ok(());
-    };
-    let place = place_in(found, &dated);
-    if place < most {
-        found.insert(place, dated)?;
-        found.truncate(most);
+    // A place more, which is empty.
+    fn add_place(&mut self) -> Result<(), AllocError>
+        requires { is_full self.old ≡ false }
+        ensures ok { OnOk result (self.new ≡ self.old ++ None ∷ []) }
+        ensures err { OnErr result (self.new ≡ self.old) }
+    {
+        make_room(&mut self.order, self.places.len() + 1)?;
+        self.places.push(None)?;
+        Ok(())
     }
-    Ok(())
-}
 
-fn dated_of(place: &Option<Post>) -> Option<Dated>
-    ensures { result ≡ dated_of place.now }
-{
-    match place {
-        Some(post) if post.status.is_publish() => Some(Dated {
-            date: post.date,
-            id: post.id,
-        }),
-        _ => None,
+    // Gives the last place back, which is empty.
+    fn give_back(&mut self)
+        requires { (1 ≤ length self.old) × (post_at self.old (length self.old) ≡ None) }
+        ensures { self.new ≡ take (length self.old - 1) self.old }
+    {
+        drop(self.places.pop());
     }
-}
 
-// Looked for from the end: where posts are dated in the order of their ids, it is found at once.
-fn place_in(found: &[Dated], dated: &Dated) -> usize
-    ensures place { result ≡ place_in dated.now found.now }
-    ensures within { result ≤ length found.now }
-{
-    let mut place = found.len();
-    while place > 0 && is_older(&found[place - 1], dated) {
-        place -= 1;
+    // Empties a place; what stood there.
+    fn empty(&mut self, id: u64) -> Option<Post>
+        requires { IsGiven id self.old }
+        ensures post { result ≡ post_at self.old id }
+        ensures after { self.new ≡ put_at self.old id None }
+    {
+        let post = self.places[(id - 1) as usize].take()?;
+        self.count -= 1;
+        take_out(&mut self.order, post.dated());
+        Some(post)
     }
-    place
-}
 
-fn is_older(a: &Dated, b: &Dated) -> bool
-    ensures { result ≡ is_older a.now b.now }
-{
-    let (early, late) = (a.date.seconds(), b.date.seconds());
-    early < late || early == late && a.id < b.id
+    // Puts a post at its place, which is empty.
+    fn fill(&mut self, id: u64, post: Post)
+        requires { IsGiven id self.old × (post_at self.old id ≡ None) }
+        ensures { self.new ≡ put_at self.old id (Some post) }
+    {
+        put_in(&mut self.order, post.dated());
+        self.count += 1;
+        self.places[(id - 1) as usize] = Some(post);
+    }
 }
 
 fn copied_places(alloc: Global, places: &[Option<Post>]) -> Result<Vec<Option<Post>>, AllocError>

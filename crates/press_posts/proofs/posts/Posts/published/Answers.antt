@@ -1,7 +1,7 @@
 use Rattle.std.proofs.Common.{rules, ◌∙◌, ap, take, ℕ}
 use Rattle.std.proofs.lemmas.Result.{IfOk-weaker}
 use Rattle.press_posts.specs.Published.{published}
-use Rattle.press_posts.proofs.Newest.{all_published}
+use Rattle.press_posts.proofs.Keeping.{all_published}
 use Rattle.press_posts.proofs.posts.Posts.published.Goals as goal
 
 pub returns : goal.returns

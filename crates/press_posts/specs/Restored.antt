@@ -1,0 +1,41 @@
+-- A change taken back: what stood at an id's place before stands there again.
+use Rattle.std.specs.Prelude.{◌≡◌, ℕ, ◌+◌, ◌-◌, ◌≤◌, List, length, take, Option, Some, None, IfNone}
+use Rattle.press_posts.specs.declared.post.Post.{Post}
+use Rattle.press_posts.specs.PostChange.{Change, Changed, post_at, put_at}
+use Rattle.press_posts.specs.PostChange.Change.{Insert, Edit, Moves, Delete}
+
+-- without a post, the last id goes back, and its place with it
+abbrev pub restored : ℕ → Option Post → List (Option Post) → List (Option Post)
+restored id (Some p) posts = put_at posts id (Some p)
+restored id None posts = take (length posts - 1) posts
+
+-- an id that was given out
+abbrev pub IsGiven : ℕ → List (Option Post) → Type 0
+IsGiven id posts = (1 ≤ id) × (id ≤ length posts)
+
+-- where a change may be taken back: the id was given out, and without a post it is the last one
+pub record IsRestorable (id : ℕ) (post : Option Post) (posts : List (Option Post)) : Type 0 where
+  pub given : IsGiven id posts
+  pub last : IfNone post (id ≡ length posts)
+
+-- ---- what a change is taken back with
+
+-- the id that it is about
+abbrev pub changed_id : Change → List (Option Post) → ℕ
+changed_id (Insert title content status date) posts = length posts + 1
+changed_id (Edit id title content status date) posts = id
+changed_id (Moves id move) posts = id
+changed_id (Delete id) posts = id
+
+-- the post that stood there before it
+abbrev pub stood : Change → List (Option Post) → Option Post
+stood (Insert title content status date) posts = None
+stood (Edit id title content status date) posts = post_at posts id
+stood (Moves id move) posts = post_at posts id
+stood (Delete id) posts = post_at posts id
+
+-- with these, a change that is done may be taken back, and the posts are as they were
+pub record IsTakenBack (change : Change) (posts : List (Option Post)) (done : Changed) : Type 0 where
+  pub id : done.id ≡ changed_id change posts
+  pub may : IsRestorable done.id (stood change posts) done.posts
+  pub back : restored done.id (stood change posts) done.posts ≡ posts
