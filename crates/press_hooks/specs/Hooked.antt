@@ -1,25 +1,43 @@
--- The rows of a table as they are kept: hook by hook in the order of names, each with its entries by priority, then in the order in which they were added.
-use Rattle.std.specs.Prelude.{◌≡◌, ℕ, ℤ, List, [], ◌∷◌, ◌++◌, length, Bool, true, false, ◌&&◌, cond, int_lt, bytes_eq, Option, Some, None, map, ◌<◌, ◌≤◌, Result, MatchResult}
+-- The rows of a table as they are kept: hook by hook in the order of names, each in groups by priority, a group's entries in the order in which they were added.
+use Rattle.std.specs.Prelude.{◌≡◌, ℕ, ℤ, List, [], ◌∷◌, ◌++◌, length, Bool, true, false, not, ◌&&◌, cond, int_lt, bytes_eq, Option, Some, None, filter, map, ◌<◌, ◌≤◌, Result, MatchResult}
 use Rattle.std.specs.List.{HoldsAt}
 use Rattle.std.specs.List.Sorted.{IsPartitionPoint}
 use Rattle.std.specs.Cmp.Lexicographic.{slice_cmp}
-use Rattle.std.specs.Ordering.{nat_cmp, int_eq}
+use Rattle.std.specs.Ordering.{nat_cmp, int_cmp, int_eq}
 use Rattle.std.specs.declared.cmp.Ordering.TheVariants.{Less, Equal, Greater}
 use Rattle.press_hooks.specs.declared.row.Row.{Row}
 use Rattle.press_hooks.specs.declared.entry.Entry.{Entry}
+use Rattle.press_hooks.specs.declared.member.Member.{Member}
+use Rattle.press_hooks.specs.Members.{entry_at}
+use Rattle.press_hooks.specs.NextEntry.{is_past}
+
+-- the entries of a priority
+pub record Grouped : Type 0 where
+  pub priority : ℤ
+  pub members : List Member
+
+abbrev pub with_members : List Member → Grouped → Grouped
+with_members members g = record g { members = members }
+
+abbrev pub group_entries : Grouped → List Entry
+group_entries g = map (entry_at g.priority) g.members
+
+abbrev pub entries_of : List Grouped → List Entry
+entries_of [] = []
+entries_of (g ∷ gs) = group_entries g ++ entries_of gs
 
 pub record Hooked : Type 0 where
   pub name : List ℕ
-  pub entries : List Entry
+  pub groups : List Grouped
 
-abbrev pub with_entries : List Entry → Hooked → Hooked
-with_entries entries h = record h { entries = entries }
+abbrev pub hook_entries : Hooked → List Entry
+hook_entries h = entries_of h.groups
 
 abbrev pub row_of : List ℕ → Entry → Row
 row_of hook e = record { hook = hook; priority = e.priority; callback = e.callback; accepted = e.accepted }
 
 abbrev pub hook_rows : Hooked → List Row
-hook_rows h = map (row_of h.name) h.entries
+hook_rows h = map (row_of h.name) (hook_entries h)
 
 abbrev pub table_rows : List Hooked → List Row
 table_rows [] = []
@@ -34,6 +52,21 @@ abbrev pub IsByPriority : List Entry → Type 0
 IsByPriority [] = Unit {0}
 IsByPriority (e ∷ es) = IsEach (λ (f : Entry). int_lt f.priority e.priority ≡ false) es × IsByPriority es
 
+-- each group has a member, and a lesser priority than those behind it
+abbrev pub AreGroups : List Grouped → Type 0
+AreGroups [] = Unit {0}
+AreGroups (g ∷ gs) = (0 < length g.members) × IsEach (λ (h : Grouped). int_lt g.priority h.priority ≡ true) gs × AreGroups gs
+
+-- where the group of that priority stands, or else the place between the lesser ones and the greater ones
+abbrev pub IsPlaceAt : ℤ → List Grouped → Result ℕ ℕ → Type 0
+IsPlaceAt p gs r =
+    MatchResult r (λ i. (i < length gs) × HoldsAt (λ (g : Grouped). int_cmp g.priority p ≡ Equal) gs i)
+    (λ i. (i ≤ length gs) × IsPartitionPoint (λ (g : Grouped). int_cmp g.priority p ≡ Less) (λ (g : Grouped). int_cmp g.priority p ≡ Greater) gs i)
+
+-- how many groups stand at priorities not greater than the one reached
+abbrev pub up_to : Option ℤ → List Grouped → ℕ
+up_to reached gs = length (filter (λ (g : Grouped). not (is_past reached g.priority)) gs)
+
 -- each name is before those behind it
 abbrev pub IsByName : List Hooked → Type 0
 IsByName [] = Unit {0}
@@ -44,6 +77,15 @@ abbrev pub IsPlaceOf : List ℕ → List Hooked → Result ℕ ℕ → Type 0
 IsPlaceOf hook hs r =
     MatchResult r (λ i. (i < length hs) × HoldsAt (λ (h : Hooked). slice_cmp nat_cmp h.name hook ≡ Equal) hs i)
     (λ i. (i ≤ length hs) × IsPartitionPoint (λ (h : Hooked). slice_cmp nat_cmp h.name hook ≡ Less) (λ (h : Hooked). slice_cmp nat_cmp h.name hook ≡ Greater) hs i)
+
+-- the groups of the hook of that name
+abbrev pub groups_named : List ℕ → List Hooked → List Grouped
+groups_named name [] = []
+groups_named name (h ∷ hs) = cond (bytes_eq h.name name) h.groups (groups_named name hs)
+
+-- the groups of other hooks are as they were
+abbrev pub KeepsOthers : List ℕ → List Hooked → List Hooked → Type 0
+KeepsOthers name old new = (other : List ℕ) → bytes_eq other name ≡ false → groups_named other new ≡ groups_named other old
 
 -- whether an entry is of the priority and of the callback, where these are named
 abbrev pub is_at : Option ℤ → Entry → Bool

@@ -1,4 +1,7 @@
 pub mod Hooked
 pub mod HookRows
+pub mod Members
 pub mod NextEntry
 pub mod Numbered
+pub mod Placed
+pub mod Reached

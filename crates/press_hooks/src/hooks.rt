@@ -1,8 +1,10 @@
-ghost use Rattle.std.specs.Prelude.{◌≡◌, ◌+◌, ◌<◌, ◌≤◌, length, map, filter, insert, not, OnOk, OnErr};
+ghost use Rattle.std.specs.Prelude.{◌≡◌, ◌+◌, ◌<◌, ◌≤◌, ◌^◌, ℕ, List, length, map, filter, insert, not, Some, None, OnOk, OnErr};
 ghost use Rattle.press_hooks.specs.HookRows.{accepted_as, is_of_hook, put_row};
-ghost use Rattle.press_hooks.specs.Hooked.{IsByName, IsByPriority, IsPlaceOf, row_of, table_rows, is_row_named};
+ghost use Rattle.press_hooks.specs.Hooked.{IsByName, AreGroups, IsPlaceOf, KeepsOthers, entries_of, groups_named, row_of, table_rows, is_row_named};
 
 use crate::entry::Entry;
+use crate::group::Group;
+use crate::groups::entry_count;
 use crate::hook::Hook;
 use press_text::{CallbackId, HookName};
 use std::alloc::{AllocError, Global};
@@ -15,22 +17,24 @@ fn find(hooks: &[Hook], name: &HookName) -> Result<usize, usize>
     hooks.binary_search_by(|h| h.cmp_name(name))
 }
 
-/// The entries of the hook of that name, none where there isn't one.
-pub(crate) fn entries_of<'a>(hooks: &'a [Hook], name: &HookName) -> &'a [Entry]
+/// The groups of the hook of that name, none where there isn't one.
+pub(crate) fn groups_of<'a>(hooks: &'a [Hook], name: &HookName) -> &'a [Group]
     requires { IsByName hooks.now }
-    ensures rows { filter (is_of_hook name.now) (table_rows hooks.now) ≡ map (row_of name.now) result.now }
-    ensures order { IsByPriority result.now }
+    ensures groups { result.now ≡ groups_named name.now hooks.now }
+    ensures rows { filter (is_of_hook name.now) (table_rows hooks.now) ≡ map (row_of name.now) (entries_of result.now) }
+    ensures order { AreGroups result.now }
 {
     match find(hooks, name) {
-        Ok(place) => hooks[place].entries(),
+        Ok(place) => hooks[place].groups(),
         Err(_) => &[],
     }
 }
 
 /// Sets `accepted` of the entry where it stands.
-pub(crate) fn accept(hooks: &mut Vec<Hook>, name: &HookName, entry: Entry)
+pub(crate) fn accept(hooks: &mut Vec<Hook>, name: &HookName, entry: &Entry)
     requires { IsByName hooks.old.items }
-    ensures rows { table_rows hooks.new.items ≡ map (accepted_as name.now entry.priority entry.callback entry.accepted) (table_rows hooks.old.items) }
+    ensures rows { table_rows hooks.new.items ≡ map (accepted_as name.now entry.now.priority entry.now.callback entry.now.accepted) (table_rows hooks.old.items) }
+    ensures others { KeepsOthers name.now hooks.old.items hooks.new.items }
     ensures order { IsByName hooks.new.items }
 {
     if let Ok(place) = find(hooks.as_slice(), name) {
@@ -43,15 +47,16 @@ pub(crate) fn put(
     alloc: Global,
     hooks: &mut Vec<Hook>,
     name: &HookName,
-    entry: Entry,
+    entry: &Entry,
 ) -> Result<(), AllocError>
     requires { IsByName hooks.old.items }
-    ensures rows { OnOk result (table_rows hooks.new.items ≡ put_row (row_of name.now entry) (table_rows hooks.old.items)) }
+    ensures rows { OnOk result (table_rows hooks.new.items ≡ put_row (row_of name.now entry.now) (table_rows hooks.old.items)) }
+    ensures others { OnOk result (KeepsOthers name.now hooks.old.items hooks.new.items) }
     ensures order { OnOk result (IsByName hooks.new.items) }
     ensures refused { OnErr result (hooks.new.items ≡ hooks.old.items) }
 {
     match find(hooks.as_slice(), name) {
-        Ok(place) => hooks[place].put(entry),
+        Ok(place) => hooks[place].put(alloc, entry),
         Err(place) => put_hook(hooks, place, Hook::with_entry(alloc, name, entry)?),
     }
 }
@@ -65,16 +70,17 @@ fn put_hook(hooks: &mut Vec<Hook>, place: usize, hook: Hook) -> Result<(), Alloc
     Ok(())
 }
 
-/// Takes out the hook's entries of a priority and a callback, each where it is named; how many there were.
+/// Takes out the hook's entry of a priority and a callback, or all of that priority; how many there were.
 pub(crate) fn remove(
     hooks: &mut Vec<Hook>,
     name: &HookName,
-    priority: Option<i64>,
+    priority: i64,
     callback: Option<CallbackId>,
 ) -> usize
     requires { IsByName hooks.old.items }
-    ensures rows { table_rows hooks.new.items ≡ filter (λ r. not (is_row_named name.now priority callback r)) (table_rows hooks.old.items) }
+    ensures rows { table_rows hooks.new.items ≡ filter (λ r. not (is_row_named name.now (Some priority) callback r)) (table_rows hooks.old.items) }
     ensures gone { result + length (table_rows hooks.new.items) ≡ length (table_rows hooks.old.items) }
+    ensures others { KeepsOthers name.now hooks.old.items hooks.new.items }
     ensures order { IsByName hooks.new.items }
 {
     let Ok(place) = find(hooks.as_slice(), name) else {
@@ -85,14 +91,32 @@ pub(crate) fn remove(
     gone
 }
 
-// Takes out a hook that has no entry left.
+// Takes out a hook that has no group left.
 fn drop_empty(hooks: &mut Vec<Hook>, place: usize)
     requires within { place < length hooks.old.items }
     requires order { IsByName hooks.old.items }
     ensures rows { table_rows hooks.new.items ≡ table_rows hooks.old.items }
+    ensures groups { (name : List ℕ) → groups_named name hooks.new.items ≡ groups_named name hooks.old.items }
     ensures order { IsByName hooks.new.items }
 {
-    if hooks[place].entries().is_empty() {
+    if hooks[place].groups().is_empty() {
         drop(hooks.remove(place));
     }
+}
+
+/// Takes out all of the hook's entries; how many there were.
+pub(crate) fn remove_hook(hooks: &mut Vec<Hook>, name: &HookName) -> usize
+    requires order { IsByName hooks.old.items }
+    requires small { length (table_rows hooks.old.items) < 2 ^ 64 }
+    ensures rows { table_rows hooks.new.items ≡ filter (λ r. not (is_row_named name.now None None r)) (table_rows hooks.old.items) }
+    ensures gone { result + length (table_rows hooks.new.items) ≡ length (table_rows hooks.old.items) }
+    ensures others { KeepsOthers name.now hooks.old.items hooks.new.items }
+    ensures order { IsByName hooks.new.items }
+{
+    let Ok(place) = find(hooks.as_slice(), name) else {
+        return 0;
+    };
+    let gone = entry_count(hooks[place].groups());
+    drop(hooks.remove(place));
+    gone
 }

@@ -3,12 +3,15 @@
 //! A run takes the entries of one priority as they stand when it gets there; no edit changes what it has taken.
 #![tactic(auto)]
 
-mod entries;
 mod entry;
+mod group;
+mod groups;
 mod hook;
 mod hooks;
 mod laws;
+mod member;
 mod open_run;
+mod placed_run;
 mod row;
 mod rows;
 mod table;

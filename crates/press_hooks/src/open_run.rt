@@ -1,9 +1,11 @@
 ghost use Rattle.std.specs.Prelude.{◌≡◌, [], true, IfOk, OnOk, OnErr};
-ghost use Rattle.press_hooks.specs.NextEntry.{begun, refilled, next_entry, next_run, first_of, without_first, is_done};
+ghost use Rattle.press_hooks.specs.NextEntry.{begun, first_of, without_first, is_done};
+ghost use Rattle.press_hooks.specs.Hooked.{group_entries};
+ghost use Rattle.press_hooks.specs.Reached.{at_group, one_taken};
 
-use crate::entries::{ahead_of, first_group, first_priority};
 use crate::entry::Entry;
-use crate::rows::Rows;
+use crate::group::Group;
+use crate::member::Member;
 use press_text::HookName;
 use std::alloc::{AllocError, Global};
 use std::marker::Model;
@@ -11,28 +13,31 @@ use std::marker::Model;
 /// Entries that a run has still to hand out.
 #[derive(Debug)]
 pub struct Rest {
-    entries: Vec<Entry>,
+    priority: i64,
+    members: Vec<Member>,
     given: usize,
 }
 
 impl Drop for Rest {
     fn drop(self) {
         let Rest {
-            entries: _,
+            priority: _,
+            members: _,
             given: _,
         } = self;
     }
 }
 
 impl Model for Rest {
-    ghost use Rattle.std.specs.Prelude.{◌≤◌, List, drop, length};
+    ghost use Rattle.std.specs.Prelude.{◌≤◌, List, map, drop, length};
     ghost use Rattle.press_hooks.specs.declared.entry.Entry.{Entry};
+    ghost use Rattle.press_hooks.specs.Members.{entry_at};
 
     ghost Value = { List Entry };
 
-    ghost view = { λ r. drop r.given r.entries.items };
+    ghost view = { λ r. map (entry_at r.priority) (drop r.given r.members.items) };
 
-    ghost invariant = { λ r. r.given ≤ length r.entries.items };
+    ghost invariant = { λ r. r.given ≤ length r.members.items };
 }
 
 /// An open run of a hook: the priority last reached, and what is left of the entries that stood there then.
@@ -65,40 +70,30 @@ impl OpenRun {
         })
     }
 
-    /// Takes the next entry off, from the next priority of these rows where the last one is done.
-    pub(crate) fn advance(&mut self, rows: &Rows) -> Result<Option<Entry>, AllocError>
-        ensures given { IfOk result (λ e. e ≡ next_entry rows.now self.old) }
-        ensures after { IfOk result (λ e. self.new ≡ next_run rows.now self.old) }
-        ensures refused { OnErr result (self.new ≡ self.old) }
+    /// Whether the entries of the priority reached are handed out.
+    pub(crate) fn is_done(&self) -> bool
+        ensures { result ≡ is_done self.now.rest }
     {
-        self.fill(rows)?;
-        Ok(self.rest.take_first())
+        self.rest.is_empty()
     }
 
-    // Gets to the next priority where the last one is done.
-    fn fill(&mut self, rows: &Rows) -> Result<(), AllocError>
-        ensures filled { OnOk result (self.new ≡ refilled rows.now self.old) }
-        ensures refused { OnErr result (self.new ≡ self.old) }
-    {
-        if self.rest.is_empty() {
-            return self.move_on(rows);
-        }
-        Ok(())
-    }
-
-    fn move_on(&mut self, rows: &Rows) -> Result<(), AllocError>
+    /// Gets to the priority of a group, whose entries it takes as they stand.
+    pub(crate) fn reach(&mut self, group: &Group) -> Result<(), AllocError>
         requires { is_done self.old.rest ≡ true }
-        ensures moved { OnOk result (self.new ≡ refilled rows.now self.old) }
+        ensures reached { OnOk result (self.new ≡ at_group group.now self.old) }
         ensures refused { OnErr result (self.new ≡ self.old) }
     {
-        let ahead = ahead_of(rows.entries_of(&self.hook), self.reached);
-        let next = first_priority(ahead);
-        let Some(_) = next else {
-            return Ok(());
-        };
-        self.rest.refill(first_group(ahead))?;
-        self.reached = next;
+        self.rest.refill(group)?;
+        self.reached = Some(group.priority());
         Ok(())
+    }
+
+    /// Takes the first entry off the rest.
+    pub(crate) fn take_next(&mut self) -> Option<Entry>
+        ensures given { result ≡ first_of self.old.rest }
+        ensures after { self.new ≡ one_taken self.old }
+    {
+        self.rest.take_first()
     }
 }
 
@@ -107,7 +102,8 @@ impl Rest {
         ensures { result ≡ [] }
     {
         Rest {
-            entries: Vec::new(alloc),
+            priority: 0,
+            members: Vec::new(alloc),
             given: 0,
         }
     }
@@ -115,29 +111,34 @@ impl Rest {
     fn is_empty(&self) -> bool
         ensures { result ≡ is_done self.now }
     {
-        self.given == self.entries.len()
+        self.given == self.members.len()
     }
 
-    // Takes over these entries, in the memory of those that were handed out.
-    fn refill(&mut self, group: &[Entry]) -> Result<(), AllocError>
-        requires { self.old ≡ [] }
-        ensures filled { OnOk result (self.new ≡ group.now) }
+    // Takes over a group's entries, in the memory of those that were handed out.
+    fn refill(&mut self, group: &Group) -> Result<(), AllocError>
+        requires { is_done self.old ≡ true }
+        ensures filled { OnOk result (self.new ≡ group_entries group.now) }
         ensures refused { OnErr result (self.new ≡ self.old) }
     {
-        self.entries.clear();
+        self.priority = group.priority();
+        self.members.clear();
         self.given = 0;
-        self.entries.extend_from_slice(group)
+        self.members.extend_from_slice(group.members())
     }
 
     fn take_first(&mut self) -> Option<Entry>
         ensures given { result ≡ first_of self.old }
         ensures after { self.new ≡ without_first self.old }
     {
-        if self.given == self.entries.len() {
+        if self.given == self.members.len() {
             return None;
         }
-        let first = self.entries[self.given];
+        let Member { callback, accepted } = self.members[self.given];
         self.given += 1;
-        Some(first)
+        Some(Entry {
+            priority: self.priority,
+            callback,
+            accepted,
+        })
     }
 }

@@ -1,12 +1,12 @@
-ghost use Rattle.std.specs.Prelude.{◌≡◌, ◌<◌, [], false, ltb, IsOk, IfOk, OnOk, OnErr, length, map, filter, not};
+ghost use Rattle.std.specs.Prelude.{◌≡◌, ◌<◌, [], false, ltb, Some, None, IsOk, IfOk, OnOk, OnErr, length, map, filter, not};
 ghost use Rattle.std.specs.List.{list_any};
 ghost use Rattle.press_hooks.specs.HookRows.{is_row, is_of_hook, accepted_as, most_rows, put_row, add_row, adds_row, remove_row, remove_rows};
-ghost use Rattle.press_hooks.specs.Hooked.{IsByPriority, row_of, is_row_named};
+ghost use Rattle.press_hooks.specs.Hooked.{AreGroups, KeepsOthers, entries_of, groups_named, row_of, table_rows, is_row_named};
 
-use crate::entries::{group_at, has_callback};
 use crate::entry::Entry;
+use crate::group::Group;
 use crate::hook::Hook;
-use crate::hooks;
+use crate::{groups, hooks};
 use press_text::{CallbackId, HookName, copied_all};
 use std::alloc::{AllocError, Global};
 use std::marker::Model;
@@ -29,12 +29,11 @@ impl Drop for Rows {
 
 impl Model for Rows {
     ghost use Rattle.std.specs.Prelude.{◌≡◌, List, length};
-    ghost use Rattle.press_hooks.specs.declared.row.Row.{Row};
-    ghost use Rattle.press_hooks.specs.Hooked.{IsByName, table_rows};
+    ghost use Rattle.press_hooks.specs.Hooked.{Hooked, IsByName, table_rows};
 
-    ghost Value = { List Row };
+    ghost Value = { List Hooked };
 
-    ghost view = { λ r. table_rows r.hooks.items };
+    ghost view = { λ r. r.hooks.items };
 
     ghost invariant = { λ r. IsByName r.hooks.items × (r.count ≡ length (table_rows r.hooks.items)) };
 }
@@ -59,26 +58,28 @@ impl Rows {
         })
     }
 
-    /// The hook's entries by priority, then in the order in which they were added.
-    pub fn entries_of(&self, hook: &HookName) -> &[Entry]
-        ensures rows { filter (is_of_hook hook.now) self.now ≡ map (row_of hook.now) result.now }
-        ensures order { IsByPriority result.now }
+    /// The hook's entries in groups by priority, each in the order in which they were added.
+    pub fn groups_of(&self, hook: &HookName) -> &[Group]
+        ensures groups { result.now ≡ groups_named hook.now self.now }
+        ensures rows { filter (is_of_hook hook.now) (table_rows self.now) ≡ map (row_of hook.now) (entries_of result.now) }
+        ensures order { AreGroups result.now }
     {
-        hooks::entries_of(self.hooks.as_slice(), hook)
+        hooks::groups_of(self.hooks.as_slice(), hook)
     }
 
     pub fn has(&self, hook: &HookName, priority: i64, callback: CallbackId) -> bool
-        ensures { result ≡ list_any (is_row hook.now priority callback) self.now }
+        ensures { result ≡ list_any (is_row hook.now priority callback) (table_rows self.now) }
     {
-        has_callback(group_at(self.entries_of(hook), priority), callback)
+        groups::has(self.groups_of(hook), priority, callback)
     }
 
     /// Sets `accepted` of the entry that stands, or puts in a new one where there is room; whether it then stands.
-    pub fn add(&mut self, alloc: Global, hook: &HookName, e: Entry) -> Result<bool, AllocError>
-        ensures answer { IfOk result (λ b. b ≡ adds_row hook.now e.callback e.priority self.old) }
-        ensures rows { OnOk result (self.new ≡ add_row hook.now e.callback e.priority e.accepted self.old) }
+    pub fn add(&mut self, alloc: Global, hook: &HookName, e: &Entry) -> Result<bool, AllocError>
+        ensures answer { IfOk result (λ b. b ≡ adds_row hook.now e.now.callback e.now.priority (table_rows self.old)) }
+        ensures rows { OnOk result (table_rows self.new ≡ add_row hook.now e.now.callback e.now.priority e.now.accepted (table_rows self.old)) }
+        ensures others { OnOk result (KeepsOthers hook.now self.old self.new) }
         ensures refused { OnErr result (self.new ≡ self.old) }
-        ensures full { adds_row hook.now e.callback e.priority self.old ≡ false → IsOk result }
+        ensures full { adds_row hook.now e.now.callback e.now.priority (table_rows self.old) ≡ false → IsOk result }
     {
         if self.has(hook, e.priority, e.callback) {
             self.accept(hook, e);
@@ -92,20 +93,22 @@ impl Rows {
     }
 
     fn is_full(&self) -> bool
-        ensures { result ≡ not (ltb (length self.now) most_rows) }
+        ensures { result ≡ not (ltb (length (table_rows self.now)) most_rows) }
     {
         self.count >= MOST_ROWS
     }
 
-    fn accept(&mut self, hook: &HookName, e: Entry)
-        ensures { self.new ≡ map (accepted_as hook.now e.priority e.callback e.accepted) self.old }
+    fn accept(&mut self, hook: &HookName, e: &Entry)
+        ensures rows { table_rows self.new ≡ map (accepted_as hook.now e.now.priority e.now.callback e.now.accepted) (table_rows self.old) }
+        ensures others { KeepsOthers hook.now self.old self.new }
     {
         hooks::accept(&mut self.hooks, hook, e);
     }
 
-    fn put(&mut self, alloc: Global, hook: &HookName, e: Entry) -> Result<(), AllocError>
-        requires { length self.old < most_rows }
-        ensures put { OnOk result (self.new ≡ put_row (row_of hook.now e) self.old) }
+    fn put(&mut self, alloc: Global, hook: &HookName, e: &Entry) -> Result<(), AllocError>
+        requires { length (table_rows self.old) < most_rows }
+        ensures put { OnOk result (table_rows self.new ≡ put_row (row_of hook.now e.now) (table_rows self.old)) }
+        ensures others { OnOk result (KeepsOthers hook.now self.old self.new) }
         ensures refused { OnErr result (self.new ≡ self.old) }
     {
         hooks::put(alloc, &mut self.hooks, hook, e)?;
@@ -115,22 +118,36 @@ impl Rows {
 
     /// Takes out the entry of that callback at that priority.
     pub fn remove(&mut self, hook: &HookName, callback: CallbackId, priority: i64)
-        ensures { self.new ≡ remove_row hook.now callback priority self.old }
+        ensures rows { table_rows self.new ≡ remove_row hook.now callback priority (table_rows self.old) }
+        ensures others { KeepsOthers hook.now self.old self.new }
     {
-        self.remove_named(hook, Some(priority), Some(callback));
+        self.remove_at(hook, priority, Some(callback));
     }
 
     /// Takes out the hook's entries at a priority, or at every one.
     pub fn remove_all(&mut self, hook: &HookName, priority: Option<i64>)
-        ensures { self.new ≡ remove_rows hook.now priority self.old }
+        ensures rows { table_rows self.new ≡ remove_rows hook.now priority (table_rows self.old) }
+        ensures others { KeepsOthers hook.now self.old self.new }
     {
-        self.remove_named(hook, priority, None);
+        match priority {
+            None => self.remove_hook(hook),
+            Some(p) => self.remove_at(hook, p, None),
+        }
     }
 
-    fn remove_named(&mut self, hook: &HookName, priority: Option<i64>, callback: Option<CallbackId>)
-        ensures { self.new ≡ filter (λ r. not (is_row_named hook.now priority callback r)) self.old }
+    fn remove_at(&mut self, hook: &HookName, priority: i64, callback: Option<CallbackId>)
+        ensures rows { table_rows self.new ≡ filter (λ r. not (is_row_named hook.now (Some priority) callback r)) (table_rows self.old) }
+        ensures others { KeepsOthers hook.now self.old self.new }
     {
         let gone = hooks::remove(&mut self.hooks, hook, priority, callback);
+        self.count -= gone;
+    }
+
+    fn remove_hook(&mut self, hook: &HookName)
+        ensures rows { table_rows self.new ≡ filter (λ r. not (is_row_named hook.now None None r)) (table_rows self.old) }
+        ensures others { KeepsOthers hook.now self.old self.new }
+    {
+        let gone = hooks::remove_hook(&mut self.hooks, hook);
         self.count -= gone;
     }
 }

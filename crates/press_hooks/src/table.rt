@@ -3,9 +3,9 @@ ghost use Rattle.std.specs.List.{list_any};
 ghost use Rattle.press_hooks.specs.HookRows.{is_row, add_row, adds_row, remove_row, remove_rows, has_rows, priority_of};
 ghost use Rattle.press_hooks.specs.NextEntry.{no_rows, with_rows, is_innermost, run_begun, run_ended, entry_next, run_advanced};
 
-use crate::entries;
 use crate::entry::Entry;
-use crate::open_run::OpenRun;
+use crate::groups;
+use crate::placed_run::{PlacedRun, mend_all};
 use crate::rows::Rows;
 use press_text::{CallbackId, HookName};
 use std::alloc::{AllocError, Global};
@@ -18,7 +18,7 @@ use std::marker::Model;
 pub struct HookTable {
     alloc: Global,
     rows: Rows,
-    runs: Vec<OpenRun>,
+    runs: Vec<PlacedRun>,
 }
 
 impl Drop for HookTable {
@@ -32,12 +32,15 @@ impl Drop for HookTable {
 }
 
 impl Model for HookTable {
-    ghost use Rattle.std.specs.Prelude.{reverse};
     ghost use Rattle.press_hooks.specs.NextEntry.{Table};
+    ghost use Rattle.press_hooks.specs.Hooked.{IsEach, table_rows};
+    ghost use Rattle.press_hooks.specs.Placed.{IsInPlace, open_runs_of};
 
     ghost Value = { Table };
 
-    ghost view = { λ t. record { rows = t.rows; open_runs = reverse t.runs.items } };
+    ghost view = { λ t. record { rows = table_rows t.rows; open_runs = open_runs_of t.runs.items } };
+
+    ghost invariant = { λ t. IsEach (IsInPlace t.rows) t.runs.items };
 }
 
 /// Names a place in the stack of open runs: how many runs were open when this one began.
@@ -100,7 +103,9 @@ impl HookTable {
             callback,
             accepted,
         };
-        self.rows.add(self.alloc, hook, entry)
+        let stands = self.rows.add(self.alloc, hook, &entry)?;
+        mend_all(&mut self.runs, hook, self.rows.groups_of(hook));
+        Ok(stands)
     }
 
     /// Takes out the entry of that callback at that priority; whether one stood there (`remove_filter`).
@@ -110,6 +115,7 @@ impl HookTable {
     {
         let stood = self.rows.has(hook, priority, callback);
         self.rows.remove(hook, callback, priority);
+        mend_all(&mut self.runs, hook, self.rows.groups_of(hook));
         stood
     }
 
@@ -118,20 +124,21 @@ impl HookTable {
         ensures { self.new ≡ with_rows (remove_rows hook.now priority self.old.rows) self.old }
     {
         self.rows.remove_all(hook, priority);
+        mend_all(&mut self.runs, hook, self.rows.groups_of(hook));
     }
 
     /// The least priority at which the callback stands on the hook (`has_filter`).
     pub fn has(&self, hook: &HookName, callback: CallbackId) -> Option<i64>
         ensures { result ≡ priority_of hook.now callback self.now.rows }
     {
-        entries::priority_of(self.rows.entries_of(hook), callback)
+        groups::priority_of(self.rows.groups_of(hook), callback)
     }
 
     /// Whether the hook has an entry at all.
     pub fn has_any(&self, hook: &HookName) -> bool
         ensures { result ≡ has_rows hook.now self.now.rows }
     {
-        !self.rows.entries_of(hook).is_empty()
+        !self.rows.groups_of(hook).is_empty()
     }
 
     /// Opens a run of the hook, which is the innermost from now on.
@@ -140,7 +147,7 @@ impl HookTable {
         ensures named { IfOk result (λ id. id ≡ length self.old.open_runs) }
         ensures refused { OnErr result (self.new ≡ self.old) }
     {
-        let run = OpenRun::begin(self.alloc, hook)?;
+        let run = PlacedRun::begin(self.alloc, hook)?;
         let depth = self.runs.len();
         self.runs.push(run)?;
         Ok(RunId { depth })

@@ -1,25 +1,34 @@
 use Rattle.std.proofs.Common.{◌∙◌, ap, sym, subst}
 use Rattle.std.proofs.lemmas.Result.{on_ok_weaker}
-use Rattle.press_hooks.specs.Hooked.{IsByName, table_rows}
-use Rattle.press_hooks.proofs.Named.{put_found, put_missing, order_missing, order_set}
+use Rattle.press_hooks.specs.Hooked.{KeepsOthers, IsByName, table_rows}
+use Rattle.press_hooks.proofs.Named.{put_found, put_missing, order_missing, order_set, others_set, others_insert}
 use Rattle.press_hooks.proofs.hooks.put.Goals as goal
 
 pub returns-in-Ok-clause-rows : goal.returns-in-Ok-clause-rows
 returns-in-Ok-clause-rows c =
     let place = rw c.as_slice.ensures.value at c.in-Ok.ensures in
-    on_ok_weaker c.put.result (λ h. put_found c.args.name.now c.args.entry c.args.hooks.now.items c.in-Ok.place c.index_mut.result.now c.put.new.self c.requires place.0 place.1 c.index_mut.ensures.value h) c.put.ensures.put
+    on_ok_weaker c.put.result (λ h. put_found c.args.name.now c.args.entry.now c.args.hooks.now.items c.in-Ok.place c.index_mut.result.now c.put.new.self c.requires place.0 place.1 c.index_mut.ensures.value c.put.ensures.name h) c.put.ensures.put
+
+pub returns-in-Ok-clause-others : goal.returns-in-Ok-clause-others
+returns-in-Ok-clause-others c =
+    let place = rw c.as_slice.ensures.value at c.in-Ok.ensures in
+    on_ok_weaker c.put.result (λ h. others_set c.args.name.now c.args.hooks.now.items c.in-Ok.place c.index_mut.result.now c.put.new.self place.0 place.1 c.index_mut.ensures.value c.put.ensures.name) c.put.ensures.put
 
 pub returns-in-Ok-clause-order : goal.returns-in-Ok-clause-order
 returns-in-Ok-clause-order c =
     let place = rw c.as_slice.ensures.value at c.in-Ok.ensures in
-    on_ok_weaker c.put.result (λ h. order_set c.args.hooks.now.items c.in-Ok.place c.index_mut.result.now c.put.new.self place.0 (ap (λ g. g.name) h ∙ ap (λ g. g.name) c.index_mut.ensures.value) c.requires) c.put.ensures.put
+    on_ok_weaker c.put.result (λ h. order_set c.args.hooks.now.items c.in-Ok.place c.index_mut.result.now c.put.new.self place.0 (c.put.ensures.name ∙ ap (λ g. g.name) c.index_mut.ensures.value) c.requires) c.put.ensures.put
 
 pub returns-in_ok-with_entry-in-Err-clause-rows : goal.returns-in_ok-with_entry-in-Err-clause-rows
 returns-in_ok-with_entry-in-Err-clause-rows c =
     let place = rw c.as_slice.ensures.value at c.in-Err.ensures in
-    on_ok_weaker c.put_hook.result (λ h. ap table_rows h ∙ put_missing c.args.name.now c.args.entry c.in_ok-with_entry-in-Err.field-0 c.args.hooks.now.items c.in-Err.place c.in_ok-with_entry-in-Err.ensures place.0 place.1) c.put_hook.ensures.put
+    on_ok_weaker c.put_hook.result (λ h. ap table_rows h ∙ put_missing c.args.name.now c.args.entry.now c.in_ok-with_entry-in-Err.field-0 c.args.hooks.now.items c.in-Err.place c.in_ok-with_entry-in-Err.ensures.name c.in_ok-with_entry-in-Err.ensures.entries place.0 place.1) c.put_hook.ensures.put
+
+pub returns-in_ok-with_entry-in-Err-clause-others : goal.returns-in_ok-with_entry-in-Err-clause-others
+returns-in_ok-with_entry-in-Err-clause-others c =
+    on_ok_weaker c.put_hook.result (λ h. subst (KeepsOthers c.args.name.now c.args.hooks.now.items) (sym h) (others_insert c.args.name.now c.args.hooks.now.items c.in-Err.place c.in_ok-with_entry-in-Err.field-0 c.in_ok-with_entry-in-Err.ensures.name)) c.put_hook.ensures.put
 
 pub returns-in_ok-with_entry-in-Err-clause-order : goal.returns-in_ok-with_entry-in-Err-clause-order
 returns-in_ok-with_entry-in-Err-clause-order c =
     let place = rw c.as_slice.ensures.value at c.in-Err.ensures in
-    on_ok_weaker c.put_hook.result (λ h. subst IsByName (sym h) (order_missing c.args.name.now c.args.entry c.in_ok-with_entry-in-Err.field-0 c.args.hooks.now.items c.in-Err.place c.in_ok-with_entry-in-Err.ensures place.0 place.1 c.requires)) c.put_hook.ensures.put
+    on_ok_weaker c.put_hook.result (λ h. subst IsByName (sym h) (order_missing c.args.name.now c.in_ok-with_entry-in-Err.field-0 c.args.hooks.now.items c.in-Err.place c.in_ok-with_entry-in-Err.ensures.name place.0 place.1 c.requires)) c.put_hook.ensures.put

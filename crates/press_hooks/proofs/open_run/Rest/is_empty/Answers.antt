@@ -5,5 +5,5 @@ use Rattle.press_hooks.proofs.open_run.Rest.is_empty.Goals as goal
 
 pub returns : goal.returns
 returns c =
-    let long : c.len.result ≡ length c.self.inside.entries.items = omega arith in
-    all_given c.self.inside.entries.items c.self.inside.given c.len.result long c.self.invariant ∙ ap is_done c.self.view_is
+    let long : c.len.result ≡ length c.self.inside.members.items = omega arith in
+    all_given c.self.inside.priority c.self.inside.members.items c.self.inside.given c.len.result long c.self.invariant ∙ ap is_done c.self.view_is

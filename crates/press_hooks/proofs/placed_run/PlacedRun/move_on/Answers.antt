@@ -1,0 +1,23 @@
+use Rattle.std.proofs.Common.{◌≡◌, ◌∙◌, ap, sym, Some}
+use Rattle.press_hooks.specs.declared.open_run.OpenRun.{OpenRun}
+use Rattle.press_hooks.specs.Hooked.{table_rows, groups_named, up_to}
+use Rattle.press_hooks.proofs.OfHook.{done_empty}
+use Rattle.press_hooks.proofs.Reaching.{no_group, next_group, behind_group}
+use Rattle.press_hooks.proofs.placed_run.PlacedRun.move_on.Goals as goal
+
+pub returns-in_ok-reach-clause-moved : goal.returns-in_ok-reach-clause-moved
+returns-in_ok-reach-clause-moved c =
+    let at : c.args.self.now.cursor ≡ up_to c.args.self.now.run.reached c.groups_of-groups.result.now = c.requires.place ∙ ap (up_to c.args.self.now.run.reached) (sym c.groups_of-groups.ensures.groups) in
+    c.in_ok-reach.ensures.reached
+    ∙ next_group (table_rows c.args.rows.now) c.args.self.now.run c.groups_of-groups.result.now c.args.self.now.cursor c.groups_of-groups.ensures.rows c.groups_of-groups.ensures.order at (done_empty c.args.self.now.run.rest c.requires.done) c.index-groups-self.result c.if-self-groups.true c.index-groups-self.is
+
+pub returns-in_ok-reach-clause-place : goal.returns-in_ok-reach-clause-place
+returns-in_ok-reach-clause-place c =
+    behind_group c.groups_of-groups.result.now c.args.self.now.cursor c.index-groups-self.result c.groups_of-groups.ensures.order c.if-self-groups.true c.index-groups-self.is
+    ∙ (ap (up_to (Some c.index-groups-self.result.priority)) c.groups_of-groups.ensures.groups
+    ∙ ap (λ (r : OpenRun). up_to r.reached (groups_named r.hook c.args.rows.now)) (sym c.in_ok-reach.ensures.reached))
+
+pub returns-else-self-groups-clause-moved : goal.returns-else-self-groups-clause-moved
+returns-else-self-groups-clause-moved c =
+    let at : c.args.self.now.cursor ≡ up_to c.args.self.now.run.reached c.groups_of-groups.result.now = c.requires.place ∙ ap (up_to c.args.self.now.run.reached) (sym c.groups_of-groups.ensures.groups) in
+    no_group (table_rows c.args.rows.now) c.args.self.now.run c.groups_of-groups.result.now c.args.self.now.cursor c.groups_of-groups.ensures.rows c.groups_of-groups.ensures.order at (done_empty c.args.self.now.run.rest c.requires.done) c.if-self-groups.false
