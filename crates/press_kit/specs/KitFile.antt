@@ -70,18 +70,21 @@ abbrev pub from_in : Data → Option Source
 from_in d = option_and_then source_of (option_and_then as_str (get (codes "from") d))
 
 -- an object with one key
-abbrev pub source_in : Data → Option Source
+unfoldable pub source_in : Data → Option Source
 source_in d =
     if has_only (codes "arg" ∷ []) d then arg_in d else
     (if has_only (codes "att" ∷ []) d then att_in d else
     (if has_only (codes "from" ∷ []) d then from_in d else None))
+
+abbrev pub raw_in : Data → Option Part
+raw_in d = option_map Raw (source_in d)
 
 abbrev pub escaped_in : Data → Option Part
 escaped_in d = option_map Escaped (option_and_then source_in (get (codes "escaped") d))
 
 -- a part that is read of the call, as it is or escaped
 abbrev pub keyed_part : Data → Option Part
-keyed_part d = if has_only (codes "escaped" ∷ []) d then escaped_in d else option_map Raw (source_in d)
+keyed_part d = if has_only (codes "escaped" ∷ []) d then escaped_in d else raw_in d
 
 abbrev pub part_where : Option (List ℕ) → Data → Option Part
 part_where (Some text) d = Some (Lit text)

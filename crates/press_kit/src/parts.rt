@@ -70,6 +70,7 @@ fn att_in(alloc: Global, at: Place, value: &Value) -> Result<Source, KitFileFaul
 }
 
 // The source of an object with one key.
+#[tactic(auto, unfolding(crate::specs::KitFile::source_in))]
 fn source_in(alloc: Global, at: Place, value: &Value) -> Result<Source, KitFileFault>
     ensures { Gives Refuses Ok result (or_bad at (spec.source_in (view value.now))) }
 {
@@ -82,6 +83,12 @@ fn source_in(alloc: Global, at: Place, value: &Value) -> Result<Source, KitFileF
     } else {
         Err(KitFileFault::BadKitFile(at))
     }
+}
+
+fn raw_in(alloc: Global, at: Place, value: &Value) -> Result<Part, KitFileFault>
+    ensures { Gives Refuses Ok result (or_bad at (spec.raw_in (view value.now))) }
+{
+    Ok(Part::Raw(source_in(alloc, at, value)?))
 }
 
 fn escaped_in(alloc: Global, at: Place, value: &Value) -> Result<Part, KitFileFault>
@@ -98,7 +105,7 @@ fn keyed_part(alloc: Global, at: Place, value: &Value) -> Result<Part, KitFileFa
     if has_only(value, &["escaped"]) {
         escaped_in(alloc, at, value)
     } else {
-        Ok(Part::Raw(source_in(alloc, at, value)?))
+        raw_in(alloc, at, value)
     }
 }
 
