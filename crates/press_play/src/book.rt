@@ -12,6 +12,7 @@ const MOST_BYTES: usize = 1_048_576;
 const FEW_OPEN: usize = 8;
 
 // A callback that was called.
+#[derive(Drop)]
 struct Called {
     id: CallbackId,
     // How many callbacks of scripts were open round it.
@@ -23,6 +24,7 @@ struct Called {
 }
 
 // What the machine was asked last.
+#[derive(Drop)]
 struct Asked {
     // The bytes of the longest text that was handed over.
     longest: usize,
@@ -30,7 +32,8 @@ struct Asked {
     returns: bool,
 }
 
-/// Which limit a play met.
+// Which limit a play met.
+#[derive(Clone, Copy)]
 enum Bound {
     Steps,
     Bytes,
@@ -77,7 +80,7 @@ impl Called {
     fn told(&self, alloc: Global) -> Result<String, AllocError> {
         let name = name_of(&self.id);
         match self.answer {
-            Some(bytes) => format!(in alloc; "\"{name}\" answers {bytes} bytes\n"),
+            Some(bytes) => format!(in alloc; "\"{name}\" answers (length {bytes})\n"),
             None => format!(in alloc; "\"{name}\" does not answer\n"),
         }
     }
@@ -102,7 +105,7 @@ impl Asked {
 }
 
 impl Bound {
-    fn told(&self) -> &'static str {
+    fn told(self) -> &'static str {
         match self {
             Bound::Steps => "10000 steps are taken",
             Bound::Bytes => "a text or the output would pass 1048576 bytes",
