@@ -1,11 +1,14 @@
 -- The turn of a script on a call: that of the op at place `turn`, and past the last op Return of the value (own).
--- A text of parts is their concatenation; a missing argument or attribute is the empty text.
+-- A text of parts is their concatenation; a missing argument or attribute is the empty text, and an escaped part is escaped for HTML (Plugin Handbook, Escaping Data).
 use Rattle.std.specs.Prelude.{ℕ, List, [], ◌∷◌, Option, Some, None, slice_get, map, ◌≡◌, Result, Ok, bytes_eq, cond}
 use Rattle.std.specs.List.{flat_map}
 use Rattle.std.specs.declared.alloc.AllocError.{AllocError}
+use Rattle.press_text.specs.Escapes.{escaped}
 use Rattle.press_scan.specs.Attributes.{value_of}
+use Rattle.press_callbacks.specs.declared.script.Source.{Source}
+use Rattle.press_callbacks.specs.declared.script.Source.TheVariants.{Arg, Att, Content, Tag, Value, Last}
 use Rattle.press_callbacks.specs.declared.script.Part.{Part}
-use Rattle.press_callbacks.specs.declared.script.Part.TheVariants.{Lit, Arg, Att, Content, Tag, Value, Last}
+use Rattle.press_callbacks.specs.declared.script.Part.TheVariants.{Lit, Raw, Escaped}
 use Rattle.press_callbacks.specs.declared.script.Op.{Op}
 use Rattle.press_callbacks.specs.declared.script.Op.TheVariants as op
 use Rattle.press_callbacks.specs.declared.script.Turn.{Turn}
@@ -16,14 +19,18 @@ abbrev pub text_or_empty : Option (List ℕ) → List ℕ
 text_or_empty None = []
 text_or_empty (Some t) = t
 
+abbrev pub source_text : CallIn → Source → List ℕ
+source_text call (Arg n) = text_or_empty (slice_get call.args n)
+source_text call (Att k) = text_or_empty (value_of k call.atts)
+source_text call Content = call.content
+source_text call Tag = call.tag
+source_text call Value = call.value
+source_text call Last = call.last
+
 abbrev pub part_text : CallIn → Part → List ℕ
 part_text call (Lit t) = t
-part_text call (Arg n) = text_or_empty (slice_get call.args n)
-part_text call (Att k) = text_or_empty (value_of k call.atts)
-part_text call Content = call.content
-part_text call Tag = call.tag
-part_text call Value = call.value
-part_text call Last = call.last
+part_text call (Raw source) = source_text call source
+part_text call (Escaped source) = escaped (source_text call source)
 
 abbrev pub text_of : CallIn → List Part → List ℕ
 text_of call parts = flat_map (part_text call) parts

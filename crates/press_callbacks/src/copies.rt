@@ -3,20 +3,29 @@
 ghost use Rattle.std.specs.Prelude.{◌≡◌, IfOk};
 ghost use Rattle.press_callbacks.specs.declared.script.Op.{Op};
 
-use crate::script::{Ask, Op, Part, Parts};
+use crate::script::{Ask, Op, Part, Parts, Source};
 use press_text::{Copied, Every, HookName, Items, OptName};
 use std::alloc::{AllocError, Global};
+
+impl Copied for Source {
+    fn copied(&self, alloc: Global) -> Result<Source, AllocError> {
+        match self {
+            Source::Arg(n) => Ok(Source::Arg(*n)),
+            Source::Att(key) => Ok(Source::Att(key.copied(alloc)?)),
+            Source::Content => Ok(Source::Content),
+            Source::Tag => Ok(Source::Tag),
+            Source::Value => Ok(Source::Value),
+            Source::Last => Ok(Source::Last),
+        }
+    }
+}
 
 impl Copied for Part {
     fn copied(&self, alloc: Global) -> Result<Part, AllocError> {
         match self {
             Part::Lit(text) => Ok(Part::Lit(text.copy(alloc)?)),
-            Part::Arg(n) => Ok(Part::Arg(*n)),
-            Part::Att(key) => Ok(Part::Att(key.copied(alloc)?)),
-            Part::Content => Ok(Part::Content),
-            Part::Tag => Ok(Part::Tag),
-            Part::Value => Ok(Part::Value),
-            Part::Last => Ok(Part::Last),
+            Part::Raw(source) => Ok(Part::Raw(source.copied(alloc)?)),
+            Part::Escaped(source) => Ok(Part::Escaped(source.copied(alloc)?)),
         }
     }
 }

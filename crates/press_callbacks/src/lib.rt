@@ -25,7 +25,7 @@ pub use kit::Kit;
 pub use kit_fault::KitFault;
 pub use named::Named;
 pub use plugin::{Load, Plugin};
-pub use script::{Ask, CallIn, Op, Part, Parts, Script, Turn};
+pub use script::{Ask, CallIn, Op, Part, Parts, Script, Source, Turn};
 pub use stored::{BoxedTurns, Stored};
 pub use tables::Tables;
 pub use turns::script_turn;

@@ -6,7 +6,7 @@ ghost use Rattle.press_callbacks.specs.Kits.{kit_view, named_script};
 use crate::kit::Kit;
 use crate::known::Scripted;
 use crate::plugin::{Load, Plugin};
-use crate::script::{Ask, Op, Part};
+use crate::script::{Ask, Op, Part, Source};
 use press_scan::AttKey;
 use press_text::{CallbackId, Every, HookName, Items, Name, OptName, Tag, Text};
 
@@ -80,6 +80,37 @@ impl<T: Same> Same for Items<T> {
     }
 }
 
+impl Same for Source {
+    fn same(&self, other: &Source) -> bool {
+        match self {
+            Source::Arg(m) => match other {
+                Source::Arg(n) => *m == *n,
+                _ => false,
+            },
+            Source::Att(a) => match other {
+                Source::Att(b) => a.same(b),
+                _ => false,
+            },
+            Source::Content => match other {
+                Source::Content => true,
+                _ => false,
+            },
+            Source::Tag => match other {
+                Source::Tag => true,
+                _ => false,
+            },
+            Source::Value => match other {
+                Source::Value => true,
+                _ => false,
+            },
+            Source::Last => match other {
+                Source::Last => true,
+                _ => false,
+            },
+        }
+    }
+}
+
 impl Same for Part {
     fn same(&self, other: &Part) -> bool {
         match self {
@@ -87,28 +118,12 @@ impl Same for Part {
                 Part::Lit(b) => a.same(b),
                 _ => false,
             },
-            Part::Arg(m) => match other {
-                Part::Arg(n) => *m == *n,
+            Part::Raw(a) => match other {
+                Part::Raw(b) => a.same(b),
                 _ => false,
             },
-            Part::Att(a) => match other {
-                Part::Att(b) => a.same(b),
-                _ => false,
-            },
-            Part::Content => match other {
-                Part::Content => true,
-                _ => false,
-            },
-            Part::Tag => match other {
-                Part::Tag => true,
-                _ => false,
-            },
-            Part::Value => match other {
-                Part::Value => true,
-                _ => false,
-            },
-            Part::Last => match other {
-                Part::Last => true,
+            Part::Escaped(a) => match other {
+                Part::Escaped(b) => a.same(b),
                 _ => false,
             },
         }

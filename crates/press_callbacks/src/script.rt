@@ -1,11 +1,9 @@
 use press_scan::{AttKey, Atts};
 use press_text::{CallbackId, Every, HookName, Items, OptName, Text, Texts};
 
-/// A piece of a text that a script makes. A missing argument or attribute is the empty text.
+/// What a part of a text is read from. A missing argument or attribute is the empty text.
 #[derive(Debug, Drop)]
-pub enum Part {
-    /// This very text.
-    Lit(Text),
+pub enum Source {
     /// The argument at a place, counted from 0.
     Arg(usize),
     /// The attribute of that key.
@@ -18,6 +16,17 @@ pub enum Part {
     Value,
     /// The last answer of the machine.
     Last,
+}
+
+/// A piece of a text that a script makes.
+#[derive(Debug, Drop)]
+pub enum Part {
+    /// This very text.
+    Lit(Text),
+    /// What is read there, as it is.
+    Raw(Source),
+    /// What is read there, with `&`, `<`, `>`, `"` and `'` written as entities (`esc_html`, `esc_attr`).
+    Escaped(Source),
 }
 
 /// A text, as the concatenation of its parts.

@@ -1,8 +1,9 @@
 ghost use Rattle.std.specs.Prelude.{◌≡◌, ◌∷◌, ◌++◌, map, IfOk, OnOk, bytes_eq};
-ghost use Rattle.press_callbacks.specs.Turns.{part_text, text_of, turn_of_op, turn_of, skipped};
+ghost use Rattle.press_text.specs.Escapes.{escaped};
+ghost use Rattle.press_callbacks.specs.Turns.{source_text, part_text, text_of, turn_of_op, turn_of, skipped};
 
-use crate::script::{Ask, CallIn, Op, Part, Parts, Script, Turn};
-use press_text::{Copied, Items, Text, Texts};
+use crate::script::{Ask, CallIn, Op, Part, Parts, Script, Source, Turn};
+use press_text::{Copied, Items, Text, Texts, esc_html};
 use std::alloc::{AllocError, Global};
 
 /// What one turn of a script asks for: that of the op at place `turn`, and past the last op Return of the value.
@@ -146,27 +147,44 @@ fn text_of(alloc: Global, parts: &Parts, call: &CallIn) -> Result<Text, AllocErr
 {
     let mut text = Text::new(alloc);
     for part in parts.as_slice() {
-        push_part(&mut text, part, call)?;
+        push_part(alloc, &mut text, part, call)?;
     }
     Ok(text)
 }
 
-fn push_part(text: &mut Text, part: &Part, call: &CallIn) -> Result<(), AllocError>
+fn push_part(alloc: Global, text: &mut Text, part: &Part, call: &CallIn) -> Result<(), AllocError>
     ensures { OnOk result (text.new ≡ text.old ++ part_text call.now part.now) }
 {
     match part {
         Part::Lit(t) => text.push(t),
-        Part::Arg(n) => match call.args.as_slice().get(*n) {
+        Part::Raw(source) => push_source(text, source, call),
+        Part::Escaped(source) => text.push(&escaped(alloc, source, call)?),
+    }
+}
+
+fn escaped(alloc: Global, source: &Source, call: &CallIn) -> Result<Text, AllocError>
+    ensures { IfOk result (λ t. t ≡ escaped (source_text call.now source.now)) }
+{
+    let mut raw = Text::new(alloc);
+    push_source(&mut raw, source, call)?;
+    Text::from_string(esc_html(alloc, raw.as_str())?)
+}
+
+fn push_source(text: &mut Text, source: &Source, call: &CallIn) -> Result<(), AllocError>
+    ensures { OnOk result (text.new ≡ text.old ++ source_text call.now source.now) }
+{
+    match source {
+        Source::Arg(n) => match call.args.as_slice().get(*n) {
             None => Ok(()),
             Some(t) => text.push(t),
         },
-        Part::Att(key) => match call.atts.get(key) {
+        Source::Att(key) => match call.atts.get(key) {
             None => Ok(()),
             Some(value) => text.push_str(value),
         },
-        Part::Content => text.push(&call.content),
-        Part::Tag => text.push(&call.tag),
-        Part::Value => text.push(&call.value),
-        Part::Last => text.push(&call.last),
+        Source::Content => text.push(&call.content),
+        Source::Tag => text.push(&call.tag),
+        Source::Value => text.push(&call.value),
+        Source::Last => text.push(&call.last),
     }
 }

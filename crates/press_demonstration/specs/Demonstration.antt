@@ -2,7 +2,8 @@
 -- sets an option, and two shortcodes (own).
 use Rattle.std.specs.Prelude.{ℕ, pos, List, [], ◌∷◌, ◌++◌, map, codes}
 use Rattle.press_scan.specs.declared.att_key.AttKey.TheVariants.{Name}
-use Rattle.press_callbacks.specs.declared.script.Part.TheVariants.{Arg, Lit, Att, Content, Value, Last}
+use Rattle.press_callbacks.specs.declared.script.Source.TheVariants.{Arg, Att, Content, Value, Last}
+use Rattle.press_callbacks.specs.declared.script.Part.TheVariants.{Lit, Raw}
 use Rattle.press_callbacks.specs.declared.script.Op.{Op}
 use Rattle.press_callbacks.specs.declared.script.Op.TheVariants.{Set, AddHook, Apply, SetOption, Shortcodes, Return}
 use Rattle.press_callbacks.specs.declared.plugin.Plugin.{Plugin}
@@ -13,7 +14,7 @@ use Rattle.press_callbacks.specs.Kits.{Scripts, KitView, view_of}
 
 -- the step that appends a text to the value, and the script of that step alone
 abbrev pub append : List ℕ → Op
-append text = Set (Value ∷ Lit text ∷ [])
+append text = Set (Raw Value ∷ Lit text ∷ [])
 
 abbrev pub appending : List ℕ → List Op
 appending text = append text ∷ []
@@ -29,19 +30,19 @@ growing =
 
 -- greets the one that the attribute `name` names
 abbrev pub greeting : List Op
-greeting = Return (Lit (codes "Hello ") ∷ (Att (Name (codes "name")) ∷ [])) ∷ []
+greeting = Return (Lit (codes "Hello ") ∷ (Raw (Att (Name (codes "name"))) ∷ [])) ∷ []
 
 -- has the shortcodes of its content answered, in a box
 abbrev pub boxing : List Op
-boxing = Shortcodes (Content ∷ []) ∷ (Return (Lit (codes "<div>") ∷ (Last ∷ (Lit (codes "</div>") ∷ []))) ∷ [])
+boxing = Shortcodes (Raw Content ∷ []) ∷ (Return (Lit (codes "<div>") ∷ (Raw Last ∷ (Lit (codes "</div>") ∷ []))) ∷ [])
 
 -- runs a filter on its value, and answers what that gave
 abbrev pub running : List ℕ → List Op
-running hook = Apply hook (Value ∷ []) [] ∷ (Return (Last ∷ []) ∷ [])
+running hook = Apply hook (Raw Value ∷ []) [] ∷ (Return (Raw Last ∷ []) ∷ [])
 
 -- keeps its first argument as an option
 abbrev pub noting : List Op
-noting = SetOption (codes "last_saved") (Arg 0 ∷ []) ∷ []
+noting = SetOption (codes "last_saved") (Raw (Arg 0) ∷ []) ∷ []
 
 -- the callbacks whose closures play their scripts
 abbrev pub letters : Scripts

@@ -6,7 +6,7 @@ ghost use Rattle.press_demonstration.specs.Demonstration as spec;
 
 use crate::names::{callback_named, last_saved};
 use crate::scripted::Scripted;
-use press_callbacks::{Op, Part, Script};
+use press_callbacks::{Op, Part, Script, Source};
 use press_scan::AttKey;
 use press_text::{HookName, Items, Text};
 use std::alloc::{AllocError, Global};
@@ -114,10 +114,10 @@ fn running(alloc: Global, hook: &str) -> Result<Script, AllocError>
 {
     let apply = Op::Apply {
         hook: HookName::from_valid(alloc, hook)?,
-        value: Items::from_vec(vec![in alloc; Part::Value]?),
+        value: Items::from_vec(vec![in alloc; Part::Raw(Source::Value)]?),
         more: Items::new(alloc),
     };
-    let answer = Op::Return(Items::from_vec(vec![in alloc; Part::Last]?));
+    let answer = Op::Return(Items::from_vec(vec![in alloc; Part::Raw(Source::Last)]?));
     Ok(Items::from_vec(vec![in alloc; apply, answer]?))
 }
 
@@ -140,7 +140,7 @@ fn noting(alloc: Global) -> Result<Script, AllocError>
 {
     let set = Op::SetOption {
         name: last_saved(alloc)?,
-        value: Items::from_vec(vec![in alloc; Part::Arg(0)]?),
+        value: Items::from_vec(vec![in alloc; Part::Raw(Source::Arg(0))]?),
     };
     Ok(Items::from_vec(vec![in alloc; set]?))
 }
@@ -163,7 +163,7 @@ fn greeting(alloc: Global) -> Result<Script, AllocError>
     ensures { IfOk result (λ s. s ≡ spec.greeting) }
 {
     let hello = Part::Lit(Text::from_str(alloc, "Hello ")?);
-    let name = Part::Att(AttKey::Name(Text::from_str(alloc, "name")?));
+    let name = Part::Raw(Source::Att(AttKey::Name(Text::from_str(alloc, "name")?)));
     let answer = Op::Return(Items::from_vec(vec![in alloc; hello, name]?));
     Ok(Items::from_vec(vec![in alloc; answer]?))
 }
@@ -185,10 +185,10 @@ fn box_of_content(alloc: Global) -> Result<Scripted, AllocError>
 fn boxing(alloc: Global) -> Result<Script, AllocError>
     ensures { IfOk result (λ s. s ≡ spec.boxing) }
 {
-    let content = Op::Shortcodes(Items::from_vec(vec![in alloc; Part::Content]?));
+    let content = Op::Shortcodes(Items::from_vec(vec![in alloc; Part::Raw(Source::Content)]?));
     let begin = Part::Lit(Text::from_str(alloc, "<div>")?);
     let end = Part::Lit(Text::from_str(alloc, "</div>")?);
-    let answer = Op::Return(Items::from_vec(vec![in alloc; begin, Part::Last, end]?));
+    let answer = Op::Return(Items::from_vec(vec![in alloc; begin, Part::Raw(Source::Last), end]?));
     Ok(Items::from_vec(vec![in alloc; content, answer]?))
 }
 
@@ -218,6 +218,6 @@ pub fn append(alloc: Global, text: &str) -> Result<Op, AllocError>
     ensures { IfOk result (λ o. o ≡ spec.append text.now) }
 {
     let lit = Text::from_str(alloc, text)?;
-    let parts = vec![in alloc; Part::Value, Part::Lit(lit)]?;
+    let parts = vec![in alloc; Part::Raw(Source::Value), Part::Lit(lit)]?;
     Ok(Op::Set(Items::from_vec(parts)))
 }

@@ -9,8 +9,10 @@ use Rattle.press_scan.specs.declared.att_key.AttKey.{AttKey}
 use Rattle.press_scan.specs.declared.att_key.AttKey.TheVariants.{Name, Place as Numbered}
 use Rattle.press_text.specs.declared.every.Every.{Every}
 use Rattle.press_text.specs.declared.every.Every.TheVariants.{Once, Hourly, TwiceDaily, Daily}
+use Rattle.press_callbacks.specs.declared.script.Source.{Source}
+use Rattle.press_callbacks.specs.declared.script.Source.TheVariants.{Arg, Att, Content, Tag, Value, Last}
 use Rattle.press_callbacks.specs.declared.script.Part.{Part}
-use Rattle.press_callbacks.specs.declared.script.Part.TheVariants.{Lit, Arg, Att, Content, Tag, Value, Last}
+use Rattle.press_callbacks.specs.declared.script.Part.TheVariants.{Lit, Raw, Escaped}
 use Rattle.press_callbacks.specs.declared.script.Ask.TheVariants as ask
 use Rattle.press_callbacks.specs.declared.script.Op.{Op}
 use Rattle.press_callbacks.specs.declared.script.Op.TheVariants as op
@@ -43,7 +45,7 @@ file_in bytes = if nat_le (length bytes) file_limit then or_bad place.File (json
 -- ---- parts of a text
 
 -- what a part may be taken from
-abbrev pub source_of : List ℕ → Option Part
+abbrev pub source_of : List ℕ → Option Source
 source_of name =
     if bytes_eq name (codes "content") then Some Content else
     (if bytes_eq name (codes "tag") then Some Tag else
@@ -58,21 +60,31 @@ att_key_where None n = option_map Numbered (option_and_then (below (2 ^ 32)) n)
 abbrev pub att_key_of : Data → Option AttKey
 att_key_of d = att_key_where (as_str d) (number_in d)
 
-abbrev pub arg_in : Data → Option Part
+abbrev pub arg_in : Data → Option Source
 arg_in d = option_map Arg (option_and_then number_in (get (codes "arg") d))
 
-abbrev pub att_in : Data → Option Part
+abbrev pub att_in : Data → Option Source
 att_in d = option_map Att (option_and_then att_key_of (get (codes "att") d))
 
-abbrev pub from_in : Data → Option Part
+abbrev pub from_in : Data → Option Source
 from_in d = option_and_then source_of (option_and_then as_str (get (codes "from") d))
 
 -- an object with one key
-abbrev pub keyed_part : Data → Option Part
-keyed_part d =
+unfoldable pub source_in : Data → Option Source
+source_in d =
     if has_only (codes "arg" ∷ []) d then arg_in d else
     (if has_only (codes "att" ∷ []) d then att_in d else
     (if has_only (codes "from" ∷ []) d then from_in d else None))
+
+abbrev pub raw_in : Data → Option Part
+raw_in d = option_map Raw (source_in d)
+
+abbrev pub escaped_in : Data → Option Part
+escaped_in d = option_map Escaped (option_and_then source_in (get (codes "escaped") d))
+
+-- a part that is read of the call, as it is or escaped
+abbrev pub keyed_part : Data → Option Part
+keyed_part d = if has_only (codes "escaped" ∷ []) d then escaped_in d else raw_in d
 
 abbrev pub part_where : Option (List ℕ) → Data → Option Part
 part_where (Some text) d = Some (Lit text)

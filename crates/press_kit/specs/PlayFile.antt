@@ -3,7 +3,7 @@
 -- The key `shows` is for whoever reads the file.
 use Rattle.std.specs.Prelude.{ℕ, ◌^◌, List, [], ◌∷◌, Bool, true, false, nat_lt, ◌&&◌, if◌then◌else◌, Option, Some, None, is_some, option_and_then, Result, Ok, codes}
 use Rattle.serde_json.specs.Data.{Data}
-use Rattle.serde_json.specs.Find.{get, as_str}
+use Rattle.serde_json.specs.Find.{get, as_bool, as_str}
 use Rattle.press_apply.specs.declared.command.Stamped.{Stamped}
 use Rattle.press_page.specs.declared.reply.Target.{Target}
 use Rattle.press_page.specs.Targets.{target_in}
@@ -40,9 +40,13 @@ times_in n = if nat_lt 0 n && nat_lt n (2 ^ 32) then Some n else None
 abbrev pub times_at : Place → Data → Result ℕ Place
 times_at at d = or_bad at (default 1 (λ n. option_and_then times_in (number_in n)) (get (codes "times") d))
 
+-- not where nothing is told
+abbrev pub trace_at : Place → Data → Result Bool Place
+trace_at at d = or_bad at (default false as_bool (get (codes "trace") d))
+
 abbrev pub keys_of : PlayKind → List (List ℕ)
-keys_of Apply = codes "apply" ∷ codes "args" ∷ codes "times" ∷ []
-keys_of Do = codes "do" ∷ codes "args" ∷ codes "times" ∷ []
+keys_of Apply = codes "apply" ∷ codes "args" ∷ codes "times" ∷ codes "trace" ∷ []
+keys_of Do = codes "do" ∷ codes "args" ∷ codes "times" ∷ codes "trace" ∷ []
 
 -- the key at which the hook stands
 abbrev pub hook_key : PlayKind → List ℕ
@@ -59,7 +63,8 @@ play_by kind at d = do
   hook ← name_at 64 at (hook_key kind) whole
   args ← args_at at whole
   times ← times_at at whole
-  Ok (record { kind = kind; hook = hook; args = args; times = times })
+  trace ← trace_at at whole
+  Ok (record { kind = kind; hook = hook; args = args; times = times; trace = trace })
 
 abbrev pub play_of : Place → Data → Result Play Place
 play_of at d = play_by (kind_of d) at d

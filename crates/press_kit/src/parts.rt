@@ -12,44 +12,44 @@ use crate::fault::KitFileFault;
 use crate::fields::{Fields, has_only, list, number32};
 use crate::listed::{Listed, each};
 use crate::place::Place;
-use press_callbacks::{Part, Parts};
+use press_callbacks::{Part, Parts, Source};
 use press_scan::AttKey;
 use press_text::{Items, Text};
 use serde_json::Value;
 use std::alloc::Global;
 
 // What a part is taken from.
-fn source(name: &str) -> Option<Part>
+fn source_of(name: &str) -> Option<Source>
     ensures { result ≡ spec.source_of name.now }
 {
     if name == "content" {
-        Some(Part::Content)
+        Some(Source::Content)
     } else if name == "tag" {
-        Some(Part::Tag)
+        Some(Source::Tag)
     } else if name == "value" {
-        Some(Part::Value)
+        Some(Source::Value)
     } else if name == "last" {
-        Some(Part::Last)
+        Some(Source::Last)
     } else {
         None
     }
 }
 
-fn from_part(value: &Value) -> Option<Part>
+fn from_in(value: &Value) -> Option<Source>
     ensures { result ≡ spec.from_in (view value.now) }
 {
     match value.get("from").and_then(Value::as_str) {
         None => None,
-        Some(name) => source(name),
+        Some(name) => source_of(name),
     }
 }
 
-fn arg_part(value: &Value) -> Option<Part>
+fn arg_in(value: &Value) -> Option<Source>
     ensures { result ≡ spec.arg_in (view value.now) }
 {
     match value.get("arg").and_then(Value::as_u64) {
         None => None,
-        Some(n) => Some(Part::Arg(n as usize)),
+        Some(n) => Some(Source::Arg(n as usize)),
     }
 }
 
@@ -62,25 +62,50 @@ fn att_key(alloc: Global, at: Place, value: &Value) -> Result<AttKey, KitFileFau
     }
 }
 
-fn att_part(alloc: Global, at: Place, value: &Value) -> Result<Part, KitFileFault>
+fn att_in(alloc: Global, at: Place, value: &Value) -> Result<Source, KitFileFault>
     ensures { Gives Refuses Ok result (or_bad at (spec.att_in (view value.now))) }
 {
     let key = value.get("att").ok_or(at)?;
-    Ok(Part::Att(att_key(alloc, at, key)?))
+    Ok(Source::Att(att_key(alloc, at, key)?))
 }
 
-// The part of an object with one key.
+// The source of an object with one key.
+#[tactic(auto, unfolding(crate::specs::KitFile::source_in))]
+fn source_in(alloc: Global, at: Place, value: &Value) -> Result<Source, KitFileFault>
+    ensures { Gives Refuses Ok result (or_bad at (spec.source_in (view value.now))) }
+{
+    if has_only(value, &["arg"]) {
+        Ok(arg_in(value).ok_or(at)?)
+    } else if has_only(value, &["att"]) {
+        att_in(alloc, at, value)
+    } else if has_only(value, &["from"]) {
+        Ok(from_in(value).ok_or(at)?)
+    } else {
+        Err(KitFileFault::BadKitFile(at))
+    }
+}
+
+fn raw_in(alloc: Global, at: Place, value: &Value) -> Result<Part, KitFileFault>
+    ensures { Gives Refuses Ok result (or_bad at (spec.raw_in (view value.now))) }
+{
+    Ok(Part::Raw(source_in(alloc, at, value)?))
+}
+
+fn escaped_in(alloc: Global, at: Place, value: &Value) -> Result<Part, KitFileFault>
+    ensures { Gives Refuses Ok result (or_bad at (spec.escaped_in (view value.now))) }
+{
+    let source = value.get("escaped").ok_or(at)?;
+    Ok(Part::Escaped(source_in(alloc, at, source)?))
+}
+
+// A part that is read of the call.
 fn keyed_part(alloc: Global, at: Place, value: &Value) -> Result<Part, KitFileFault>
     ensures { Gives Refuses Ok result (or_bad at (spec.keyed_part (view value.now))) }
 {
-    if has_only(value, &["arg"]) {
-        Ok(arg_part(value).ok_or(at)?)
-    } else if has_only(value, &["att"]) {
-        att_part(alloc, at, value)
-    } else if has_only(value, &["from"]) {
-        Ok(from_part(value).ok_or(at)?)
+    if has_only(value, &["escaped"]) {
+        escaped_in(alloc, at, value)
     } else {
-        Err(KitFileFault::BadKitFile(at))
+        raw_in(alloc, at, value)
     }
 }
 

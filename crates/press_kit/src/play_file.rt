@@ -37,6 +37,8 @@ pub struct Play {
     pub args: Texts,
     /// How often it is done, at least once.
     pub times: u32,
+    /// Whether the callbacks that it runs are told.
+    pub trace: bool,
 }
 
 /// A kit, the plugins that are active or the commands that make the site, the pages that are shown of it, and what is to be played on it in turn.
@@ -111,12 +113,21 @@ impl<'v> Fields<'v> {
         }
     }
 
+    fn trace(&self) -> Result<bool, KitFileFault>
+        ensures { Gives Refuses Ok result (spec.trace_at self.now.at (view self.now.value.now)) }
+    {
+        match self.value.get("trace") {
+            None => Ok(false),
+            Some(told) => Ok(told.as_bool().ok_or(self.at)?),
+        }
+    }
+
     fn has_play_keys(&self, kind: PlayKind) -> Result<(), KitFileFault>
         ensures { Gives Refuses (λ _. Ok (view self.now.value.now)) result (only self.now.at (spec.keys_of kind) (view self.now.value.now)) }
     {
         match kind {
-            PlayKind::Apply => self.has_only(&["apply", "args", "times"]),
-            PlayKind::Do => self.has_only(&["do", "args", "times"]),
+            PlayKind::Apply => self.has_only(&["apply", "args", "times", "trace"]),
+            PlayKind::Do => self.has_only(&["do", "args", "times", "trace"]),
         }
     }
 
@@ -131,6 +142,7 @@ impl<'v> Fields<'v> {
             hook,
             args: self.args()?,
             times: self.times()?,
+            trace: self.trace()?,
         })
     }
 }

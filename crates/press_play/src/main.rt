@@ -4,8 +4,10 @@
 #![tactic(auto)]
 
 mod answered;
+mod book;
 mod commands;
 mod fault;
+mod journal;
 mod line;
 mod notes;
 mod pages;
@@ -63,6 +65,8 @@ fn play(rt: &HostRuntime, name: &str) -> Result<bool, WriteFault> {
     };
     let fault = play_named(rt, name, &mut notes)?;
     let _ = write_once(&mut rt.stderr(), notes.slips.as_bytes());
+    let told = notes.journal.take_told(rt.alloc());
+    let _ = write_once(&mut rt.stderr(), told.as_bytes());
     match fault {
         None => Ok(true),
         Some(fault) => {

@@ -1,5 +1,6 @@
 //! What the author of a file is told beside its lines.
 
+use crate::journal::Journal;
 use press_kit::{Place, PlayFile, file};
 use press_lint::{active_slips, bad_line, mistake_in, no_json, slips};
 use std::alloc::{AllocError, Global};
@@ -13,6 +14,8 @@ pub struct Notes {
     pub why: String,
     /// A line for each slip.
     pub slips: String,
+    /// What the plays do.
+    pub journal: Journal,
 }
 
 // What is told of a file that is bad at a place.
@@ -33,6 +36,7 @@ impl Notes {
             front: format!(in alloc; "press_play: warning in {name}: ")?,
             why: String::new(alloc),
             slips: String::new(alloc),
+            journal: Journal::new(alloc, name)?,
         })
     }
 

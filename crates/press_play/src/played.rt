@@ -10,12 +10,13 @@ ghost use Rattle.press_play.specs.Played.{Refuses, all_lines, file_where, played
 
 use crate::commands::commands_on;
 use crate::fault::PlayFault;
+use crate::journal::Journal;
 use crate::notes::Notes;
 use crate::pages::pages_on;
 use crate::plays::lines_of;
 use crate::sites::site_with;
 use press_apply::Stamped;
-use press_callbacks::{BoxedTurns, CallIn, Kit, Stored, script_turn};
+use press_callbacks::{BoxedTurns, CallIn, Kit, Stored};
 use press_kit::{FILE_LIMIT, KitFileFault, KitParts, Place, Play, PlayFile, read_play_file};
 use press_page::Target;
 use press_site::Site;
@@ -67,7 +68,7 @@ impl Drop for Asked {
 
 impl Asked {
     // The lines of the commands, and those of the pages and plays on the site after them.
-    fn lines(self, alloc: Global, kit: &Kit, mut site: Site) -> Result<String, AllocError>
+    fn lines(self, journal: &Journal, kit: &Kit, mut site: Site) -> Result<String, AllocError>
         ensures { IfOk result (λ t. string_bytes t
             ≡ all_lines (kit_view kit.now) site self.commands self.pages self.plays) }
     {
@@ -76,19 +77,21 @@ impl Asked {
             pages,
             plays,
         } = self;
+        let alloc = journal.alloc();
         let mut lines = commands_on(alloc, kit, &mut site, commands)?;
         let mut shown = pages_on(alloc, kit, &site, pages)?;
-        let played = lines_of(alloc, kit, site, plays.as_slice())?;
+        let played = lines_of(journal, kit, site, plays.as_slice())?;
         shown.push_str(played.as_str())?;
         lines.push_str(shown.as_str())?;
         Ok(lines)
     }
 }
 
-// The lines of a play file. The kit's closures are boxed here: a box may not be handed out.
-fn lines(alloc: Global, file: PlayFile) -> Result<String, PlayFault>
+// The lines of a play file. The kit's closures, which note what they ask, are boxed here: a box may not be handed out.
+fn lines(journal: &Journal, file: PlayFile) -> Result<String, PlayFault>
     ensures { Gives Refuses (λ t. Ok (string_bytes t)) result (played file) }
 {
+    let alloc = journal.alloc();
     let PlayFile {
         kit,
         active,
@@ -103,11 +106,10 @@ fn lines(alloc: Global, file: PlayFile) -> Result<String, PlayFault>
     let mut callbacks: Vec<Stored> = Vec::new(alloc);
     for scripted in parts.into_vec() {
         let own = scripted.script.copied(alloc)?;
-        let call: BoxedTurns = Box::new(
-            alloc,
-            move |input: &CallIn| script_turn(alloc, &own, input),
-        )?;
-        callbacks.push(Stored::new(scripted.id, scripted.script, call))?;
+        let id = scripted.id;
+        let noted = journal.copy()?;
+        let call: BoxedTurns = Box::new(alloc, move |input: &CallIn| noted.turn(id, &own, input))?;
+        callbacks.push(Stored::new(id, scripted.script, call))?;
     }
     let kit = Kit::build(alloc, callbacks, plugins.into_vec())?;
     let site = site_with(alloc, active)?;
@@ -116,7 +118,7 @@ fn lines(alloc: Global, file: PlayFile) -> Result<String, PlayFault>
         pages,
         plays,
     };
-    let lines = asked.lines(alloc, &kit, site)?;
+    let lines = asked.lines(journal, &kit, site)?;
     Ok(lines)
 }
 
@@ -132,5 +134,5 @@ pub fn read_lines<R: Read>(
         (λ input. Gives Refuses (λ t. Ok (string_bytes t)) result (played_in input)) }
 {
     let file = file(alloc, reader, notes)?;
-    lines(alloc, file)
+    lines(&notes.journal, file)
 }

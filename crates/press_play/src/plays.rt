@@ -7,46 +7,56 @@ ghost use Rattle.press_run.specs.Boot.{booted_with};
 ghost use Rattle.press_run.specs.Outcome.{job_meaning, started};
 ghost use Rattle.press_play.specs.Lines.{Plays, job_of, lines, state_in};
 
+use crate::journal::Journal;
 use crate::line::{answer_line, limit_line};
 use press_callbacks::Kit;
 use press_kit::{Play, PlayKind};
 use press_posts::Fire;
 use press_run::{Job, RunFault, Stage};
 use press_site::Site;
-use press_text::Items;
+use press_text::{HookName, Items, Texts};
 use std::alloc::{AllocError, Global};
+use std::mem;
 
 /// The stage as the plays so far left it, and their lines.
-#[derive(Debug)]
-struct Playing {
+struct Playing<'j> {
     alloc: Global,
     stage: Stage<Site>,
     lines: String,
+    journal: &'j Journal,
 }
 
-impl Drop for Playing {
+impl<'j> Drop for Playing<'j> {
     fn drop(self) {
         let Playing {
             alloc: _,
             stage: _,
             lines: _,
+            journal: _,
         } = self;
     }
 }
 
-impl Playing {
+// The content that a page has, on which the machine has a callback of its own.
+fn the_content(alloc: Global) -> Result<HookName, AllocError> {
+    HookName::from_valid(alloc, "the_content")
+}
+
+impl<'j> Playing<'j> {
     // A fresh boot of the site, and no line.
-    fn new(alloc: Global, kit: &Kit, site: Site) -> Result<Playing, AllocError>
+    fn new(journal: &'j Journal, kit: &Kit, site: Site) -> Result<Playing<'j>, AllocError>
         ensures started { IfOk result (λ p. state_in p.stage
             ≡ started (booted_with (plugins_in kit.now) site.active) site) }
         ensures lines { IfOk result (λ p. string_bytes p.lines ≡ []) }
     {
+        let alloc = journal.alloc();
         let stage = Stage::new(alloc, kit, site)?;
         let lines = String::new(alloc);
         Ok(Playing {
             alloc,
             stage,
             lines,
+            journal,
         })
     }
 
@@ -61,6 +71,16 @@ impl Playing {
         Ok(())
     }
 
+    // Whether no step is left behind a limit: the machine is asked for one more, on a stage without plugins. No clause says what a limit leaves of the machine, and nothing but a note rests on it.
+    fn is_spent(&mut self, kit: &Kit) -> Result<bool, AllocError> {
+        let mut bare = Stage::new(self.alloc, kit, Site::new(self.alloc))?;
+        mem::swap(&mut bare.machine, &mut self.stage.machine);
+        let hook = the_content(self.alloc)?;
+        let args = Texts::new(self.alloc);
+        let asked = bare.run(kit, Job::Apply { hook, args });
+        Ok(matches!(asked, Err(RunFault::Limit)))
+    }
+
     // One play, whose line is put at the end; whether the plays go on.
     fn play(&mut self, kit: &Kit, play: &Play) -> Result<bool, AllocError>
         ensures { Plays
@@ -68,8 +88,10 @@ impl Playing {
             (state_in self.new.stage)
             (string_bytes self.old.lines) (string_bytes self.new.lines) result }
     {
+        self.journal.begin(play);
         match self.stage.run(kit, job(self.alloc, play)?) {
             Ok(text) => {
+                self.journal.end(play);
                 let line = answer_line(self.alloc, text.as_str(), self.stage.out.as_str())?;
                 self.lines.push_str(line.as_str())?;
                 Ok(true)
@@ -77,6 +99,9 @@ impl Playing {
             Err(RunFault::Limit) => {
                 let line = limit_line(self.alloc)?;
                 self.lines.push_str(line.as_str())?;
+                let is_spent = self.is_spent(kit)?;
+                self.journal.limit(is_spent);
+                self.journal.end(play);
                 Ok(false)
             }
             Err(RunFault::NoMemory) => Err(AllocError),
@@ -90,6 +115,7 @@ impl Playing {
             alloc: _,
             stage: _,
             lines,
+            journal: _,
         } = self;
         lines
     }
@@ -109,12 +135,17 @@ fn job(alloc: Global, play: &Play) -> Result<Job, AllocError>
     }
 }
 
-/// The lines of the plays on a fresh boot of the site.
-pub fn lines_of(alloc: Global, kit: &Kit, site: Site, plays: &[Play]) -> Result<String, AllocError>
+/// The lines of the plays on a fresh boot of the site; what is told of them beside goes to the journal.
+pub fn lines_of(
+    journal: &Journal,
+    kit: &Kit,
+    site: Site,
+    plays: &[Play],
+) -> Result<String, AllocError>
     ensures { IfOk result (λ t. string_bytes t ≡ lines (scripts_in kit.now) plays.now
         (started (booted_with (plugins_in kit.now) site.active) site)) }
 {
-    let mut playing = Playing::new(alloc, kit, site)?;
+    let mut playing = Playing::new(journal, kit, site)?;
     for play in plays {
         playing.rehearse(kit, play)?;
         if !playing.play(kit, play)? {

@@ -5,7 +5,8 @@ use Rattle.press_hooks.specs.HookRows.{add_row, remove_row, remove_rows, has_row
 use Rattle.press_callbacks.specs.declared.script.Op.{Op}
 use Rattle.press_callbacks.specs.declared.script.Op.TheVariants as op
 use Rattle.press_callbacks.specs.declared.script.Ask.TheVariants as ask
-use Rattle.press_callbacks.specs.declared.script.Part.TheVariants.{Lit, Att, Content, Value, Last}
+use Rattle.press_callbacks.specs.declared.script.Source.TheVariants.{Att, Content, Value, Last}
+use Rattle.press_callbacks.specs.declared.script.Part.TheVariants.{Lit, Raw, Escaped}
 use Rattle.press_callbacks.specs.Kits.{Scripts}
 use Rattle.press_scan.specs.declared.tag_row.TagRow.{TagRow}
 use Rattle.press_scan.specs.declared.att_key.AttKey.TheVariants as key
@@ -20,7 +21,7 @@ abbrev title : List ℕ
 title = codes "the_title"
 
 abbrev appends : List ℕ → Op
-appends letter = op.Set (Value ∷ Lit letter ∷ [])
+appends letter = op.Set (Raw Value ∷ Lit letter ∷ [])
 
 -- callbacks and their scripts
 abbrev a : List ℕ
@@ -161,7 +162,7 @@ ping = codes "ping"
 
 abbrev asking : Scripts
 asking =
-    (a, op.Do ping [] ∷ op.Do ping [] ∷ op.Ask (ask.Doing ping) ∷ op.Set (Value ∷ Last ∷ []) ∷ op.Ask (ask.Doing title) ∷ op.Set (Value ∷ Last ∷ []) ∷ [])
+    (a, op.Do ping [] ∷ op.Do ping [] ∷ op.Ask (ask.Doing ping) ∷ op.Set (Raw Value ∷ Raw Last ∷ []) ∷ op.Ask (ask.Doing title) ∷ op.Set (Raw Value ∷ Raw Last ∷ []) ∷ [])
     ∷ []
 
 pub asked : text_by asking a_alone ≡ Some (codes "x1")
@@ -176,14 +177,14 @@ counted = refl
 -- ---- again: a applies its own hook; and the same while its value has fewer than 32 letters, one for each open callback
 
 abbrev applying : Scripts
-applying = (a, op.Apply title (Value ∷ []) [] ∷ op.Return (Last ∷ []) ∷ []) ∷ []
+applying = (a, op.Apply title (Raw Value ∷ []) [] ∷ op.Return (Raw Last ∷ []) ∷ []) ∷ []
 
 pub at_limit : text_by applying a_alone ≡ None
 unfolding run_entries play at_depth do_fires
 at_limit = refl
 
 abbrev applying_until : List ℕ → Scripts
-applying_until letters = (a, op.SkipIf (Value ∷ []) (Lit letters ∷ []) 2 ∷ op.Apply title (Value ∷ Lit (codes "a") ∷ []) [] ∷ op.Return (Last ∷ []) ∷ []) ∷ []
+applying_until letters = (a, op.SkipIf (Raw Value ∷ []) (Lit letters ∷ []) 2 ∷ op.Apply title (Raw Value ∷ Lit (codes "a") ∷ []) [] ∷ op.Return (Raw Last ∷ []) ∷ []) ∷ []
 
 pub open_32 : option_map (λ (w : Answer). w.text) (applied (applying_until (codes "aaaaaaaaaaaaaaaaaaaaaaaaaaaaaaaa")) (codes "a") a_alone) ≡ Some (codes "aaaaaaaaaaaaaaaaaaaaaaaaaaaaaaaa")
 unfolding run_entries play at_depth do_fires
@@ -245,7 +246,7 @@ removed_tag = refl
 -- ---- attribute-tokens: a tag that shows two of its attributes
 
 abbrev show_atts : Scripts
-show_atts = (codes "say_t", op.Return (Att (key.Name (codes "x")) ∷ Lit (codes ",") ∷ Att (key.Place 0) ∷ []) ∷ []) ∷ []
+show_atts = (codes "say_t", op.Return (Raw (Att (key.Name (codes "x"))) ∷ Lit (codes ",") ∷ Raw (Att (key.Place 0)) ∷ []) ∷ []) ∷ []
 
 pub last_value : meant show_atts with_t (codes "[t x=1 x=\"2\" y X='3']") ≡ Some (codes "3,y")
 unfolding run_entries play at_depth scan_from shortcode_from attributes_of
@@ -268,8 +269,8 @@ slashes = refl
 
 abbrev boxes : Scripts
 boxes =
-    (codes "greet", op.Return (Lit (codes "Hello ") ∷ Att (key.Name (codes "name")) ∷ []) ∷ [])
-    ∷ (codes "box", op.Shortcodes (Content ∷ []) ∷ op.Return (Lit (codes "<div>") ∷ Last ∷ Lit (codes "</div>") ∷ []) ∷ []) ∷ []
+    (codes "greet", op.Return (Lit (codes "Hello ") ∷ Raw (Att (key.Name (codes "name"))) ∷ []) ∷ [])
+    ∷ (codes "box", op.Shortcodes (Raw Content ∷ []) ∷ op.Return (Lit (codes "<div>") ∷ Raw Last ∷ Lit (codes "</div>") ∷ []) ∷ []) ∷ []
 
 abbrev box_tags : List TagRow
 box_tags = add_tag (codes "box") (codes "box") (add_tag (codes "greet") (codes "greet") [])

@@ -4,8 +4,9 @@ ghost use Rattle.std.specs.Prelude.{◌≡◌, ◌∷◌, [], IfOk};
 ghost use Rattle.press_callbacks.specs.Turns.{turn_of};
 ghost use Rattle.press_callbacks.specs.declared.script.Op.TheVariants as op;
 ghost use Rattle.press_callbacks.specs.declared.script.Part.TheVariants as part;
+ghost use Rattle.press_callbacks.specs.declared.script.Source.TheVariants as source;
 
-use press_callbacks::{CallIn, Load, Op, Part, Plugin, Script, Stored, Turn, script_turn};
+use press_callbacks::{CallIn, Load, Op, Part, Plugin, Script, Source, Stored, Turn, script_turn};
 use press_scan::attributes;
 use press_text::{CallbackId, HookName, Items, Name, Text, Texts};
 use std::alloc::{AllocError, Global};
@@ -14,10 +15,10 @@ use std::test::Fail;
 
 /// The script that appends a text to its value.
 pub fn appending(alloc: Global, text: &str) -> Result<Script, AllocError>
-    ensures { IfOk result (λ s. s ≡ op.Set (part.Value ∷ (part.Lit text.now ∷ [])) ∷ []) }
+    ensures { IfOk result (λ s. s ≡ op.Set (part.Raw source.Value ∷ (part.Lit text.now ∷ [])) ∷ []) }
 {
     let lit = Text::from_str(alloc, text)?;
-    let parts = vec![in alloc; Part::Value, Part::Lit(lit)]?;
+    let parts = vec![in alloc; Part::Raw(Source::Value), Part::Lit(lit)]?;
     let set = Op::Set(Items::from_vec(parts));
     Ok(Items::from_vec(vec![in alloc; set]?))
 }

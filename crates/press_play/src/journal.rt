@@ -1,0 +1,173 @@
+//! What the callbacks of plays do, as their closures note it: it is told on the errors, and nothing else rests on it.
+
+ghost use Rattle.std.specs.Prelude.{◌≡◌, IfOk};
+ghost use Rattle.press_callbacks.specs.Turns.{turn_of};
+
+use crate::book::Book;
+use press_callbacks::{CallIn, Script, Turn, script_turn};
+use press_kit::Play;
+use press_text::CallbackId;
+use std::alloc::{AllocError, Global};
+use std::cell::RefCell;
+use std::mem;
+use std::rc::Rc;
+
+// The plays of a file.
+struct Plays {
+    alloc: Global,
+    file: String,
+    // How many have ended.
+    ended: usize,
+    // The one that is watched; none while a play is done for its time alone, or where memory was wanting.
+    book: Option<Book>,
+    // A line for each thing told.
+    told: String,
+}
+
+impl Drop for Plays {
+    fn drop(self) {
+        let Plays {
+            alloc: _,
+            file: _,
+            ended: _,
+            book: _,
+            told: _,
+        } = self;
+    }
+}
+
+impl Plays {
+    fn begin(&mut self, play: &Play) {
+        let mut bytes = 0usize;
+        for arg in play.args.as_slice() {
+            bytes = bytes.saturating_add(arg.len());
+        }
+        self.book = Some(Book::new(self.alloc, bytes));
+    }
+
+    fn note(&mut self, id: CallbackId, call: &CallIn, turn: &Turn) {
+        let noted = match &mut self.book {
+            None => Ok(()),
+            Some(book) => book.note(id, call, turn),
+        };
+        if noted.is_err() {
+            self.book = None;
+        }
+    }
+
+    // The front of a line on the play.
+    fn front(&self, what: &str) -> Result<String, AllocError> {
+        let (file, n) = (self.file.as_str(), self.ended);
+        format!(in self.alloc; "press_play: {what} in {file}: plays[{n}]: ")
+    }
+
+    fn limit(&mut self, is_spent: bool) -> Result<(), AllocError> {
+        let mut line = self.front("limit")?;
+        if let Some(book) = &mut self.book {
+            let why = book.limit(is_spent)?;
+            line.push_str(why.as_str())?;
+            line.push_str("\n")?;
+            self.told.push_str(line.as_str())?;
+        }
+        Ok(())
+    }
+
+    fn trace(&mut self) -> Result<(), AllocError> {
+        let front = self.front("trace")?;
+        if let Some(book) = &mut self.book {
+            book.settle();
+            let lines = book.trace(front.as_str())?;
+            self.told.push_str(lines.as_str())?;
+        }
+        Ok(())
+    }
+
+    fn end(&mut self) {
+        self.book = None;
+        self.ended = self.ended.saturating_add(1);
+    }
+}
+
+/// Where the closures of a kit note what they ask. What can't be told for want of memory is left out.
+pub struct Journal {
+    alloc: Global,
+    plays: Rc<RefCell<Plays>>,
+}
+
+impl Drop for Journal {
+    fn drop(self) {
+        let Journal { alloc: _, plays: _ } = self;
+    }
+}
+
+impl Journal {
+    /// No play yet, of the file of that name.
+    pub fn new(alloc: Global, name: &str) -> Result<Journal, AllocError> {
+        let plays = Plays {
+            alloc,
+            file: String::from_str(alloc, name)?,
+            ended: 0,
+            book: None,
+            told: String::new(alloc),
+        };
+        Ok(Journal {
+            alloc,
+            plays: Rc::new(alloc, RefCell::new(plays))?,
+        })
+    }
+
+    pub fn alloc(&self) -> Global {
+        self.alloc
+    }
+
+    /// Leads to the same notes.
+    pub fn copy(&self) -> Result<Journal, AllocError> {
+        Ok(Journal {
+            alloc: self.alloc,
+            plays: self.plays.clone()?,
+        })
+    }
+
+    /// The turn of a callback's script on a call, which is noted.
+    pub fn turn(&self, id: CallbackId, script: &Script, call: &CallIn) -> Result<Turn, AllocError>
+        ensures { IfOk result (λ t. t ≡ turn_of script.now call.now) }
+    {
+        let turn = script_turn(self.alloc, script, call)?;
+        if let Ok(mut plays) = self.plays.try_borrow_mut() {
+            plays.note(id, call, &turn);
+        }
+        Ok(turn)
+    }
+
+    /// A play begins.
+    pub fn begin(&self, play: &Play) {
+        if let Ok(mut plays) = self.plays.try_borrow_mut() {
+            plays.begin(play);
+        }
+    }
+
+    /// The play met a limit; whether no step was left to it.
+    pub fn limit(&self, is_spent: bool) {
+        if let Ok(mut plays) = self.plays.try_borrow_mut() {
+            let _ = plays.limit(is_spent);
+        }
+    }
+
+    /// The play is done: it is told, where it asks for it.
+    pub fn end(&self, play: &Play) {
+        if let Ok(mut plays) = self.plays.try_borrow_mut() {
+            if play.trace {
+                let _ = plays.trace();
+            }
+            plays.end();
+        }
+    }
+
+    /// The lines told so far, which are then told no more.
+    pub fn take_told(&self, alloc: Global) -> String {
+        match self.plays.try_borrow_mut() {
+            Ok(mut plays) => mem::replace(&mut plays.told, String::new(alloc)),
+            Err(_) => String::new(alloc),
+        }
+    }
+}
