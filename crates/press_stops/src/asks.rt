@@ -73,11 +73,7 @@ fn vote_line(alloc: Global, last: Option<Slot>) -> Result<String, AllocError> {
 }
 
 // The line of what came of it.
-fn asked<D: Alter>(
-    alloc: Global,
-    store: &mut SqlStore<D>,
-    ask: Ask,
-) -> Result<String, AllocError> {
+fn asked<D: Alter>(alloc: Global, store: &mut SqlStore<D>, ask: Ask) -> Result<String, AllocError> {
     match ask {
         Ask::LastVote => match store.last_vote() {
             Ok(last) => vote_line(alloc, last),
