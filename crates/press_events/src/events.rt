@@ -166,7 +166,8 @@ fn place_among(events: &[Event], event: &Event) -> Option<usize>
 // Where the earlier events end, by halves.
 fn start_of(events: &[Event], time: Moment) -> usize
     requires { IsByTime events.now }
-    ensures parts { IsPartitionPoint (λ e. is_earlier time e ≡ true) (λ e. is_earlier time e ≡ false) events.now result }
+    ensures parts { IsPartitionPoint (λ e. is_earlier time e ≡ true)
+        (λ e. is_earlier time e ≡ false) events.now result }
     ensures within { result ≤ length events.now }
 {
     events.partition_point(|e| e.is_earlier(time))
@@ -176,7 +177,8 @@ fn start_of(events: &[Event], time: Moment) -> usize
 fn place_in(events: &[Event], time: Moment) -> usize
     requires { IsByTime events.now }
     ensures place { result ≡ place_in time events.now }
-    ensures parts { IsPartitionPoint (λ e. is_later time e ≡ false) (λ e. is_later time e ≡ true) events.now result }
+    ensures parts { IsPartitionPoint (λ e. is_later time e ≡ false)
+        (λ e. is_later time e ≡ true) events.now result }
     ensures within { result ≤ length events.now }
 {
     events.partition_point(|e| !e.is_later(time))

@@ -4,20 +4,24 @@ ghost use Rattle.press_events.specs.DueEvents.{HasEachOnce, IsLeastAfter, add_ev
 
 /// A recurring event comes again at the first moment after now that is one interval or more behind its time, counted in whole intervals.
 pub fn comes_again_first()
-    ensures { (interval time now : ℕ) → 0 < interval → IsLeastAfter interval time now (moment_after interval time now) }
+    ensures { (interval time now : ℕ) → 0 < interval
+        → IsLeastAfter interval time now (moment_after interval time now) }
 {}
 
 /// Of events that have each identity once, scheduling one more leaves each once.
 pub fn schedules_each_once()
-    ensures { (event : Event) (events : List Event) → HasEachOnce events → IfOk (add_event event events) (λ after. HasEachOnce after.0) }
+    ensures { (event : Event) (events : List Event) → HasEachOnce events
+        → IfOk (add_event event events) (λ after. HasEachOnce after.0) }
 {}
 
 /// Of events that have each identity once, taking one leaves each once.
 pub fn takes_each_once()
-    ensures { (event : Event) (now : ℕ) (events : List Event) → HasEachOnce events → HasEachOnce (take_event event now events) }
+    ensures { (event : Event) (now : ℕ) (events : List Event) → HasEachOnce events
+        → HasEachOnce (take_event event now events) }
 {}
 
 /// Where at most 4,096 events stand, no more do after one more is scheduled.
 pub fn schedules_few()
-    ensures { (event : Event) (events : List Event) → length events ≤ 4096 → IfOk (add_event event events) (λ after. length after.0 ≤ 4096) }
+    ensures { (event : Event) (events : List Event) → length events ≤ 4096
+        → IfOk (add_event event events) (λ after. length after.0 ≤ 4096) }
 {}

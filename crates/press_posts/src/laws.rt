@@ -18,10 +18,12 @@ pub fn published_once()
 
 /// A change leaves posts with the ids of their places.
 pub fn changes_keep_ids()
-    ensures { (posts : List (Option Post)) (change : Change) (now : ℕ) → HaveIds posts → IfOk (post_change posts change now) (λ c. HaveIds c.posts) }
+    ensures { (posts : List (Option Post)) (change : Change) (now : ℕ) → HaveIds posts
+        → IfOk (post_change posts change now) (λ c. HaveIds c.posts) }
 {}
 
 /// A change that is done is taken back by its id and the post that stood there before it: by none after an insert.
 pub fn changes_are_taken_back()
-    ensures { (posts : List (Option Post)) (change : Change) (now : ℕ) → IfOk (post_change posts change now) (IsTakenBack change posts) }
+    ensures { (posts : List (Option Post)) (change : Change) (now : ℕ)
+        → IfOk (post_change posts change now) (IsTakenBack change posts) }
 {}

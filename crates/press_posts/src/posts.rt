@@ -81,7 +81,8 @@ impl Posts {
         date: Moment,
         now: Moment,
     ) -> Result<(u64, Items<Fire>), PostFault>
-        ensures { Changes (λ c. (c.id, c.fires)) result (post_change self.old (Insert title content status date) now) self.old self.new }
+        ensures { Changes (λ c. (c.id, c.fires)) result
+            (post_change self.old (Insert title content status date) now) self.old self.new }
     {
         if let Some(fault) = self.insert_fault(title.as_str(), content.as_str(), status) {
             return Err(fault);
@@ -109,7 +110,8 @@ impl Posts {
         date: Moment,
         now: Moment,
     ) -> Result<Items<Fire>, PostFault>
-        ensures { Changes (λ c. c.fires) result (post_change self.old (Edit id title content status date) now) self.old self.new }
+        ensures { Changes (λ c. c.fires) result
+            (post_change self.old (Edit id title content status date) now) self.old self.new }
     {
         let Some(post) = self.get(id) else {
             return Err(PostFault::NoSuchPost);
@@ -133,7 +135,8 @@ impl Posts {
 
     /// Another status for a post. PublishDue changes nothing, and fires nothing, where the post isn't future and due.
     pub fn set_status(&mut self, id: u64, to: Move) -> Result<Items<Fire>, PostFault>
-        ensures { (now : ℕ) → Changes (λ c. c.fires) result (post_change self.old (Moves id to) now) self.old self.new }
+        ensures { (now : ℕ) → Changes (λ c. c.fires) result
+            (post_change self.old (Moves id to) now) self.old self.new }
     {
         let Some(post) = self.get(id) else {
             return Err(PostFault::NoSuchPost);
@@ -147,7 +150,8 @@ impl Posts {
 
     /// Takes a post out of the trash for good.
     pub fn delete(&mut self, id: u64) -> Result<(), PostFault>
-        ensures { (now : ℕ) → Changes (λ _. tt) result (post_change self.old (Delete id) now) self.old self.new }
+        ensures { (now : ℕ) → Changes (λ _. tt) result (post_change self.old (Delete id) now)
+            self.old self.new }
     {
         let Some(post) = self.get(id) else {
             return Err(PostFault::NoSuchPost);
@@ -251,7 +255,8 @@ impl Posts {
     fn turn(&mut self, id: u64, old: Status, status: Status) -> Result<Items<Fire>, AllocError>
         requires { is_some (post_at self.old id) ≡ true }
         ensures fires { IfOk result (λ fs. fs ≡ transition (Some old) status id) }
-        ensures ok { OnOk result (self.new ≡ put_at self.old id (option_map (with_status status) (post_at self.old id))) }
+        ensures ok { OnOk result (self.new ≡ put_at self.old id
+            (option_map (with_status status) (post_at self.old id))) }
         ensures err { OnErr result (self.new ≡ self.old) }
     {
         let fires = transition(self.alloc, Some(old), status, id)?;
