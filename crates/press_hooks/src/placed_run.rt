@@ -1,10 +1,9 @@
 ghost use Rattle.std.specs.Prelude.{◌≡◌, map, None, IfOk, OnOk, OnErr, true};
 ghost use Rattle.press_hooks.specs.NextEntry.{begun, refilled, next_entry, next_run, is_done};
-ghost use Rattle.press_hooks.specs.Hooked.{AreGroups, table_rows};
+ghost use Rattle.press_hooks.specs.Hooked.{table_rows};
 ghost use Rattle.press_hooks.specs.Placed.{IsInPlace, mended};
 
 use crate::entry::Entry;
-use crate::group::Group;
 use crate::groups::count_up_to;
 use crate::open_run::OpenRun;
 use crate::rows::Rows;
@@ -74,23 +73,21 @@ impl PlacedRun {
         Ok(())
     }
 
-    // Puts the cursor where it belongs among these groups, if they are of the run's hook.
-    fn mend(&mut self, hook: &HookName, groups: &[Group])
-        requires { AreGroups groups.now }
-        ensures { self.new ≡ mended hook.now groups.now self.old }
+    // Puts the cursor of a run of that hook where it belongs.
+    fn mend(&mut self, hook: &HookName, rows: &Rows)
+        ensures { self.new ≡ mended hook.now rows.now self.old }
     {
         if self.run.hook.is(hook) {
-            self.cursor = count_up_to(groups, self.run.reached);
+            self.cursor = count_up_to(rows.groups_of(&self.run.hook), self.run.reached);
         }
     }
 }
 
-/// Mends the cursors of the hook's runs after an edit, which left it these groups.
-pub(crate) fn mend_all(runs: &mut Vec<PlacedRun>, hook: &HookName, groups: &[Group])
-    requires { AreGroups groups.now }
-    ensures { runs.new.items ≡ map (mended hook.now groups.now) runs.old.items }
+/// Mends the cursors of the hook's runs after an edit of its rows.
+pub(crate) fn mend_all(runs: &mut Vec<PlacedRun>, hook: &HookName, rows: &Rows)
+    ensures { runs.new.items ≡ map (mended hook.now rows.now) runs.old.items }
 {
     for run in runs.iter_mut() {
-        run.mend(hook, groups);
+        run.mend(hook, rows);
     }
 }
