@@ -6,7 +6,7 @@ use Rattle.std.proofs.lemmas.List.{length-reverse}
 use Rattle.std.proofs.lemmas.Bool.{eqb-true}
 use Rattle.press_hooks.specs.declared.row.Row.{Row}
 use Rattle.press_hooks.specs.declared.open_run.OpenRun.{OpenRun}
-use Rattle.press_hooks.specs.declared.placed_run.PlacedRun.{PlacedRun}
+use Rattle.press_hooks.specs.declared.open_run.PlacedRun.{PlacedRun}
 use Rattle.press_hooks.specs.Hooked.{Hooked, IsEach, KeepsOthers, groups_named, table_rows, up_to}
 use Rattle.press_hooks.specs.Placed.{IsInPlace, mended, open_runs_of}
 use Rattle.press_hooks.proofs.Cuts.{length_mapped}

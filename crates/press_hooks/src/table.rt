@@ -5,7 +5,7 @@ ghost use Rattle.press_hooks.specs.NextEntry.{no_rows, with_rows, is_innermost, 
 
 use crate::entry::Entry;
 use crate::groups;
-use crate::placed_run::{PlacedRun, mend_all};
+use crate::open_run::{PlacedRun, mend_all};
 use crate::rows::Rows;
 use press_text::{CallbackId, HookName};
 use std::alloc::{AllocError, Global};
