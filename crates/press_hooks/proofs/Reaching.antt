@@ -11,7 +11,7 @@ use Rattle.press_hooks.specs.HookRows.{is_of_hook}
 use Rattle.press_hooks.specs.NextEntry.{is_past, first_of, refilled}
 use Rattle.press_hooks.specs.Members.{entry_at}
 use Rattle.press_hooks.specs.Hooked.{Grouped, group_entries, entries_of, row_of, AreGroups, up_to}
-use Rattle.press_hooks.specs.Reached.{at_group}
+use Rattle.press_hooks.specs.Placed.{at_group}
 use Rattle.press_hooks.proofs.ByPriority.{order_entries, order_drop, ahead_entries, first_priority, first_entries, next_up_to}
 use Rattle.press_hooks.proofs.OfHook.{ended, moved}
 

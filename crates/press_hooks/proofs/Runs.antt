@@ -2,13 +2,12 @@
 use Rattle.std.proofs.Common.{◌≡◌, refl, sym, ◌∙◌, ap, ap₂, subst, ℕ, zero, suc, ◌+◌, ◌<◌, List, [], ◌∷◌, map, length, get_or, set, take, arith, reverse, Bool, true, false, cond, bytes_eq}
 use Rattle.std.proofs.Math.ListN.{get_or-map}
 use Rattle.std.proofs.lemmas.List.{map-set}
-use Rattle.std.proofs.lemmas.Slice.Eq.{bytes_eq-Decides}
 use Rattle.std.proofs.lemmas.List.{length-reverse}
 use Rattle.std.proofs.lemmas.Bool.{eqb-true}
 use Rattle.press_hooks.specs.declared.row.Row.{Row}
 use Rattle.press_hooks.specs.declared.open_run.OpenRun.{OpenRun}
-use Rattle.press_hooks.specs.declared.placed_run.PlacedRun.{PlacedRun}
-use Rattle.press_hooks.specs.Hooked.{Grouped, Hooked, IsEach, KeepsOthers, groups_named, up_to}
+use Rattle.press_hooks.specs.declared.open_run.PlacedRun.{PlacedRun}
+use Rattle.press_hooks.specs.Hooked.{Hooked, IsEach, KeepsOthers, groups_named, table_rows, up_to}
 use Rattle.press_hooks.specs.Placed.{IsInPlace, mended, open_runs_of}
 use Rattle.press_hooks.proofs.Cuts.{length_mapped}
 use Rattle.press_hooks.proofs.ByPriority.{none_counted}
@@ -77,12 +76,12 @@ begun_placed hs hook r e k = k ∙ (none_counted (groups_named hook hs) ∙ ap (
 
 -- ---- cursors after an edit of a hook
 
-module _ (n : List ℕ) (old new : List Hooked) (gs : List Grouped) (same : gs ≡ groups_named n new) (keeps : KeepsOthers n old new) where
-  mended_one : (r : PlacedRun) (b : Bool) → bytes_eq r.run.hook n ≡ b → IsInPlace old r → IsInPlace new (cond b (record r { cursor = up_to r.run.reached gs }) r)
-  mended_one r true e at = ap (up_to r.run.reached) (same ∙ ap (λ m. groups_named m new) (sym ((bytes_eq-Decides r.run.hook n).0 e)))
+module _ (n : List ℕ) (old new : List Hooked) (keeps : KeepsOthers n old new) where
+  mended_one : (r : PlacedRun) (b : Bool) → bytes_eq r.run.hook n ≡ b → IsInPlace old r → IsInPlace new (cond b (record r { cursor = up_to r.run.reached (groups_named r.run.hook new) }) r)
+  mended_one r true e at = refl
   mended_one r false e at = at ∙ ap (up_to r.run.reached) (sym (keeps r.run.hook e))
 
-  pub all_mended : (runs : List PlacedRun) → IsEach (IsInPlace old) runs → IsEach (IsInPlace new) (map (mended n gs) runs)
+  pub all_mended : (runs : List PlacedRun) → IsEach (IsInPlace old) runs → IsEach (IsInPlace new) (map (mended n new) runs)
   all_mended [] at = tt
   all_mended (r ∷ rs) at = (mended_one r (bytes_eq r.run.hook n) refl at.0, all_mended rs at.1)
 
@@ -90,12 +89,12 @@ run_kept : (r : PlacedRun) (k : ℕ) (b : Bool) → (let x : PlacedRun = cond b 
 run_kept r k true = refl
 run_kept r k false = refl
 
-pub runs_kept : (n : List ℕ) (gs : List Grouped) (runs : List PlacedRun) → map (λ (r : PlacedRun). r.run) (map (mended n gs) runs) ≡ map (λ (r : PlacedRun). r.run) runs
-runs_kept n gs [] = refl
-runs_kept n gs (r ∷ rs) = ap₂ (λ (x : OpenRun) xs. x ∷ xs) (run_kept r (up_to r.run.reached gs) (bytes_eq r.run.hook n)) (runs_kept n gs rs)
+runs_kept : (n : List ℕ) (hs : List Hooked) (runs : List PlacedRun) → map (λ (r : PlacedRun). r.run) (map (mended n hs) runs) ≡ map (λ (r : PlacedRun). r.run) runs
+runs_kept n hs [] = refl
+runs_kept n hs (r ∷ rs) = ap₂ (λ (x : OpenRun) xs. x ∷ xs) (run_kept r (up_to r.run.reached (groups_named r.run.hook hs)) (bytes_eq r.run.hook n)) (runs_kept n hs rs)
 
-pub edited_view : (n : List ℕ) (gs : List Grouped) (rows : List Row) (runs after : List PlacedRun) (old : List Row) (t : Table) (f : List Row → List Row) → shown old (open_runs_of runs) ≡ t → after ≡ map (mended n gs) runs → rows ≡ f old → shown rows (open_runs_of after) ≡ with_rows (f t.rows) t
-edited_view n gs rows runs after old t f v e k =
-    ap (λ (xs : List PlacedRun). shown rows (open_runs_of xs)) e
-    ∙ (ap (λ xs. shown rows (reverse xs)) (runs_kept n gs runs)
+pub edited_view : (n : List ℕ) (old new : List Hooked) (runs after : List PlacedRun) (t : Table) (f : List Row → List Row) → shown (table_rows old) (open_runs_of runs) ≡ t → after ≡ map (mended n new) runs → table_rows new ≡ f (table_rows old) → shown (table_rows new) (open_runs_of after) ≡ with_rows (f t.rows) t
+edited_view n old new runs after t f v e k =
+    ap (λ (xs : List PlacedRun). shown (table_rows new) (open_runs_of xs)) e
+    ∙ (ap (λ xs. shown (table_rows new) (reverse xs)) (runs_kept n new runs)
     ∙ (ap (λ rs. shown rs (open_runs_of runs)) k ∙ ap (λ (w : Table). with_rows (f w.rows) w) v))

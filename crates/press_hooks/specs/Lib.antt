@@ -4,4 +4,3 @@ pub mod Members
 pub mod NextEntry
 pub mod Numbered
 pub mod Placed
-pub mod Reached

@@ -11,7 +11,6 @@ mod hooks;
 mod laws;
 mod member;
 mod open_run;
-mod placed_run;
 mod row;
 mod rows;
 mod table;

@@ -5,7 +5,7 @@ ghost use Rattle.press_hooks.specs.NextEntry.{no_rows, with_rows, is_innermost, 
 
 use crate::entry::Entry;
 use crate::groups;
-use crate::placed_run::{PlacedRun, mend_all};
+use crate::open_run::{PlacedRun, mend_all};
 use crate::rows::Rows;
 use press_text::{CallbackId, HookName};
 use std::alloc::{AllocError, Global};
@@ -104,7 +104,7 @@ impl HookTable {
             accepted,
         };
         let stands = self.rows.add(self.alloc, hook, &entry)?;
-        mend_all(&mut self.runs, hook, self.rows.groups_of(hook));
+        mend_all(&mut self.runs, hook, &self.rows);
         Ok(stands)
     }
 
@@ -115,7 +115,7 @@ impl HookTable {
     {
         let stood = self.rows.has(hook, priority, callback);
         self.rows.remove(hook, callback, priority);
-        mend_all(&mut self.runs, hook, self.rows.groups_of(hook));
+        mend_all(&mut self.runs, hook, &self.rows);
         stood
     }
 
@@ -124,7 +124,7 @@ impl HookTable {
         ensures { self.new ≡ with_rows (remove_rows hook.now priority self.old.rows) self.old }
     {
         self.rows.remove_all(hook, priority);
-        mend_all(&mut self.runs, hook, self.rows.groups_of(hook));
+        mend_all(&mut self.runs, hook, &self.rows);
     }
 
     /// The least priority at which the callback stands on the hook (`has_filter`).

@@ -9,10 +9,10 @@ use Rattle.press_hooks.proofs.table.HookTable.add.Goals as goal
 pub invariant_of-self-2 : goal.invariant_of-self-2
 invariant_of-self-2 c =
     subst (IsEach (IsInPlace c.add.new.self)) (sym c.mend_all.ensures)
-    (all_mended c.args.hook.now c.self.inside.rows c.add.new.self c.groups_of.result.now c.groups_of.ensures.groups c.in_ok-stands.ensures.others c.self.inside.runs.items c.self.invariant)
+    (all_mended c.args.hook.now c.self.inside.rows c.add.new.self c.in_ok-stands.ensures.others c.self.inside.runs.items c.self.invariant)
 
 pub returns-clause-rows : goal.returns-clause-rows
 returns-clause-rows c =
     let z : to_z w64 (of_z w64 c.args.priority) ≡ c.args.priority = to_z-of_z w64 c.args.priority c.ranges.priority in
     let rows = subst (λ p. table_rows c.add.new.self ≡ add_row c.args.hook.now c.args.callback p c.args.accepted (table_rows c.self.inside.rows)) z c.in_ok-stands.ensures.rows in
-    edited_view c.args.hook.now c.groups_of.result.now (table_rows c.add.new.self) c.self.inside.runs.items c.mend_all.new.runs.items (table_rows c.self.inside.rows) c.args.self.now (add_row c.args.hook.now c.args.callback c.args.priority c.args.accepted) c.self.view_is c.mend_all.ensures rows
+    edited_view c.args.hook.now c.self.inside.rows c.add.new.self c.self.inside.runs.items c.mend_all.new.runs.items c.args.self.now (add_row c.args.hook.now c.args.callback c.args.priority c.args.accepted) c.self.view_is c.mend_all.ensures rows

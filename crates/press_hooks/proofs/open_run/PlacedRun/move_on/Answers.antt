@@ -3,7 +3,7 @@ use Rattle.press_hooks.specs.declared.open_run.OpenRun.{OpenRun}
 use Rattle.press_hooks.specs.Hooked.{table_rows, groups_named, up_to}
 use Rattle.press_hooks.proofs.OfHook.{done_empty}
 use Rattle.press_hooks.proofs.Reaching.{no_group, next_group, behind_group}
-use Rattle.press_hooks.proofs.placed_run.PlacedRun.move_on.Goals as goal
+use Rattle.press_hooks.proofs.open_run.PlacedRun.move_on.Goals as goal
 
 pub returns-in_ok-reach-clause-moved : goal.returns-in_ok-reach-clause-moved
 returns-in_ok-reach-clause-moved c =

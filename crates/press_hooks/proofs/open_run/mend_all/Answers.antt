@@ -1,5 +1,5 @@
 use Rattle.press_hooks.proofs.Lists.{mapped_step}
-use Rattle.press_hooks.proofs.placed_run.mend_all.Goals as goal
+use Rattle.press_hooks.proofs.open_run.mend_all.Goals as goal
 
 pub loop-run-preserved : goal.loop-run-preserved
 loop-run-preserved c = mapped_step _ _ _ _ _ _ c.loop-run.invariant c.loop-run-test.true c.mend.ensures

@@ -1,6 +1,0 @@
-use Rattle.std.proofs.Common.{◌≡◌, ◌++◌, map, take, drop}
-use Rattle.press_hooks.specs.Placed.{mended}
-use Rattle.press_hooks.proofs.placed_run.mend_all.Given as goal
-
-abbrev pub invariant-loop-run : goal.invariant-loop-run
-invariant-loop-run l = l.run-items ≡ map (mended l.hook l.groups) (take l.run-index l.initial.run-items) ++ drop l.run-index l.initial.run-items
