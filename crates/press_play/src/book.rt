@@ -36,9 +36,11 @@ struct Asked {
 #[derive(Clone, Copy)]
 enum Bound {
     Steps,
-    Bytes,
+    Text,
+    Output,
+    Scan,
     Open,
-    OpenOrBytes,
+    OpenOrScan,
 }
 
 /// The callbacks of one play, in the order in which they were called.
@@ -108,10 +110,17 @@ impl Bound {
     fn told(self) -> &'static str {
         match self {
             Bound::Steps => "10000 steps are taken",
-            Bound::Bytes => "a text or the output would pass 1048576 bytes",
+            Bound::Text => "a text would pass 1048576 bytes",
+            Bound::Output => "the output would pass 1048576 bytes",
+            Bound::Scan => "a text with its shortcodes answered would pass 1048576 bytes",
             Bound::Open => "a 33rd callback would be open",
-            Bound::OpenOrBytes => "a 33rd callback would be open, or a text pass 1048576 bytes",
+            Bound::OpenOrScan => "a 33rd callback would be open, or a text pass 1048576 bytes",
         }
+    }
+
+    // Whether what was asked last was done before the limit was met.
+    fn is_behind(self) -> bool {
+        matches!(self, Bound::Scan | Bound::Open | Bound::OpenOrScan)
     }
 }
 
@@ -167,33 +176,36 @@ impl Book {
         Ok(())
     }
 
-    // Which limit was met.
+    // Which limit was met. By built-in callbacks alone few are open, and no scan is longer than all texts together.
     fn bound(&self, is_spent: bool) -> Bound {
-        let longest = self.last.as_ref().map_or(0, |asked| asked.longest);
+        let (longest, echoes) = match &self.last {
+            None => (0, false),
+            Some(asked) => (asked.longest, asked.echoes),
+        };
         if longest > MOST_BYTES {
-            Bound::Bytes
+            Bound::Text
         } else if is_spent {
             Bound::Steps
-        } else if self.last.as_ref().is_some_and(|asked| asked.echoes) {
-            Bound::Bytes
+        } else if echoes {
+            Bound::Output
         } else if self.bytes < MOST_BYTES / 2 {
             Bound::Open
         } else if self.open.len() <= FEW_OPEN {
-            Bound::Bytes
+            Bound::Scan
         } else {
-            Bound::OpenOrBytes
+            Bound::OpenOrScan
         }
     }
 
-    /// Which limit ended the play, and at which callback; whether no step was left, the machine tells.
+    /// Which limit ended the play, and at which callback; whether no step is left is known to the machine.
     pub fn limit(&mut self, is_spent: bool) -> Result<String, AllocError> {
         let alloc = self.alloc;
         let bound = self.bound(is_spent);
         let why = bound.told();
-        match bound {
-            Bound::Open | Bound::OpenOrBytes => self.settle(),
-            Bound::Steps | Bound::Bytes => self.last = None,
+        if bound.is_behind() {
+            self.settle();
         }
+        self.last = None;
         match self.innermost() {
             None => String::from_str(alloc, why),
             Some(called) => {
