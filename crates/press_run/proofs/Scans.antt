@@ -11,10 +11,6 @@ use Rattle.press_scan.specs.FirstShortcode.{shortcode_from}
 use Rattle.press_scan.specs.Scans.{PutGives, Progress, TakesText, TakesFront, TakesEscape, IsEscape, before as opens, behind}
 use Rattle.press_scan.specs.Tags.{names_of, callback_of}
 use Rattle.press_run.specs.Run.{◌>>=◌, only_if, within, is_short, State, Answer, answer, Meaning, scan, scan_from, scan_rest, shortcode_result, shortcode_call, tag_answer, is_escape}
-use Rattle.press_run.specs.Outcome.{Stage, Around, state_of, around, GivesText}
-use Rattle.press_run.specs.Scanning.{Means, MeansLeft, Takes, StopsScan}
-use Rattle.press_run.specs.declared.run_fault.RunFault.{RunFault}
-use Rattle.press_run.specs.declared.run_fault.RunFault.TheVariants.{Limit, NoMemory}
 
 -- the laws of shortcodes
 abbrev pub ComputesSome : Type 0
@@ -173,71 +169,3 @@ means_begins callback text s h = record {
 pub begins_long : (callback : Meaning) (text : List ℕ) (s : State) → is_short text ≡ false → scan callback text s ≡ None
 begins_long callback text s h = ap (λ o. o >>= λ whole. scan_from callback (suc (length whole)) whole 0 [] s) (too_long text h)
 
--- ---- pieces of a scan
-
--- a scan when the answer has been put
-abbrev pub put_in : Progress → Shortcode → List ℕ → Progress
-put_in old c text = record old { at = c.end; output = old.output ++ (opens c ++ (text ++ behind c)); waiting = None }
-
-module _ (some : ComputesSome) (none : ComputesNone) (ends : EndsWithin) (callback : Meaning) (before after : Stage) (old new : Progress) where
-  inside : TakesText (names_of before.tags) old new → new.at ≤ length old.text
-  inside takes = by takes.takes where
-    by : TakesFront (names_of before.tags) old new ⊎ TakesEscape (names_of before.tags) old new → new.at ≤ length old.text
-    by (inl f) = at_front f.first where
-      at_front : (new.at ≡ length old.text) ⊎ HasShortcode old.text (names_of before.tags) new.at → new.at ≤ length old.text
-      at_front (inl e) = omega arith
-      at_front (inr (c, stands)) = (let w = ends old.text (names_of before.tags) new.at c stands in omega (arith, w.0, w.1))
-    by (inr f) = (let w = ends old.text (names_of before.tags) old.at f.shortcode f.stands in omega (arith, w.1, f.at))
-
-  pub text_takes : TakesText (names_of before.tags) old new → is_short new.output ≡ true → Takes callback before before old new
-  text_takes takes short = record {
-    means = λ whole m. subst (λ (t : List ℕ). Means whole callback t new.at new.output (state_of before)) (sym takes.text) (text_taken some none ends callback old.text (state_of before) true whole old new refl takes m short);
-    same = refl;
-    text = takes.text;
-    waiting = takes.waiting;
-    more = takes.more;
-    inside = rw takes.text (inside takes);
-  }
-
-  pub text_stops : TakesText (names_of before.tags) old new → is_short new.output ≡ false → (whole : Option Answer) → MeansLeft whole callback old before → whole ≡ None
-  text_stops takes long whole m = text_taken some none ends callback old.text (state_of before) false whole old new refl takes m long
-
-  module _ (c : Shortcode) (text : List ℕ) (stands : IsShortcode old.text (names_of before.tags) old.at c) (plain : IsEscape c → ⊥) (put : new ≡ put_in old c text) where
-    module _ (gave : tag_answer callback (callback_of (cut old.text c.tag) before.tags) (shortcode_call old.text c) (state_of before) ≡ answer text (state_of after)) where
-      pub answer_takes : around after ≡ around before → is_short new.output ≡ true → Takes callback before after old new
-      answer_takes same short =
-          let fits : is_short (put_in old c text).output ≡ true = ap (λ (p : Progress). is_short p.output) (sym put) ∙ short in
-          let w = ends old.text (names_of before.tags) old.at c stands in
-          record {
-            means = λ whole m. subst (λ (p : Progress). Means whole callback p.text p.at p.output (state_of after)) (sym put)
-                (answer_taken some none ends callback old.text (state_of before) true whole old.at old.output (put_in old c text).output c (record { text = text; state = state_of after }) m stands plain gave refl fits);
-            same = same;
-            text = ap (λ (p : Progress). p.text) put;
-            waiting = ap (λ (p : Progress). p.waiting) put;
-            more = rw put w.0;
-            inside = rw put w.1;
-          }
-
-      pub answer_stops : is_short new.output ≡ false → (whole : Option Answer) → MeansLeft whole callback old before → whole ≡ None
-      answer_stops long whole m =
-          let over : is_short (put_in old c text).output ≡ false = ap (λ (p : Progress). is_short p.output) (sym put) ∙ long in
-          answer_taken some none ends callback old.text (state_of before) false whole old.at old.output (put_in old c text).output c (record { text = text; state = state_of after }) m stands plain gave refl over
-
-pub put_stands : (c : Shortcode) (u : Unit {0}) (text : List ℕ) (old new : Progress) → old.waiting ≡ Some c → PutGives (Ok u) text old new → new ≡ put_in old c text
-put_stands c u text old new waits (s, also, e) =
-    let same : s ≡ c = (let f : Some s ≡ Some c = sym also ∙ waits in cc) in
-    subst (λ (x : Shortcode). new ≡ put_in old x text) same e
-
--- ---- faults are handed on
-
-pub answer_err : (p : Option Answer) (a : Around) (w : Stage) (callback : Meaning) (before : Stage) (old : Progress) (f : RunFault) → (p ≡ None → (whole : Option Answer) → MeansLeft whole callback old before → whole ≡ None) → GivesText p a w (Err f) → StopsScan f callback before old
-answer_err p a w callback before old Limit h e = h e
-answer_err p a w callback before old NoMemory h e = tt
-
-pub still_stops : (callback : Meaning) (before : Stage) (old : Progress) (o : Option Shortcode) (f : RunFault) → StopsScan f callback before (record old { waiting = o }) → StopsScan f callback before old
-still_stops callback before old o Limit h = h
-still_stops callback before old o NoMemory h = tt
-
-pub scan_err : (whole : Option Answer) (callback : Meaning) (before : Stage) (old : Progress) (a : Around) (w : Stage) (f : RunFault) → MeansLeft whole callback old before → StopsScan f callback before old → GivesText whole a w (Err f)
-scan_err whole callback before old a w Limit m h = h whole m
-scan_err whole callback before old a w NoMemory m h = tt

@@ -20,9 +20,7 @@ use Rattle.press_site.specs.SiteView.{SiteView}
 use Rattle.press_run.specs.Links.{Changes}
 use Rattle.press_run.specs.Counts.{Counts}
 use Rattle.press_run.specs.Run.{◌>>=◌, State, Answer, answer, Meaning, Stepped, Goes, Ends, run_entries, do_hook, do_fires, play, at_depth, call_entry, after_step, counted_step, first_text, handed_on, hook_call, fuel, or_empty, without_last, built_in, callback_where}
-use Rattle.press_run.specs.Outcome.{Stage, Around, innermost, state_of, GivesText, GivesWithin, GivesStep}
-use Rattle.press_run.specs.declared.run_fault.RunFault.{RunFault}
-use Rattle.press_run.specs.declared.run_fault.RunFault.TheVariants.{Limit, NoMemory}
+use Rattle.press_run.specs.Outcome.{Stage, innermost, state_of}
 
 pub no_depth : (changes : Changes) (scripts : Scripts) (id : List ℕ) (call : CallIn) (s : State) → at_depth changes 0 scripts id call s ≡ None
 unfolding at_depth
@@ -123,28 +121,6 @@ module _ (changes : Changes) (m : Meaning) (script : List Op) (k n : ℕ) (call 
 
   pub turns_limit : counted_step changes m call turn s ≡ None → play changes m script k call s ≡ None
   turns_limit e = one_turn ∙ ap (λ o. o >>= played_on changes m script n) e
-
--- ---- faults are handed on
-
-pub within_err : (p q : Option Answer) (a b : Around) (w : Stage) (f : RunFault) → (p ≡ None → q ≡ None) → GivesText p a w (Err f) → GivesWithin q b w (Err f)
-within_err p q a b w Limit h e = h e
-within_err p q a b w NoMemory h e = tt
-
-pub gives_err : (p q : Option Answer) (a b : Around) (w v : Stage) (f : RunFault) → (p ≡ None → q ≡ None) → GivesText p a w (Err f) → GivesText q b v (Err f)
-gives_err p q a b w v Limit h e = h e
-gives_err p q a b w v NoMemory h e = tt
-
-pub run_err : (p q : Option Answer) (a b : Around) (w v : Stage) (f : RunFault) → (p ≡ None → q ≡ None) → GivesWithin p a w (Err f) → GivesText q b v (Err f)
-run_err p q a b w v Limit h e = h e
-run_err p q a b w v NoMemory h e = tt
-
-pub step_err : (p : Option Stepped) (q : Option Answer) (a b : Around) (w v : Stage) (c : CallIn) (f : RunFault) → (p ≡ None → q ≡ None) → GivesStep p a w c (Err f) → GivesText q b v (Err f)
-step_err p q a b w v c Limit h e = h e
-step_err p q a b w v c NoMemory h e = tt
-
-pub turn_err : (p : Option Answer) (q : Option Stepped) (a b : Around) (w v : Stage) (c : CallIn) (f : RunFault) → (p ≡ None → q ≡ None) → GivesText p a w (Err f) → GivesStep q b v c (Err f)
-turn_err p q a b w v c Limit h e = h e
-turn_err p q a b w v c NoMemory h e = tt
 
 -- a stack with one more, without its last
 pub without-last : (stack : List (List ℕ)) (hook : List ℕ) → without_last (stack ++ hook ∷ []) ≡ stack
