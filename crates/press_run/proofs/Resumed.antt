@@ -17,9 +17,6 @@ use Rattle.press_run.specs.Frames.{meant, taken, round, resumed, Ready, Waits, T
 -- ---- what is awaited comes to what it began as
 
 module _ (changes : Changes) (scripts : Scripts) where
-  pub bind_same : {A B : Type 0} (o p : Option A) (f : A → Option B) → o ≡ p → (o >>= f) ≡ (p >>= f)
-  bind_same o p f e = ap (λ x. x >>= f) e
-
   module _ (o whole : Option Answer) (beside : Around) (weighs bound : ℕ) (f : Frame) (old new : Stage) where
     abbrev pub Comes : Type 0
     Comes = (o >>= λ x. meant changes scripts (taken f x.text) (around old) x.state) ≡ whole
@@ -48,9 +45,9 @@ module _ (changes : Changes) (scripts : Scripts) where
     awaits (begun.Opens inner) comes stands waits le g = opens_awaited inner comes stands waits le g
     awaits (begun.Gives text) comes stands waits le g = takes_awaited text comes stands waits le g
 
-    pub awaits_none : (fault : RunFault) → Comes → Refuses fault o → Refuses fault whole
-    awaits_none Limit comes none = sym comes ∙ ap (λ p. p >>= λ x. meant changes scripts (taken f x.text) (around old) x.state) none
-    awaits_none NoMemory comes none = tt
+  pub awaits_none : (o whole : Option Answer) (f : Frame) (old : Stage) (fault : RunFault) → (o >>= λ x. meant changes scripts (taken f x.text) (around old) x.state) ≡ whole → Refuses fault o → Refuses fault whole
+  awaits_none o whole f old Limit comes none = sym comes ∙ ap (λ p. p >>= λ x. meant changes scripts (taken f x.text) (around old) x.state) none
+  awaits_none o whole f old NoMemory comes none = tt
 
 -- ---- what is left of a whole run, with its innermost frame on top
 
@@ -117,7 +114,7 @@ pub takes_answer : (f : Frame) (a : Around) → Waits f a → TakesAnswer f
 takes_answer (frame.Callback c) a h = h
 takes_answer (frame.Hook h) a i = tt
 takes_answer (frame.Fires s) a h = tt
-takes_answer (frame.Scan s) a h = rw h.waiting tt
+takes_answer (frame.Scan s) a h = rw h.waiting refl
 
 module _ (changes : Changes) (scripts : Scripts) where
   -- a run at its start

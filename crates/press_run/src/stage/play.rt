@@ -1,8 +1,8 @@
 //! A run: its frames, the innermost of which goes on until all have answered.
 
-ghost use Rattle.std.specs.Prelude.{◌≡◌, [], MatchResult};
+ghost use Rattle.std.specs.Prelude.{ℕ, ◌^◌};
 ghost use Rattle.press_callbacks.specs.Kits.{Scripts};
-ghost use Rattle.press_run.specs.Frames.{BeginsAs, Begins, Ready, Steps, turns_left};
+ghost use Rattle.press_run.specs.Frames.{Begins, BeginsAs, Ready, Steps};
 ghost use Rattle.press_run.specs.Outcome.{Around, GivesText, around, job_meaning, state_of};
 ghost use Rattle.press_run.specs.Run.{Answer};
 ghost use Rattle.press_run.specs.Standing.{standing};
