@@ -1,5 +1,5 @@
 -- What begins, and the turns of a callback that counts them.
-use Rattle.std.proofs.Common.{◌≡◌, refl, sym, ◌∙◌, ap, subst, ℕ, suc, ◌+◌, ◌-◌, ◌*◌, ◌<◌, ◌≤◌, ◌^◌, Bool, true, false, ltb, List, [], ◌∷◌, ◌++◌, Option, Some, None, Ok, Err, Result, arith}
+use Rattle.std.proofs.Common.{◌≡◌, refl, sym, ◌∙◌, ap, subst, ℕ, suc, ◌+◌, ◌-◌, ◌*◌, ◌<◌, ◌≤◌, ◌^◌, Bool, true, false, ltb, List, [], ◌∷◌, ◌++◌, length, Option, Some, None, Ok, Err, Result, arith}
 use Rattle.std.specs.Prelude.{bytes_eq, MatchResult}
 use Rattle.std.proofs.lemmas.Bool.Decides.{nat_tests}
 use Rattle.press_posts.specs.declared.fire.Fire.{Fire}
@@ -28,7 +28,7 @@ use Rattle.press_run.specs.Run.{◌>>=◌, only_if, Answer, answer, State, Meani
 use Rattle.press_run.specs.Outcome.{Stage, Around, around, state_of, CountsTurn, Refuses}
 use Rattle.press_run.specs.Frames.{meant, taken, round, Waits, IsFew, turns_left, weight, weight_waiting, Goes, Gives, Leaves, Begins, awaited, BeginsAs, Steps, Turns, turned, played, hooked}
 use Rattle.press_run.proofs.Resumed.{awaits, awaits_none}
-use Rattle.press_run.proofs.Steps.{no_depth, some_depth, built_in_depth, no_turns, more_turns}
+use Rattle.press_run.proofs.Steps.{no_depth, some_depth, built_in_depth, no_turns, more_turns, no_fires, more_fires}
 
 -- a turn pays for any frame
 turn_pays : (turns : ℕ) → turns < most_turns → turns_left (turns + 1) + 2 ^ 70 ≡ turns_left turns
@@ -68,6 +68,25 @@ begins_as changes scripts whole whole' weighs bound old old' new result e a le h
     more_begins changes scripts whole (around old) N (turns_left old.counts.turns + bound) new result le
     (subst (λ (r : Around). MatchResult result (λ b. Begins changes scripts whole r N new b) (λ fault. Refuses fault whole)) a
     (subst (λ (o : Option Answer). MatchResult result (λ b. Begins changes scripts o (around old') N new b) (λ fault. Refuses fault o)) e h))
+
+-- ---- actions are begun
+
+then_empty : (m : Meaning) (fs : List Fire) → ((s : State) → (do_fires m fs s >>= λ x. answer [] x.state) ≡ do_fires m fs s) → (o : Option Answer) → ((o >>= λ a. do_fires m fs a.state) >>= λ x. answer [] x.state) ≡ (o >>= λ a. do_fires m fs a.state)
+then_empty m fs again None = refl
+then_empty m fs again (Some a) = again a.state
+
+-- they answer the empty text
+pub fires_answer : (m : Meaning) (fires : List Fire) (s : State) → (do_fires m fires s >>= λ x. answer [] x.state) ≡ do_fires m fires s
+fires_answer m [] s = rw (no_fires m s) refl
+fires_answer m (f ∷ fs) s = rw (more_fires m f fs s) (then_empty m fs (λ s'. fires_answer m fs s') (do_hook m f.hook f.args s))
+
+pub fires_begin : (changes : Changes) (scripts : Scripts) (room : ℕ) (fires : List Fire) (gives : List ℕ) (whole : Option Answer) (w : Stage) → (do_fires (at_depth changes room scripts) fires (state_of w) >>= λ x. answer gives x.state) ≡ whole → length fires < 2 ^ 64
+    → Goes changes scripts whole (around w) (turns_left w.counts.turns + 2 ^ 66) (frame.Fires (record { room = room; done = 0; fires = fires; gives = gives })) w
+fires_begin changes scripts room fires gives whole w e few = record { same = e; stands = refl; ready = tt; less = omega (arith, few) }
+
+pub answer_again : (o : Option Answer) → (o >>= λ x. answer x.text x.state) ≡ o
+answer_again None = refl
+answer_again (Some x) = refl
 
 -- ---- a callback is opened
 
