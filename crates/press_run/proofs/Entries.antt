@@ -1,5 +1,7 @@
 -- A step of a run of a hook, and of actions.
-use Rattle.std.proofs.Common.{◌≡◌, refl, sym, ◌∙◌, ap, ap₂, ℕ, suc, ◌+◌, ◌-◌, ◌*◌, ◌<◌, ◌≤◌, true, List, take, drop, get_or, length, Option, Some, None, arith}
+use Rattle.std.proofs.Common.{◌≡◌, refl, sym, ◌∙◌, ap, ap₂, ℕ, suc, ◌+◌, ◌-◌, ◌*◌, ◌<◌, ◌≤◌, true, List, take, drop, get_or, length, Option, Some, None, ◌⊎◌, inl, inr, arith}
+use Rattle.std.specs.Prelude.{slice_get}
+use Rattle.std.proofs.lemmas.Option.{get_or_from_slice_get, slice_get_cases, slice_get_within}
 use Rattle.press_hooks.specs.declared.entry.Entry.{Entry}
 use Rattle.press_hooks.specs.NextEntry.{Table, is_innermost, without_innermost, entry_next, run_advanced, run_ended}
 use Rattle.press_posts.specs.declared.fire.Fire.{Fire}
@@ -88,18 +90,30 @@ module _ (changes : Changes) (scripts : Scripts) (h : OpenHook) (w : Stage) wher
 
 -- ---- actions
 
+past : (fires : List Fire) (i : ℕ) → None ≡ slice_get fires i → length fires ≤ i
+past fires i none = by (slice_get_cases fires i).1 where
+  by : ((x : Fire) × (i < length fires) × (slice_get fires i ≡ Some x) × (get_or fires i x ≡ x)) ⊎ ((length fires ≤ i) × (slice_get fires i ≡ None)) → length fires ≤ i
+  by (inl s) = (let clash = none ∙ s.2 in cc)
+  by (inr p) = p.0
+
 module _ (changes : Changes) (scripts : Scripts) (f : OpenFires) (w : Stage) where
   abbrev pub fired : Option Answer
   fired = meant changes scripts (frame.Fires f) (around w) (state_of w)
 
-  pub fires_end_with : length f.fires ≤ f.done → Gives changes scripts fired (around w) (turns_left w.counts.turns + weight (frame.Fires f)) w f.gives
-  fires_end_with le = record {
+  pub fires_end_with : None ≡ slice_get f.fires f.done → Gives changes scripts fired (around w) (turns_left w.counts.turns + weight (frame.Fires f)) w f.gives
+  fires_end_with none = let le = past f.fires f.done none in record {
     same = sym (ap (λ o. o >>= λ x. answer f.gives x.state) (fires_end (at_depth changes f.room scripts) f.fires f.done (state_of w) le));
     stands = refl;
     less = omega arith;
   }
 
-  module _ (fire : Fire) (args : List (List ℕ)) (lt : f.done < length f.fires) (at : fire ≡ get_or f.fires f.done fire) (same : args ≡ fire.args) where
+  module _ (fire : Fire) (args : List (List ℕ)) (some : Some fire ≡ slice_get f.fires f.done) (same : args ≡ fire.args) where
+    lt : f.done < length f.fires
+    lt = slice_get_within f.fires f.done fire (sym some)
+
+    at : fire ≡ get_or f.fires f.done fire
+    at = sym (get_or_from_slice_get f.fires f.done fire fire (sym some))
+
     abbrev pub started : Option Answer
     started = do_hook (at_depth changes f.room scripts) fire.hook args (state_of w)
 

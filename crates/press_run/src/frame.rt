@@ -1,6 +1,6 @@
 //! What a run has open.
 
-ghost use Rattle.std.specs.Prelude.{◌≡◌, ◌+◌, ◌*◌, ◌<◌, ◌≤◌, ◌^◌, None, IfOk, OnOk, IsSome, length};
+ghost use Rattle.std.specs.Prelude.{◌≡◌, ◌+◌, ◌*◌, ◌<◌, ◌≤◌, ◌^◌, None, IfOk, OnOk, IsSome, length, option_map, slice_get};
 ghost use Rattle.press_run.specs.Run.{handed_on, next_call};
 ghost use Rattle.press_run.specs.Frames.{TakesAnswer, put, taken};
 
@@ -159,6 +159,13 @@ impl OpenFires {
             fires,
             gives,
         }
+    }
+
+    /// The next action, if one is left.
+    pub fn next(&self) -> Option<&Fire>
+        ensures { option_map (λ f. f.now) result ≡ slice_get self.now.fires self.now.done }
+    {
+        self.fires.as_slice().get(self.done)
     }
 }
 

@@ -63,7 +63,7 @@ impl<L: SiteLink + Drop> Stage<L> {
             (frame.Fires fires.old) (frame.Fires fires.new)
             (standing L.view L.fixed self.old) (standing L.view L.fixed self.new) result }
     {
-        let Some(fire) = fires.fires.as_slice().get(fires.done) else {
+        let Some(fire) = fires.next() else {
             let empty = Text::new(self.machine.allocator());
             return Ok(Step::Gives(mem::replace(&mut fires.gives, empty)));
         };
