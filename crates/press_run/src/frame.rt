@@ -163,7 +163,8 @@ impl OpenFires {
 
     /// The next action, if one is left.
     pub fn next(&self) -> Option<&Fire>
-        ensures { option_map (λ f. f.now) result ≡ slice_get self.now.fires self.now.done }
+        ensures fire { option_map (λ f. f.now) result ≡ slice_get self.now.fires self.now.done }
+        ensures few { IsSome result → self.now.done + 1 < 2 ^ 64 }
     {
         self.fires.as_slice().get(self.done)
     }
