@@ -40,23 +40,24 @@ module _ (some : ComputesSome) (none : ComputesNone) (ends : EndsWithin) (change
   pub scan_gives : (text : List ℕ) → old.scan.at ≡ length old.scan.text → text ≡ old.scan.output → Gives changes scripts whole (around w) bound w text
   scan_gives text e given = rw given (record { same = scan_ends some none ends (at_depth changes old.room scripts) old.scan (state_of w) short e; stands = refl; less = omega arith })
 
-  module _ (new : Progress) (c : Shortcode) (calls : Calls (names_of w.tags) old.scan new c) where
-    abbrev pub called : Option Answer
-    called = tag_answer (at_depth changes old.room scripts) (callback_of (cut old.scan.text c.tag) w.tags) (shortcode_call old.scan.text c) (state_of w)
+  module _ (new : Progress) (c : Shortcode) (calls : Calls (names_of w.tags) old.scan new c) (text : List ℕ) (is : text ≡ new.text) where
+    abbrev pub called_on : List ℕ → Option Answer
+    called_on t = tag_answer (at_depth changes old.room scripts) (callback_of (cut t c.tag) w.tags) (shortcode_call t c) (state_of w)
 
-    call_comes : (called >>= λ x. meant changes scripts (taken (frame.Scan (with_scan new)) x.text) (around w) x.state) ≡ whole
+    call_comes : (called_on text >>= λ x. meant changes scripts (taken (frame.Scan (with_scan new)) x.text) (around w) x.state) ≡ whole
     call_comes =
-        ap (λ (p : Progress). called >>= λ x. scanned (at_depth changes old.room scripts) (put p.waiting p x.text) x.state) calls.waits
+        ap (λ (p : Progress). called_on text >>= λ x. scanned (at_depth changes old.room scripts) (put p.waiting p x.text) x.state) calls.waits
+        ∙ ap (λ (t : List ℕ). called_on t >>= λ x. scanned (at_depth changes old.room scripts) (put (Some c) old.scan x.text) x.state) (is ∙ ap (λ (p : Progress). p.text) calls.waits)
         ∙ shortcode_waits some none ends (at_depth changes old.room scripts) old.scan (state_of w) short c calls.stands calls.no_escape
 
     call_awaits : Awaits new
     call_awaits = rw calls.waits (let w' = ends old.scan.text (names_of w.tags) old.scan.at c calls.stands in record { shortcode = c; waiting = refl; short = ready.1; more = w'.0; inside = w'.1 })
 
-    pub call_begins : (after : Stage) (b : Begun) → Begins changes scripts called (around w) (turns_left w.counts.turns + 2) after b → Leaves changes scripts whole (around w) bound (frame.Scan (with_scan new)) after (awaited b)
+    pub call_begins : (after : Stage) (b : Begun) → Begins changes scripts (called_on text) (around w) (turns_left w.counts.turns + 2) after b → Leaves changes scripts whole (around w) bound (frame.Scan (with_scan new)) after (awaited b)
     call_begins after b g =
-        let text : length new.text ≡ length old.scan.text = ap (λ (p : Progress). length p.text) calls.waits in
-        let at : new.at ≡ old.scan.at = ap (λ (p : Progress). p.at) calls.waits in
-        awaits changes scripts called whole (around w) 2 bound (frame.Scan (with_scan new)) w after b call_comes refl call_awaits (omega (arith, text, at)) g
+        let length_same : length new.text ≡ length old.scan.text = ap (λ (p : Progress). length p.text) calls.waits in
+        let at_same : new.at ≡ old.scan.at = ap (λ (p : Progress). p.at) calls.waits in
+        awaits changes scripts (called_on text) whole (around w) 2 bound (frame.Scan (with_scan new)) w after b call_comes refl call_awaits (omega (arith, length_same, at_same)) g
 
-    pub call_stops : (fault : RunFault) → Refuses fault called → Refuses fault whole
-    call_stops fault refused = awaits_none changes scripts called whole (frame.Scan (with_scan new)) w fault call_comes refused
+    pub call_stops : (fault : RunFault) → Refuses fault (called_on text) → Refuses fault whole
+    call_stops fault refused = awaits_none changes scripts (called_on text) whole (frame.Scan (with_scan new)) w fault call_comes refused
