@@ -118,11 +118,11 @@ takes_answer (frame.Scan s) a h = rw h.waiting refl
 
 module _ (changes : Changes) (scripts : Scripts) where
   -- a run at its start
-  pub begins : (whole : Option Answer) (base : Around) (bound : ℕ) (top : Frame) (w : Stage) → Goes changes scripts whole base bound top w → Playing changes scripts whole base [] top w
-  begins whole base bound top w g = record {
-    same = no_frames changes scripts (round top (around w)) (meant changes scripts top (around w) (state_of w)) ∙ g.same;
-    stands = subst (λ a. Stand [] a base) (sym g.stands) (none_stand base);
-    ready = g.ready;
+  pub begins : (top : Frame) (w : Stage) → Ready top (around w) → Playing changes scripts (meant changes scripts top (around w) (state_of w)) (round top (around w)) [] top w
+  begins top w ready = record {
+    same = no_frames changes scripts (round top (around w)) (meant changes scripts top (around w) (state_of w));
+    stands = none_stand (round top (around w));
+    ready = ready;
   }
 
   module _ (whole : Option Answer) (base : Around) (waiting : List Frame) (top : Frame) (old : Stage) (p : Playing changes scripts whole base waiting top old) where

@@ -71,8 +71,7 @@ impl<L: SiteLink + Drop> Stage<L> {
             (job_meaning L.changes (scripts_in kit.now) job (state_of (standing L.view L.fixed self.old)))
             (around (standing L.view L.fixed self.old)) (standing L.view L.fixed self.new) result }
     {
-        let begun = self.begin_job(job)?;
-        let text = self.play(kit, begun)?;
+        let text = self.answer(kit, job)?;
         Ok(text.into_string()?)
     }
 

@@ -1,10 +1,9 @@
 //! A run: its frames, the innermost of which goes on until all have answered.
 
-ghost use Rattle.std.specs.Prelude.{ℕ, ◌^◌};
+ghost use Rattle.std.specs.Prelude.{◌^◌};
 ghost use Rattle.press_callbacks.specs.Kits.{Scripts};
-ghost use Rattle.press_run.specs.Frames.{Begins, BeginsAs, Ready, Steps};
-ghost use Rattle.press_run.specs.Outcome.{Around, GivesText, around, job_meaning, state_of};
-ghost use Rattle.press_run.specs.Run.{Answer};
+ghost use Rattle.press_run.specs.Frames.{BeginsAs, Ready, Steps, meant, round};
+ghost use Rattle.press_run.specs.Outcome.{GivesText, around, job_meaning, state_of};
 ghost use Rattle.press_run.specs.Standing.{standing};
 
 use super::Stage;
@@ -42,16 +41,26 @@ impl<L: SiteLink + Drop> Stage<L> {
         }
     }
 
-    // What something comes to that has begun.
-    pub(super) fn play<K: Callbacks>(&mut self, kit: &K, begun: Begun) -> Result<Text, RunFault>
-        ensures { (whole : Option Answer) (beside : Around) (bound : ℕ)
-            → Begins L.changes (K.scripts kit.now) whole beside bound (standing L.view L.fixed self.old) begun
-            → GivesText whole beside (standing L.view L.fixed self.new) result }
+    // What a job comes to.
+    pub(super) fn answer<K: Callbacks>(&mut self, kit: &K, job: Job) -> Result<Text, RunFault>
+        ensures { GivesText (job_meaning L.changes (K.scripts kit.now) job
+            (state_of (standing L.view L.fixed self.old)))
+            (around (standing L.view L.fixed self.old)) (standing L.view L.fixed self.new) result }
     {
-        let mut top = match begun {
-            Begun::Opens(frame) => frame,
-            Begun::Gives(text) => return Ok(text),
-        };
+        match self.begin_job(job)? {
+            Begun::Opens(frame) => self.play(kit, frame),
+            Begun::Gives(text) => Ok(text),
+        }
+    }
+
+    // The outermost frame, and all that it opens, until it has answered.
+    fn play<K: Callbacks>(&mut self, kit: &K, mut top: Frame) -> Result<Text, RunFault>
+        requires { Ready top (around (standing L.view L.fixed self.old)) }
+        ensures { GivesText (meant L.changes (K.scripts kit.now) top
+            (around (standing L.view L.fixed self.old)) (state_of (standing L.view L.fixed self.old)))
+            (round top (around (standing L.view L.fixed self.old)))
+            (standing L.view L.fixed self.new) result }
+    {
         let mut waiting = Frames::new(self.machine.allocator());
         loop {
             match self.step(kit, &mut top)? {
