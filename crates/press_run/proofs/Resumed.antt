@@ -140,20 +140,21 @@ module _ (changes : Changes) (scripts : Scripts) where
       ready = g.ready;
     }
 
-    pub opens : (top' inner : Frame) (waiting' : List Frame) (w : Stage) → waiting' ≡ top' ∷ waiting → Opens changes scripts (meant changes scripts top (around old) (state_of old)) (round top (around old)) bound top' w inner → Playing changes scripts whole base waiting' inner w
-    opens top' inner waiting' w pushed g =
+    pub opens : (top' inner inner' : Frame) (waiting' : List Frame) (w : Stage) → inner' ≡ inner → waiting' ≡ top' ∷ waiting → Opens changes scripts (meant changes scripts top (around old) (state_of old)) (round top (around old)) bound top' w inner → Playing changes scripts whole base waiting' inner' w
+    opens top' inner inner' waiting' w on_top pushed g = subst (λ x. Playing changes scripts whole base waiting' x w) (sym on_top) (
         let a = round inner (around w) in
         let o = meant changes scripts inner (around w) (state_of w) in
         record {
           same = ap (λ fs. resumed changes scripts fs a o) pushed ∙ more_frames changes scripts top' waiting a o ∙ same_as (o >>= λ x. meant changes scripts (taken top' x.text) a x.state) (round top' a) g.same g.stands;
           stands = subst (λ fs. Stand fs a base) (sym pushed) (more_stand top' waiting a base g.waits (subst (λ x. Stand waiting x base) (sym g.stands) p.stands));
           ready = g.ready;
-        }
+        })
 
-    pub opens_less : (top' inner : Frame) (waiting' : List Frame) (w : Stage) → waiting' ≡ top' ∷ waiting → Opens changes scripts (meant changes scripts top (around old) (state_of old)) (round top (around old)) bound top' w inner → turns_left w.counts.turns + (weight inner + all_wait waiting') < bound + all_wait waiting
-    opens_less top' inner waiting' w pushed g =
+    pub opens_less : (top' inner inner' : Frame) (waiting' : List Frame) (w : Stage) → inner' ≡ inner → waiting' ≡ top' ∷ waiting → Opens changes scripts (meant changes scripts top (around old) (state_of old)) (round top (around old)) bound top' w inner → turns_left w.counts.turns + (weight inner' + all_wait waiting') < turns_left old.counts.turns + (weight top + all_wait waiting)
+    opens_less top' inner inner' waiting' w on_top pushed g =
+        let i : weight inner' ≡ weight inner = ap weight on_top in
         let e : all_wait waiting' ≡ weight_waiting top' + all_wait waiting = ap all_wait pushed ∙ more_wait top' waiting in
-        omega (arith, e, g.less)
+        omega (arith, e, i, g.less)
 
     pub takes : (top' top'' : Frame) (text : List ℕ) (w : Stage) → top'' ≡ taken top' text → Takes changes scripts (meant changes scripts top (around old) (state_of old)) (round top (around old)) bound top' w text → Playing changes scripts whole base waiting top'' w
     takes top' top'' text w took g = subst (λ x. Playing changes scripts whole base waiting x w) (sym took) (
@@ -196,7 +197,7 @@ module _ (changes : Changes) (scripts : Scripts) where
               ready = taken_ready f text (around w) stood.0;
             })
 
-        pub gives_less : f' ≡ taken f text → turns_left w.counts.turns + (weight f' + all_wait waiting') < bound + all_wait waiting
+        pub gives_less : f' ≡ taken f text → turns_left w.counts.turns + (weight f' + all_wait waiting') < turns_left old.counts.turns + (weight top + all_wait waiting)
         gives_less took =
             let e : all_wait waiting ≡ weight_waiting f + all_wait waiting' = ap all_wait popped ∙ more_wait f waiting' in
             let n : weight f' ≡ weight (taken f text) = ap weight took in
