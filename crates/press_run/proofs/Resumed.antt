@@ -208,3 +208,7 @@ module _ (changes : Changes) (scripts : Scripts) where
     pub stops : (fault : RunFault) → Refuses fault (meant changes scripts top (around old) (state_of old)) → Refuses fault whole
     stops Limit none = sym p.same ∙ ap (resumed changes scripts waiting (round top (around old))) none ∙ limit_ends changes scripts waiting (round top (around old))
     stops NoMemory none = tt
+
+-- a run of what a job began with is the job's
+pub job_runs : (o whole : Option Answer) (a beside : Around) (w : Stage) (result : Result (List ℕ) RunFault) → o ≡ whole → a ≡ beside → GivesText o a w result → GivesText whole beside w result
+job_runs o whole a beside w result e r h = subst (λ x. GivesText x beside w result) e (subst (λ x. GivesText o x w result) r h)
