@@ -26,7 +26,7 @@ use Rattle.press_run.specs.Links.{Changes, publishes, schedules}
 use Rattle.press_run.specs.Counts.{Counts}
 use Rattle.press_run.specs.Run.{◌>>=◌, only_if, Answer, answer, State, Meaning, Stepped, most_turns, first_text, do_fires, run_hook, do_hook, scan, change_site, play, fuel, or_empty, at_depth, built_in, built_in_where, counted_step, turn_step, answers, fits, or_one_empty}
 use Rattle.press_run.specs.Outcome.{Stage, Around, around, state_of, CountsTurn, Refuses}
-use Rattle.press_run.specs.Frames.{meant, taken, round, Waits, IsFew, turns_left, weight, weight_waiting, Goes, Gives, Leaves, Begins, awaited, BeginsAs, Steps, Turns, turned, played, hooked}
+use Rattle.press_run.specs.Frames.{meant, taken, round, Waits, IsFew, turns_left, weight, weight_waiting, Goes, Gives, Leaves, Begins, awaited, BeginsAs, Steps, CountsAs, Turns, counted, turned, played, hooked}
 use Rattle.press_run.proofs.Resumed.{awaits, awaits_none}
 use Rattle.press_run.proofs.Steps.{no_depth, some_depth, built_in_depth, no_turns, more_turns, no_fires, more_fires}
 
@@ -134,36 +134,37 @@ module _ (changes : Changes) (scripts : Scripts) where
   -- ---- a callback takes a turn
 
   after_counting : (c : OpenCallback) (turn : Turn) (s : State) (b d : Bool) → ltb s.turns most_turns ≡ b → fits turn ≡ d
-      → counted_step changes (at_depth changes c.room scripts) c.call turn s ≡ (only_if b (record s { turns = s.turns + 1 }) >>= λ s'. only_if d turn >>= λ turn'. turn_step changes (at_depth changes c.room scripts) c.call s' turn')
+      → counted changes scripts c turn s ≡ ((only_if b (record s { turns = s.turns + 1 }) >>= λ s'. only_if d turn >>= λ turn'. turn_step changes (at_depth changes c.room scripts) c.call s' turn') >>= played changes scripts c)
   after_counting c turn s b d l f = rw (l, f) refl
 
-  module _ (c : OpenCallback) (turn : Turn) (s : State) (more : 0 < c.left) (is : turn ≡ turn_of (or_empty (script_at c.place scripts)) c.call) where
-    turn_meant : (a : Around) → meant changes scripts (frame.Callback c) a s ≡ (counted_step changes (at_depth changes c.room scripts) c.call turn s >>= played changes scripts (record c { left = c.left - 1 }))
-    turn_meant a =
-        let n : c.left ≡ suc (c.left - 1) = omega arith in
-        ap (λ k. play changes (at_depth changes c.room scripts) (or_empty (script_at c.place scripts)) k c.call s) n
-        ∙ more_turns changes (at_depth changes c.room scripts) (or_empty (script_at c.place scripts)) (c.left - 1) c.call s
-        ∙ ap (λ (t : Turn). counted_step changes (at_depth changes c.room scripts) c.call t s >>= played changes scripts (record c { left = c.left - 1 })) (sym is)
+  pub turn_late : (c : OpenCallback) (turn : Turn) (s : State) → ltb s.turns most_turns ≡ false → counted changes scripts c turn s ≡ None
+  turn_late c turn s lt = after_counting c turn s false (fits turn) lt refl
 
-    pub turn_late : (a : Around) → ltb s.turns most_turns ≡ false → meant changes scripts (frame.Callback c) a s ≡ None
-    turn_late a lt = turn_meant a ∙ ap (λ o. o >>= played changes scripts (record c { left = c.left - 1 })) (after_counting c turn s false (fits turn) lt refl)
+  pub turn_long : (c : OpenCallback) (turn : Turn) (s : State) → ltb s.turns most_turns ≡ true → fits turn ≡ false → counted changes scripts c turn s ≡ None
+  turn_long c turn s lt long = after_counting c turn s true false lt long
 
-    pub turn_long : (a : Around) → ltb s.turns most_turns ≡ true → fits turn ≡ false → meant changes scripts (frame.Callback c) a s ≡ None
-    turn_long a lt long = turn_meant a ∙ ap (λ o. o >>= played changes scripts (record c { left = c.left - 1 })) (after_counting c turn s true false lt long)
-
-    pub turn_asks : (a : Around) → ltb s.turns most_turns ≡ true → fits turn ≡ true → meant changes scripts (frame.Callback c) a s ≡ turned changes scripts (record c { left = c.left - 1 }) turn (record s { turns = s.turns + 1 })
-    turn_asks a lt fit = turn_meant a ∙ ap (λ o. o >>= played changes scripts (record c { left = c.left - 1 })) (after_counting c turn s true true lt fit)
-
-  pub turn_steps : (c c' : OpenCallback) (turn : Turn) (old new : Stage) (counts : Counts) (result : Result Step RunFault) → 0 < c.left → turn ≡ turn_of (or_empty (script_at c.place scripts)) c.call → CountsTurn old.counts counts true → fits turn ≡ true
-      → Turns changes scripts (record c { left = c.left - 1 }) turn c' (with_counts counts old) new result
-      → Steps changes scripts (frame.Callback c) (frame.Callback c') old new result
-  turn_steps c c' turn old new counts result more is counted fit h =
-      let before = meant changes scripts (frame.Callback c) (around old) (state_of old) in
+  -- the rest of a turn that is counted
+  pub turn_counts : (c c' : OpenCallback) (turn : Turn) (old new : Stage) (counts : Counts) (result : Result Step RunFault) → CountsTurn old.counts counts true → fits turn ≡ true
+      → Turns changes scripts c turn c' (with_counts counts old) new result → CountsAs changes scripts c turn c' old new result
+  turn_counts c c' turn old new counts result is_counted fit h =
+      let before = counted changes scripts c turn (state_of old) in
       let P : Option Answer → Around → ℕ → Type 0 = λ o a n. MatchResult result (λ s. Leaves changes scripts o a n (frame.Callback c') new s) (λ fault. Refuses fault o) in
-      let meaning : turned changes scripts (record c { left = c.left - 1 }) turn (state_of (with_counts counts old)) ≡ before
-      = ap (λ (x : Counts). turned changes scripts (record c { left = c.left - 1 }) turn (state_of (with_counts x old))) counted.1 ∙ sym (turn_asks c turn (state_of old) more is (around old) counted.0 fit) in
-      let pays : turns_left counts.turns + 2 ^ 70 ≡ turns_left old.counts.turns + 0 = (let p = turn_counted old.counts counts counted in omega (arith, p)) in
-      subst (λ n. P before (around old) n) pays (subst (λ a. P before a (turns_left counts.turns + 2 ^ 70)) (same_around old counts counted) (subst (λ o. P o (around (with_counts counts old)) (turns_left counts.turns + 2 ^ 70)) meaning h))
+      let meaning : turned changes scripts c turn (state_of (with_counts counts old)) ≡ before
+      = ap (λ (x : Counts). turned changes scripts c turn (state_of (with_counts x old))) is_counted.1 ∙ sym (after_counting c turn (state_of old) true true is_counted.0 fit) in
+      let pays : turns_left counts.turns + 2 ^ 70 ≡ turns_left old.counts.turns + 0 = (let p = turn_counted old.counts counts is_counted in omega (arith, p)) in
+      subst (λ n. P before (around old) n) pays (subst (λ a. P before a (turns_left counts.turns + 2 ^ 70)) (same_around old counts is_counted) (subst (λ o. P o (around (with_counts counts old)) (turns_left counts.turns + 2 ^ 70)) meaning h))
+
+  -- the turn of a callback is that of its script
+  pub turn_steps : (c c' : OpenCallback) (turn : Turn) (old new : Stage) (result : Result Step RunFault) → 0 < c.left → turn ≡ turn_of (or_empty (script_at c.place scripts)) c.call
+      → CountsAs changes scripts (record c { left = c.left - 1 }) turn c' old new result → Steps changes scripts (frame.Callback c) (frame.Callback c') old new result
+  turn_steps c c' turn old new result more is h =
+      let n : c.left ≡ suc (c.left - 1) = omega arith in
+      let one_less : OpenCallback = record c { left = c.left - 1 } in
+      let meaning : counted changes scripts one_less turn (state_of old) ≡ meant changes scripts (frame.Callback c) (around old) (state_of old)
+      = ap (λ (t : Turn). counted changes scripts one_less t (state_of old)) is
+      ∙ sym (more_turns changes (at_depth changes c.room scripts) (or_empty (script_at c.place scripts)) (c.left - 1) c.call (state_of old))
+      ∙ sym (ap (λ k. play changes (at_depth changes c.room scripts) (or_empty (script_at c.place scripts)) k c.call (state_of old)) n) in
+      subst (λ o. MatchResult result (λ s. Leaves changes scripts o (around old) (turns_left old.counts.turns + 0) (frame.Callback c') new s) (λ fault. Refuses fault o)) meaning h
 
   -- ---- what a turn waits for
 

@@ -89,7 +89,7 @@ module _ (some : ComputesSome) (none : ComputesNone) (ends : EndsWithin) (callba
       let late : at ≤ c.start = next.after in
       opened n at output s (Some c) e
       ∙ same_rest (λ at' output' s'. rest n at' output' s') (λ at' output' s'. rest m at' output' s') at output s c
-        (λ longer s'. again c.end longer s' w.1 (omega (arith, w.0, late, x)) (omega (arith, w.0, late, y)))
+      (λ longer s'. again c.end longer s' w.1 (omega (arith, w.0, late, x)) (omega (arith, w.0, late, y)))
       ∙ sym (opened m at output s (Some c) e)
 
   enough : (n m at : ℕ) (output : List ℕ) (s : State) → at ≤ length text → length text < n + at → length text < m + at → rest n at output s ≡ rest m at output s
@@ -162,7 +162,7 @@ module _ (some : ComputesSome) (none : ComputesNone) (ends : EndsWithin) (callba
         ∙ ap (λ x. shortcode_result callback text c s x >>= λ a. within (output ++ a.text) >>= λ longer. rest (length text) c.end longer a.state) (not_both c.lead c.tail plain)
         ∙ through o (λ t. opens c ++ (t ++ behind c)) (λ a. within (output ++ a.text) >>= λ longer. rest (length text) c.end longer a.state)
         ∙ bind_all o (λ a. within (output ++ (opens c ++ (a.text ++ behind c))) >>= λ longer. rest (length text) c.end longer a.state) (λ a. within (output ++ (opens c ++ (a.text ++ behind c))) >>= λ longer. rest (suc (length text)) c.end longer a.state)
-          (λ a. bind_all (within (output ++ (opens c ++ (a.text ++ behind c)))) (λ longer. rest (length text) c.end longer a.state) (λ longer. rest (suc (length text)) c.end longer a.state) (λ longer. one_less c longer a.state (omega (arith, w.0)) w.1)))
+        (λ a. bind_all (within (output ++ (opens c ++ (a.text ++ behind c)))) (λ longer. rest (length text) c.end longer a.state) (λ longer. rest (suc (length text)) c.end longer a.state) (λ longer. one_less c longer a.state (omega (arith, w.0)) w.1)))
 
 -- ---- the pieces of a scan
 

@@ -16,7 +16,7 @@ use Rattle.press_run.specs.declared.step.Begun.TheVariants as begun
 use Rattle.press_run.specs.declared.step.Step.{Step}
 use Rattle.press_run.specs.declared.step.Step.TheVariants as step
 use Rattle.press_run.specs.Links.{Changes}
-use Rattle.press_run.specs.Run.{◌>>=◌, without_last, Answer, answer, State, Meaning, Stepped, within, scan_from, run_hook, run_entries, do_fires, play, at_depth, or_empty, after_step, turn_step, handed_on, next_call, most_turns}
+use Rattle.press_run.specs.Run.{◌>>=◌, without_last, Answer, answer, State, Meaning, Stepped, within, scan_from, run_hook, run_entries, do_fires, play, at_depth, or_empty, after_step, counted_step, turn_step, handed_on, next_call, most_turns}
 use Rattle.press_run.specs.Outcome.{Stage, Around, around, state_of, innermost, Refuses}
 
 -- ---- what a frame comes to
@@ -194,13 +194,25 @@ Steps changes scripts f f' old new result = MatchResult result
 
 -- a callback after what a turn comes to
 abbrev pub played : Changes → Scripts → OpenCallback → Stepped → Option Answer
-played changes scripts c step = after_step (λ call s. play changes (at_depth changes c.room scripts) (or_empty (script_at c.place scripts)) c.left call s) step
+played changes scripts c step =
+    after_step (λ call s. play changes (at_depth changes c.room scripts) (or_empty (script_at c.place scripts)) c.left call s) step
 
+-- a callback does what its turn asks for
 abbrev pub turned : Changes → Scripts → OpenCallback → Turn → State → Option Answer
 turned changes scripts c turn s = turn_step changes (at_depth changes c.room scripts) c.call s turn >>= played changes scripts c
 
--- a callback does what its turn asks for, which is counted already
+-- as it does where the turn is counted, and its texts are within the bytes
+abbrev pub counted : Changes → Scripts → OpenCallback → Turn → State → Option Answer
+counted changes scripts c turn s = counted_step changes (at_depth changes c.room scripts) c.call turn s >>= played changes scripts c
+
+abbrev pub PlaysAs : Changes → Scripts → Option Answer → ℕ → OpenCallback → Stage → Stage → Result Step RunFault → Type 0
+PlaysAs changes scripts whole weighs c' old new result = MatchResult result
+    (λ s. Leaves changes scripts whole (around old) (turns_left old.counts.turns + weighs) (frame.Callback c') new s)
+    (λ fault. Refuses fault whole)
+
+abbrev pub CountsAs : Changes → Scripts → OpenCallback → Turn → OpenCallback → Stage → Stage → Result Step RunFault → Type 0
+CountsAs changes scripts c turn c' old new result = PlaysAs changes scripts (counted changes scripts c turn (state_of old)) 0 c' old new result
+
+-- the turn is counted already
 abbrev pub Turns : Changes → Scripts → OpenCallback → Turn → OpenCallback → Stage → Stage → Result Step RunFault → Type 0
-Turns changes scripts c turn c' old new result = MatchResult result
-    (λ s. Leaves changes scripts (turned changes scripts c turn (state_of old)) (around old) (turns_left old.counts.turns + 2 ^ 70) (frame.Callback c') new s)
-    (λ fault. Refuses fault (turned changes scripts c turn (state_of old)))
+Turns changes scripts c turn c' old new result = PlaysAs changes scripts (turned changes scripts c turn (state_of old)) (2 ^ 70) c' old new result

@@ -109,7 +109,8 @@ impl OpenCallback {
         requires { self.old.call.turn < 2 ^ 40 }
         ensures step { result ≡ Step.Goes }
         ensures next { self.new ≡ record self.old {
-            call = next_call self.old.call self.old.call.value self.old.call.last skipped } }
+          call = next_call self.old.call self.old.call.value self.old.call.last skipped;
+        } }
     {
         self.call.turn += 1 + skipped as usize;
         Step::Goes
@@ -119,7 +120,8 @@ impl OpenCallback {
         requires { self.old.call.turn < 2 ^ 40 }
         ensures step { result ≡ Step.Goes }
         ensures next { self.new ≡ record self.old {
-            call = next_call self.old.call value self.old.call.last 0 } }
+          call = next_call self.old.call value self.old.call.last 0;
+        } }
     {
         self.call.value = value;
         self.further(0)
@@ -129,7 +131,8 @@ impl OpenCallback {
         requires { self.old.call.turn < 2 ^ 40 }
         ensures step { result ≡ Step.Goes }
         ensures next { self.new ≡ record self.old {
-            call = next_call self.old.call self.old.call.value last 0 } }
+          call = next_call self.old.call self.old.call.value last 0;
+        } }
     {
         self.call.last = last;
         self.further(0)
@@ -140,7 +143,8 @@ impl OpenHook {
     // The arguments of the next callback, after one has answered.
     fn take(&mut self, text: Text) -> Result<(), AllocError>
         ensures { OnOk result (self.new ≡ record self.old {
-            args = handed_on self.old.kind text self.old.args }) }
+          args = handed_on self.old.kind text self.old.args;
+        }) }
     {
         texts::hand_on(self.kind, &mut self.args, text)
     }
@@ -175,7 +179,8 @@ impl OpenScan {
     fn take(&mut self, text: Text) -> Result<(), AllocError>
         requires { IsSome self.old.scan.waiting }
         ensures { OnOk result (self.new ≡ record self.old {
-            scan = put self.old.scan.waiting self.old.scan text }) }
+          scan = put self.old.scan.waiting self.old.scan text;
+        }) }
     {
         self.scan.put(text.as_str())
     }

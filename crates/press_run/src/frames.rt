@@ -42,7 +42,8 @@ impl Frames {
     }
 
     pub fn pop(&mut self) -> Option<Frame>
-        ensures { MatchOption result ((self.old ≡ []) × (self.new ≡ [])) (λ f. self.old ≡ f ∷ self.new) }
+        ensures { MatchOption result ((self.old ≡ []) × (self.new ≡ []))
+            (λ f. self.old ≡ f ∷ self.new) }
     {
         self.frames.pop()
     }

@@ -84,7 +84,8 @@ impl Machine {
 
     /// Counts the start of an action.
     pub fn start(&mut self, hook: &HookName) -> Result<(), AllocError>
-        ensures { OnOk result (self.new ≡ record self.old { did = self.old.did ++ hook.now ∷ [] }) }
+        ensures { OnOk result (self.new
+            ≡ record self.old { did = self.old.did ++ hook.now ∷ [] }) }
     {
         self.did.push(hook.copy(self.alloc)?)?;
         Ok(())
@@ -92,7 +93,8 @@ impl Machine {
 
     /// Puts a hook on the stack of running hooks.
     pub fn enter(&mut self, hook: &HookName) -> Result<(), AllocError>
-        ensures { OnOk result (self.new ≡ record self.old { doing = self.old.doing ++ hook.now ∷ [] }) }
+        ensures { OnOk result (self.new
+            ≡ record self.old { doing = self.old.doing ++ hook.now ∷ [] }) }
     {
         self.doing.push(hook.copy(self.alloc)?)?;
         Ok(())

@@ -1,9 +1,9 @@
 //! A callback is opened, built in or of the kit, and takes its turns.
 
-ghost use Rattle.std.specs.Prelude.{◌≡◌, ◌^◌};
+ghost use Rattle.std.specs.Prelude.{◌≡◌, None, false, IsErrOf};
 ghost use Rattle.press_callbacks.specs.Kits.{Scripts};
-ghost use Rattle.press_run.specs.Frames.{BeginsAs, IsFew, Steps};
-ghost use Rattle.press_run.specs.Run.{at_depth, built_in};
+ghost use Rattle.press_run.specs.Frames.{BeginsAs, CountsAs, IsFew, Steps};
+ghost use Rattle.press_run.specs.Run.{at_depth, built_in, fits, one_turn};
 ghost use Rattle.press_run.specs.Outcome.{state_of};
 ghost use Rattle.press_run.specs.Standing.{standing};
 ghost use Rattle.press_run.specs.declared.frame.Frame.TheVariants as frame;
@@ -15,7 +15,7 @@ use crate::link::SiteLink;
 use crate::run_fault::RunFault;
 use crate::step::{Begun, Step};
 use crate::texts;
-use press_callbacks::{CallIn, is_built_in, is_do_shortcode};
+use press_callbacks::{CallIn, Turn, is_built_in, is_do_shortcode};
 use press_text::CallbackId;
 
 impl<L: SiteLink + Drop> Stage<L> {
@@ -28,9 +28,10 @@ impl<L: SiteLink + Drop> Stage<L> {
         call: CallIn,
     ) -> Result<Begun, RunFault>
         requires { call.turn ≡ 0 }
-        ensures { BeginsAs L.changes (K.scripts kit.now)
+        ensures shut { room ≡ 0 → IsErrOf result RunFault.Limit }
+        ensures begins { BeginsAs L.changes (K.scripts kit.now)
             (at_depth L.changes room (K.scripts kit.now) id call
-                (state_of (standing L.view L.fixed self.old)))
+            (state_of (standing L.view L.fixed self.old)))
             1 (standing L.view L.fixed self.old) (standing L.view L.fixed self.new) result }
     {
         if room == 0 {
@@ -52,15 +53,12 @@ impl<L: SiteLink + Drop> Stage<L> {
     }
 
     // One of the built-in callbacks on its first argument: one turn.
-    fn open_built_in(
-        &mut self,
-        room: u32,
-        id: CallbackId,
-        call: &CallIn,
-    ) -> Result<Begun, RunFault>
-        ensures { (scripts : Scripts) → BeginsAs L.changes scripts
+    fn open_built_in(&mut self, room: u32, id: CallbackId, call: &CallIn) -> Result<Begun, RunFault>
+        ensures late { one_turn (state_of (standing L.view L.fixed self.old)) ≡ None
+            → IsErrOf result RunFault.Limit }
+        ensures begins { (scripts : Scripts) → BeginsAs L.changes scripts
             (built_in L.changes (at_depth L.changes room scripts) id call.now
-                (state_of (standing L.view L.fixed self.old)))
+            (state_of (standing L.view L.fixed self.old)))
             1 (standing L.view L.fixed self.old) (standing L.view L.fixed self.new) result }
     {
         if !self.machine.counts_turn() {
@@ -74,7 +72,7 @@ impl<L: SiteLink + Drop> Stage<L> {
         }
     }
 
-    // The next turn, counted, with texts that are within the bytes.
+    // The next turn.
     pub(super) fn turn<K: Callbacks>(
         &mut self,
         kit: &K,
@@ -90,6 +88,19 @@ impl<L: SiteLink + Drop> Stage<L> {
         }
         callback.left -= 1;
         let turn = kit.turn(self.machine.allocator(), callback.place, &callback.call)?;
+        self.counted(callback, turn)
+    }
+
+    // A turn, counted, with texts that are within the bytes.
+    fn counted(&mut self, callback: &mut OpenCallback, turn: Turn) -> Result<Step, RunFault>
+        requires { IsFew 1 callback.old }
+        ensures late { one_turn (state_of (standing L.view L.fixed self.old)) ≡ None
+            → IsErrOf result RunFault.Limit }
+        ensures long { fits turn ≡ false → IsErrOf result RunFault.Limit }
+        ensures steps { (scripts : Scripts) → CountsAs L.changes scripts
+            callback.old turn callback.new
+            (standing L.view L.fixed self.old) (standing L.view L.fixed self.new) result }
+    {
         if !self.machine.counts_turn() || !texts::fits(&turn) {
             drop(turn);
             return Err(RunFault::Limit);

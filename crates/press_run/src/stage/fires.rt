@@ -20,7 +20,8 @@ use press_text::Text;
 use std::mem;
 
 impl<L: SiteLink + Drop> Stage<L> {
-    // A change of the site, and the actions that it fires: `1` where something changed. A refused change changes nothing.
+    // A change of the site, and the actions that it fires: `1` where something changed.
+    // A refused change changes nothing.
     pub(super) fn begin_change(
         &mut self,
         room: u32,
@@ -28,7 +29,7 @@ impl<L: SiteLink + Drop> Stage<L> {
     ) -> Result<Begun, RunFault>
         ensures { (scripts : Scripts) → BeginsAs L.changes scripts
             (change_site L.changes (at_depth L.changes room scripts)
-                (state_of (standing L.view L.fixed self.old)) effect)
+            (state_of (standing L.view L.fixed self.old)) effect)
             (2 ^ 66) (standing L.view L.fixed self.old) (standing L.view L.fixed self.new) result }
     {
         let alloc = self.machine.allocator();
@@ -45,7 +46,7 @@ impl<L: SiteLink + Drop> Stage<L> {
     pub(super) fn begin_publish(&mut self, room: u32, id: Text) -> Result<Begun, RunFault>
         ensures { (scripts : Scripts) → BeginsAs L.changes scripts
             (publish L.changes (at_depth L.changes room scripts) id
-                (state_of (standing L.view L.fixed self.old)))
+            (state_of (standing L.view L.fixed self.old)))
             (2 ^ 66) (standing L.view L.fixed self.old) (standing L.view L.fixed self.new) result }
     {
         let effect = links::publishes(&id, self.site.site().now());

@@ -29,7 +29,7 @@ impl<L: SiteLink + Drop> Stage<L> {
     ) -> Result<Begun, RunFault>
         ensures { (scripts : Scripts) → BeginsAs L.changes scripts
             (hooked (at_depth L.changes room scripts) kind hook.now args
-                (state_of (standing L.view L.fixed self.old)))
+            (state_of (standing L.view L.fixed self.old)))
             3 (standing L.view L.fixed self.old) (standing L.view L.fixed self.new) result }
     {
         if !self.tables.hooks.has_any(hook) {
@@ -56,7 +56,7 @@ impl<L: SiteLink + Drop> Stage<L> {
     ) -> Result<Begun, RunFault>
         ensures { (scripts : Scripts) → BeginsAs L.changes scripts
             (do_hook (at_depth L.changes room scripts) hook.now args
-                (state_of (standing L.view L.fixed self.old)))
+            (state_of (standing L.view L.fixed self.old)))
             3 (standing L.view L.fixed self.old) (standing L.view L.fixed self.new) result }
     {
         self.machine.start(hook)?;

@@ -57,7 +57,8 @@ impl<L: SiteLink + Drop> Stage<L> {
     fn play<K: Callbacks>(&mut self, kit: &K, mut top: Frame) -> Result<Text, RunFault>
         requires { Ready top (around (standing L.view L.fixed self.old)) }
         ensures { GivesText (meant L.changes (K.scripts kit.now) top
-            (around (standing L.view L.fixed self.old)) (state_of (standing L.view L.fixed self.old)))
+            (around (standing L.view L.fixed self.old))
+            (state_of (standing L.view L.fixed self.old)))
             (round top (around (standing L.view L.fixed self.old)))
             (standing L.view L.fixed self.new) result }
     {

@@ -1,11 +1,11 @@
 //! Texts with shortcodes, piece by piece.
 
-ghost use Rattle.std.specs.Prelude.{◌≤◌, length};
+ghost use Rattle.std.specs.Prelude.{◌≡◌, ◌≤◌, false, length, IsErrOf};
 ghost use Rattle.press_scan.specs.Shortcodes.{IsShortcode, cut};
 ghost use Rattle.press_scan.specs.Tags.{callback_of, names_of};
 ghost use Rattle.press_callbacks.specs.Kits.{Scripts};
 ghost use Rattle.press_run.specs.Frames.{BeginsAs, GoesOn, Steps};
-ghost use Rattle.press_run.specs.Run.{at_depth, scan, shortcode_call, tag_answer};
+ghost use Rattle.press_run.specs.Run.{at_depth, is_short, scan, shortcode_call, tag_answer};
 ghost use Rattle.press_run.specs.Outcome.{state_of};
 ghost use Rattle.press_run.specs.Standing.{standing};
 ghost use Rattle.press_run.specs.declared.frame.Frame.TheVariants as frame;
@@ -23,9 +23,10 @@ use press_text::Text;
 impl<L: SiteLink + Drop> Stage<L> {
     // What a text means, where so many callbacks may be open.
     pub(super) fn begin_scan(&mut self, room: u32, text: Text) -> Result<Begun, RunFault>
-        ensures { (scripts : Scripts) → BeginsAs L.changes scripts
+        ensures long { is_short text ≡ false → IsErrOf result RunFault.Limit }
+        ensures begins { (scripts : Scripts) → BeginsAs L.changes scripts
             (scan (at_depth L.changes room scripts) text
-                (state_of (standing L.view L.fixed self.old)))
+            (state_of (standing L.view L.fixed self.old)))
             1048580 (standing L.view L.fixed self.old) (standing L.view L.fixed self.new) result }
     {
         if !texts::is_short(&text) {
@@ -36,14 +37,15 @@ impl<L: SiteLink + Drop> Stage<L> {
         Ok(Begun::Opens(Frame::Scan(OpenScan { room, scan })))
     }
 
-    // The next piece: the text up to a shortcode, an escape, or a shortcode, whose callback is called.
+    // The next piece: text up to a shortcode, an escape, or a shortcode, whose callback is called.
     pub(super) fn piece<K: Callbacks>(
         &mut self,
         kit: &K,
         scan: &mut OpenScan,
     ) -> Result<Step, RunFault>
         requires { GoesOn scan.old.scan }
-        ensures { Steps L.changes (K.scripts kit.now) (frame.Scan scan.old) (frame.Scan scan.new)
+        ensures long { is_short scan.old.scan.output ≡ false → IsErrOf result RunFault.Limit }
+        ensures steps { Steps L.changes (K.scripts kit.now) (frame.Scan scan.old) (frame.Scan scan.new)
             (standing L.view L.fixed self.old) (standing L.view L.fixed self.new) result }
     {
         computes_first();
@@ -69,13 +71,13 @@ impl<L: SiteLink + Drop> Stage<L> {
         text: &str,
         shortcode: Shortcode,
     ) -> Result<Begun, RunFault>
-        requires stands {
-            IsShortcode text.now (names_of self.old.tables.tags) shortcode.start shortcode }
+        requires stands { IsShortcode text.now (names_of self.old.tables.tags)
+            shortcode.start shortcode }
         requires short { length text.now ≤ 1048576 }
         ensures { BeginsAs L.changes (K.scripts kit.now)
             (tag_answer (at_depth L.changes room (K.scripts kit.now))
-                (callback_of (cut text.now shortcode.tag) self.old.tables.tags)
-                (shortcode_call text.now shortcode) (state_of (standing L.view L.fixed self.old)))
+            (callback_of (cut text.now shortcode.tag) self.old.tables.tags)
+            (shortcode_call text.now shortcode) (state_of (standing L.view L.fixed self.old)))
             2 (standing L.view L.fixed self.old) (standing L.view L.fixed self.new) result }
     {
         let alloc = self.machine.allocator();

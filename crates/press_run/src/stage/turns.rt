@@ -17,7 +17,11 @@ use press_text::Text;
 
 impl<L: SiteLink + Drop> Stage<L> {
     // What a turn asks for, which is counted already.
-    pub(super) fn asked(&mut self, callback: &mut OpenCallback, turn: Turn) -> Result<Step, RunFault>
+    pub(super) fn asked(
+        &mut self,
+        callback: &mut OpenCallback,
+        turn: Turn,
+    ) -> Result<Step, RunFault>
         requires { IsFew 1 callback.old }
         ensures { (scripts : Scripts) → Turns L.changes scripts callback.old turn callback.new
             (standing L.view L.fixed self.old) (standing L.view L.fixed self.new) result }

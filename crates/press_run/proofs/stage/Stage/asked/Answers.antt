@@ -29,7 +29,7 @@ returns-in_ok-begin_scan-in-Shortcodes g c = λ scripts.
     let m = at_depth g.L.SiteLink.changes c.args.callback.now.room scripts in
     let old = standing g.L.SiteLink.view g.L.SiteLink.fixed c.args.self.now in
     rw c.awaited-in-Shortcodes.ensures (asks g.L.SiteLink.changes scripts c.args.callback.now old c.args.turn (scan m c.in-Shortcodes.text (state_of old)) 1048580 (standing g.L.SiteLink.view g.L.SiteLink.fixed c.begin_scan.new.self) c.in_ok-begin_scan-in-Shortcodes.field-0
-    (scan_comes g.L.SiteLink.changes scripts c.args.callback.now old c.args.turn c.in-Shortcodes.text c.in-Shortcodes.is) (omega arith) c.requires (c.in_ok-begin_scan-in-Shortcodes.ensures scripts))
+    (scan_comes g.L.SiteLink.changes scripts c.args.callback.now old c.args.turn c.in-Shortcodes.text c.in-Shortcodes.is) (omega arith) c.requires (c.in_ok-begin_scan-in-Shortcodes.ensures.begins scripts))
 
 pub returns-in_ok-begin_change-in-SetOption : goal.returns-in_ok-begin_change-in-SetOption
 returns-in_ok-begin_change-in-SetOption g c = λ scripts.
