@@ -1,5 +1,5 @@
 -- One step of the meaning of a text, as a scan takes it.
-use Rattle.std.proofs.Common.{◌≡◌, refl, sym, ◌∙◌, ap, ap₂, subst, ℕ, zero, suc, ◌+◌, ◌-◌, ◌<◌, ◌≤◌, ◌⊎◌, inl, inr, Bool, true, false, List, [], ◌++◌, take, drop, length, Option, Some, None, Ok, Err, arith}
+use Rattle.std.proofs.Common.{◌≡◌, refl, sym, ◌∙◌, ap, ap₂, subst, ℕ, zero, suc, ◌+◌, ◌-◌, ◌<◌, ◌≤◌, ◌⊎◌, inl, inr, Bool, true, false, List, [], ◌++◌, take, drop, length, Option, Some, None, arith}
 use Rattle.std.specs.Prelude.{◌↔◌, ◌&&◌, slice_range}
 use Rattle.std.proofs.Math.Nat.{sub_self}
 use Rattle.std.proofs.lemmas.Bool.{cases_lt}
@@ -8,13 +8,10 @@ use Rattle.press_scan.specs.declared.shortcode.Shortcode.{Shortcode}
 use Rattle.press_scan.specs.Places.{NoneFrom, NoneBetween}
 use Rattle.press_scan.specs.Shortcodes.{IsShortcode, HasShortcode, IsNext, cut}
 use Rattle.press_scan.specs.FirstShortcode.{shortcode_from}
-use Rattle.press_scan.specs.Scans.{PutGives, Progress, TakesText, TakesFront, TakesEscape, IsEscape, before as opens, behind}
+use Rattle.press_scan.specs.Scans.{Progress, TakesText, TakesFront, TakesEscape, IsEscape, before as opens, behind}
 use Rattle.press_scan.specs.Tags.{names_of, callback_of}
-use Rattle.press_run.specs.Run.{◌>>=◌, only_if, within, is_short, State, Answer, answer, Meaning, scan, scan_from, scan_rest, shortcode_result, shortcode_call, tag_answer, is_escape}
-use Rattle.press_run.specs.Outcome.{Stage, Around, state_of, around, GivesText}
-use Rattle.press_run.specs.Scanning.{Means, MeansLeft, Takes, StopsScan}
-use Rattle.press_run.specs.declared.run_fault.RunFault.{RunFault}
-use Rattle.press_run.specs.declared.run_fault.RunFault.TheVariants.{Limit, NoMemory}
+use Rattle.press_run.specs.Run.{◌>>=◌, only_if, within, is_short, State, Answer, answer, Meaning, scan_from, scan_rest, shortcode_result, shortcode_call, tag_answer, is_escape}
+use Rattle.press_run.specs.Frames.{put, scanned}
 
 -- the laws of shortcodes
 abbrev pub ComputesSome : Type 0
@@ -28,11 +25,23 @@ EndsWithin = (text : List ℕ) (tags : List (List ℕ)) (place : ℕ) (s : Short
 
 -- ---- outputs
 
+bind_all : {A B : Type 0} (o : Option A) (f g : A → Option B) → ((a : A) → f a ≡ g a) → (o >>= f) ≡ (o >>= g)
+bind_all None f g e = refl
+bind_all (Some a) f g e = e a
+
 fitting : (t : List ℕ) → is_short t ≡ true → within t ≡ Some t
 fitting t h = ap (λ b. only_if b t) h
 
 too_long : (t : List ℕ) → is_short t ≡ false → within t ≡ None
 too_long t h = ap (λ b. only_if b t) h
+
+within_by : (b : Bool) (t : List ℕ) (f g : List ℕ → Option Answer) → is_short t ≡ b → (is_short t ≡ true → f t ≡ g t) → (within t >>= f) ≡ (within t >>= g)
+within_by true t f g h e = ap (λ o. o >>= f) (fitting t h) ∙ e h ∙ sym (ap (λ o. o >>= g) (fitting t h))
+within_by false t f g h e = ap (λ o. o >>= f) (too_long t h) ∙ sym (ap (λ o. o >>= g) (too_long t h))
+
+-- only a text within the bytes goes on
+within_same : (t : List ℕ) (f g : List ℕ → Option Answer) → (is_short t ≡ true → f t ≡ g t) → (within t >>= f) ≡ (within t >>= g)
+within_same t f g e = within_by (is_short t) t f g refl e
 
 nothing : (t text : List ℕ) (k : ℕ) → t ++ slice_range text k k ≡ t
 nothing t text k = ap (λ n. t ++ take n (drop k text)) (sub_self k) ∙ append-nil t
@@ -42,202 +51,144 @@ through : (o : Option Answer) (f : List ℕ → List ℕ) (g : Answer → Option
 through None f g = refl
 through (Some a) f g = refl
 
--- what the whole means where its output is then this: the rest, or nothing where that is too long
-abbrev pub Comes : Bool → Option Answer → Meaning → List ℕ → ℕ → List ℕ → State → Type 0
-Comes true whole callback text at output s = Means whole callback text at output s
-Comes false whole callback text at output s = whole ≡ None
-
-comes : (b : Bool) (whole : Option Answer) (callback : Meaning) (text : List ℕ) (at : ℕ) (output : List ℕ) (s : State) (n : ℕ) (rest : List ℕ → Option Answer) → is_short output ≡ b → whole ≡ (within output >>= rest) → (is_short output ≡ true → rest output ≡ scan_from callback n text at output s) → length text < n + at → Comes b whole callback text at output s
-comes true whole callback text at output s n rest h e k enough = record { n = n; enough = enough; meaning = e ∙ ap (λ o. o >>= rest) (fitting output h) ∙ k h; short = h }
-comes false whole callback text at output s n rest h e k enough = e ∙ ap (λ o. o >>= rest) (too_long output h)
-
 not_both : (x y : Bool) → ((x ≡ true) × (y ≡ true) → ⊥) → (x && y) ≡ false
 not_both true true plain = absurd (plain (refl, refl))
 not_both true false plain = refl
 not_both false y plain = refl
 
-module _ (some : ComputesSome) (none : ComputesNone) (ends : EndsWithin) (callback : Meaning) (text : List ℕ) (s : State) where
-  found : (at : ℕ) (c : Shortcode) → at ≤ c.start → IsShortcode text (names_of s.tags) c.start c → NoneBetween (HasShortcode text (names_of s.tags)) at c.start → shortcode_from text (names_of s.tags) at ≡ Some c
-  found at c late stands before = (some text (names_of s.tags) at c).1 (record { after = late; stands = stands; none_before = before })
+pub scan_stops : (callback : Meaning) (p : Progress) (s : State) → is_short p.output ≡ false → scanned callback p s ≡ None
+scan_stops callback p s h = ap (λ o. o >>= λ output. scan_from callback (suc (length p.text)) p.text p.at output s) (too_long p.output h)
 
-  starts_there : (to : ℕ) (c : Shortcode) → IsShortcode text (names_of s.tags) to c → IsShortcode text (names_of s.tags) c.start c
-  starts_there to c stands = subst (λ (k : ℕ). IsShortcode text (names_of s.tags) k c) (sym stands.starts) stands
+scan_fits : (callback : Meaning) (p : Progress) (s : State) → is_short p.output ≡ true → scanned callback p s ≡ scan_from callback (suc (length p.text)) p.text p.at p.output s
+scan_fits callback p s h = ap (λ o. o >>= λ output. scan_from callback (suc (length p.text)) p.text p.at output s) (fitting p.output h)
 
-  none_at_end : (at to : ℕ) → to ≡ length text → NoneBetween (HasShortcode text (names_of s.tags)) at to → shortcode_from text (names_of s.tags) at ≡ None
-  none_at_end at to e before = (none text (names_of s.tags) at).1 (λ k a here. elim (cases_lt k to) [
-    | inl lt ↦ before k a lt here
-    | inr ge ↦ (let w = ends text (names_of s.tags) k here.0 here.1 in absurd (omega (arith, w.0, w.1, e)))
-  ])
+module _ (some : ComputesSome) (none : ComputesNone) (ends : EndsWithin) (callback : Meaning) (text : List ℕ) where
+  -- the rest of a meaning, with so many shortcodes at most
+  abbrev pub rest : ℕ → ℕ → List ℕ → State → Option Answer
+  rest n at output s = scan_from callback n text at output s
 
-  opened : (n at : ℕ) (output : List ℕ) (o : Option Shortcode) → shortcode_from text (names_of s.tags) at ≡ o → scan_from callback (suc n) text at output s ≡ scan_rest callback (λ at' output' s'. scan_from callback n text at' output' s') text at output s o
+  opened : (n at : ℕ) (output : List ℕ) (s : State) (o : Option Shortcode) → shortcode_from text (names_of s.tags) at ≡ o → rest (suc n) at output s ≡ scan_rest callback (λ at' output' s'. rest n at' output' s') text at output s o
   unfolding scan_from
-  opened n at output o e = ap (λ x. scan_rest callback (λ at' output' s'. scan_from callback n text at' output' s') text at output s x) e
+  opened n at output s o e = ap (λ x. scan_rest callback (λ at' output' s'. rest n at' output' s') text at output s x) e
 
-  -- what follows a front that ends with this shortcode
-  abbrev then_result : ℕ → Shortcode → List ℕ → Option Answer
-  then_result n c front = shortcode_result callback text c s (is_escape c) >>= λ a. within (front ++ a.text) >>= λ longer. scan_from callback n text c.end longer a.state
+  -- ---- more shortcodes than bytes make no difference
 
-  fronted : (n at to : ℕ) (output : List ℕ) (c : Shortcode) → at ≤ to → IsShortcode text (names_of s.tags) to c → NoneBetween (HasShortcode text (names_of s.tags)) at to → scan_from callback (suc n) text at output s ≡ (within (output ++ slice_range text at to) >>= then_result n c)
-  fronted n at to output c late stands before =
-      let same : to ≡ c.start = sym stands.starts in
-      let first : shortcode_from text (names_of s.tags) at ≡ Some c = found at c (omega arith) (starts_there to c stands) (subst (λ (k : ℕ). NoneBetween (HasShortcode text (names_of s.tags)) at k) same before) in
-      opened n at output (Some c) first ∙ ap (λ k. within (output ++ slice_range text at k) >>= then_result n c) (sym same)
+  same_rest : (f g : ℕ → List ℕ → State → Option Answer) (at : ℕ) (output : List ℕ) (s : State) (c : Shortcode) → ((longer : List ℕ) (s' : State) → f c.end longer s' ≡ g c.end longer s') → scan_rest callback f text at output s (Some c) ≡ scan_rest callback g text at output s (Some c)
+  same_rest f g at output s c e =
+      bind_all (within (output ++ slice_range text at c.start)) (λ front. shortcode_result callback text c s (is_escape c) >>= λ a. within (front ++ a.text) >>= λ longer. f c.end longer a.state) (λ front. shortcode_result callback text c s (is_escape c) >>= λ a. within (front ++ a.text) >>= λ longer. g c.end longer a.state)
+      (λ front. bind_all (shortcode_result callback text c s (is_escape c)) (λ a. within (front ++ a.text) >>= λ longer. f c.end longer a.state) (λ a. within (front ++ a.text) >>= λ longer. g c.end longer a.state)
+      (λ a. bind_all (within (front ++ a.text)) (λ longer. f c.end longer a.state) (λ longer. g c.end longer a.state) (λ longer. e longer a.state)))
 
-  -- a shortcode at the very place
-  here : (n at : ℕ) (output : List ℕ) (c : Shortcode) → is_short output ≡ true → IsShortcode text (names_of s.tags) at c → scan_from callback (suc n) text at output s ≡ then_result n c output
-  here n at output c short stands =
-      fronted n at at output c (omega arith) stands (λ k a b x. absurd (omega arith)) ∙ ap (λ t. within t >>= then_result n c) (nothing output text at) ∙ ap (λ o. o >>= then_result n c) (fitting output short)
+  enough_step : (n m at : ℕ) (output : List ℕ) (s : State) (o : Option Shortcode) → shortcode_from text (names_of s.tags) at ≡ o → length text < suc n + at → length text < suc m + at
+      → ((at' : ℕ) (output' : List ℕ) (s' : State) → at' ≤ length text → length text < n + at' → length text < m + at' → rest n at' output' s' ≡ rest m at' output' s')
+      → rest (suc n) at output s ≡ rest (suc m) at output s
+  enough_step n m at output s None e x y again = opened n at output s None e ∙ sym (opened m at output s None e)
+  enough_step n m at output s (Some c) e x y again =
+      let next : IsNext text (names_of s.tags) at c = (some text (names_of s.tags) at c).0 e in
+      let w = ends text (names_of s.tags) c.start c next.stands in
+      let late : at ≤ c.start = next.after in
+      opened n at output s (Some c) e
+      ∙ same_rest (λ at' output' s'. rest n at' output' s') (λ at' output' s'. rest m at' output' s') at output s c
+      (λ longer s'. again c.end longer s' w.1 (omega (arith, w.0, late, x)) (omega (arith, w.0, late, y)))
+      ∙ sym (opened m at output s (Some c) e)
 
-  ended : (n at to : ℕ) (output : List ℕ) → to ≡ length text → NoneBetween (HasShortcode text (names_of s.tags)) at to → scan_from callback (suc n) text at output s ≡ (within (output ++ slice_range text at to) >>= λ whole. answer whole s)
-  ended n at to output e before =
-      opened n at output None (none_at_end at to e before) ∙ ap (λ k. within (output ++ slice_range text at k) >>= λ whole. answer whole s) (sym e)
+  enough : (n m at : ℕ) (output : List ℕ) (s : State) → at ≤ length text → length text < n + at → length text < m + at → rest n at output s ≡ rest m at output s
+  enough zero m at output s inside x y = absurd (omega arith)
+  enough (suc n) zero at output s inside x y = absurd (omega arith)
+  enough (suc n) (suc m) at output s inside x y = enough_step n m at output s (shortcode_from text (names_of s.tags) at) refl x y (λ at' output' s' i x' y'. enough n m at' output' s' i x' y')
 
-  at_end : (n to : ℕ) (output : List ℕ) → to ≡ length text → is_short output ≡ true → scan_from callback (suc n) text to output s ≡ answer output s
-  at_end n to output e short =
-      ended n to to output e (λ k a b x. absurd (omega arith)) ∙ ap (λ t. within t >>= λ w. answer w s) (nothing output text to) ∙ ap (λ o. o >>= λ w. answer w s) (fitting output short)
+  -- behind a shortcode one less is enough
+  one_less : (c : Shortcode) (output : List ℕ) (s : State) → 0 < c.end → c.end ≤ length text → rest (length text) c.end output s ≡ rest (suc (length text)) c.end output s
+  one_less c output s more inside = enough (length text) (suc (length text)) c.end output s inside (omega arith) (omega arith)
 
-  -- a front is taken, up to a shortcode or to the end
-  front_by : (n : ℕ) (b : Bool) (whole : Option Answer) (at to : ℕ) (output output' : List ℕ) → length text < n + at → whole ≡ scan_from callback n text at output s → at < to → output' ≡ output ++ slice_range text at to → NoneBetween (HasShortcode text (names_of s.tags)) at to → (to ≡ length text) ⊎ HasShortcode text (names_of s.tags) to → is_short output' ≡ b → Comes b whole callback text to output' s
-  front_by zero b whole at to output output' enough e more out before (inl end) h = absurd (omega arith)
-  front_by zero b whole at to output output' enough e more out before (inr (c, stands)) h = (let w = ends text (names_of s.tags) to c stands in absurd (omega (arith, w.0, w.1)))
-  front_by (suc n) b whole at to output output' enough e more out before (inl end) h =
-      comes b whole callback text to output' s 1 (λ w. answer w s) h (e ∙ ended n at to output end before ∙ ap (λ t. within t >>= λ w. answer w s) (sym out)) (λ short. sym (at_end 0 to output' end short)) (omega arith)
-  front_by (suc n) b whole at to output output' enough e more out before (inr (c, stands)) h =
-      comes b whole callback text to output' s (suc n) (then_result n c) h (e ∙ fronted n at to output c (omega arith) stands before ∙ ap (λ t. within t >>= then_result n c) (sym out)) (λ short. sym (here n to output' c short stands)) (omega arith)
+  module _ (s : State) where
+    found : (at : ℕ) (c : Shortcode) → at ≤ c.start → IsShortcode text (names_of s.tags) c.start c → NoneBetween (HasShortcode text (names_of s.tags)) at c.start → shortcode_from text (names_of s.tags) at ≡ Some c
+    found at c late stands before = (some text (names_of s.tags) at c).1 (record { after = late; stands = stands; none_before = before })
 
-  escape_by : (n : ℕ) (b : Bool) (whole : Option Answer) (at : ℕ) (output output' : List ℕ) (c : Shortcode) → length text < n + at → whole ≡ scan_from callback n text at output s → is_short output ≡ true → IsShortcode text (names_of s.tags) at c → IsEscape c → output' ≡ output ++ slice_range text (c.start + 1) (c.end - 1) → is_short output' ≡ b → Comes b whole callback text c.end output' s
-  escape_by zero b whole at output output' c enough e short stands escape out h = (let w = ends text (names_of s.tags) at c stands in absurd (omega (arith, w.0, w.1)))
-  escape_by (suc n) b whole at output output' c enough e short stands escape out h =
-      let both : is_escape c ≡ true = ap₂ (λ (x y : Bool). x && y) escape.0 escape.1 in
-      let w = ends text (names_of s.tags) at c stands in
-      comes b whole callback text c.end output' s n (λ o. scan_from callback n text c.end o s) h
-      (e ∙ here n at output c short stands
-      ∙ ap (λ x. shortcode_result callback text c s x >>= λ a. within (output ++ a.text) >>= λ longer. scan_from callback n text c.end longer a.state) both
-      ∙ ap (λ t. within t >>= λ o. scan_from callback n text c.end o s) (sym out))
-      (λ fits. refl) (omega (arith, w.0))
+    starts_there : (to : ℕ) (c : Shortcode) → IsShortcode text (names_of s.tags) to c → IsShortcode text (names_of s.tags) c.start c
+    starts_there to c stands = subst (λ (k : ℕ). IsShortcode text (names_of s.tags) k c) (sym stands.starts) stands
 
-  -- a step that takes text
-  pub text_taken : (b : Bool) (whole : Option Answer) (old new : Progress) → old.text ≡ text → TakesText (names_of s.tags) old new → Means whole callback text old.at old.output s → is_short new.output ≡ b → Comes b whole callback text new.at new.output s
-  text_taken b whole old new same takes m h = text_by takes.takes where
-    text_by : TakesFront (names_of s.tags) old new ⊎ TakesEscape (names_of s.tags) old new → Comes b whole callback text new.at new.output s
-    text_by (inl f) = front_by m.n b whole old.at new.at old.output new.output m.enough m.meaning takes.more (rw (← same) f.output) (rw (← same) f.none) (rw (← same) f.first) h
-    text_by (inr f) = rw f.at (escape_by m.n b whole old.at old.output new.output f.shortcode m.enough m.meaning m.short (rw (← same) f.stands) f.escape (rw (← same) f.output) h)
+    none_at_end : (at to : ℕ) → to ≡ length text → NoneBetween (HasShortcode text (names_of s.tags)) at to → shortcode_from text (names_of s.tags) at ≡ None
+    none_at_end at to e before = (none text (names_of s.tags) at).1 (λ k a here. elim (cases_lt k to) [
+      | inl lt ↦ before k a lt here
+      | inr ge ↦ (let w = ends text (names_of s.tags) k here.0 here.1 in absurd (omega (arith, w.0, w.1, e)))
+    ])
 
-  -- ---- an answered shortcode
+    -- what follows a front that ends with this shortcode
+    abbrev pub then_result : ℕ → Shortcode → List ℕ → Option Answer
+    then_result n c front = shortcode_result callback text c s (is_escape c) >>= λ a. within (front ++ a.text) >>= λ longer. rest n c.end longer a.state
 
-  unanswered : (n : ℕ) (output : List ℕ) (c : Shortcode) → (IsEscape c → ⊥) → then_result n c output
-      ≡ (tag_answer callback (callback_of (cut text c.tag) s.tags) (shortcode_call text c) s >>= λ a. within (output ++ (opens c ++ (a.text ++ behind c))) >>= λ longer. scan_from callback n text c.end longer a.state)
-  unanswered n output c plain =
-      ap (λ x. shortcode_result callback text c s x >>= λ a. within (output ++ a.text) >>= λ longer. scan_from callback n text c.end longer a.state) (not_both c.lead c.tail plain)
-      ∙ through (tag_answer callback (callback_of (cut text c.tag) s.tags) (shortcode_call text c) s) (λ t. opens c ++ (t ++ behind c)) (λ a. within (output ++ a.text) >>= λ longer. scan_from callback n text c.end longer a.state)
+    fronted : (n at to : ℕ) (output : List ℕ) (c : Shortcode) → at ≤ to → IsShortcode text (names_of s.tags) to c → NoneBetween (HasShortcode text (names_of s.tags)) at to → rest (suc n) at output s ≡ (within (output ++ slice_range text at to) >>= then_result n c)
+    fronted n at to output c late stands before =
+        let same : to ≡ c.start = sym stands.starts in
+        let first : shortcode_from text (names_of s.tags) at ≡ Some c = found at c (omega arith) (starts_there to c stands) (subst (λ (k : ℕ). NoneBetween (HasShortcode text (names_of s.tags)) at k) same before) in
+        opened n at output s (Some c) first ∙ ap (λ k. within (output ++ slice_range text at k) >>= then_result n c) (sym same)
 
-  answer_by : (n : ℕ) (b : Bool) (whole : Option Answer) (at : ℕ) (output output' : List ℕ) (c : Shortcode) (a : Answer) → length text < n + at → whole ≡ scan_from callback n text at output s → is_short output ≡ true → IsShortcode text (names_of s.tags) at c → (IsEscape c → ⊥) → tag_answer callback (callback_of (cut text c.tag) s.tags) (shortcode_call text c) s ≡ Some a → output' ≡ output ++ (opens c ++ (a.text ++ behind c)) → is_short output' ≡ b → Comes b whole callback text c.end output' a.state
-  answer_by zero b whole at output output' c a enough e short stands plain gave out h = (let w = ends text (names_of s.tags) at c stands in absurd (omega (arith, w.0, w.1)))
-  answer_by (suc n) b whole at output output' c a enough e short stands plain gave out h =
-      let w = ends text (names_of s.tags) at c stands in
-      comes b whole callback text c.end output' a.state n (λ o. scan_from callback n text c.end o a.state) h
-      (e ∙ here n at output c short stands ∙ unanswered n output c plain
-      ∙ ap (λ o. o >>= λ x. within (output ++ (opens c ++ (x.text ++ behind c))) >>= λ longer. scan_from callback n text c.end longer x.state) gave
-      ∙ ap (λ t. within t >>= λ o. scan_from callback n text c.end o a.state) (sym out))
-      (λ fits. refl) (omega (arith, w.0))
+    -- a shortcode at the very place
+    here : (n at : ℕ) (output : List ℕ) (c : Shortcode) → is_short output ≡ true → IsShortcode text (names_of s.tags) at c → rest (suc n) at output s ≡ then_result n c output
+    here n at output c short stands =
+        fronted n at at output c (omega arith) stands (λ k a b x. absurd (omega arith)) ∙ ap (λ t. within t >>= then_result n c) (nothing output text at) ∙ ap (λ o. o >>= then_result n c) (fitting output short)
 
-  limit_by : (n : ℕ) (whole : Option Answer) (at : ℕ) (output : List ℕ) (c : Shortcode) → length text < n + at → whole ≡ scan_from callback n text at output s → is_short output ≡ true → IsShortcode text (names_of s.tags) at c → (IsEscape c → ⊥) → tag_answer callback (callback_of (cut text c.tag) s.tags) (shortcode_call text c) s ≡ None → whole ≡ None
-  limit_by zero whole at output c enough e short stands plain gave = (let w = ends text (names_of s.tags) at c stands in absurd (omega (arith, w.0, w.1)))
-  limit_by (suc n) whole at output c enough e short stands plain gave =
-      e ∙ here n at output c short stands ∙ unanswered n output c plain
-      ∙ ap (λ o. o >>= λ x. within (output ++ (opens c ++ (x.text ++ behind c))) >>= λ longer. scan_from callback n text c.end longer x.state) gave
+    ended : (n at to : ℕ) (output : List ℕ) → to ≡ length text → NoneBetween (HasShortcode text (names_of s.tags)) at to → rest (suc n) at output s ≡ (within (output ++ slice_range text at to) >>= λ whole. answer whole s)
+    ended n at to output e before =
+        opened n at output s None (none_at_end at to e before) ∙ ap (λ k. within (output ++ slice_range text at k) >>= λ whole. answer whole s) (sym e)
 
-  -- the answer stands in the output between its brackets
-  pub answer_taken : (b : Bool) (whole : Option Answer) (at : ℕ) (output output' : List ℕ) (c : Shortcode) (a : Answer) → Means whole callback text at output s → IsShortcode text (names_of s.tags) at c → (IsEscape c → ⊥) → tag_answer callback (callback_of (cut text c.tag) s.tags) (shortcode_call text c) s ≡ Some a → output' ≡ output ++ (opens c ++ (a.text ++ behind c)) → is_short output' ≡ b → Comes b whole callback text c.end output' a.state
-  answer_taken b whole at output output' c a m stands plain gave out h = answer_by m.n b whole at output output' c a m.enough m.meaning m.short stands plain gave out h
+    at_end : (n to : ℕ) (output : List ℕ) → to ≡ length text → is_short output ≡ true → rest (suc n) to output s ≡ answer output s
+    at_end n to output e short =
+        ended n to to output e (λ k a b x. absurd (omega arith)) ∙ ap (λ t. within t >>= λ w. answer w s) (nothing output text to) ∙ ap (λ o. o >>= λ w. answer w s) (fitting output short)
 
-  pub answer_limit : (whole : Option Answer) (at : ℕ) (output : List ℕ) (c : Shortcode) → Means whole callback text at output s → IsShortcode text (names_of s.tags) at c → (IsEscape c → ⊥) → tag_answer callback (callback_of (cut text c.tag) s.tags) (shortcode_call text c) s ≡ None → whole ≡ None
-  answer_limit whole at output c m stands plain gave = limit_by m.n whole at output c m.enough m.meaning m.short stands plain gave
+    -- a front is taken, up to a shortcode or to the end
+    front : (n at to : ℕ) (output : List ℕ) → at < to → NoneBetween (HasShortcode text (names_of s.tags)) at to → (to ≡ length text) ⊎ HasShortcode text (names_of s.tags) to → rest (suc n) at output s ≡ (within (output ++ slice_range text at to) >>= λ longer. rest (suc n) to longer s)
+    front n at to output more before (inl end) =
+        ended n at to output end before ∙ within_same (output ++ slice_range text at to) (λ whole. answer whole s) (λ longer. rest (suc n) to longer s) (λ short. sym (at_end n to (output ++ slice_range text at to) end short))
+    front n at to output more before (inr (c, stands)) =
+        fronted n at to output c (omega arith) stands before ∙ within_same (output ++ slice_range text at to) (then_result n c) (λ longer. rest (suc n) to longer s) (λ short. sym (here n to (output ++ slice_range text at to) c short stands))
+
+    escaped : (at : ℕ) (output : List ℕ) (c : Shortcode) → is_short output ≡ true → IsShortcode text (names_of s.tags) at c → IsEscape c → rest (suc (length text)) at output s ≡ (within (output ++ slice_range text (c.start + 1) (c.end - 1)) >>= λ longer. rest (suc (length text)) c.end longer s)
+    escaped at output c short stands escape =
+        let both : is_escape c ≡ true = ap₂ (λ (x y : Bool). x && y) escape.0 escape.1 in
+        let w = ends text (names_of s.tags) at c stands in
+        here (length text) at output c short stands
+        ∙ ap (λ x. shortcode_result callback text c s x >>= λ a. within (output ++ a.text) >>= λ longer. rest (length text) c.end longer a.state) both
+        ∙ bind_all (within (output ++ slice_range text (c.start + 1) (c.end - 1))) (λ longer. rest (length text) c.end longer s) (λ longer. rest (suc (length text)) c.end longer s) (λ longer. one_less c longer s (omega (arith, w.0)) w.1)
+
+    -- a shortcode that a callback answers
+    called : (at : ℕ) (output : List ℕ) (c : Shortcode) → is_short output ≡ true → IsShortcode text (names_of s.tags) at c → (IsEscape c → ⊥)
+        → (tag_answer callback (callback_of (cut text c.tag) s.tags) (shortcode_call text c) s >>= λ a. within (output ++ (opens c ++ (a.text ++ behind c))) >>= λ longer. rest (suc (length text)) c.end longer a.state) ≡ rest (suc (length text)) at output s
+    called at output c short stands plain =
+        let o = tag_answer callback (callback_of (cut text c.tag) s.tags) (shortcode_call text c) s in
+        let w = ends text (names_of s.tags) at c stands in
+        sym (here (length text) at output c short stands
+        ∙ ap (λ x. shortcode_result callback text c s x >>= λ a. within (output ++ a.text) >>= λ longer. rest (length text) c.end longer a.state) (not_both c.lead c.tail plain)
+        ∙ through o (λ t. opens c ++ (t ++ behind c)) (λ a. within (output ++ a.text) >>= λ longer. rest (length text) c.end longer a.state)
+        ∙ bind_all o (λ a. within (output ++ (opens c ++ (a.text ++ behind c))) >>= λ longer. rest (length text) c.end longer a.state) (λ a. within (output ++ (opens c ++ (a.text ++ behind c))) >>= λ longer. rest (suc (length text)) c.end longer a.state)
+        (λ a. bind_all (within (output ++ (opens c ++ (a.text ++ behind c)))) (λ longer. rest (length text) c.end longer a.state) (λ longer. rest (suc (length text)) c.end longer a.state) (λ longer. one_less c longer a.state (omega (arith, w.0)) w.1)))
+
+-- ---- the pieces of a scan
+
+module _ (some : ComputesSome) (none : ComputesNone) (ends : EndsWithin) (callback : Meaning) (old : Progress) (s : State) (short : is_short old.output ≡ true) where
+  -- text is taken
+  pub text_taken : (new : Progress) → TakesText (names_of s.tags) old new → scanned callback new s ≡ scanned callback old s
+  text_taken new takes = same takes.takes where
+    same : TakesFront (names_of s.tags) old new ⊎ TakesEscape (names_of s.tags) old new → scanned callback new s ≡ scanned callback old s
+    same (inl f) = rw (takes.text, f.output) (sym (scan_fits callback old s short ∙ front some none ends callback old.text s (length old.text) old.at new.at old.output takes.more f.none f.first))
+    same (inr f) = rw (takes.text, f.output, f.at) (sym (scan_fits callback old s short ∙ escaped some none ends callback old.text s old.at old.output f.shortcode short f.stands f.escape))
+
+  -- and stays within its text
+  pub text_inside : (new : Progress) → TakesText (names_of s.tags) old new → new.at ≤ length old.text
+  text_inside new takes = by takes.takes where
+    by : TakesFront (names_of s.tags) old new ⊎ TakesEscape (names_of s.tags) old new → new.at ≤ length old.text
+    by (inl f) = at_front f.first where
+      at_front : (new.at ≡ length old.text) ⊎ HasShortcode old.text (names_of s.tags) new.at → new.at ≤ length old.text
+      at_front (inl e) = omega arith
+      at_front (inr (c, stands)) = (let w = ends old.text (names_of s.tags) new.at c stands in omega (arith, w.0, w.1))
+    by (inr f) = (let w = ends old.text (names_of s.tags) old.at f.shortcode f.stands in omega (arith, w.1, f.at))
+
+  -- a shortcode waits for its answer
+  pub shortcode_waits : (c : Shortcode) → IsShortcode old.text (names_of s.tags) old.at c → (IsEscape c → ⊥)
+      → (tag_answer callback (callback_of (cut old.text c.tag) s.tags) (shortcode_call old.text c) s >>= λ a. scanned callback (put (Some c) old a.text) a.state) ≡ scanned callback old s
+  shortcode_waits c stands plain = called some none ends callback old.text s old.at old.output c short stands plain ∙ sym (scan_fits callback old s short)
 
   -- nothing is left
-  pub means_all : (whole : Option Answer) (at : ℕ) (output : List ℕ) → at ≡ length text → Means whole callback text at output s → whole ≡ answer output s
-  means_all whole at output e m = all_by m.n m.enough m.meaning m.short where
-    all_by : (n : ℕ) → length text < n + at → whole ≡ scan_from callback n text at output s → is_short output ≡ true → whole ≡ answer output s
-    all_by zero enough meaning short = absurd (omega (arith, enough, e))
-    all_by (suc n) enough meaning short = meaning ∙ at_end n at output e short
-
--- a scan at the start of a text
-pub means_begins : (callback : Meaning) (text : List ℕ) (s : State) → is_short text ≡ true → Means (scan callback text s) callback text 0 [] s
-means_begins callback text s h = record {
-  n = suc (length text);
-  enough = omega arith;
-  meaning = ap (λ o. o >>= λ whole. scan_from callback (suc (length whole)) whole 0 [] s) (fitting text h);
-  short = refl;
-}
-
-pub begins_long : (callback : Meaning) (text : List ℕ) (s : State) → is_short text ≡ false → scan callback text s ≡ None
-begins_long callback text s h = ap (λ o. o >>= λ whole. scan_from callback (suc (length whole)) whole 0 [] s) (too_long text h)
-
--- ---- pieces of a scan
-
--- a scan when the answer has been put
-abbrev pub put_in : Progress → Shortcode → List ℕ → Progress
-put_in old c text = record old { at = c.end; output = old.output ++ (opens c ++ (text ++ behind c)); waiting = None }
-
-module _ (some : ComputesSome) (none : ComputesNone) (ends : EndsWithin) (callback : Meaning) (before after : Stage) (old new : Progress) where
-  inside : TakesText (names_of before.tags) old new → new.at ≤ length old.text
-  inside takes = by takes.takes where
-    by : TakesFront (names_of before.tags) old new ⊎ TakesEscape (names_of before.tags) old new → new.at ≤ length old.text
-    by (inl f) = at_front f.first where
-      at_front : (new.at ≡ length old.text) ⊎ HasShortcode old.text (names_of before.tags) new.at → new.at ≤ length old.text
-      at_front (inl e) = omega arith
-      at_front (inr (c, stands)) = (let w = ends old.text (names_of before.tags) new.at c stands in omega (arith, w.0, w.1))
-    by (inr f) = (let w = ends old.text (names_of before.tags) old.at f.shortcode f.stands in omega (arith, w.1, f.at))
-
-  pub text_takes : TakesText (names_of before.tags) old new → is_short new.output ≡ true → Takes callback before before old new
-  text_takes takes short = record {
-    means = λ whole m. subst (λ (t : List ℕ). Means whole callback t new.at new.output (state_of before)) (sym takes.text) (text_taken some none ends callback old.text (state_of before) true whole old new refl takes m short);
-    same = refl;
-    text = takes.text;
-    waiting = takes.waiting;
-    more = takes.more;
-    inside = rw takes.text (inside takes);
-  }
-
-  pub text_stops : TakesText (names_of before.tags) old new → is_short new.output ≡ false → (whole : Option Answer) → MeansLeft whole callback old before → whole ≡ None
-  text_stops takes long whole m = text_taken some none ends callback old.text (state_of before) false whole old new refl takes m long
-
-  module _ (c : Shortcode) (text : List ℕ) (stands : IsShortcode old.text (names_of before.tags) old.at c) (plain : IsEscape c → ⊥) (put : new ≡ put_in old c text) where
-    module _ (gave : tag_answer callback (callback_of (cut old.text c.tag) before.tags) (shortcode_call old.text c) (state_of before) ≡ answer text (state_of after)) where
-      pub answer_takes : around after ≡ around before → is_short new.output ≡ true → Takes callback before after old new
-      answer_takes same short =
-          let fits : is_short (put_in old c text).output ≡ true = ap (λ (p : Progress). is_short p.output) (sym put) ∙ short in
-          let w = ends old.text (names_of before.tags) old.at c stands in
-          record {
-            means = λ whole m. subst (λ (p : Progress). Means whole callback p.text p.at p.output (state_of after)) (sym put)
-                (answer_taken some none ends callback old.text (state_of before) true whole old.at old.output (put_in old c text).output c (record { text = text; state = state_of after }) m stands plain gave refl fits);
-            same = same;
-            text = ap (λ (p : Progress). p.text) put;
-            waiting = ap (λ (p : Progress). p.waiting) put;
-            more = rw put w.0;
-            inside = rw put w.1;
-          }
-
-      pub answer_stops : is_short new.output ≡ false → (whole : Option Answer) → MeansLeft whole callback old before → whole ≡ None
-      answer_stops long whole m =
-          let over : is_short (put_in old c text).output ≡ false = ap (λ (p : Progress). is_short p.output) (sym put) ∙ long in
-          answer_taken some none ends callback old.text (state_of before) false whole old.at old.output (put_in old c text).output c (record { text = text; state = state_of after }) m stands plain gave refl over
-
-pub put_stands : (c : Shortcode) (u : Unit {0}) (text : List ℕ) (old new : Progress) → old.waiting ≡ Some c → PutGives (Ok u) text old new → new ≡ put_in old c text
-put_stands c u text old new waits (s, also, e) =
-    let same : s ≡ c = (let f : Some s ≡ Some c = sym also ∙ waits in cc) in
-    subst (λ (x : Shortcode). new ≡ put_in old x text) same e
-
--- ---- faults are handed on
-
-pub answer_err : (p : Option Answer) (a : Around) (w : Stage) (callback : Meaning) (before : Stage) (old : Progress) (f : RunFault) → (p ≡ None → (whole : Option Answer) → MeansLeft whole callback old before → whole ≡ None) → GivesText p a w (Err f) → StopsScan f callback before old
-answer_err p a w callback before old Limit h e = h e
-answer_err p a w callback before old NoMemory h e = tt
-
-pub still_stops : (callback : Meaning) (before : Stage) (old : Progress) (o : Option Shortcode) (f : RunFault) → StopsScan f callback before (record old { waiting = o }) → StopsScan f callback before old
-still_stops callback before old o Limit h = h
-still_stops callback before old o NoMemory h = tt
-
-pub scan_err : (whole : Option Answer) (callback : Meaning) (before : Stage) (old : Progress) (a : Around) (w : Stage) (f : RunFault) → MeansLeft whole callback old before → StopsScan f callback before old → GivesText whole a w (Err f)
-scan_err whole callback before old a w Limit m h = h whole m
-scan_err whole callback before old a w NoMemory m h = tt
+  pub scan_ends : old.at ≡ length old.text → answer old.output s ≡ scanned callback old s
+  scan_ends e = sym (scan_fits callback old s short ∙ at_end some none ends callback old.text s (length old.text) old.at old.output e short)

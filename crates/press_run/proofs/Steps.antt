@@ -20,9 +20,7 @@ use Rattle.press_site.specs.SiteView.{SiteView}
 use Rattle.press_run.specs.Links.{Changes}
 use Rattle.press_run.specs.Counts.{Counts}
 use Rattle.press_run.specs.Run.{◌>>=◌, State, Answer, answer, Meaning, Stepped, Goes, Ends, run_entries, do_hook, do_fires, play, at_depth, call_entry, after_step, counted_step, first_text, handed_on, hook_call, fuel, or_empty, without_last, built_in, callback_where}
-use Rattle.press_run.specs.Outcome.{Stage, Around, innermost, state_of, GivesText, GivesWithin, GivesStep}
-use Rattle.press_run.specs.declared.run_fault.RunFault.{RunFault}
-use Rattle.press_run.specs.declared.run_fault.RunFault.TheVariants.{Limit, NoMemory}
+use Rattle.press_run.specs.Outcome.{Stage, innermost, state_of}
 
 pub no_depth : (changes : Changes) (scripts : Scripts) (id : List ℕ) (call : CallIn) (s : State) → at_depth changes 0 scripts id call s ≡ None
 unfolding at_depth
@@ -73,78 +71,32 @@ still_innermost : (rows : List Row) (runs : List OpenRun) (id : ℕ) → is_inne
 still_innermost rows [] id h = h
 still_innermost rows (r ∷ rs) id h = h
 
-same_around : (rows : List Row) (runs : List OpenRun) → without_innermost (runs_next rows runs) ≡ without_innermost runs
-same_around rows [] = refl
-same_around rows (r ∷ rs) = refl
+still_around : (rows : List Row) (runs : List OpenRun) → without_innermost (runs_next rows runs) ≡ without_innermost runs
+still_around rows [] = refl
+still_around rows (r ∷ rs) = refl
 
 innermost_entry : (rows : List Row) (runs : List OpenRun) (id : ℕ) → is_innermost id runs ≡ true → entry_next rows runs ≡ next_entry rows (innermost runs)
 innermost_entry rows [] id h = cc
 innermost_entry rows (r ∷ rs) id h = refl
 
-abbrev pub at_table : Table → List TagRow → Counts → SiteView → Option SiteView → List ℕ → Stage
-at_table t tags counts site fixed output = record { hooks = t; tags = tags; counts = counts; site = site; fixed = fixed; output = output }
+abbrev pub with_table : Table → Stage → Stage
+with_table t w = record w { hooks = t }
 
--- ---- the entries of a run, from a table t on to t'
+-- ---- the next entry of a run
 
-module _ (m : Meaning) (kind : Kind) (args : List (List ℕ)) (id : ℕ) (t t' : Table) (tags : List TagRow) (counts : Counts) (site : SiteView) (fixed : Option SiteView) (output : List ℕ) (k n : ℕ) (long : k ≡ suc n) (open_run : is_innermost id t.open_runs ≡ true) (on : t' ≡ run_advanced t) where
-  private_step : (o : Option Entry) → o ≡ entry_next t.rows t.open_runs → run_entries m kind k args (innermost t.open_runs) (state_of (at_table t tags counts site fixed output)) ≡ call_entry m (λ text s'. run_entries m kind n (handed_on kind text args) (innermost t'.open_runs) s') args (state_of (at_table t' tags counts site fixed output)) o
-  private_step o e =
-      let inner : innermost t'.open_runs ≡ next_run t.rows (innermost t.open_runs) = ap (λ (w : Table). innermost w.open_runs) on ∙ innermost_advanced t.rows t.open_runs id open_run in
-      let state : state_of (at_table t' tags counts site fixed output) ≡ state_of (at_table t tags counts site fixed output) = ap (λ (w : Table). state_of (at_table w tags counts site fixed output)) on in
-      let next : o ≡ next_entry t.rows (innermost t.open_runs) = e ∙ innermost_entry t.rows t.open_runs id open_run in
-      rw (long, inner, state, next) (more_entries m kind n args (innermost t.open_runs) (state_of (at_table t tags counts site fixed output)))
+module _ (m : Meaning) (kind : Kind) (args : List (List ℕ)) (id : ℕ) (w : Stage) (t : Table) (k n : ℕ) (long : k ≡ suc n) (open_run : is_innermost id w.hooks.open_runs ≡ true) (on : t ≡ run_advanced w.hooks) where
+  pub entries_step : (o : Option Entry) → o ≡ entry_next w.hooks.rows w.hooks.open_runs → run_entries m kind k args (innermost w.hooks.open_runs) (state_of w) ≡ call_entry m (λ text s'. run_entries m kind n (handed_on kind text args) (innermost t.open_runs) s') args (state_of (with_table t w)) o
+  entries_step o e =
+      let inner : innermost t.open_runs ≡ next_run w.hooks.rows (innermost w.hooks.open_runs) = ap (λ (x : Table). innermost x.open_runs) on ∙ innermost_advanced w.hooks.rows w.hooks.open_runs id open_run in
+      let state : state_of (with_table t w) ≡ state_of w = ap (λ (x : Table). state_of (with_table x w)) on in
+      let next : o ≡ next_entry w.hooks.rows (innermost w.hooks.open_runs) = e ∙ innermost_entry w.hooks.rows w.hooks.open_runs id open_run in
+      rw (long, inner, state, next) (more_entries m kind n args (innermost w.hooks.open_runs) (state_of w))
 
-  pub entries_end : None ≡ entry_next t.rows t.open_runs → run_entries m kind k args (innermost t.open_runs) (state_of (at_table t tags counts site fixed output)) ≡ answer (first_text args) (state_of (at_table t' tags counts site fixed output))
-  entries_end e = private_step None e
+  pub around_kept : without_innermost t.open_runs ≡ without_innermost w.hooks.open_runs
+  around_kept = ap (λ (x : Table). without_innermost x.open_runs) on ∙ still_around w.hooks.rows w.hooks.open_runs
 
-  pub entries_limit : (e : Entry) → Some e ≡ entry_next t.rows t.open_runs → m e.callback (hook_call (take e.accepted args)) (state_of (at_table t' tags counts site fixed output)) ≡ None → run_entries m kind k args (innermost t.open_runs) (state_of (at_table t tags counts site fixed output)) ≡ None
-  entries_limit e q none = private_step (Some e) q ∙ ap (λ o. o >>= λ a. run_entries m kind n (handed_on kind a.text args) (innermost t'.open_runs) a.state) none
-
-  pub entries_more : (e : Entry) (a : Answer) → Some e ≡ entry_next t.rows t.open_runs → m e.callback (hook_call (take e.accepted args)) (state_of (at_table t' tags counts site fixed output)) ≡ Some a → run_entries m kind k args (innermost t.open_runs) (state_of (at_table t tags counts site fixed output)) ≡ run_entries m kind n (handed_on kind a.text args) (innermost t'.open_runs) a.state
-  entries_more e a q some = private_step (Some e) q ∙ ap (λ o. o >>= λ a. run_entries m kind n (handed_on kind a.text args) (innermost t'.open_runs) a.state) some
-
-  pub around_kept : without_innermost t'.open_runs ≡ without_innermost t.open_runs
-  around_kept = ap (λ (w : Table). without_innermost w.open_runs) on ∙ same_around t.rows t.open_runs
-
-  pub open_kept : is_innermost id t'.open_runs ≡ true
-  open_kept = ap (λ (w : Table). is_innermost id w.open_runs) on ∙ still_innermost t.rows t.open_runs id open_run
-
--- ---- the turns of a script
-
-module _ (changes : Changes) (m : Meaning) (script : List Op) (k n : ℕ) (call : CallIn) (s : State) (turn : Turn) (long : k ≡ suc n) (is : turn ≡ turn_of script call) where
-  one_turn : play changes m script k call s ≡ (counted_step changes m call turn s >>= played_on changes m script n)
-  one_turn = rw (long, is) (more_turns changes m script n call s)
-
-  pub turns_end : (text : List ℕ) (s' : State) → counted_step changes m call turn s ≡ Some (Ends text s') → play changes m script k call s ≡ answer text s'
-  turns_end text s' e = one_turn ∙ ap (λ o. o >>= played_on changes m script n) e
-
-  pub turns_more : (call' : CallIn) (s' : State) → counted_step changes m call turn s ≡ Some (Goes call' s') → play changes m script k call s ≡ play changes m script n call' s'
-  turns_more call' s' e = one_turn ∙ ap (λ o. o >>= played_on changes m script n) e
-
-  pub turns_limit : counted_step changes m call turn s ≡ None → play changes m script k call s ≡ None
-  turns_limit e = one_turn ∙ ap (λ o. o >>= played_on changes m script n) e
-
--- ---- faults are handed on
-
-pub within_err : (p q : Option Answer) (a b : Around) (w : Stage) (f : RunFault) → (p ≡ None → q ≡ None) → GivesText p a w (Err f) → GivesWithin q b w (Err f)
-within_err p q a b w Limit h e = h e
-within_err p q a b w NoMemory h e = tt
-
-pub gives_err : (p q : Option Answer) (a b : Around) (w v : Stage) (f : RunFault) → (p ≡ None → q ≡ None) → GivesText p a w (Err f) → GivesText q b v (Err f)
-gives_err p q a b w v Limit h e = h e
-gives_err p q a b w v NoMemory h e = tt
-
-pub run_err : (p q : Option Answer) (a b : Around) (w v : Stage) (f : RunFault) → (p ≡ None → q ≡ None) → GivesWithin p a w (Err f) → GivesText q b v (Err f)
-run_err p q a b w v Limit h e = h e
-run_err p q a b w v NoMemory h e = tt
-
-pub step_err : (p : Option Stepped) (q : Option Answer) (a b : Around) (w v : Stage) (c : CallIn) (f : RunFault) → (p ≡ None → q ≡ None) → GivesStep p a w c (Err f) → GivesText q b v (Err f)
-step_err p q a b w v c Limit h e = h e
-step_err p q a b w v c NoMemory h e = tt
-
-pub turn_err : (p : Option Answer) (q : Option Stepped) (a b : Around) (w v : Stage) (c : CallIn) (f : RunFault) → (p ≡ None → q ≡ None) → GivesText p a w (Err f) → GivesStep q b v c (Err f)
-turn_err p q a b w v c Limit h e = h e
-turn_err p q a b w v c NoMemory h e = tt
+  pub open_kept : is_innermost id t.open_runs ≡ true
+  open_kept = ap (λ (x : Table). is_innermost id x.open_runs) on ∙ still_innermost w.hooks.rows w.hooks.open_runs id open_run
 
 -- a stack with one more, without its last
 pub without-last : (stack : List (List ℕ)) (hook : List ℕ) → without_last (stack ++ hook ∷ []) ≡ stack
@@ -154,18 +106,10 @@ without-last stack hook =
 
 -- ---- fires, one after the other
 
-one_fire : (m : Meaning) (fires : List Fire) (i : ℕ) (f : Fire) (s : State) → i < length fires → f ≡ get_or fires i f → do_fires m (drop i fires) s ≡ (do_hook m f.hook f.args s >>= λ a. do_fires m (drop (i + 1) fires) a.state)
+pub one_fire : (m : Meaning) (fires : List Fire) (i : ℕ) (f : Fire) (s : State) → i < length fires → f ≡ get_or fires i f → do_fires m (drop i fires) s ≡ (do_hook m f.hook f.args s >>= λ a. do_fires m (drop (i + 1) fires) a.state)
 one_fire m fires i f s lt at =
     let cut : drop i fires ≡ f ∷ drop (i + 1) fires = rw (add-one, drop-cons fires i f lt, ← at) refl in
     rw cut (more_fires m f (drop (i + 1) fires) s)
-
-pub fires_more : (m : Meaning) (fires : List Fire) (i : ℕ) (f : Fire) (args : List (List ℕ)) (s : State) (a : Answer) → i < length fires → f ≡ get_or fires i f → args ≡ f.args → do_hook m f.hook args s ≡ Some a → do_fires m (drop i fires) s ≡ do_fires m (drop (i + 1) fires) a.state
-fires_more m fires i f args s a lt at same e =
-    one_fire m fires i f s lt at ∙ ap (λ o. o >>= λ b. do_fires m (drop (i + 1) fires) b.state) (ap (λ x. do_hook m f.hook x s) (sym same) ∙ e)
-
-pub fires_limit : (m : Meaning) (fires : List Fire) (i : ℕ) (f : Fire) (args : List (List ℕ)) (s : State) → i < length fires → f ≡ get_or fires i f → args ≡ f.args → do_hook m f.hook args s ≡ None → do_fires m (drop i fires) s ≡ None
-fires_limit m fires i f args s lt at same e =
-    one_fire m fires i f s lt at ∙ ap (λ o. o >>= λ b. do_fires m (drop (i + 1) fires) b.state) (ap (λ x. do_hook m f.hook x s) (sym same) ∙ e)
 
 pub fires_end : (m : Meaning) (fires : List Fire) (i : ℕ) (s : State) → length fires ≤ i → do_fires m (drop i fires) s ≡ answer [] s
 fires_end m fires i s le = rw (drop_of_length-le fires le) (no_fires m s)

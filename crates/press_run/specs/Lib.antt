@@ -1,8 +1,8 @@
 pub mod Boot
 pub mod Counts
 pub mod Faults
+pub mod Frames
 pub mod Links
 pub mod Outcome
 pub mod Run
-pub mod Scanning
 pub mod Standing

@@ -8,8 +8,6 @@ use Rattle.press_callbacks.specs.declared.script.CallIn.{CallIn}
 use Rattle.press_callbacks.specs.declared.tables.Tables.{Tables}
 use Rattle.press_run.specs.declared.run_fault.RunFault.{RunFault}
 use Rattle.press_run.specs.declared.run_fault.RunFault.TheVariants.{Limit, NoMemory}
-use Rattle.press_run.specs.declared.step.Step.{Step}
-use Rattle.press_run.specs.declared.step.Step.TheVariants as step
 use Rattle.press_run.specs.Boot.{Loaded}
 use Rattle.press_run.specs.Counts.{Counts}
 use Rattle.press_run.specs.Links.{Changes}
@@ -44,10 +42,6 @@ pub record Around : Type 0 where
 abbrev pub around : Stage → Around
 around w = record { open_runs = w.hooks.open_runs; doing = w.counts.doing; fixed = w.fixed }
 
--- the same, with the innermost open run left out
-abbrev pub around_innermost : Stage → Around
-around_innermost w = record { open_runs = without_innermost w.hooks.open_runs; doing = w.counts.doing; fixed = w.fixed }
-
 -- what a fault says of a meaning: Limit stands exactly where there is none, and want of memory says nothing
 abbrev pub Refuses : {A : Type 0} → RunFault → Option A → Type 0
 Refuses Limit meaning = meaning ≡ None
@@ -57,21 +51,10 @@ Refuses NoMemory meaning = Unit {0}
 abbrev pub GivesText : Option Answer → Around → Stage → Result (List ℕ) RunFault → Type 0
 GivesText meaning before after result = MatchResult result (λ text. (meaning ≡ answer text (state_of after)) × (around after ≡ before)) (λ fault. Refuses fault meaning)
 
-abbrev pub GivesWithin : Option Answer → Around → Stage → Result (List ℕ) RunFault → Type 0
-GivesWithin meaning before after result = MatchResult result (λ text. (meaning ≡ answer text (state_of after)) × (around_innermost after ≡ before)) (λ fault. Refuses fault meaning)
-
 -- the innermost open run
 abbrev pub innermost : List OpenRun → OpenRun
 innermost [] = begun []
 innermost (r ∷ rs) = r
-
--- one that goes on leaves the next turn's call
-abbrev pub stepped : Step → CallIn → State → Stepped
-stepped step.Goes call s = Goes call s
-stepped (step.Ends text) call s = Ends text s
-
-abbrev pub GivesStep : Option Stepped → Around → Stage → CallIn → Result Step RunFault → Type 0
-GivesStep meaning before after call result = MatchResult result (λ s. (meaning ≡ Some (stepped s call (state_of after))) × (around after ≡ before)) (λ fault. Refuses fault meaning)
 
 -- a text is put at the end of an output where that stays within the bytes; want of memory stands only there
 abbrev pub RefusesText : RunFault → Option (List ℕ) → Type 0

@@ -70,7 +70,8 @@ fn publish_future_post(alloc: Global) -> Result<HookName, AllocError>
 }
 
 fn load_plugin(tables: &mut Tables, plugin: Option<&Plugin>) -> Result<(), AllocError>
-    ensures loads { OnOk result (loaded_in tables.new ≡ all_loaded (loads_of (option_map (λ p. p.now) plugin.entry)) (loaded_in tables.old)) }
+    ensures loads { OnOk result (loaded_in tables.new
+        ≡ all_loaded (loads_of (option_map (λ p. p.now) plugin.entry)) (loaded_in tables.old)) }
     ensures runs { OnOk result (tables.new.hooks.open_runs ≡ tables.old.hooks.open_runs) }
 {
     match plugin {
@@ -80,7 +81,8 @@ fn load_plugin(tables: &mut Tables, plugin: Option<&Plugin>) -> Result<(), Alloc
 }
 
 fn load_all(tables: &mut Tables, loads: &[Load]) -> Result<(), AllocError>
-    ensures loads { OnOk result (loaded_in tables.new ≡ all_loaded loads.now (loaded_in tables.old)) }
+    ensures loads { OnOk result (loaded_in tables.new
+        ≡ all_loaded loads.now (loaded_in tables.old)) }
     ensures runs { OnOk result (tables.new.hooks.open_runs ≡ tables.old.hooks.open_runs) }
 {
     for load in loads {
@@ -91,7 +93,8 @@ fn load_all(tables: &mut Tables, loads: &[Load]) -> Result<(), AllocError>
 
 // A row or a tag past the last that its table takes is left out.
 fn load_one(tables: &mut Tables, load: &Load) -> Result<(), AllocError>
-    ensures loads { OnOk result (loaded_in tables.new ≡ one_loaded load.now (loaded_in tables.old)) }
+    ensures loads { OnOk result (loaded_in tables.new
+        ≡ one_loaded load.now (loaded_in tables.old)) }
     ensures runs { OnOk result (tables.new.hooks.open_runs ≡ tables.old.hooks.open_runs) }
 {
     match load {

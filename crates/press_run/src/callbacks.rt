@@ -7,7 +7,7 @@ use press_callbacks::{CallIn, Kit, Turn};
 use press_text::CallbackId;
 use std::alloc::{AllocError, Global};
 
-/// What the machine asks of a kit. (A cycle of calls may not have a boxed closure in its signatures, but a bound.)
+/// What a run asks of a kit. (The proofs speak of a bound, and of no boxed closure.)
 pub trait Callbacks {
     ghost scripts: { Self → Scripts };
 
@@ -17,7 +17,8 @@ pub trait Callbacks {
 
     /// What the closure of the callback at a place gives; without a place, the value is returned.
     fn turn(&self, alloc: Global, place: Option<usize>, input: &CallIn) -> Result<Turn, AllocError>
-        ensures { IfOk result (λ t. t ≡ turn_of (or_empty (script_at place (scripts self.now))) input.now) };
+        ensures { IfOk result (λ t. t
+            ≡ turn_of (or_empty (script_at place (scripts self.now))) input.now) };
 }
 
 impl Callbacks for Kit {

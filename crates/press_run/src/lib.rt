@@ -7,7 +7,8 @@
 mod answers;
 mod boots;
 mod callbacks;
-mod edits;
+mod frame;
+mod frames;
 mod job;
 mod link;
 mod links;

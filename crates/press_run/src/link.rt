@@ -23,7 +23,8 @@ pub trait SiteLink {
 
     /// Makes a change; after a refusal the site is as it was.
     fn change(&mut self, alloc: Global, effect: Effect) -> Result<Changed, SiteFault>
-        ensures changes { Becomes result (changes (view self.old) effect) (view self.old) (view self.new) }
+        ensures changes { Becomes result (changes (view self.old) effect)
+            (view self.old) (view self.new) }
         ensures fixed { fixed self.new ≡ fixed self.old };
 }
 

@@ -16,7 +16,8 @@ pub fn change<L: SiteLink>(
     link: &mut L,
     effect: Effect,
 ) -> Result<Changed, AllocError>
-    ensures changed { IfOk result (λ c. (L.view link.new, c) ≡ or_no_change (L.view link.old) (L.changes (L.view link.old) effect)) }
+    ensures changed { IfOk result (λ c. (L.view link.new, c)
+        ≡ or_no_change (L.view link.old) (L.changes (L.view link.old) effect)) }
     ensures fixed { OnOk result (L.fixed link.new ≡ L.fixed link.old) }
 {
     match link.change(alloc, effect) {

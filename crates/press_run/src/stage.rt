@@ -1,5 +1,12 @@
 //! What runs go on with, and one run on it.
 
+mod callback;
+mod fires;
+mod hooks;
+mod play;
+mod scans;
+mod turns;
+
 ghost use Rattle.std.specs.Prelude.{◌≡◌, IfOk, Some};
 ghost use Rattle.press_callbacks.specs.Kits.{plugins_in, scripts_in};
 ghost use Rattle.press_run.specs.Boot.{booted_with};
@@ -64,8 +71,8 @@ impl<L: SiteLink + Drop> Stage<L> {
             (job_meaning L.changes (scripts_in kit.now) job (state_of (standing L.view L.fixed self.old)))
             (around (standing L.view L.fixed self.old)) (standing L.view L.fixed self.new) result }
     {
-        self.machine
-            .run(kit, &mut self.tables, &mut self.site, job, &mut self.out)
+        let text = self.answer(kit, job)?;
+        Ok(text.into_string()?)
     }
 
     /// The site as the runs left it, and what was written.

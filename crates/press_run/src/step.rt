@@ -1,7 +1,7 @@
-ghost use Rattle.std.specs.Prelude.{◌≡◌, ◌+◌, ◌<◌, ◌^◌};
-ghost use Rattle.press_run.specs.Run.{next_call};
+ghost use Rattle.std.specs.Prelude.{◌≡◌};
+ghost use Rattle.press_run.specs.Frames.{awaited};
 
-use press_callbacks::CallIn;
+use crate::frame::Frame;
 use press_text::Text;
 
 /// How a hook treats its callbacks' answers.
@@ -13,37 +13,34 @@ pub enum Kind {
     Action,
 }
 
-/// What one turn comes to: the call is then that of the next turn, or the callback has ended.
-#[derive(Debug, Drop)]
+/// What something begins with: a frame, or its answer at once.
+#[derive(Drop)]
+pub enum Begun {
+    Opens(Frame),
+    Gives(Text),
+}
+
+/// What a step of the innermost frame leaves.
+#[derive(Drop)]
 pub enum Step {
+    /// It goes on.
     Goes,
-    Ends(Text),
+    /// It waits for this frame.
+    Opens(Frame),
+    /// It waits for this text.
+    Takes(Text),
+    /// It has answered.
+    Gives(Text),
 }
 
-// On to the next turn with the value and the last answer that stand, so many ops further.
-pub fn further(call: &mut CallIn, skipped: u16) -> Step
-    requires { call.old.turn < 2 ^ 40 }
-    ensures step { result ≡ Step.Goes }
-    ensures next { call.new ≡ next_call call.old call.old.value call.old.last skipped }
-{
-    call.turn += 1 + skipped as usize;
-    Step::Goes
-}
-
-pub fn with_value(call: &mut CallIn, value: Text) -> Step
-    requires { call.old.turn < 2 ^ 40 }
-    ensures step { result ≡ Step.Goes }
-    ensures next { call.new ≡ next_call call.old value call.old.last 0 }
-{
-    call.value = value;
-    further(call, 0)
-}
-
-pub fn with_last(call: &mut CallIn, last: Text) -> Step
-    requires { call.old.turn < 2 ^ 40 }
-    ensures step { result ≡ Step.Goes }
-    ensures next { call.new ≡ next_call call.old call.old.value last 0 }
-{
-    call.last = last;
-    further(call, 0)
+impl Begun {
+    /// The step of the frame that waits for it.
+    pub fn awaited(self) -> Step
+        ensures { result ≡ awaited self }
+    {
+        match self {
+            Begun::Opens(frame) => Step::Opens(frame),
+            Begun::Gives(text) => Step::Takes(text),
+        }
+    }
 }

@@ -1,8 +1,9 @@
 //! The texts of calls and turns.
 
-ghost use Rattle.std.specs.Prelude.{◌≡◌, take, length, IfOk, []};
+ghost use Rattle.std.specs.Prelude.{◌≡◌, take, length, IfOk, OnOk, []};
 ghost use Rattle.std.specs.List.{list_all};
 ghost use Rattle.press_run.specs.Run.{first_text, handed_on, or_one_empty, hook_call, fits, is_short};
+ghost use Rattle.press_run.specs.Frames.{shown};
 
 use crate::out::MOST_BYTES;
 use crate::step::Kind;
@@ -21,16 +22,23 @@ pub fn first_text(alloc: Global, texts: &Texts) -> Result<Text, AllocError>
     }
 }
 
-// The arguments of the next callback, after one has answered.
-pub fn handed_on(kind: Kind, mut args: Texts, answer: Text) -> Result<Texts, AllocError>
-    ensures { IfOk result (λ ts. ts ≡ handed_on kind answer args) }
+// What a hook answers with these arguments: an action the empty text.
+pub fn shown(alloc: Global, kind: Kind, args: &Texts) -> Result<Text, AllocError>
+    ensures { IfOk result (λ t. t ≡ shown kind (first_text args.now)) }
 {
     match kind {
-        Kind::Action => Ok(args),
-        Kind::Filter => {
-            args.set_first(answer)?;
-            Ok(args)
-        }
+        Kind::Action => Ok(Text::new(alloc)),
+        Kind::Filter => first_text(alloc, args),
+    }
+}
+
+// The arguments of the next callback, after one has answered.
+pub fn hand_on(kind: Kind, args: &mut Texts, answer: Text) -> Result<(), AllocError>
+    ensures { OnOk result (args.new ≡ handed_on kind answer args.old) }
+{
+    match kind {
+        Kind::Action => Ok(()),
+        Kind::Filter => args.set_first(answer),
     }
 }
 

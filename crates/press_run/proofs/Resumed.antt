@@ -1,0 +1,214 @@
+-- From one step of the innermost frame to what is left of the whole run.
+use Rattle.std.proofs.Common.{◌≡◌, refl, sym, ◌∙◌, ap, subst, ℕ, suc, ◌+◌, ◌-◌, ◌*◌, ◌<◌, ◌≤◌, ◌^◌, List, [], ◌∷◌, Option, Some, None, Ok, Err, Result, arith}
+use Rattle.press_callbacks.specs.Kits.{Scripts}
+use Rattle.press_run.specs.declared.run_fault.RunFault.{RunFault}
+use Rattle.press_run.specs.declared.run_fault.RunFault.TheVariants.{Limit, NoMemory}
+use Rattle.press_run.specs.declared.frame.Frame.{Frame}
+use Rattle.press_run.specs.declared.frame.Frame.TheVariants as frame
+use Rattle.press_run.specs.declared.step.Begun.{Begun}
+use Rattle.press_run.specs.declared.step.Begun.TheVariants as begun
+use Rattle.press_run.specs.declared.step.Step.{Step}
+use Rattle.press_run.specs.declared.step.Step.TheVariants as step
+use Rattle.press_run.specs.Links.{Changes}
+use Rattle.press_run.specs.Run.{◌>>=◌, Answer, answer, State}
+use Rattle.press_run.specs.Outcome.{Stage, Around, around, state_of, GivesText, Refuses}
+use Rattle.press_run.specs.Frames.{meant, taken, round, resumed, Ready, Waits, TakesAnswer, Stand, turns_left, weight, weight_waiting, all_wait, Goes, Opens, Takes, Gives, Leaves, Begins, awaited, BeginsAs, Steps}
+
+-- ---- what is awaited comes to what it began as
+
+module _ (changes : Changes) (scripts : Scripts) where
+  module _ (o whole : Option Answer) (beside : Around) (weighs bound : ℕ) (f : Frame) (old new : Stage) where
+    abbrev pub Comes : Type 0
+    Comes = (o >>= λ x. meant changes scripts (taken f x.text) (around old) x.state) ≡ whole
+
+    opens_awaited : (inner : Frame) → Comes → round f (around old) ≡ beside → Waits f (around old) → turns_left old.counts.turns + (weighs + weight_waiting f) ≤ bound
+        → Goes changes scripts o (around old) (turns_left old.counts.turns + weighs) inner new → Opens changes scripts whole beside bound f new inner
+    opens_awaited inner comes stands waits le g = record {
+      same = rw (g.stands, g.same) comes;
+      stands = ap (round f) g.stands ∙ stands;
+      waits = subst (Waits f) (sym g.stands) waits;
+      ready = g.ready;
+      less = omega (arith, g.less);
+    }
+
+    takes_awaited : (text : List ℕ) → Comes → round f (around old) ≡ beside → Waits f (around old) → turns_left old.counts.turns + (weighs + weight_waiting f) ≤ bound
+        → Gives changes scripts o (around old) (turns_left old.counts.turns + weighs) new text → Takes changes scripts whole beside bound f new text
+    takes_awaited text comes stands waits le g = record {
+      same = rw g.stands (ap (λ p. p >>= λ x. meant changes scripts (taken f x.text) (around old) x.state) g.same ∙ comes);
+      stands = ap (round f) g.stands ∙ stands;
+      waits = subst (Waits f) (sym g.stands) waits;
+      less = omega (arith, g.less);
+    }
+
+    pub awaits : (b : Begun) → Comes → round f (around old) ≡ beside → Waits f (around old) → turns_left old.counts.turns + (weighs + weight_waiting f) ≤ bound
+        → Begins changes scripts o (around old) (turns_left old.counts.turns + weighs) new b → Leaves changes scripts whole beside bound f new (awaited b)
+    awaits (begun.Opens inner) comes stands waits le g = opens_awaited inner comes stands waits le g
+    awaits (begun.Gives text) comes stands waits le g = takes_awaited text comes stands waits le g
+
+  pub awaits_none : (o whole : Option Answer) (f : Frame) (old : Stage) (fault : RunFault) → (o >>= λ x. meant changes scripts (taken f x.text) (around old) x.state) ≡ whole → Refuses fault o → Refuses fault whole
+  awaits_none o whole f old Limit comes none = sym comes ∙ ap (λ p. p >>= λ x. meant changes scripts (taken f x.text) (around old) x.state) none
+  awaits_none o whole f old NoMemory comes none = tt
+
+-- ---- what is left of a whole run, with its innermost frame on top
+
+pub record Playing (changes : Changes) (scripts : Scripts) (whole : Option Answer) (base : Around) (waiting : List Frame) (top : Frame) (w : Stage) : Type 0 where
+  pub same : resumed changes scripts waiting (round top (around w)) (meant changes scripts top (around w) (state_of w)) ≡ whole
+  pub stands : Stand waiting (round top (around w)) base
+  pub ready : Ready top (around w)
+
+no_frames : (changes : Changes) (scripts : Scripts) (a : Around) (o : Option Answer) → resumed changes scripts [] a o ≡ o
+unfolding resumed
+no_frames changes scripts a o = refl
+
+more_frames : (changes : Changes) (scripts : Scripts) (f : Frame) (fs : List Frame) (a : Around) (o : Option Answer) → resumed changes scripts (f ∷ fs) a o ≡ resumed changes scripts fs (round f a) (o >>= λ x. meant changes scripts (taken f x.text) a x.state)
+unfolding resumed
+more_frames changes scripts f fs a o = refl
+
+limit_ends : (changes : Changes) (scripts : Scripts) (fs : List Frame) (a : Around) → resumed changes scripts fs a None ≡ None
+limit_ends changes scripts [] a = no_frames changes scripts a None
+limit_ends changes scripts (f ∷ fs) a = more_frames changes scripts f fs a None ∙ limit_ends changes scripts fs (round f a)
+
+none_stand : (a : Around) → Stand [] a a
+unfolding Stand
+none_stand a = refl
+
+none_stood : (a base : Around) → Stand [] a base → a ≡ base
+unfolding Stand
+none_stood a base h = h
+
+more_stand : (f : Frame) (fs : List Frame) (a base : Around) → Waits f a → Stand fs (round f a) base → Stand (f ∷ fs) a base
+unfolding Stand
+more_stand f fs a base h k = (h, k)
+
+more_stood : (f : Frame) (fs : List Frame) (a base : Around) → Stand (f ∷ fs) a base → Waits f a × Stand fs (round f a) base
+unfolding Stand
+more_stood f fs a base h = h
+
+pub none_wait : all_wait [] ≡ 0
+unfolding all_wait
+none_wait = refl
+
+pub more_wait : (f : Frame) (fs : List Frame) → all_wait (f ∷ fs) ≡ weight_waiting f + all_wait fs
+unfolding all_wait
+more_wait f fs = refl
+
+same_round : (f : Frame) (text : List ℕ) (a : Around) → round (taken f text) a ≡ round f a
+same_round (frame.Callback c) text a = refl
+same_round (frame.Hook h) text a = refl
+same_round (frame.Fires s) text a = refl
+same_round (frame.Scan s) text a = refl
+
+taken_ready : (f : Frame) (text : List ℕ) (a : Around) → Waits f a → Ready (taken f text) a
+taken_ready (frame.Callback c) text a h = omega (arith, h)
+taken_ready (frame.Hook h) text a i = i
+taken_ready (frame.Fires s) text a h = tt
+taken_ready (frame.Scan s) text a h = rw h.waiting (refl, h.short, h.inside)
+
+taken_less : (f : Frame) (text : List ℕ) (a : Around) → Waits f a → weight (taken f text) ≤ weight_waiting f + 1
+taken_less (frame.Callback c) text a h = omega arith
+taken_less (frame.Hook h) text a i = omega arith
+taken_less (frame.Fires s) text a h = omega arith
+taken_less (frame.Scan s) text a h = rw h.waiting (omega (arith, h.more, h.inside))
+
+pub takes_answer : (f : Frame) (a : Around) → Waits f a → TakesAnswer f
+takes_answer (frame.Callback c) a h = h
+takes_answer (frame.Hook h) a i = tt
+takes_answer (frame.Fires s) a h = tt
+takes_answer (frame.Scan s) a h = rw h.waiting refl
+
+module _ (changes : Changes) (scripts : Scripts) where
+  -- a run at its start
+  pub begins : (top : Frame) (w : Stage) → Ready top (around w) → Playing changes scripts (meant changes scripts top (around w) (state_of w)) (round top (around w)) [] top w
+  begins top w ready = record {
+    same = no_frames changes scripts (round top (around w)) (meant changes scripts top (around w) (state_of w));
+    stands = none_stand (round top (around w));
+    ready = ready;
+  }
+
+  module _ (whole : Option Answer) (base : Around) (waiting : List Frame) (top : Frame) (old : Stage) (p : Playing changes scripts whole base waiting top old) where
+    abbrev pub bound : ℕ
+    bound = turns_left old.counts.turns + weight top
+
+    -- what stands before a step may be told by what stands after it
+    pub same_as : (o : Option Answer) (a : Around) → o ≡ meant changes scripts top (around old) (state_of old) → a ≡ round top (around old) → resumed changes scripts waiting a o ≡ whole
+    same_as o a e r = ap (λ x. resumed changes scripts waiting x o) r ∙ ap (resumed changes scripts waiting (round top (around old))) e ∙ p.same
+
+    pub goes : (top' : Frame) (w : Stage) → Goes changes scripts (meant changes scripts top (around old) (state_of old)) (round top (around old)) bound top' w → Playing changes scripts whole base waiting top' w
+    goes top' w g = record {
+      same = same_as (meant changes scripts top' (around w) (state_of w)) (round top' (around w)) g.same g.stands;
+      stands = subst (λ a. Stand waiting a base) (sym g.stands) p.stands;
+      ready = g.ready;
+    }
+
+    pub opens : (top' inner inner' : Frame) (waiting' : List Frame) (w : Stage) → inner' ≡ inner → waiting' ≡ top' ∷ waiting → Opens changes scripts (meant changes scripts top (around old) (state_of old)) (round top (around old)) bound top' w inner → Playing changes scripts whole base waiting' inner' w
+    opens top' inner inner' waiting' w on_top pushed g = subst (λ x. Playing changes scripts whole base waiting' x w) (sym on_top) (
+        let a = round inner (around w) in
+        let o = meant changes scripts inner (around w) (state_of w) in
+        record {
+          same = ap (λ fs. resumed changes scripts fs a o) pushed ∙ more_frames changes scripts top' waiting a o ∙ same_as (o >>= λ x. meant changes scripts (taken top' x.text) a x.state) (round top' a) g.same g.stands;
+          stands = subst (λ fs. Stand fs a base) (sym pushed) (more_stand top' waiting a base g.waits (subst (λ x. Stand waiting x base) (sym g.stands) p.stands));
+          ready = g.ready;
+        })
+
+    pub opens_less : (top' inner inner' : Frame) (waiting' : List Frame) (w : Stage) → inner' ≡ inner → waiting' ≡ top' ∷ waiting → Opens changes scripts (meant changes scripts top (around old) (state_of old)) (round top (around old)) bound top' w inner → turns_left w.counts.turns + (weight inner' + all_wait waiting') < turns_left old.counts.turns + (weight top + all_wait waiting)
+    opens_less top' inner inner' waiting' w on_top pushed g =
+        let i : weight inner' ≡ weight inner = ap weight on_top in
+        let e : all_wait waiting' ≡ weight_waiting top' + all_wait waiting = ap all_wait pushed ∙ more_wait top' waiting in
+        omega (arith, e, i, g.less)
+
+    pub takes : (top' top'' : Frame) (text : List ℕ) (w : Stage) → top'' ≡ taken top' text → Takes changes scripts (meant changes scripts top (around old) (state_of old)) (round top (around old)) bound top' w text → Playing changes scripts whole base waiting top'' w
+    takes top' top'' text w took g = subst (λ x. Playing changes scripts whole base waiting x w) (sym took) (
+        let r : round (taken top' text) (around w) ≡ round top (around old) = same_round top' text (around w) ∙ g.stands in
+        record {
+          same = same_as (meant changes scripts (taken top' text) (around w) (state_of w)) (round (taken top' text) (around w)) g.same r;
+          stands = subst (λ a. Stand waiting a base) (sym r) p.stands;
+          ready = taken_ready top' text (around w) g.waits;
+        })
+
+    pub takes_less : (top' top'' : Frame) (text : List ℕ) (w : Stage) → top'' ≡ taken top' text → Takes changes scripts (meant changes scripts top (around old) (state_of old)) (round top (around old)) bound top' w text → turns_left w.counts.turns + weight top'' < bound
+    takes_less top' top'' text w took g =
+        let e : weight top'' ≡ weight (taken top' text) = ap weight took in
+        let l : weight (taken top' text) ≤ weight_waiting top' + 1 = taken_less top' text (around w) g.waits in
+        omega (arith, e, l, g.less)
+
+    module _ (text : List ℕ) (w : Stage) (g : Gives changes scripts (meant changes scripts top (around old) (state_of old)) (round top (around old)) bound w text) where
+      pub ends : waiting ≡ [] → (whole ≡ answer text (state_of w)) × (around w ≡ base)
+      ends e =
+          let all : resumed changes scripts [] (around w) (answer text (state_of w)) ≡ whole = ap (λ fs. resumed changes scripts fs (around w) (answer text (state_of w))) (sym e) ∙ same_as (answer text (state_of w)) (around w) g.same g.stands in
+          let stand : Stand [] (around w) base = subst (λ fs. Stand fs (around w) base) e (subst (λ a. Stand waiting a base) (sym g.stands) p.stands) in
+          (sym all ∙ no_frames changes scripts (around w) (answer text (state_of w)), none_stood (around w) base stand)
+
+      module _ (f f' : Frame) (waiting' : List Frame) (popped : waiting ≡ f ∷ waiting') where
+        stood : Waits f (around w) × Stand waiting' (round f (around w)) base
+        stood = more_stood f waiting' (around w) base (subst (λ fs. Stand fs (around w) base) popped (subst (λ a. Stand waiting a base) (sym g.stands) p.stands))
+
+        pub pops : TakesAnswer f
+        pops = takes_answer f (around w) stood.0
+
+        pub gives : f' ≡ taken f text → Playing changes scripts whole base waiting' f' w
+        gives took = subst (λ x. Playing changes scripts whole base waiting' x w) (sym took) (
+            let o = answer text (state_of w) in
+            let r : round (taken f text) (around w) ≡ round f (around w) = same_round f text (around w) in
+            let all : resumed changes scripts waiting' (round f (around w)) (meant changes scripts (taken f text) (around w) (state_of w)) ≡ whole
+            = sym (more_frames changes scripts f waiting' (around w) o) ∙ ap (λ fs. resumed changes scripts fs (around w) o) (sym popped) ∙ same_as o (around w) g.same g.stands in
+            record {
+              same = ap (λ a. resumed changes scripts waiting' a (meant changes scripts (taken f text) (around w) (state_of w))) r ∙ all;
+              stands = subst (λ a. Stand waiting' a base) (sym r) stood.1;
+              ready = taken_ready f text (around w) stood.0;
+            })
+
+        pub gives_less : f' ≡ taken f text → turns_left w.counts.turns + (weight f' + all_wait waiting') < turns_left old.counts.turns + (weight top + all_wait waiting)
+        gives_less took =
+            let e : all_wait waiting ≡ weight_waiting f + all_wait waiting' = ap all_wait popped ∙ more_wait f waiting' in
+            let n : weight f' ≡ weight (taken f text) = ap weight took in
+            let l : weight (taken f text) ≤ weight_waiting f + 1 = taken_less f text (around w) stood.0 in
+            omega (arith, e, n, l, g.less)
+
+    -- a fault ends the whole
+    pub stops : (fault : RunFault) → Refuses fault (meant changes scripts top (around old) (state_of old)) → Refuses fault whole
+    stops Limit none = sym p.same ∙ ap (resumed changes scripts waiting (round top (around old))) none ∙ limit_ends changes scripts waiting (round top (around old))
+    stops NoMemory none = tt
+
+-- a run of what a job began with is the job's
+pub job_runs : (o whole : Option Answer) (a beside : Around) (w : Stage) (result : Result (List ℕ) RunFault) → o ≡ whole → a ≡ beside → GivesText o a w result → GivesText whole beside w result
+job_runs o whole a beside w result e r h = subst (λ x. GivesText x beside w result) e (subst (λ x. GivesText o x w result) r h)

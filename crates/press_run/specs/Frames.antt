@@ -1,0 +1,218 @@
+-- What is left of a run: its open frames, the innermost first, told by the words of Run.
+use Rattle.std.specs.Prelude.{◌≡◌, ℕ, suc, ◌+◌, ◌-◌, ◌*◌, ◌<◌, ◌≤◌, ◌^◌, ◌++◌, List, [], ◌∷◌, length, drop, Option, Some, None, IsSome, IsTrue, Result, MatchResult}
+use Rattle.press_hooks.specs.NextEntry.{is_innermost, without_innermost}
+use Rattle.press_scan.specs.declared.shortcode.Shortcode.{Shortcode}
+use Rattle.press_scan.specs.Scans.{Progress, before, behind}
+use Rattle.press_callbacks.specs.declared.script.Turn.{Turn}
+use Rattle.press_callbacks.specs.Kits.{Scripts, script_at}
+use Rattle.press_run.specs.declared.run_fault.RunFault.{RunFault}
+use Rattle.press_run.specs.declared.step.Kind.{Kind}
+use Rattle.press_run.specs.declared.step.Kind.TheVariants.{Filter, Action}
+use Rattle.press_run.specs.declared.frame.OpenCallback.{OpenCallback}
+use Rattle.press_run.specs.declared.frame.Frame.{Frame}
+use Rattle.press_run.specs.declared.frame.Frame.TheVariants as frame
+use Rattle.press_run.specs.declared.step.Begun.{Begun}
+use Rattle.press_run.specs.declared.step.Begun.TheVariants as begun
+use Rattle.press_run.specs.declared.step.Step.{Step}
+use Rattle.press_run.specs.declared.step.Step.TheVariants as step
+use Rattle.press_run.specs.Links.{Changes}
+use Rattle.press_run.specs.Run.{◌>>=◌, without_last, Answer, answer, State, Meaning, Stepped, within, scan_from, run_hook, run_entries, do_fires, play, at_depth, or_empty, after_step, counted_step, turn_step, handed_on, next_call, most_turns}
+use Rattle.press_run.specs.Outcome.{Stage, Around, around, state_of, innermost, Refuses}
+
+-- ---- what a frame comes to
+
+-- what a hook answers: an action nothing
+abbrev pub shown : Kind → List ℕ → List ℕ
+shown Filter text = text
+shown Action text = []
+
+abbrev pub hooked : Meaning → Kind → List ℕ → List (List ℕ) → State → Option Answer
+hooked callback kind hook args s = do
+  a ← run_hook callback kind hook args s
+  answer (shown kind a.text) a.state
+
+-- a scan from its place on, behind an output that is to be within the bytes
+abbrev pub scanned : Meaning → Progress → State → Option Answer
+scanned callback p s = do
+  output ← within p.output
+  scan_from callback (suc (length p.text)) p.text p.at output s
+
+-- what a frame comes to as it goes on, where this stands round what is open
+abbrev pub meant : Changes → Scripts → Frame → Around → State → Option Answer
+meant changes scripts (frame.Callback c) a s = play changes (at_depth changes c.room scripts) (or_empty (script_at c.place scripts)) c.left c.call s
+meant changes scripts (frame.Hook h) a s = do
+  x ← run_entries (at_depth changes h.room scripts) h.kind h.left h.args (innermost a.open_runs) s
+  answer (shown h.kind x.text) (record (x.state) { doing = without_last a.doing })
+meant changes scripts (frame.Fires f) a s = do
+  x ← do_fires (at_depth changes f.room scripts) (drop f.done f.fires) s
+  answer f.gives x.state
+meant changes scripts (frame.Scan f) a s = scanned (at_depth changes f.room scripts) f.scan s
+
+-- the answer to a shortcode in its place
+abbrev pub put : Option Shortcode → Progress → List ℕ → Progress
+put None p text = p
+put (Some c) p text = record p { at = c.end; output = p.output ++ (before c ++ (text ++ behind c)); waiting = None }
+
+-- a frame that waited, with the answer that it waited for
+abbrev pub taken : Frame → List ℕ → Frame
+taken (frame.Callback c) text = frame.Callback (record c { call = next_call c.call c.call.value text 0 })
+taken (frame.Hook h) text = frame.Hook (record h { args = handed_on h.kind text h.args })
+taken (frame.Fires f) text = frame.Fires f
+taken (frame.Scan f) text = frame.Scan (record f { scan = put f.scan.waiting f.scan text })
+
+-- what stands round a frame
+abbrev pub round : Frame → Around → Around
+round (frame.Callback c) a = a
+round (frame.Hook h) a = record a { open_runs = without_innermost a.open_runs; doing = without_last a.doing }
+round (frame.Fires f) a = a
+round (frame.Scan f) a = a
+
+-- what the waiting frames come to, the innermost first, once it has its answer
+unfoldable pub resumed : Changes → Scripts → List Frame → Around → Option Answer → Option Answer
+resumed changes scripts [] a o = o
+resumed changes scripts (f ∷ fs) a o = resumed changes scripts fs (round f a) (o >>= λ x. meant changes scripts (taken f x.text) a x.state)
+
+-- ---- frames that stand: a hook's run is the innermost of those from its frame on
+
+-- so many turns are left that the call's place can be counted
+abbrev pub IsFew : ℕ → OpenCallback → Type 0
+IsFew more c = c.call.turn + 65536 * (c.left + more) ≤ 655425536
+
+-- no answer is awaited
+abbrev pub GoesOn : Progress → Type 0
+GoesOn p = (p.waiting ≡ None) × (length p.text ≤ 1048576) × (p.at ≤ length p.text)
+
+pub record Awaits (p : Progress) : Type 0 where
+  pub shortcode : Shortcode
+  pub waiting : p.waiting ≡ Some shortcode
+  pub short : length p.text ≤ 1048576
+  pub more : p.at < shortcode.end
+  pub inside : shortcode.end ≤ length p.text
+
+abbrev pub Ready : Frame → Around → Type 0
+Ready (frame.Callback c) a = IsFew 0 c
+Ready (frame.Hook h) a = IsTrue (is_innermost h.run a.open_runs)
+Ready (frame.Fires f) a = Unit {0}
+Ready (frame.Scan f) a = GoesOn f.scan
+
+abbrev pub Waits : Frame → Around → Type 0
+Waits (frame.Callback c) a = IsFew 1 c
+Waits (frame.Hook h) a = IsTrue (is_innermost h.run a.open_runs)
+Waits (frame.Fires f) a = Unit {0}
+Waits (frame.Scan f) a = Awaits f.scan
+
+-- an answer can be taken
+abbrev pub TakesAnswer : Frame → Type 0
+TakesAnswer (frame.Callback c) = IsFew 1 c
+TakesAnswer (frame.Hook h) = Unit {0}
+TakesAnswer (frame.Fires f) = Unit {0}
+TakesAnswer (frame.Scan f) = IsSome f.scan.waiting
+
+-- the waiting frames stand, and round them what stood there before
+unfoldable pub Stand : List Frame → Around → Around → Type 0
+Stand [] a base = a ≡ base
+Stand (f ∷ fs) a base = Waits f a × Stand fs (round f a) base
+
+-- ---- what is left to do: each turn pays for the frame that it may open
+
+unfoldable pub turns_left : ℕ → ℕ
+turns_left turns = 2 ^ 70 * (most_turns - turns)
+
+-- of a frame that goes on, and of one that waits
+abbrev pub weight : Frame → ℕ
+weight (frame.Callback c) = 0
+weight (frame.Hook h) = 2
+weight (frame.Fires f) = 2 * (length f.fires - f.done) + 3
+weight (frame.Scan f) = (length f.scan.text - f.scan.at) + 3
+
+abbrev pub weight_waiting : Frame → ℕ
+weight_waiting (frame.Callback c) = 0
+weight_waiting (frame.Hook h) = 1
+weight_waiting (frame.Fires f) = 2 * (length f.fires - f.done) + 2
+weight_waiting (frame.Scan f) = (length f.scan.text - f.scan.at) + 1
+
+unfoldable pub all_wait : List Frame → ℕ
+all_wait [] = 0
+all_wait (f ∷ fs) = weight_waiting f + all_wait fs
+
+-- ---- what a step leaves, of something that was to come to `whole` where `beside` stood round it, and less to do than the bound
+
+module _ (changes : Changes) (scripts : Scripts) (whole : Option Answer) (beside : Around) (bound : ℕ) where
+  -- a frame that goes on
+  pub record Goes (f : Frame) (w : Stage) : Type 0 where
+    pub same : meant changes scripts f (around w) (state_of w) ≡ whole
+    pub stands : round f (around w) ≡ beside
+    pub ready : Ready f (around w)
+    pub less : turns_left w.counts.turns + weight f < bound
+
+  -- a frame that waits for another one
+  pub record Opens (f : Frame) (w : Stage) (inner : Frame) : Type 0 where
+    pub same : (meant changes scripts inner (around w) (state_of w) >>= λ x. meant changes scripts (taken f x.text) (round inner (around w)) x.state) ≡ whole
+    pub stands : round f (round inner (around w)) ≡ beside
+    pub waits : Waits f (round inner (around w))
+    pub ready : Ready inner (around w)
+    pub less : turns_left w.counts.turns + (weight inner + weight_waiting f) < bound
+
+  -- a frame that waits for this text
+  pub record Takes (f : Frame) (w : Stage) (text : List ℕ) : Type 0 where
+    pub same : meant changes scripts (taken f text) (around w) (state_of w) ≡ whole
+    pub stands : round f (around w) ≡ beside
+    pub waits : Waits f (around w)
+    pub less : turns_left w.counts.turns + (weight_waiting f + 1) < bound
+
+  -- an answer
+  pub record Gives (w : Stage) (text : List ℕ) : Type 0 where
+    pub same : answer text (state_of w) ≡ whole
+    pub stands : around w ≡ beside
+    pub less : turns_left w.counts.turns + 1 < bound
+
+  abbrev pub Leaves : Frame → Stage → Step → Type 0
+  Leaves f w step.Goes = Goes f w
+  Leaves f w (step.Opens inner) = Opens f w inner
+  Leaves f w (step.Takes text) = Takes f w text
+  Leaves f w (step.Gives text) = Gives w text
+
+  abbrev pub Begins : Stage → Begun → Type 0
+  Begins w (begun.Opens f) = Goes f w
+  Begins w (begun.Gives text) = Gives w text
+
+-- who begins something takes its answer at once, or waits
+abbrev pub awaited : Begun → Step
+awaited (begun.Opens f) = step.Opens f
+awaited (begun.Gives text) = step.Takes text
+
+-- what began is to come to this
+abbrev pub BeginsAs : Changes → Scripts → Option Answer → ℕ → Stage → Stage → Result Begun RunFault → Type 0
+BeginsAs changes scripts whole weighs old new result =
+    MatchResult result (λ b. Begins changes scripts whole (around old) (turns_left old.counts.turns + weighs) new b) (λ fault. Refuses fault whole)
+
+-- a frame makes one step
+abbrev pub Steps : Changes → Scripts → Frame → Frame → Stage → Stage → Result Step RunFault → Type 0
+Steps changes scripts f f' old new result = MatchResult result
+    (λ s. Leaves changes scripts (meant changes scripts f (around old) (state_of old)) (round f (around old)) (turns_left old.counts.turns + weight f) f' new s)
+    (λ fault. Refuses fault (meant changes scripts f (around old) (state_of old)))
+
+-- a callback after what a turn comes to
+abbrev pub played : Changes → Scripts → OpenCallback → Stepped → Option Answer
+played changes scripts c step =
+    after_step (λ call s. play changes (at_depth changes c.room scripts) (or_empty (script_at c.place scripts)) c.left call s) step
+
+-- a callback does what its turn asks for
+abbrev pub turned : Changes → Scripts → OpenCallback → Turn → State → Option Answer
+turned changes scripts c turn s = turn_step changes (at_depth changes c.room scripts) c.call s turn >>= played changes scripts c
+
+-- as it does where the turn is counted, and its texts are within the bytes
+abbrev pub counted : Changes → Scripts → OpenCallback → Turn → State → Option Answer
+counted changes scripts c turn s = counted_step changes (at_depth changes c.room scripts) c.call turn s >>= played changes scripts c
+
+abbrev pub PlaysAs : Changes → Scripts → Option Answer → ℕ → OpenCallback → Stage → Stage → Result Step RunFault → Type 0
+PlaysAs changes scripts whole weighs c' old new result = MatchResult result
+    (λ s. Leaves changes scripts whole (around old) (turns_left old.counts.turns + weighs) (frame.Callback c') new s)
+    (λ fault. Refuses fault whole)
+
+abbrev pub CountsAs : Changes → Scripts → OpenCallback → Turn → OpenCallback → Stage → Stage → Result Step RunFault → Type 0
+CountsAs changes scripts c turn c' old new result = PlaysAs changes scripts (counted changes scripts c turn (state_of old)) 0 c' old new result
+
+-- the turn is counted already
+abbrev pub Turns : Changes → Scripts → OpenCallback → Turn → OpenCallback → Stage → Stage → Result Step RunFault → Type 0
+Turns changes scripts c turn c' old new result = PlaysAs changes scripts (turned changes scripts c turn (state_of old)) (2 ^ 70) c' old new result

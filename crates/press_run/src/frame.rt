@@ -1,0 +1,216 @@
+//! What a run has open.
+
+ghost use Rattle.std.specs.Prelude.{◌≡◌, ◌+◌, ◌*◌, ◌<◌, ◌≤◌, ◌^◌, None, IfOk, OnOk, IsSome, length, option_map, slice_get};
+ghost use Rattle.press_run.specs.Run.{handed_on, next_call};
+ghost use Rattle.press_run.specs.Frames.{TakesAnswer, put, taken};
+
+use crate::step::{Kind, Step};
+use crate::texts;
+use press_callbacks::CallIn;
+use press_hooks::RunId;
+use press_posts::Fire;
+use press_scan::Scan;
+use press_text::{Items, Text, Texts};
+use std::alloc::{AllocError, Global};
+use std::mem;
+
+/// More than the turns of any run.
+pub const FUEL: u32 = 10_001;
+
+/// A callback of the kit, before its next turn.
+pub struct OpenCallback {
+    /// How many more callbacks may be open within it.
+    pub room: u32,
+    /// How many turns it may begin.
+    pub left: u32,
+    pub place: Option<usize>,
+    pub call: CallIn,
+}
+
+impl Drop for OpenCallback {
+    fn drop(self) {
+        let OpenCallback {
+            room: _,
+            left: _,
+            place: _,
+            call: _,
+        } = self;
+    }
+}
+
+/// A run of a hook, before its next entry.
+pub struct OpenHook {
+    /// How many more callbacks may be open within it.
+    pub room: u32,
+    /// How many entries it may call.
+    pub left: u32,
+    pub kind: Kind,
+    pub run: RunId,
+    pub args: Texts,
+}
+
+impl Drop for OpenHook {
+    fn drop(self) {
+        let OpenHook {
+            room: _,
+            left: _,
+            kind: _,
+            run: _,
+            args: _,
+        } = self;
+    }
+}
+
+/// Actions, of which so many are done, and the answer when all are.
+pub struct OpenFires {
+    /// How many more callbacks may be open within it.
+    pub room: u32,
+    pub done: usize,
+    pub fires: Items<Fire>,
+    pub gives: Text,
+}
+
+impl Drop for OpenFires {
+    fn drop(self) {
+        let OpenFires {
+            room: _,
+            done: _,
+            fires: _,
+            gives: _,
+        } = self;
+    }
+}
+
+/// A text with shortcodes, before its next piece.
+pub struct OpenScan {
+    /// How many more callbacks may be open within it.
+    pub room: u32,
+    pub scan: Scan,
+}
+
+impl Drop for OpenScan {
+    fn drop(self) {
+        let OpenScan { room: _, scan: _ } = self;
+    }
+}
+
+/// What a run has open, while it goes on or waits for an answer.
+#[derive(Drop)]
+pub enum Frame {
+    Callback(OpenCallback),
+    Hook(OpenHook),
+    Fires(OpenFires),
+    Scan(OpenScan),
+}
+
+impl OpenCallback {
+    // On to the next turn with the value and the last answer that stand, so many ops further.
+    pub fn further(&mut self, skipped: u16) -> Step
+        requires { self.old.call.turn < 2 ^ 40 }
+        ensures step { result ≡ Step.Goes }
+        ensures next { self.new ≡ record self.old {
+          call = next_call self.old.call self.old.call.value self.old.call.last skipped;
+        } }
+    {
+        self.call.turn += 1 + skipped as usize;
+        Step::Goes
+    }
+
+    pub fn with_value(&mut self, value: Text) -> Step
+        requires { self.old.call.turn < 2 ^ 40 }
+        ensures step { result ≡ Step.Goes }
+        ensures next { self.new ≡ record self.old {
+          call = next_call self.old.call value self.old.call.last 0;
+        } }
+    {
+        self.call.value = value;
+        self.further(0)
+    }
+
+    pub fn with_last(&mut self, last: Text) -> Step
+        requires { self.old.call.turn < 2 ^ 40 }
+        ensures step { result ≡ Step.Goes }
+        ensures next { self.new ≡ record self.old {
+          call = next_call self.old.call self.old.call.value last 0;
+        } }
+    {
+        self.call.last = last;
+        self.further(0)
+    }
+}
+
+impl OpenHook {
+    // The arguments of the next callback, after one has answered.
+    fn take(&mut self, text: Text) -> Result<(), AllocError>
+        ensures { OnOk result (self.new ≡ record self.old {
+          args = handed_on self.old.kind text self.old.args;
+        }) }
+    {
+        texts::hand_on(self.kind, &mut self.args, text)
+    }
+}
+
+impl OpenFires {
+    /// The actions from the first on.
+    pub fn new(room: u32, fires: Items<Fire>, gives: Text) -> OpenFires
+        ensures begins { result ≡ record { room = room; done = 0; fires = fires; gives = gives } }
+        ensures few { length fires < 2 ^ 64 }
+    {
+        let _count = fires.as_slice().len();
+        OpenFires {
+            room,
+            done: 0,
+            fires,
+            gives,
+        }
+    }
+
+    /// The next action, if one is left.
+    pub fn next(&self) -> Option<&Fire>
+        ensures fire { option_map (λ f. f.now) result ≡ slice_get self.now.fires self.now.done }
+        ensures few { IsSome result → self.now.done + 1 < 2 ^ 64 }
+    {
+        self.fires.as_slice().get(self.done)
+    }
+}
+
+impl OpenScan {
+    // The answer to the shortcode that the scan waits for.
+    fn take(&mut self, text: Text) -> Result<(), AllocError>
+        requires { IsSome self.old.scan.waiting }
+        ensures { OnOk result (self.new ≡ record self.old {
+          scan = put self.old.scan.waiting self.old.scan text;
+        }) }
+    {
+        self.scan.put(text.as_str())
+    }
+
+    /// The output of a scan that is at its end.
+    pub fn finish(&mut self, alloc: Global) -> Result<Text, AllocError>
+        requires end { self.old.scan.at ≡ length self.old.scan.text }
+        requires waiting { self.old.scan.waiting ≡ None }
+        ensures { IfOk result (λ t. t ≡ self.old.scan.output) }
+    {
+        let empty = Scan::new(alloc, String::new(alloc));
+        let scan = mem::replace(&mut self.scan, empty);
+        Text::from_string(scan.finish())
+    }
+}
+
+impl Frame {
+    /// Takes the answer that it waits for.
+    pub fn take(&mut self, text: Text) -> Result<(), AllocError>
+        requires { TakesAnswer self.old }
+        ensures { OnOk result (self.new ≡ taken self.old text) }
+    {
+        match self {
+            Frame::Callback(callback) => {
+                callback.with_last(text);
+                Ok(())
+            }
+            Frame::Hook(run) => run.take(text),
+            Frame::Fires(_) => Ok(()),
+            Frame::Scan(scan) => scan.take(text),
+        }
+    }
+}

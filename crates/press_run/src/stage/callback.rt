@@ -1,0 +1,110 @@
+//! A callback is opened, built in or of the kit, and takes its turns.
+
+ghost use Rattle.std.specs.Prelude.{◌≡◌, None, false, IsErrOf};
+ghost use Rattle.press_callbacks.specs.Kits.{Scripts};
+ghost use Rattle.press_run.specs.Frames.{BeginsAs, CountsAs, IsFew, Steps};
+ghost use Rattle.press_run.specs.Run.{at_depth, built_in, fits, one_turn};
+ghost use Rattle.press_run.specs.Outcome.{state_of};
+ghost use Rattle.press_run.specs.Standing.{standing};
+ghost use Rattle.press_run.specs.declared.frame.Frame.TheVariants as frame;
+
+use super::Stage;
+use crate::callbacks::Callbacks;
+use crate::frame::{FUEL, Frame, OpenCallback};
+use crate::link::SiteLink;
+use crate::run_fault::RunFault;
+use crate::step::{Begun, Step};
+use crate::texts;
+use press_callbacks::{CallIn, Turn, is_built_in, is_do_shortcode};
+use press_text::CallbackId;
+
+impl<L: SiteLink + Drop> Stage<L> {
+    // A callback on its call, where so many may be open from it on.
+    pub(super) fn open<K: Callbacks>(
+        &mut self,
+        kit: &K,
+        room: u32,
+        id: CallbackId,
+        call: CallIn,
+    ) -> Result<Begun, RunFault>
+        requires { call.turn ≡ 0 }
+        ensures shut { room ≡ 0 → IsErrOf result RunFault.Limit }
+        ensures begins { BeginsAs L.changes (K.scripts kit.now)
+            (at_depth L.changes room (K.scripts kit.now) id call
+            (state_of (standing L.view L.fixed self.old)))
+            1 (standing L.view L.fixed self.old) (standing L.view L.fixed self.new) result }
+    {
+        if room == 0 {
+            drop(call);
+            return Err(RunFault::Limit);
+        }
+        if is_built_in(id.as_bytes()) {
+            let begun = self.open_built_in(room - 1, id, &call);
+            drop(call);
+            return begun;
+        }
+        let place = kit.place(id);
+        Ok(Begun::Opens(Frame::Callback(OpenCallback {
+            room: room - 1,
+            left: FUEL,
+            place,
+            call,
+        })))
+    }
+
+    // One of the built-in callbacks on its first argument: one turn.
+    fn open_built_in(&mut self, room: u32, id: CallbackId, call: &CallIn) -> Result<Begun, RunFault>
+        ensures late { one_turn (state_of (standing L.view L.fixed self.old)) ≡ None
+            → IsErrOf result RunFault.Limit }
+        ensures begins { (scripts : Scripts) → BeginsAs L.changes scripts
+            (built_in L.changes (at_depth L.changes room scripts) id call.now
+            (state_of (standing L.view L.fixed self.old)))
+            1 (standing L.view L.fixed self.old) (standing L.view L.fixed self.new) result }
+    {
+        if !self.machine.counts_turn() {
+            return Err(RunFault::Limit);
+        }
+        let argument = texts::first_text(self.machine.allocator(), &call.args)?;
+        if is_do_shortcode(id.as_bytes()) {
+            self.begin_scan(room, argument)
+        } else {
+            self.begin_publish(room, argument)
+        }
+    }
+
+    // The next turn.
+    pub(super) fn turn<K: Callbacks>(
+        &mut self,
+        kit: &K,
+        callback: &mut OpenCallback,
+    ) -> Result<Step, RunFault>
+        requires { IsFew 0 callback.old }
+        ensures { Steps L.changes (K.scripts kit.now)
+            (frame.Callback callback.old) (frame.Callback callback.new)
+            (standing L.view L.fixed self.old) (standing L.view L.fixed self.new) result }
+    {
+        if callback.left == 0 {
+            return Err(RunFault::Limit);
+        }
+        callback.left -= 1;
+        let turn = kit.turn(self.machine.allocator(), callback.place, &callback.call)?;
+        self.counted(callback, turn)
+    }
+
+    // A turn, counted, with texts that are within the bytes.
+    fn counted(&mut self, callback: &mut OpenCallback, turn: Turn) -> Result<Step, RunFault>
+        requires { IsFew 1 callback.old }
+        ensures late { one_turn (state_of (standing L.view L.fixed self.old)) ≡ None
+            → IsErrOf result RunFault.Limit }
+        ensures long { fits turn ≡ false → IsErrOf result RunFault.Limit }
+        ensures steps { (scripts : Scripts) → CountsAs L.changes scripts
+            callback.old turn callback.new
+            (standing L.view L.fixed self.old) (standing L.view L.fixed self.new) result }
+    {
+        if !self.machine.counts_turn() || !texts::fits(&turn) {
+            drop(turn);
+            return Err(RunFault::Limit);
+        }
+        self.asked(callback, turn)
+    }
+}

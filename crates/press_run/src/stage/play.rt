@@ -1,0 +1,95 @@
+//! A run: its frames, the innermost of which goes on until all have answered.
+
+ghost use Rattle.std.specs.Prelude.{◌^◌};
+ghost use Rattle.press_callbacks.specs.Kits.{Scripts};
+ghost use Rattle.press_run.specs.Frames.{BeginsAs, Ready, Steps, meant, round};
+ghost use Rattle.press_run.specs.Outcome.{GivesText, around, job_meaning, state_of};
+ghost use Rattle.press_run.specs.Standing.{standing};
+
+use super::Stage;
+use crate::callbacks::Callbacks;
+use crate::frame::{Frame, OpenFires};
+use crate::frames::Frames;
+use crate::job::Job;
+use crate::link::SiteLink;
+use crate::run_fault::RunFault;
+use crate::step::{Begun, Kind, Step};
+use press_text::Text;
+use std::mem;
+
+/// How many callbacks may be open at once.
+const MOST_OPEN: u32 = 32;
+
+impl<L: SiteLink + Drop> Stage<L> {
+    // What a job begins with.
+    pub(super) fn begin_job(&mut self, job: Job) -> Result<Begun, RunFault>
+        ensures { (scripts : Scripts) → BeginsAs L.changes scripts
+            (job_meaning L.changes scripts job (state_of (standing L.view L.fixed self.old)))
+            (2 ^ 66) (standing L.view L.fixed self.old) (standing L.view L.fixed self.new) result }
+    {
+        match job {
+            Job::Fires(fires) => {
+                let gives = Text::new(self.machine.allocator());
+                let fires = OpenFires::new(MOST_OPEN, fires, gives);
+                Ok(Begun::Opens(Frame::Fires(fires)))
+            }
+            Job::Apply { hook, args } => {
+                let begun = self.begin(MOST_OPEN, Kind::Filter, &hook, args);
+                drop(hook);
+                begun
+            }
+        }
+    }
+
+    // What a job comes to.
+    pub(super) fn answer<K: Callbacks>(&mut self, kit: &K, job: Job) -> Result<Text, RunFault>
+        ensures { GivesText (job_meaning L.changes (K.scripts kit.now) job
+            (state_of (standing L.view L.fixed self.old)))
+            (around (standing L.view L.fixed self.old)) (standing L.view L.fixed self.new) result }
+    {
+        match self.begin_job(job)? {
+            Begun::Opens(frame) => self.play(kit, frame),
+            Begun::Gives(text) => Ok(text),
+        }
+    }
+
+    // The outermost frame, and all that it opens, until it has answered.
+    fn play<K: Callbacks>(&mut self, kit: &K, mut top: Frame) -> Result<Text, RunFault>
+        requires { Ready top (around (standing L.view L.fixed self.old)) }
+        ensures { GivesText (meant L.changes (K.scripts kit.now) top
+            (around (standing L.view L.fixed self.old))
+            (state_of (standing L.view L.fixed self.old)))
+            (round top (around (standing L.view L.fixed self.old)))
+            (standing L.view L.fixed self.new) result }
+    {
+        let mut waiting = Frames::new(self.machine.allocator());
+        loop {
+            match self.step(kit, &mut top)? {
+                Step::Goes => {}
+                Step::Opens(inner) => waiting.push(mem::replace(&mut top, inner))?,
+                Step::Takes(text) => top.take(text)?,
+                Step::Gives(text) => {
+                    let Some(frame) = waiting.pop() else {
+                        return Ok(text);
+                    };
+                    top = frame;
+                    top.take(text)?;
+                }
+            }
+        }
+    }
+
+    // The innermost frame goes on by one turn, entry, action or piece.
+    fn step<K: Callbacks>(&mut self, kit: &K, top: &mut Frame) -> Result<Step, RunFault>
+        requires { Ready top.old (around (standing L.view L.fixed self.old)) }
+        ensures { Steps L.changes (K.scripts kit.now) top.old top.new
+            (standing L.view L.fixed self.old) (standing L.view L.fixed self.new) result }
+    {
+        match top {
+            Frame::Callback(callback) => self.turn(kit, callback),
+            Frame::Hook(run) => self.entry(kit, run),
+            Frame::Fires(fires) => self.fire(fires),
+            Frame::Scan(scan) => self.piece(kit, scan),
+        }
+    }
+}

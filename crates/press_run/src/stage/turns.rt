@@ -1,0 +1,114 @@
+//! What the turns of a callback ask for.
+
+ghost use Rattle.press_callbacks.specs.Kits.{Scripts};
+ghost use Rattle.press_run.specs.Frames.{IsFew, Turns};
+ghost use Rattle.press_run.specs.Standing.{standing};
+
+use super::Stage;
+use crate::answers::one_if;
+use crate::frame::OpenCallback;
+use crate::link::SiteLink;
+use crate::links;
+use crate::run_fault::RunFault;
+use crate::step::{Kind, Step};
+use press_callbacks::Turn;
+use press_site::Effect;
+use press_text::Text;
+
+impl<L: SiteLink + Drop> Stage<L> {
+    // What a turn asks for, which is counted already.
+    pub(super) fn asked(
+        &mut self,
+        callback: &mut OpenCallback,
+        turn: Turn,
+    ) -> Result<Step, RunFault>
+        requires { IsFew 1 callback.old }
+        ensures { (scripts : Scripts) → Turns L.changes scripts callback.old turn callback.new
+            (standing L.view L.fixed self.old) (standing L.view L.fixed self.new) result }
+    {
+        let alloc = self.machine.allocator();
+        let room = callback.room;
+        match turn {
+            Turn::Go(value) => Ok(callback.with_value(value)),
+            Turn::AddHook {
+                hook,
+                callback: id,
+                priority,
+                accepted,
+            } => {
+                let added = self.tables.hooks.add(&hook, id, priority, accepted);
+                drop(hook);
+                Ok(callback.with_last(one_if(alloc, added?)?))
+            }
+            Turn::RemoveHook {
+                hook,
+                callback: id,
+                priority,
+            } => {
+                let stood = self.tables.hooks.remove(&hook, id, priority);
+                drop(hook);
+                Ok(callback.with_last(one_if(alloc, stood)?))
+            }
+            Turn::RemoveAll { hook, priority } => {
+                self.tables.hooks.remove_all(&hook, priority);
+                drop(hook);
+                Ok(callback.with_last(Text::from_str(alloc, "1")?))
+            }
+            Turn::AddTag { tag, callback: id } => {
+                let added = self.tables.tags.add(tag.as_str(), id);
+                drop(tag);
+                Ok(callback.with_last(one_if(alloc, added?)?))
+            }
+            Turn::RemoveTag { tag } => {
+                let stood = self.tables.tags.remove(tag.as_str());
+                drop(tag);
+                Ok(callback.with_last(one_if(alloc, stood)?))
+            }
+            Turn::Skip(n) => {
+                drop(turn);
+                Ok(callback.further(n))
+            }
+            Turn::Apply { hook, texts } => {
+                let begun = self.begin(room, Kind::Filter, &hook, texts);
+                drop(hook);
+                Ok(begun?.awaited())
+            }
+            Turn::Do { hook, texts } => {
+                let begun = self.begin_action(room, &hook, texts);
+                drop(hook);
+                Ok(begun?.awaited())
+            }
+            Turn::Shortcodes(text) => Ok(self.begin_scan(room, text)?.awaited()),
+            Turn::Ask(ask) => {
+                let last = self.machine.answer(&self.tables, self.site.site(), &ask);
+                drop(ask);
+                Ok(callback.with_last(last?))
+            }
+            Turn::SetOption { name, value } => {
+                let effect = Some(Effect::SetOption { name, value });
+                Ok(self.begin_change(room, effect)?.awaited())
+            }
+            Turn::Schedule {
+                after,
+                every,
+                hook,
+                arg,
+            } => {
+                let effect = links::schedules(after, every, hook, arg, self.site.site().now());
+                Ok(self.begin_change(room, effect)?.awaited())
+            }
+            Turn::Publish(id) => {
+                let effect = links::publishes(&id, self.site.site().now());
+                drop(id);
+                Ok(self.begin_change(room, effect)?.awaited())
+            }
+            Turn::Echo(text) => {
+                let pushed = self.out.push(text.as_str());
+                drop(text);
+                pushed?;
+                Ok(callback.further(0))
+            }
+            Turn::Return(text) => Ok(Step::Gives(text)),
+        }
+    }
+}
