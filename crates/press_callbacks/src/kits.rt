@@ -22,7 +22,9 @@ impl Kit {
         callbacks: Vec<Stored>,
         plugins: Vec<Plugin>,
     ) -> Result<Kit, KitFault>
-        ensures builds { Builds kit_view result (kit_fault (scripts_given callbacks.items) plugins.items) (view_of (scripts_given callbacks.items) plugins.items) }
+        ensures builds { Builds kit_view result
+            (kit_fault (scripts_given callbacks.items) plugins.items)
+            (view_of (scripts_given callbacks.items) plugins.items) }
         ensures kept { IfOk result (λ kit. callbacks_in kit ≡ by_name id_of callbacks.items) }
     {
         let callbacks = sorted_by_name(callbacks);
@@ -35,7 +37,8 @@ impl Kit {
 
     /// The callback of that name.
     pub fn callback(&self, id: CallbackId) -> Option<&Stored>
-        ensures found { option_map (λ c. script_in c.now) result ≡ script_of id (scripts_in self.now) }
+        ensures found { option_map (λ c. script_in c.now) result
+            ≡ script_of id (scripts_in self.now) }
         ensures named { IfSome result (λ c. id_of c.now ≡ id) }
     {
         match self.place(id) {
@@ -46,7 +49,8 @@ impl Kit {
 
     /// The place of the callback of that name, which serves for many turns; found by halves.
     pub fn place(&self, id: CallbackId) -> Option<usize>
-        ensures script { script_at result (scripts_in self.now) ≡ script_of id (scripts_in self.now) }
+        ensures script { script_at result (scripts_in self.now)
+            ≡ script_of id (scripts_in self.now) }
         ensures named { IfSome result (λ place. name_at place (scripts_in self.now) ≡ Some id) }
         ensures missing { IsNone result → IsTrue (is_missing id (scripts_in self.now)) }
     {
@@ -55,7 +59,8 @@ impl Kit {
 
     /// The callback at a place.
     pub fn at(&self, place: usize) -> Option<&Stored>
-        ensures { option_map (λ c. (id_of c.now, script_in c.now)) result ≡ slice_get (scripts_in self.now) place }
+        ensures { option_map (λ c. (id_of c.now, script_in c.now)) result
+            ≡ slice_get (scripts_in self.now) place }
     {
         self.callbacks.as_slice().get(place)
     }

@@ -84,7 +84,8 @@ fn knows_all<T: Scripted>(callbacks: &Sorted<'_, T>, plugins: &[Plugin]) -> bool
 }
 
 fn knows_scripts<T: Scripted>(all: &Sorted<'_, T>, callbacks: &[T]) -> bool
-    ensures { result ≡ list_all (λ c. knows_script T.name all.now.items.now (T.script c)) callbacks.now }
+    ensures { result ≡ list_all (λ c. knows_script T.name all.now.items.now (T.script c))
+        callbacks.now }
 {
     callbacks.iter().all(|c| knows_script(all, c.ops()))
 }
@@ -125,7 +126,8 @@ fn knows_plugin<T: Named>(callbacks: &Sorted<'_, T>, plugin: &Plugin) -> bool
 }
 
 fn knows_loads<T: Named>(callbacks: &Sorted<'_, T>, loads: &[Load]) -> bool
-    ensures { result ≡ list_all (λ l. is_known T.name callbacks.now.items.now (callback_loaded l)) loads.now }
+    ensures { result ≡ list_all (λ l. is_known T.name callbacks.now.items.now (callback_loaded l))
+        loads.now }
 {
     loads.iter().all(|l| knows_load(callbacks, l))
 }

@@ -81,7 +81,8 @@ pub fn place_of<T: Named>(sorted: &[T], name: &[u8]) -> Option<usize>
 // Where the names that stand before a name end.
 fn first_not_before<T: Named>(sorted: &[T], name: &[u8]) -> usize
     requires { in_order T.name sorted.now ≡ true }
-    ensures parts { IsPartitionPoint (λ y. is_before (T.name y) name.now ≡ true) (λ y. is_before (T.name y) name.now ≡ false) sorted.now result }
+    ensures parts { IsPartitionPoint (λ y. is_before (T.name y) name.now ≡ true)
+        (λ y. is_before (T.name y) name.now ≡ false) sorted.now result }
     ensures within { result ≤ length sorted.now }
 {
     sorted.partition_point(|y| is_before(y.name_bytes(), name))

@@ -352,7 +352,8 @@ fn same_items<T: Same>(a: &[T], b: &[T]) -> bool
 
 // Whether the two have the same names and scripts in the same order.
 fn same_scripts<T: Scripted>(a: &[T], b: &[T]) -> bool
-    ensures { IsTrue result ↔ (map (named_script T.name T.script) a.now ≡ map (named_script T.name T.script) b.now) }
+    ensures { IsTrue result ↔ (map (named_script T.name T.script) a.now
+        ≡ map (named_script T.name T.script) b.now) }
 {
     if a.len() != b.len() {
         return false;
@@ -366,7 +367,8 @@ fn same_scripts<T: Scripted>(a: &[T], b: &[T]) -> bool
 }
 
 fn same_script<T: Scripted>(a: &T, b: &T) -> bool
-    ensures { IsTrue result ↔ (named_script T.name T.script a.now ≡ named_script T.name T.script b.now) }
+    ensures { IsTrue result ↔ (named_script T.name T.script a.now
+        ≡ named_script T.name T.script b.now) }
 {
     same_bytes(a.name_bytes(), b.name_bytes()) && same_items(a.ops(), b.ops())
 }

@@ -21,7 +21,10 @@ impl Drop for Tables {
 impl Tables {
     /// Tables with the same rows and tags, and no open run.
     pub fn copy(&self) -> Result<Tables, AllocError>
-        ensures { IfOk result (λ t. t ≡ record { hooks = with_rows self.now.hooks.rows no_rows; tags = self.now.tags }) }
+        ensures { IfOk result (λ t. t ≡ record {
+          hooks = with_rows self.now.hooks.rows no_rows;
+          tags = self.now.tags;
+        }) }
     {
         Ok(Tables {
             hooks: self.hooks.copy()?,

@@ -95,7 +95,8 @@ fn skipped(
     n: u16,
     call: &CallIn,
 ) -> Result<u16, AllocError>
-    ensures { IfOk result (λ k. k ≡ skipped (text_of call.now left.now) (text_of call.now right.now) n) }
+    ensures { IfOk result (λ k. k ≡ skipped (text_of call.now left.now)
+        (text_of call.now right.now) n) }
 {
     let left = text_of(alloc, left, call)?;
     let right = text_of(alloc, right, call)?;
@@ -112,7 +113,8 @@ fn value_and_more(
     more: &Items<Parts>,
     call: &CallIn,
 ) -> Result<Texts, AllocError>
-    ensures { IfOk result (λ ts. ts ≡ text_of call.now value.now ∷ map (text_of call.now) more.now) }
+    ensures { IfOk result (λ ts. ts ≡ text_of call.now value.now
+        ∷ map (text_of call.now) more.now) }
 {
     let mut texts = Vec::new(alloc);
     texts.push(text_of(alloc, value, call)?)?;

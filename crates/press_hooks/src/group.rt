@@ -36,7 +36,10 @@ impl Model for Group {
 impl Group {
     /// A group with its first entry.
     pub fn with_entry(alloc: Global, entry: &Entry) -> Result<Group, AllocError>
-        ensures { IfOk result (λ g. g ≡ record { priority = entry.now.priority; members = member_of entry.now ∷ [] }) }
+        ensures { IfOk result (λ g. g ≡ record {
+          priority = entry.now.priority;
+          members = member_of entry.now ∷ [];
+        }) }
     {
         let members = vec![in alloc; Member::of(entry)]?;
         Ok(Group {
@@ -65,14 +68,16 @@ impl Group {
 
     /// Sets `accepted` of the entry where it stands.
     pub fn accept(&mut self, entry: &Entry)
-        ensures { self.new ≡ with_members (map (accepted_if entry.now.callback entry.now.accepted) self.old.members) self.old }
+        ensures { self.new ≡ with_members (map (accepted_if entry.now.callback entry.now.accepted)
+            self.old.members) self.old }
     {
         accept_in(&mut self.members, &Member::of(entry));
     }
 
     /// Puts in an entry behind the others.
     pub fn put(&mut self, entry: &Entry) -> Result<(), AllocError>
-        ensures put { OnOk result (self.new ≡ with_members (self.old.members ++ member_of entry.now ∷ []) self.old) }
+        ensures put { OnOk result (self.new ≡ with_members (self.old.members
+            ++ member_of entry.now ∷ []) self.old) }
         ensures refused { OnErr result (self.new ≡ self.old) }
     {
         self.members.push(Member::of(entry))?;
@@ -81,7 +86,8 @@ impl Group {
 
     /// Takes out the entry of a callback, or all; how many there were.
     pub fn remove(&mut self, callback: Option<CallbackId>) -> usize
-        ensures members { self.new ≡ with_members (filter (λ m. not (is_member_of callback m)) self.old.members) self.old }
+        ensures members { self.new ≡ with_members (filter
+            (λ m. not (is_member_of callback m)) self.old.members) self.old }
         ensures gone { result + length self.new.members ≡ length self.old.members }
     {
         let before = self.members.len();

@@ -30,7 +30,8 @@ pub(crate) fn count_up_to(groups: &[Group], reached: Option<i64>) -> usize
 /// Whether an entry of the callback stands at that priority.
 pub(crate) fn has(groups: &[Group], priority: i64, callback: CallbackId) -> bool
     requires { AreGroups groups.now }
-    ensures { result ≡ list_any (λ e. bytes_eq e.callback callback) (filter (λ e. int_eq e.priority priority) (entries_of groups.now)) }
+    ensures { result ≡ list_any (λ e. bytes_eq e.callback callback) (filter
+        (λ e. int_eq e.priority priority) (entries_of groups.now)) }
 {
     match find(groups, &priority) {
         Ok(place) => groups[place].has(callback),
@@ -40,7 +41,8 @@ pub(crate) fn has(groups: &[Group], priority: i64, callback: CallbackId) -> bool
 
 /// The priority of the first entry of the callback.
 pub(crate) fn priority_of(groups: &[Group], callback: CallbackId) -> Option<i64>
-    ensures { result ≡ option_map (λ e. e.priority) (find (λ e. bytes_eq e.callback callback) (entries_of groups.now)) }
+    ensures { result ≡ option_map (λ e. e.priority) (find
+        (λ e. bytes_eq e.callback callback) (entries_of groups.now)) }
 {
     groups
         .iter()
@@ -51,7 +53,9 @@ pub(crate) fn priority_of(groups: &[Group], callback: CallbackId) -> Option<i64>
 /// Sets `accepted` of the entry where it stands.
 pub(crate) fn accept(groups: &mut Vec<Group>, entry: &Entry)
     requires { AreGroups groups.old.items }
-    ensures entries { entries_of groups.new.items ≡ map (accepted_where entry.now.priority entry.now.callback entry.now.accepted) (entries_of groups.old.items) }
+    ensures entries { entries_of groups.new.items
+        ≡ map (accepted_where entry.now.priority entry.now.callback entry.now.accepted)
+        (entries_of groups.old.items) }
     ensures order { AreGroups groups.new.items }
 {
     if let Ok(place) = find(groups.as_slice(), &entry.priority) {
@@ -62,7 +66,8 @@ pub(crate) fn accept(groups: &mut Vec<Group>, entry: &Entry)
 /// Puts in an entry behind those of its priority.
 pub(crate) fn put(alloc: Global, groups: &mut Vec<Group>, entry: &Entry) -> Result<(), AllocError>
     requires { AreGroups groups.old.items }
-    ensures entries { OnOk result (entries_of groups.new.items ≡ put_entry entry.now (entries_of groups.old.items)) }
+    ensures entries { OnOk result (entries_of groups.new.items
+        ≡ put_entry entry.now (entries_of groups.old.items)) }
     ensures order { OnOk result (AreGroups groups.new.items) }
     ensures refused { OnErr result (groups.new.items ≡ groups.old.items) }
 {
@@ -84,8 +89,10 @@ fn put_group(groups: &mut Vec<Group>, place: usize, group: Group) -> Result<(), 
 /// Takes out the entry of a priority and a callback, or all of that priority; how many there were.
 pub(crate) fn remove(groups: &mut Vec<Group>, priority: i64, callback: Option<CallbackId>) -> usize
     requires { AreGroups groups.old.items }
-    ensures entries { entries_of groups.new.items ≡ filter (λ e. not (is_named (Some priority) callback e)) (entries_of groups.old.items) }
-    ensures gone { result + length (entries_of groups.new.items) ≡ length (entries_of groups.old.items) }
+    ensures entries { entries_of groups.new.items ≡ filter
+        (λ e. not (is_named (Some priority) callback e)) (entries_of groups.old.items) }
+    ensures gone { result + length (entries_of groups.new.items)
+        ≡ length (entries_of groups.old.items) }
     ensures order { AreGroups groups.new.items }
 {
     let Ok(place) = find(groups.as_slice(), &priority) else {

@@ -62,7 +62,9 @@ impl Hook {
     /// Sets `accepted` of the entry where it stands.
     pub fn accept(&mut self, entry: &Entry)
         ensures name { self.new.name ≡ self.old.name }
-        ensures entries { hook_entries self.new ≡ map (accepted_where entry.now.priority entry.now.callback entry.now.accepted) (hook_entries self.old) }
+        ensures entries { hook_entries self.new
+            ≡ map (accepted_where entry.now.priority entry.now.callback entry.now.accepted)
+            (hook_entries self.old) }
     {
         groups::accept(&mut self.groups, entry);
     }
@@ -70,7 +72,8 @@ impl Hook {
     /// Puts in an entry behind those of its priority.
     pub fn put(&mut self, alloc: Global, entry: &Entry) -> Result<(), AllocError>
         ensures name { self.new.name ≡ self.old.name }
-        ensures put { OnOk result (hook_entries self.new ≡ put_entry entry.now (hook_entries self.old)) }
+        ensures put { OnOk result (hook_entries self.new
+            ≡ put_entry entry.now (hook_entries self.old)) }
         ensures refused { OnErr result (self.new ≡ self.old) }
     {
         groups::put(alloc, &mut self.groups, entry)
@@ -79,7 +82,8 @@ impl Hook {
     /// Takes out the entry of a priority and a callback, or all of that priority; how many there were.
     pub fn remove(&mut self, priority: i64, callback: Option<CallbackId>) -> usize
         ensures name { self.new.name ≡ self.old.name }
-        ensures entries { hook_entries self.new ≡ filter (λ e. not (is_named (Some priority) callback e)) (hook_entries self.old) }
+        ensures entries { hook_entries self.new ≡ filter
+            (λ e. not (is_named (Some priority) callback e)) (hook_entries self.old) }
         ensures gone { result + length (hook_entries self.new) ≡ length (hook_entries self.old) }
     {
         groups::remove(&mut self.groups, priority, callback)

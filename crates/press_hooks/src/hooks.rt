@@ -21,7 +21,8 @@ fn find(hooks: &[Hook], name: &HookName) -> Result<usize, usize>
 pub(crate) fn groups_of<'a>(hooks: &'a [Hook], name: &HookName) -> &'a [Group]
     requires { IsByName hooks.now }
     ensures groups { result.now ≡ groups_named name.now hooks.now }
-    ensures rows { filter (is_of_hook name.now) (table_rows hooks.now) ≡ map (row_of name.now) (entries_of result.now) }
+    ensures rows { filter (is_of_hook name.now) (table_rows hooks.now)
+        ≡ map (row_of name.now) (entries_of result.now) }
     ensures order { AreGroups result.now }
 {
     match find(hooks, name) {
@@ -33,7 +34,9 @@ pub(crate) fn groups_of<'a>(hooks: &'a [Hook], name: &HookName) -> &'a [Group]
 /// Sets `accepted` of the entry where it stands.
 pub(crate) fn accept(hooks: &mut Vec<Hook>, name: &HookName, entry: &Entry)
     requires { IsByName hooks.old.items }
-    ensures rows { table_rows hooks.new.items ≡ map (accepted_as name.now entry.now.priority entry.now.callback entry.now.accepted) (table_rows hooks.old.items) }
+    ensures rows { table_rows hooks.new.items
+        ≡ map (accepted_as name.now entry.now.priority entry.now.callback entry.now.accepted)
+        (table_rows hooks.old.items) }
     ensures others { KeepsOthers name.now hooks.old.items hooks.new.items }
     ensures order { IsByName hooks.new.items }
 {
@@ -50,7 +53,8 @@ pub(crate) fn put(
     entry: &Entry,
 ) -> Result<(), AllocError>
     requires { IsByName hooks.old.items }
-    ensures rows { OnOk result (table_rows hooks.new.items ≡ put_row (row_of name.now entry.now) (table_rows hooks.old.items)) }
+    ensures rows { OnOk result (table_rows hooks.new.items
+        ≡ put_row (row_of name.now entry.now) (table_rows hooks.old.items)) }
     ensures others { OnOk result (KeepsOthers name.now hooks.old.items hooks.new.items) }
     ensures order { OnOk result (IsByName hooks.new.items) }
     ensures refused { OnErr result (hooks.new.items ≡ hooks.old.items) }
@@ -78,8 +82,11 @@ pub(crate) fn remove(
     callback: Option<CallbackId>,
 ) -> usize
     requires { IsByName hooks.old.items }
-    ensures rows { table_rows hooks.new.items ≡ filter (λ r. not (is_row_named name.now (Some priority) callback r)) (table_rows hooks.old.items) }
-    ensures gone { result + length (table_rows hooks.new.items) ≡ length (table_rows hooks.old.items) }
+    ensures rows { table_rows hooks.new.items ≡ filter
+        (λ r. not (is_row_named name.now (Some priority) callback r))
+        (table_rows hooks.old.items) }
+    ensures gone { result + length (table_rows hooks.new.items)
+        ≡ length (table_rows hooks.old.items) }
     ensures others { KeepsOthers name.now hooks.old.items hooks.new.items }
     ensures order { IsByName hooks.new.items }
 {
@@ -96,7 +103,8 @@ fn drop_empty(hooks: &mut Vec<Hook>, place: usize)
     requires within { place < length hooks.old.items }
     requires order { IsByName hooks.old.items }
     ensures rows { table_rows hooks.new.items ≡ table_rows hooks.old.items }
-    ensures groups { (name : List ℕ) → groups_named name hooks.new.items ≡ groups_named name hooks.old.items }
+    ensures groups { (name : List ℕ) → groups_named name hooks.new.items
+        ≡ groups_named name hooks.old.items }
     ensures order { IsByName hooks.new.items }
 {
     if hooks[place].groups().is_empty() {
@@ -108,8 +116,10 @@ fn drop_empty(hooks: &mut Vec<Hook>, place: usize)
 pub(crate) fn remove_hook(hooks: &mut Vec<Hook>, name: &HookName) -> usize
     requires order { IsByName hooks.old.items }
     requires small { length (table_rows hooks.old.items) < 2 ^ 64 }
-    ensures rows { table_rows hooks.new.items ≡ filter (λ r. not (is_row_named name.now None None r)) (table_rows hooks.old.items) }
-    ensures gone { result + length (table_rows hooks.new.items) ≡ length (table_rows hooks.old.items) }
+    ensures rows { table_rows hooks.new.items ≡ filter
+        (λ r. not (is_row_named name.now None None r)) (table_rows hooks.old.items) }
+    ensures gone { result + length (table_rows hooks.new.items)
+        ≡ length (table_rows hooks.old.items) }
     ensures others { KeepsOthers name.now hooks.old.items hooks.new.items }
     ensures order { IsByName hooks.new.items }
 {

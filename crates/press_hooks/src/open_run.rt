@@ -172,7 +172,8 @@ impl PlacedRun {
     pub fn advance(&mut self, rows: &Rows) -> Result<Option<Entry>, AllocError>
         requires { IsInPlace rows.now self.old }
         ensures given { IfOk result (λ e. e ≡ next_entry (table_rows rows.now) self.old.run) }
-        ensures after { IfOk result (λ e. self.new.run ≡ next_run (table_rows rows.now) self.old.run) }
+        ensures after { IfOk result (λ e. self.new.run
+            ≡ next_run (table_rows rows.now) self.old.run) }
         ensures place { IsInPlace rows.now self.new }
         ensures refused { OnErr result (self.new ≡ self.old) }
     {

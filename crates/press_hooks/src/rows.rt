@@ -61,7 +61,8 @@ impl Rows {
     /// The hook's entries in groups by priority, each in the order in which they were added.
     pub fn groups_of(&self, hook: &HookName) -> &[Group]
         ensures groups { result.now ≡ groups_named hook.now self.now }
-        ensures rows { filter (is_of_hook hook.now) (table_rows self.now) ≡ map (row_of hook.now) (entries_of result.now) }
+        ensures rows { filter (is_of_hook hook.now) (table_rows self.now)
+            ≡ map (row_of hook.now) (entries_of result.now) }
         ensures order { AreGroups result.now }
     {
         hooks::groups_of(self.hooks.as_slice(), hook)
@@ -75,11 +76,15 @@ impl Rows {
 
     /// Sets `accepted` of the entry that stands, or puts in a new one where there is room; whether it then stands.
     pub fn add(&mut self, alloc: Global, hook: &HookName, e: &Entry) -> Result<bool, AllocError>
-        ensures answer { IfOk result (λ b. b ≡ adds_row hook.now e.now.callback e.now.priority (table_rows self.old)) }
-        ensures rows { OnOk result (table_rows self.new ≡ add_row hook.now e.now.callback e.now.priority e.now.accepted (table_rows self.old)) }
+        ensures answer { IfOk result (λ b. b
+            ≡ adds_row hook.now e.now.callback e.now.priority (table_rows self.old)) }
+        ensures rows { OnOk result (table_rows self.new
+            ≡ add_row hook.now e.now.callback e.now.priority e.now.accepted
+            (table_rows self.old)) }
         ensures others { OnOk result (KeepsOthers hook.now self.old self.new) }
         ensures refused { OnErr result (self.new ≡ self.old) }
-        ensures full { adds_row hook.now e.now.callback e.now.priority (table_rows self.old) ≡ false → IsOk result }
+        ensures full { adds_row hook.now e.now.callback e.now.priority (table_rows self.old)
+            ≡ false → IsOk result }
     {
         if self.has(hook, e.priority, e.callback) {
             self.accept(hook, e);
@@ -99,7 +104,9 @@ impl Rows {
     }
 
     fn accept(&mut self, hook: &HookName, e: &Entry)
-        ensures rows { table_rows self.new ≡ map (accepted_as hook.now e.now.priority e.now.callback e.now.accepted) (table_rows self.old) }
+        ensures rows { table_rows self.new ≡ map
+            (accepted_as hook.now e.now.priority e.now.callback e.now.accepted)
+            (table_rows self.old) }
         ensures others { KeepsOthers hook.now self.old self.new }
     {
         hooks::accept(&mut self.hooks, hook, e);
@@ -107,7 +114,8 @@ impl Rows {
 
     fn put(&mut self, alloc: Global, hook: &HookName, e: &Entry) -> Result<(), AllocError>
         requires { length (table_rows self.old) < most_rows }
-        ensures put { OnOk result (table_rows self.new ≡ put_row (row_of hook.now e.now) (table_rows self.old)) }
+        ensures put { OnOk result (table_rows self.new
+            ≡ put_row (row_of hook.now e.now) (table_rows self.old)) }
         ensures others { OnOk result (KeepsOthers hook.now self.old self.new) }
         ensures refused { OnErr result (self.new ≡ self.old) }
     {
@@ -118,7 +126,8 @@ impl Rows {
 
     /// Takes out the entry of that callback at that priority.
     pub fn remove(&mut self, hook: &HookName, callback: CallbackId, priority: i64)
-        ensures rows { table_rows self.new ≡ remove_row hook.now callback priority (table_rows self.old) }
+        ensures rows { table_rows self.new ≡ remove_row hook.now callback priority
+            (table_rows self.old) }
         ensures others { KeepsOthers hook.now self.old self.new }
     {
         self.remove_at(hook, priority, Some(callback));
@@ -136,7 +145,8 @@ impl Rows {
     }
 
     fn remove_at(&mut self, hook: &HookName, priority: i64, callback: Option<CallbackId>)
-        ensures rows { table_rows self.new ≡ filter (λ r. not (is_row_named hook.now (Some priority) callback r)) (table_rows self.old) }
+        ensures rows { table_rows self.new ≡ filter
+            (λ r. not (is_row_named hook.now (Some priority) callback r)) (table_rows self.old) }
         ensures others { KeepsOthers hook.now self.old self.new }
     {
         let gone = hooks::remove(&mut self.hooks, hook, priority, callback);
@@ -144,7 +154,8 @@ impl Rows {
     }
 
     fn remove_hook(&mut self, hook: &HookName)
-        ensures rows { table_rows self.new ≡ filter (λ r. not (is_row_named hook.now None None r)) (table_rows self.old) }
+        ensures rows { table_rows self.new ≡ filter
+            (λ r. not (is_row_named hook.now None None r)) (table_rows self.old) }
         ensures others { KeepsOthers hook.now self.old self.new }
     {
         let gone = hooks::remove_hook(&mut self.hooks, hook);

@@ -94,7 +94,8 @@ impl HookTable {
         accepted: u32,
     ) -> Result<bool, AllocError>
         ensures answer { IfOk result (λ b. b ≡ adds_row hook.now callback priority self.old.rows) }
-        ensures rows { IfOk result (λ b. self.new ≡ with_rows (add_row hook.now callback priority accepted self.old.rows) self.old) }
+        ensures rows { IfOk result (λ b. self.new
+            ≡ with_rows (add_row hook.now callback priority accepted self.old.rows) self.old) }
         ensures refused { OnErr result (self.new ≡ self.old) }
         ensures full { adds_row hook.now callback priority self.old.rows ≡ false → IsOk result }
     {
@@ -111,7 +112,8 @@ impl HookTable {
     /// Takes out the entry of that callback at that priority; whether one stood there (`remove_filter`).
     pub fn remove(&mut self, hook: &HookName, callback: CallbackId, priority: i64) -> bool
         ensures answer { result ≡ list_any (is_row hook.now priority callback) self.old.rows }
-        ensures rows { self.new ≡ with_rows (remove_row hook.now callback priority self.old.rows) self.old }
+        ensures rows { self.new ≡ with_rows (remove_row hook.now callback priority self.old.rows)
+            self.old }
     {
         let stood = self.rows.has(hook, priority, callback);
         self.rows.remove(hook, callback, priority);

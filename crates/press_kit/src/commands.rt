@@ -58,7 +58,8 @@ impl<'v> Fields<'v> {
     }
 
     fn moment(&self, key: &str) -> Result<Moment, KitFileFault>
-        ensures { Gives Refuses Ok result (spec.moment_at self.now.at key.now (view self.now.value.now)) }
+        ensures { Gives Refuses Ok result (spec.moment_at self.now.at key.now
+            (view self.now.value.now)) }
     {
         let told = self.value.get(key).ok_or(self.at)?;
         Ok(moment(told).ok_or(self.at)?)
@@ -118,7 +119,8 @@ impl<'v> Fields<'v> {
 
     #[tactic(auto, unfolding(crate::specs::SiteFile::command_by))]
     fn command(&self, kind: CommandKind, now: Moment) -> Result<Command, KitFileFault>
-        ensures { Gives Refuses Ok result (spec.command_by kind now self.now.at (view self.now.value.now)) }
+        ensures { Gives Refuses Ok result (spec.command_by kind now self.now.at
+            (view self.now.value.now)) }
     {
         match kind {
             CommandKind::Insert => {
@@ -167,7 +169,8 @@ impl<'v> Fields<'v> {
     }
 
     fn command_kind(&self) -> Option<CommandKind>
-        ensures { result ≡ option_and_then kind_named (option_and_then as_str (get (codes "kind") (view self.now.value.now))) }
+        ensures { result ≡ option_and_then kind_named
+            (option_and_then as_str (get (codes "kind") (view self.now.value.now))) }
     {
         match self.value.get("kind").and_then(Value::as_str) {
             None => None,

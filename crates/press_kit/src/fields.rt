@@ -22,7 +22,8 @@ fn is_one_of(keys: &[&str], key: &str) -> bool
 
 // Whether the keys of an object are all among these.
 fn are_among(members: &Map<String, Value>, keys: &[&str]) -> bool
-    ensures { result ≡ list_all (spec.is_one_of (map (λ k. k.now) keys.now)) (spec.keys_in (members_view members.now.entries)) }
+    ensures { result ≡ list_all (spec.is_one_of (map (λ k. k.now) keys.now))
+        (spec.keys_in (members_view members.now.entries)) }
 {
     members.keys().all(|k| is_one_of(keys, k.as_str()))
 }
@@ -48,7 +49,8 @@ pub struct Fields<'v> {
 impl<'v> Fields<'v> {
     /// Bad where there are other keys than these.
     pub fn has_only(&self, keys: &[&str]) -> Result<(), KitFileFault>
-        ensures { Gives Refuses (λ _. Ok (view self.now.value.now)) result (spec.only self.now.at (map (λ k. k.now) keys.now) (view self.now.value.now)) }
+        ensures { Gives Refuses (λ _. Ok (view self.now.value.now)) result
+            (spec.only self.now.at (map (λ k. k.now) keys.now) (view self.now.value.now)) }
     {
         if has_only(self.value, keys) {
             Ok(())
@@ -58,14 +60,16 @@ impl<'v> Fields<'v> {
     }
 
     fn str(&self, key: &str) -> Option<&'v str>
-        ensures { option_map (λ s. s.now) result ≡ option_and_then as_str (get key.now (view self.now.value.now)) }
+        ensures { option_map (λ s. s.now) result
+            ≡ option_and_then as_str (get key.now (view self.now.value.now)) }
     {
         self.value.get(key).and_then(Value::as_str)
     }
 
     /// A text.
     pub fn text(&self, key: &str) -> Result<Text, KitFileFault>
-        ensures { Gives Refuses Ok result (spec.text_at self.now.at key.now (view self.now.value.now)) }
+        ensures { Gives Refuses Ok result (spec.text_at self.now.at key.now
+            (view self.now.value.now)) }
     {
         let text = self.str(key).ok_or(self.at)?;
         Ok(Text::from_str(self.alloc, text)?)
@@ -73,7 +77,8 @@ impl<'v> Fields<'v> {
 
     /// The name of a hook.
     pub fn hook(&self, key: &str) -> Result<HookName, KitFileFault>
-        ensures { Gives Refuses Ok result (spec.name_at 64 self.now.at key.now (view self.now.value.now)) }
+        ensures { Gives Refuses Ok result (spec.name_at 64 self.now.at key.now
+            (view self.now.value.now)) }
     {
         let text = self.str(key).ok_or(self.at)?;
         match HookName::new(self.alloc, text) {
@@ -85,7 +90,8 @@ impl<'v> Fields<'v> {
 
     /// The name of a callback.
     pub fn callback(&self, key: &str) -> Result<CallbackId, KitFileFault>
-        ensures { Gives Refuses Ok result (spec.name_at 32 self.now.at key.now (view self.now.value.now)) }
+        ensures { Gives Refuses Ok result (spec.name_at 32 self.now.at key.now
+            (view self.now.value.now)) }
     {
         let text = self.str(key).ok_or(self.at)?;
         match CallbackId::new(text) {
@@ -96,7 +102,8 @@ impl<'v> Fields<'v> {
 
     /// The name of a plugin.
     pub fn name(&self, key: &str) -> Result<Name, KitFileFault>
-        ensures { Gives Refuses Ok result (spec.name_at 32 self.now.at key.now (view self.now.value.now)) }
+        ensures { Gives Refuses Ok result (spec.name_at 32 self.now.at key.now
+            (view self.now.value.now)) }
     {
         let text = self.str(key).ok_or(self.at)?;
         match Name::new(self.alloc, text) {
@@ -108,7 +115,8 @@ impl<'v> Fields<'v> {
 
     /// The name of an option.
     pub fn option(&self, key: &str) -> Result<OptName, KitFileFault>
-        ensures { Gives Refuses Ok result (spec.name_at 32 self.now.at key.now (view self.now.value.now)) }
+        ensures { Gives Refuses Ok result (spec.name_at 32 self.now.at key.now
+            (view self.now.value.now)) }
     {
         let text = self.str(key).ok_or(self.at)?;
         match OptName::new(self.alloc, text) {
@@ -120,7 +128,8 @@ impl<'v> Fields<'v> {
 
     /// A whole number.
     pub fn number(&self, key: &str) -> Result<u64, KitFileFault>
-        ensures { Gives Refuses Ok result (spec.number_at self.now.at key.now (view self.now.value.now)) }
+        ensures { Gives Refuses Ok result (spec.number_at self.now.at key.now
+            (view self.now.value.now)) }
     {
         let told = self.value.get(key).and_then(Value::as_u64);
         Ok(told.ok_or(self.at)?)
@@ -128,7 +137,8 @@ impl<'v> Fields<'v> {
 
     /// The name of a shortcode.
     pub fn tag(&self, key: &str) -> Result<Tag, KitFileFault>
-        ensures { Gives Refuses Ok result (spec.name_at 32 self.now.at key.now (view self.now.value.now)) }
+        ensures { Gives Refuses Ok result (spec.name_at 32 self.now.at key.now
+            (view self.now.value.now)) }
     {
         let text = self.str(key).ok_or(self.at)?;
         match Tag::new(self.alloc, text) {
@@ -160,7 +170,8 @@ impl<'v> Fields<'v> {
 
     /// The values of a list.
     pub fn list(&self, key: &str) -> Result<&'v [Value], KitFileFault>
-        ensures { Gives Refuses (λ vs. Ok (map view vs.now)) result (spec.list_at self.now.at key.now (view self.now.value.now)) }
+        ensures { Gives Refuses (λ vs. Ok (map view vs.now)) result
+            (spec.list_at self.now.at key.now (view self.now.value.now)) }
     {
         Ok(self.value.get(key).and_then(list).ok_or(self.at)?)
     }

@@ -35,7 +35,8 @@ fn json(alloc: Global, bytes: &[u8]) -> Result<Value, KitFileFault>
 #[tactic(auto, unfolding(crate::specs::KitFile::file_in))]
 pub fn file(alloc: Global, bytes: &[u8]) -> Result<Value, KitFileFault>
     ensures gives { Gives Refuses (λ v. Ok (view v)) result (file_in bytes.now) }
-    ensures long { file_limit < length bytes.now → IsErrOf result (KitFileFault.BadKitFile place.File) }
+    ensures long { file_limit < length bytes.now
+        → IsErrOf result (KitFileFault.BadKitFile place.File) }
 {
     if bytes.len() > FILE_LIMIT {
         return Err(KitFileFault::BadKitFile(Place::File));

@@ -61,7 +61,8 @@ pub(crate) fn kit(alloc: Global, value: &Value) -> Result<KitParts, KitFileFault
 #[tactic(auto, unfolding(crate::specs::KitFile::kit_in))]
 pub fn read_kit_file(alloc: Global, bytes: &[u8]) -> Result<KitParts, KitFileFault>
     ensures gives { Gives Refuses Ok result (spec.kit_in bytes.now) }
-    ensures long { spec.file_limit < length bytes.now → IsErrOf result (KitFileFault.BadKitFile place.File) }
+    ensures long { spec.file_limit < length bytes.now
+        → IsErrOf result (KitFileFault.BadKitFile place.File) }
 {
     let value = file(alloc, bytes)?;
     kit(alloc, &value)

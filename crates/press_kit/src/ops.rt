@@ -48,7 +48,8 @@ fn every(value: &Value) -> Option<Every>
 impl<'v> Fields<'v> {
     // The priority that is told, or all of them.
     fn any_priority(&self) -> Result<Option<i64>, KitFileFault>
-        ensures { Gives Refuses Ok result (spec.any_priority_at self.now.at (view self.now.value.now)) }
+        ensures { Gives Refuses Ok result (spec.any_priority_at self.now.at
+            (view self.now.value.now)) }
     {
         match self.value.get("priority") {
             None => Ok(None),
@@ -117,7 +118,8 @@ impl<'v> Fields<'v> {
 
     #[tactic(auto, unfolding(crate::specs::KitFile::hook_removed))]
     fn remove_hook(&self) -> Result<Op, KitFileFault>
-        ensures { Gives Refuses Ok result (spec.hook_removed self.now.at (view self.now.value.now)) }
+        ensures { Gives Refuses Ok result (spec.hook_removed self.now.at
+            (view self.now.value.now)) }
     {
         Ok(Op::RemoveHook {
             hook: self.hook("hook")?,
@@ -128,7 +130,8 @@ impl<'v> Fields<'v> {
 
     #[tactic(auto, unfolding(crate::specs::KitFile::hooks_removed))]
     fn remove_all(&self) -> Result<Op, KitFileFault>
-        ensures { Gives Refuses Ok result (spec.hooks_removed self.now.at (view self.now.value.now)) }
+        ensures { Gives Refuses Ok result (spec.hooks_removed self.now.at
+            (view self.now.value.now)) }
     {
         Ok(Op::RemoveAll {
             hook: self.hook("hook")?,
@@ -218,7 +221,8 @@ impl<'v> Fields<'v> {
     }
 
     fn kind(&self) -> Option<OpKind>
-        ensures { result ≡ option_and_then kind_of (option_and_then as_str (get (codes "op") (view self.now.value.now))) }
+        ensures { result ≡ option_and_then kind_of
+            (option_and_then as_str (get (codes "op") (view self.now.value.now))) }
     {
         match self.value.get("op").and_then(Value::as_str) {
             None => None,
@@ -227,7 +231,8 @@ impl<'v> Fields<'v> {
     }
 
     fn has_keys_of(&self, kind: OpKind) -> Result<(), KitFileFault>
-        ensures { Gives Refuses (λ _. Ok (view self.now.value.now)) result (only self.now.at (keys_of kind) (view self.now.value.now)) }
+        ensures { Gives Refuses (λ _. Ok (view self.now.value.now)) result
+            (only self.now.at (keys_of kind) (view self.now.value.now)) }
     {
         match kind {
             OpKind::AddHook => {

@@ -132,7 +132,8 @@ impl Listed for Parts {
 impl<'v> Fields<'v> {
     /// A text by its parts.
     pub fn parts(&self, key: &str) -> Result<Parts, KitFileFault>
-        ensures { Gives Refuses Ok result (spec.parts_at self.now.at key.now (view self.now.value.now)) }
+        ensures { Gives Refuses Ok result (spec.parts_at self.now.at key.now
+            (view self.now.value.now)) }
     {
         let value = self.value.get(key).ok_or(self.at)?;
         Parts::read(self.alloc, self.at, value)
@@ -140,7 +141,8 @@ impl<'v> Fields<'v> {
 
     /// Texts by their parts, none where nothing is told.
     pub fn texts(&self, key: &str) -> Result<Items<Parts>, KitFileFault>
-        ensures { Gives Refuses Ok result (spec.texts_at self.now.at key.now (view self.now.value.now)) }
+        ensures { Gives Refuses Ok result (spec.texts_at self.now.at key.now
+            (view self.now.value.now)) }
     {
         match self.value.get(key) {
             None => Ok(Items::new(self.alloc)),

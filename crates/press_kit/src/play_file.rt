@@ -123,7 +123,8 @@ impl<'v> Fields<'v> {
     }
 
     fn has_play_keys(&self, kind: PlayKind) -> Result<(), KitFileFault>
-        ensures { Gives Refuses (λ _. Ok (view self.now.value.now)) result (only self.now.at (spec.keys_of kind) (view self.now.value.now)) }
+        ensures { Gives Refuses (λ _. Ok (view self.now.value.now)) result
+            (only self.now.at (spec.keys_of kind) (view self.now.value.now)) }
     {
         match kind {
             PlayKind::Apply => self.has_only(&["apply", "args", "times", "trace"]),
@@ -133,7 +134,8 @@ impl<'v> Fields<'v> {
 
     #[tactic(auto, unfolding(crate::specs::PlayFile::play_by))]
     fn play(&self, kind: PlayKind) -> Result<Play, KitFileFault>
-        ensures { Gives Refuses Ok result (spec.play_by kind self.now.at (view self.now.value.now)) }
+        ensures { Gives Refuses Ok result (spec.play_by kind self.now.at
+            (view self.now.value.now)) }
     {
         self.has_play_keys(kind)?;
         let hook = self.hook(kind.key())?;
@@ -181,7 +183,8 @@ fn has_commands(value: &Value) -> bool
 }
 
 fn has_file_keys(fields: &Fields<'_>, commanded: bool) -> Result<(), KitFileFault>
-    ensures { Gives Refuses (λ _. Ok (view fields.now.value.now)) result (only fields.now.at (spec.file_keys commanded) (view fields.now.value.now)) }
+    ensures { Gives Refuses (λ _. Ok (view fields.now.value.now)) result
+        (only fields.now.at (spec.file_keys commanded) (view fields.now.value.now)) }
 {
     if commanded {
         fields.has_only(&["kit", "commands", "pages", "plays", "shows"])
@@ -260,7 +263,8 @@ fn play_file(alloc: Global, value: &Value) -> Result<PlayFile, KitFileFault>
 #[tactic(auto, unfolding(crate::specs::PlayFile::play_file_in))]
 pub fn read_play_file(alloc: Global, bytes: &[u8]) -> Result<PlayFile, KitFileFault>
     ensures gives { Gives Refuses Ok result (spec.play_file_in bytes.now) }
-    ensures long { file_limit < length bytes.now → IsErrOf result (KitFileFault.BadKitFile place.File) }
+    ensures long { file_limit < length bytes.now
+        → IsErrOf result (KitFileFault.BadKitFile place.File) }
 {
     let value = file(alloc, bytes)?;
     play_file(alloc, &value)

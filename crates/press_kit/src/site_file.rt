@@ -49,7 +49,8 @@ pub(crate) fn commands(alloc: Global, value: &Value) -> Result<Items<Stamped>, K
 #[tactic(auto, unfolding(crate::specs::SiteFile::site_in))]
 pub fn read_site_file(alloc: Global, bytes: &[u8]) -> Result<Items<Stamped>, KitFileFault>
     ensures gives { Gives Refuses Ok result (spec.site_in bytes.now) }
-    ensures long { file_limit < length bytes.now → IsErrOf result (KitFileFault.BadKitFile place.File) }
+    ensures long { file_limit < length bytes.now
+        → IsErrOf result (KitFileFault.BadKitFile place.File) }
 {
     let value = file(alloc, bytes)?;
     commands(alloc, &value)

@@ -119,7 +119,8 @@ fn is_engines(hook: &[u8]) -> bool
 }
 
 fn put<'k>(hooks: &mut NameSet<'k>, hook: &'k HookName) -> Result<(), AllocError>
-    ensures { OnOk result ((q : List ℕ) → holds hooks.new q ≡ (bytes_eq hook.now q || holds hooks.old q)) }
+    ensures { OnOk result ((q : List ℕ) → holds hooks.new q
+        ≡ (bytes_eq hook.now q || holds hooks.old q)) }
 {
     hooks.insert(hook.as_str().as_bytes())?;
     Ok(())
@@ -127,7 +128,8 @@ fn put<'k>(hooks: &mut NameSet<'k>, hook: &'k HookName) -> Result<(), AllocError
 
 // The hook that a step runs, or has run later.
 fn put_op<'k>(hooks: &mut NameSet<'k>, op: &'k Op) -> Result<(), AllocError>
-    ensures { OnOk result ((q : List ℕ) → holds hooks.new q ≡ (spec.runs q op.now || holds hooks.old q)) }
+    ensures { OnOk result ((q : List ℕ) → holds hooks.new q
+        ≡ (spec.runs q op.now || holds hooks.old q)) }
 {
     match op {
         Op::Apply { hook, .. } => put(hooks, hook),

@@ -22,7 +22,8 @@ impl Drop for Installed<'_> {
 impl Installed<'_> {
     /// Whether a plugin has that name.
     pub fn has(&self, name: &[u8]) -> bool
-        ensures { result ≡ named_among (λ (p : OnePlugin). p.name) self.now.kit.now.plugins name.now }
+        ensures { result ≡ named_among (λ (p : OnePlugin).
+            p.name) self.now.kit.now.plugins name.now }
     {
         self.names.has(name)
     }

@@ -65,8 +65,10 @@ pub struct Titles<'k> {
 }
 
 pub fn titles_of<T: Titled>(alloc: Global, items: &[T]) -> Result<Titles<'_>, AllocError>
-    ensures names { IfOk result (λ t. (q : List ℕ) → holds t.names q ≡ named_among T.title items.now q) }
-    ensures same { IfOk result (λ t. t.same ≡ spec.first (spec.same_name T.title T.place) 0 items.now) }
+    ensures names { IfOk result (λ t. (q : List ℕ) → holds t.names q
+        ≡ named_among T.title items.now q) }
+    ensures same { IfOk result (λ t. t.same
+        ≡ spec.first (spec.same_name T.title T.place) 0 items.now) }
 {
     let mut names = NameSet::new(alloc);
     let mut same = None;

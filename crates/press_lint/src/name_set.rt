@@ -27,7 +27,8 @@ impl<'n> NameSet<'n> {
     /// Puts a name into the set, and tells whether it is new there.
     pub fn insert(&mut self, name: &'n [u8]) -> Result<bool, AllocError>
         ensures added { IfOk result (λ added. added ≡ not (holds self.old name.now)) }
-        ensures holds { OnOk result ((q : List ℕ) → holds self.new q ≡ (bytes_eq name.now q || holds self.old q)) }
+        ensures holds { OnOk result ((q : List ℕ) → holds self.new q
+            ≡ (bytes_eq name.now q || holds self.old q)) }
     {
         Ok(self.names.insert(name)?)
     }

@@ -28,7 +28,8 @@ impl Drop for Run<'_> {
 impl Run<'_> {
     /// Whether a script of the kit or a play runs the hook of that name.
     pub fn has(&self, hook: &[u8]) -> bool
-        ensures { result ≡ (is_run_by self.now.kit.now.callbacks hook.now || list_any (λ (p : Played). bytes_eq p.hook hook.now) self.now.plays.now) }
+        ensures { result ≡ (is_run_by self.now.kit.now.callbacks hook.now || list_any
+            (λ (p : Played). bytes_eq p.hook hook.now) self.now.plays.now) }
     {
         self.hooks.has(hook)
     }

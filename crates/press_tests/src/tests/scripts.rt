@@ -15,7 +15,8 @@ use std::test::Fail;
 
 /// The script that appends a text to its value.
 pub fn appending(alloc: Global, text: &str) -> Result<Script, AllocError>
-    ensures { IfOk result (λ s. s ≡ op.Set (part.Raw source.Value ∷ (part.Lit text.now ∷ [])) ∷ []) }
+    ensures { IfOk result (λ s. s ≡ op.Set (part.Raw source.Value ∷ (part.Lit text.now ∷ []))
+        ∷ []) }
 {
     let lit = Text::from_str(alloc, text)?;
     let parts = vec![in alloc; Part::Raw(Source::Value), Part::Lit(lit)]?;
