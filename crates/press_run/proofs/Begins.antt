@@ -1,5 +1,5 @@
 -- What begins, and the turns of a callback that counts them.
-use Rattle.std.proofs.Common.{◌≡◌, refl, sym, ◌∙◌, ap, subst, ℕ, suc, ◌+◌, ◌-◌, ◌*◌, ◌<◌, ◌≤◌, ◌^◌, Bool, true, false, ltb, List, [], ◌∷◌, ◌++◌, length, Option, Some, None, Ok, Err, Result, arith}
+use Rattle.std.proofs.Common.{◌≡◌, refl, sym, ◌∙◌, ap, subst, ℕ, suc, ◌+◌, ◌-◌, ◌<◌, ◌≤◌, ◌^◌, Bool, true, false, ltb, List, [], ◌∷◌, ◌++◌, length, Option, Some, None, Ok, Err, Result, arith}
 use Rattle.std.specs.Prelude.{bytes_eq, MatchResult}
 use Rattle.std.proofs.lemmas.Bool.Decides.{nat_tests}
 use Rattle.press_posts.specs.declared.fire.Fire.{Fire}
@@ -14,7 +14,6 @@ use Rattle.press_site.specs.declared.effect.Effect.{Effect}
 use Rattle.press_site.specs.declared.effect.Effect.TheVariants as effect
 use Rattle.press_text.specs.declared.every.Every.{Every}
 use Rattle.press_run.specs.declared.run_fault.RunFault.{RunFault}
-use Rattle.press_run.specs.declared.run_fault.RunFault.TheVariants.{Limit, NoMemory}
 use Rattle.press_run.specs.declared.step.Kind.TheVariants.{Filter, Action}
 use Rattle.press_run.specs.declared.frame.OpenCallback.{OpenCallback}
 use Rattle.press_run.specs.declared.frame.Frame.{Frame}
@@ -24,11 +23,11 @@ use Rattle.press_run.specs.declared.step.Begun.TheVariants as begun
 use Rattle.press_run.specs.declared.step.Step.{Step}
 use Rattle.press_run.specs.Links.{Changes, publishes, schedules}
 use Rattle.press_run.specs.Counts.{Counts}
-use Rattle.press_run.specs.Run.{◌>>=◌, only_if, Answer, answer, State, Meaning, Stepped, most_turns, first_text, do_fires, run_hook, do_hook, scan, change_site, play, fuel, or_empty, at_depth, built_in, built_in_where, counted_step, turn_step, answers, fits, or_one_empty}
+use Rattle.press_run.specs.Run.{◌>>=◌, only_if, Answer, answer, State, Meaning, most_turns, first_text, do_fires, run_hook, do_hook, scan, change_site, play, fuel, or_empty, at_depth, built_in, built_in_where, turn_step, answers, fits, or_one_empty}
 use Rattle.press_run.specs.Outcome.{Stage, Around, around, state_of, CountsTurn, Refuses}
-use Rattle.press_run.specs.Frames.{meant, taken, round, Waits, IsFew, turns_left, weight, weight_waiting, Goes, Gives, Leaves, Begins, awaited, BeginsAs, Steps, CountsAs, Turns, counted, turned, played, hooked}
+use Rattle.press_run.specs.Frames.{meant, taken, IsFew, turns_left, Goes, Gives, Leaves, Begins, awaited, BeginsAs, Steps, CountsAs, Turns, counted, turned, played, hooked}
 use Rattle.press_run.proofs.Resumed.{awaits, awaits_none}
-use Rattle.press_run.proofs.Steps.{no_depth, some_depth, built_in_depth, no_turns, more_turns, no_fires, more_fires}
+use Rattle.press_run.proofs.Steps.{some_depth, built_in_depth, more_turns, no_fires, more_fires}
 
 -- a turn pays for any frame
 turn_pays : (turns : ℕ) → turns < most_turns → turns_left (turns + 1) + 2 ^ 70 ≡ turns_left turns

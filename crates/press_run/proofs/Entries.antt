@@ -1,9 +1,9 @@
 -- A step of a run of a hook, and of actions.
-use Rattle.std.proofs.Common.{◌≡◌, refl, sym, ◌∙◌, ap, ap₂, ℕ, suc, ◌+◌, ◌-◌, ◌*◌, ◌<◌, ◌≤◌, true, List, take, drop, get_or, length, Option, Some, None, ◌⊎◌, inl, inr, arith}
+use Rattle.std.proofs.Common.{◌≡◌, refl, sym, ◌∙◌, ap, ℕ, suc, ◌+◌, ◌-◌, ◌<◌, ◌≤◌, true, List, take, drop, get_or, length, Option, Some, None, ◌⊎◌, inl, inr, arith}
 use Rattle.std.specs.Prelude.{slice_get}
 use Rattle.std.proofs.lemmas.Option.{get_or_from_slice_get, slice_get_cases, slice_get_within}
 use Rattle.press_hooks.specs.declared.entry.Entry.{Entry}
-use Rattle.press_hooks.specs.NextEntry.{Table, is_innermost, without_innermost, entry_next, run_advanced, run_ended}
+use Rattle.press_hooks.specs.NextEntry.{Table, is_innermost, entry_next, run_advanced, run_ended}
 use Rattle.press_posts.specs.declared.fire.Fire.{Fire}
 use Rattle.press_callbacks.specs.declared.script.CallIn.{CallIn}
 use Rattle.press_callbacks.specs.Kits.{Scripts}
@@ -14,9 +14,9 @@ use Rattle.press_run.specs.declared.frame.OpenFires.{OpenFires}
 use Rattle.press_run.specs.declared.frame.Frame.TheVariants as frame
 use Rattle.press_run.specs.Links.{Changes}
 use Rattle.press_run.specs.Counts.{Counts}
-use Rattle.press_run.specs.Run.{◌>>=◌, Answer, answer, State, Meaning, at_depth, do_fires, do_hook, run_entries, first_text, hook_call, handed_on, without_last}
+use Rattle.press_run.specs.Run.{◌>>=◌, Answer, answer, Meaning, at_depth, do_fires, do_hook, run_entries, first_text, hook_call, handed_on, without_last}
 use Rattle.press_run.specs.Outcome.{Stage, Around, around, state_of, innermost, Refuses}
-use Rattle.press_run.specs.Frames.{meant, taken, round, shown, turns_left, weight, weight_waiting, Gives, Leaves, Begins, awaited}
+use Rattle.press_run.specs.Frames.{meant, taken, round, shown, turns_left, weight, Gives, Leaves, Begins, awaited}
 use Rattle.press_run.proofs.Resumed.{awaits, awaits_none}
 use Rattle.press_run.proofs.Steps.{no_entries, with_table, entries_step, around_kept, open_kept, one_fire, fires_end}
 

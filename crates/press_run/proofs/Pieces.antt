@@ -1,8 +1,8 @@
 -- A step of a scan.
-use Rattle.std.proofs.Common.{◌≡◌, refl, sym, ◌∙◌, ap, subst, ℕ, ◌+◌, ◌-◌, ◌<◌, ◌≤◌, true, false, List, length, Option, Some, None, arith}
+use Rattle.std.proofs.Common.{◌≡◌, refl, ◌∙◌, ap, ℕ, ◌+◌, ◌≤◌, true, List, length, Option, Some, arith}
 use Rattle.press_scan.specs.declared.shortcode.Shortcode.{Shortcode}
-use Rattle.press_scan.specs.Shortcodes.{IsShortcode, cut}
-use Rattle.press_scan.specs.Scans.{Progress, Calls, IsEscape, TakesText}
+use Rattle.press_scan.specs.Shortcodes.{cut}
+use Rattle.press_scan.specs.Scans.{Progress, Calls, TakesText}
 use Rattle.press_scan.specs.Tags.{names_of, callback_of}
 use Rattle.press_callbacks.specs.Kits.{Scripts}
 use Rattle.press_run.specs.declared.run_fault.RunFault.{RunFault}

@@ -1,5 +1,5 @@
 -- From one step of the innermost frame to what is left of the whole run.
-use Rattle.std.proofs.Common.{◌≡◌, refl, sym, ◌∙◌, ap, subst, ℕ, suc, ◌+◌, ◌-◌, ◌*◌, ◌<◌, ◌≤◌, ◌^◌, List, [], ◌∷◌, Option, Some, None, Ok, Err, Result, arith}
+use Rattle.std.proofs.Common.{◌≡◌, refl, sym, ◌∙◌, ap, subst, ℕ, ◌+◌, ◌<◌, ◌≤◌, List, [], ◌∷◌, Option, None, Result, arith}
 use Rattle.press_callbacks.specs.Kits.{Scripts}
 use Rattle.press_run.specs.declared.run_fault.RunFault.{RunFault}
 use Rattle.press_run.specs.declared.run_fault.RunFault.TheVariants.{Limit, NoMemory}
@@ -7,12 +7,10 @@ use Rattle.press_run.specs.declared.frame.Frame.{Frame}
 use Rattle.press_run.specs.declared.frame.Frame.TheVariants as frame
 use Rattle.press_run.specs.declared.step.Begun.{Begun}
 use Rattle.press_run.specs.declared.step.Begun.TheVariants as begun
-use Rattle.press_run.specs.declared.step.Step.{Step}
-use Rattle.press_run.specs.declared.step.Step.TheVariants as step
 use Rattle.press_run.specs.Links.{Changes}
-use Rattle.press_run.specs.Run.{◌>>=◌, Answer, answer, State}
+use Rattle.press_run.specs.Run.{◌>>=◌, Answer, answer}
 use Rattle.press_run.specs.Outcome.{Stage, Around, around, state_of, GivesText, Refuses}
-use Rattle.press_run.specs.Frames.{meant, taken, round, resumed, Ready, Waits, TakesAnswer, Stand, turns_left, weight, weight_waiting, all_wait, Goes, Opens, Takes, Gives, Leaves, Begins, awaited, BeginsAs, Steps}
+use Rattle.press_run.specs.Frames.{meant, taken, round, resumed, Ready, Waits, TakesAnswer, Stand, turns_left, weight, weight_waiting, all_wait, Goes, Opens, Takes, Gives, Leaves, Begins, awaited}
 
 -- ---- what is awaited comes to what it began as
 
@@ -84,11 +82,7 @@ more_stood : (f : Frame) (fs : List Frame) (a base : Around) → Stand (f ∷ fs
 unfolding Stand
 more_stood f fs a base h = h
 
-pub none_wait : all_wait [] ≡ 0
-unfolding all_wait
-none_wait = refl
-
-pub more_wait : (f : Frame) (fs : List Frame) → all_wait (f ∷ fs) ≡ weight_waiting f + all_wait fs
+more_wait : (f : Frame) (fs : List Frame) → all_wait (f ∷ fs) ≡ weight_waiting f + all_wait fs
 unfolding all_wait
 more_wait f fs = refl
 
@@ -110,7 +104,7 @@ taken_less (frame.Hook h) text a i = omega arith
 taken_less (frame.Fires s) text a h = omega arith
 taken_less (frame.Scan s) text a h = rw h.waiting (omega (arith, h.more, h.inside))
 
-pub takes_answer : (f : Frame) (a : Around) → Waits f a → TakesAnswer f
+takes_answer : (f : Frame) (a : Around) → Waits f a → TakesAnswer f
 takes_answer (frame.Callback c) a h = h
 takes_answer (frame.Hook h) a i = tt
 takes_answer (frame.Fires s) a h = tt
@@ -130,15 +124,8 @@ module _ (changes : Changes) (scripts : Scripts) where
     bound = turns_left old.counts.turns + weight top
 
     -- what stands before a step may be told by what stands after it
-    pub same_as : (o : Option Answer) (a : Around) → o ≡ meant changes scripts top (around old) (state_of old) → a ≡ round top (around old) → resumed changes scripts waiting a o ≡ whole
+    same_as : (o : Option Answer) (a : Around) → o ≡ meant changes scripts top (around old) (state_of old) → a ≡ round top (around old) → resumed changes scripts waiting a o ≡ whole
     same_as o a e r = ap (λ x. resumed changes scripts waiting x o) r ∙ ap (resumed changes scripts waiting (round top (around old))) e ∙ p.same
-
-    pub goes : (top' : Frame) (w : Stage) → Goes changes scripts (meant changes scripts top (around old) (state_of old)) (round top (around old)) bound top' w → Playing changes scripts whole base waiting top' w
-    goes top' w g = record {
-      same = same_as (meant changes scripts top' (around w) (state_of w)) (round top' (around w)) g.same g.stands;
-      stands = subst (λ a. Stand waiting a base) (sym g.stands) p.stands;
-      ready = g.ready;
-    }
 
     pub opens : (top' inner inner' : Frame) (waiting' : List Frame) (w : Stage) → inner' ≡ inner → waiting' ≡ top' ∷ waiting → Opens changes scripts (meant changes scripts top (around old) (state_of old)) (round top (around old)) bound top' w inner → Playing changes scripts whole base waiting' inner' w
     opens top' inner inner' waiting' w on_top pushed g = subst (λ x. Playing changes scripts whole base waiting' x w) (sym on_top) (
@@ -155,21 +142,6 @@ module _ (changes : Changes) (scripts : Scripts) where
         let i : weight inner' ≡ weight inner = ap weight on_top in
         let e : all_wait waiting' ≡ weight_waiting top' + all_wait waiting = ap all_wait pushed ∙ more_wait top' waiting in
         omega (arith, e, i, g.less)
-
-    pub takes : (top' top'' : Frame) (text : List ℕ) (w : Stage) → top'' ≡ taken top' text → Takes changes scripts (meant changes scripts top (around old) (state_of old)) (round top (around old)) bound top' w text → Playing changes scripts whole base waiting top'' w
-    takes top' top'' text w took g = subst (λ x. Playing changes scripts whole base waiting x w) (sym took) (
-        let r : round (taken top' text) (around w) ≡ round top (around old) = same_round top' text (around w) ∙ g.stands in
-        record {
-          same = same_as (meant changes scripts (taken top' text) (around w) (state_of w)) (round (taken top' text) (around w)) g.same r;
-          stands = subst (λ a. Stand waiting a base) (sym r) p.stands;
-          ready = taken_ready top' text (around w) g.waits;
-        })
-
-    pub takes_less : (top' top'' : Frame) (text : List ℕ) (w : Stage) → top'' ≡ taken top' text → Takes changes scripts (meant changes scripts top (around old) (state_of old)) (round top (around old)) bound top' w text → turns_left w.counts.turns + weight top'' < bound
-    takes_less top' top'' text w took g =
-        let e : weight top'' ≡ weight (taken top' text) = ap weight took in
-        let l : weight (taken top' text) ≤ weight_waiting top' + 1 = taken_less top' text (around w) g.waits in
-        omega (arith, e, l, g.less)
 
     module _ (text : List ℕ) (w : Stage) (g : Gives changes scripts (meant changes scripts top (around old) (state_of old)) (round top (around old)) bound w text) where
       pub ends : waiting ≡ [] → (whole ≡ answer text (state_of w)) × (around w ≡ base)

@@ -1,5 +1,5 @@
 -- One step of each recursion of the meaning, as the machine takes it.
-use Rattle.std.proofs.Common.{◌≡◌, refl, sym, ◌∙◌, ap, ℕ, suc, ◌+◌, ◌-◌, ◌<◌, ◌≤◌, true, false, List, [], ◌∷◌, ◌++◌, take, drop, get_or, length, Option, add-one, drop-cons, Some, None, Err, arith}
+use Rattle.std.proofs.Common.{◌≡◌, refl, ◌∙◌, ap, ℕ, suc, ◌+◌, ◌-◌, ◌<◌, ◌≤◌, true, false, List, [], ◌∷◌, ◌++◌, take, drop, get_or, length, Option, add-one, drop-cons, None, arith}
 use Rattle.std.proofs.Math.ListN.{drop_of_length-le}
 use Rattle.std.proofs.Math.Seq.{take-append_seam}
 use Rattle.std.proofs.lemmas.List.{length-append}
@@ -9,17 +9,13 @@ use Rattle.press_hooks.specs.declared.open_run.OpenRun.{OpenRun}
 use Rattle.press_hooks.specs.NextEntry.{Table, is_innermost, without_innermost, entry_next, next_entry, next_run, runs_next, run_advanced}
 use Rattle.press_callbacks.specs.declared.script.CallIn.{CallIn}
 use Rattle.press_callbacks.specs.declared.script.Op.{Op}
-use Rattle.press_callbacks.specs.declared.script.Turn.{Turn}
 use Rattle.press_callbacks.specs.Turns.{turn_of}
-use Rattle.press_scan.specs.declared.tag_row.TagRow.{TagRow}
 use Rattle.press_callbacks.specs.Kits.{Scripts, script_of}
 use Rattle.press_callbacks.specs.BuiltIns.{is_built_in}
 use Rattle.press_run.specs.declared.step.Kind.{Kind}
 use Rattle.press_posts.specs.declared.fire.Fire.{Fire}
-use Rattle.press_site.specs.SiteView.{SiteView}
 use Rattle.press_run.specs.Links.{Changes}
-use Rattle.press_run.specs.Counts.{Counts}
-use Rattle.press_run.specs.Run.{◌>>=◌, State, Answer, answer, Meaning, Stepped, Goes, Ends, run_entries, do_hook, do_fires, play, at_depth, call_entry, after_step, counted_step, first_text, handed_on, hook_call, fuel, or_empty, without_last, built_in, callback_where}
+use Rattle.press_run.specs.Run.{◌>>=◌, State, Answer, answer, Meaning, Stepped, run_entries, do_hook, do_fires, play, at_depth, call_entry, after_step, counted_step, handed_on, fuel, or_empty, without_last, built_in, callback_where}
 use Rattle.press_run.specs.Outcome.{Stage, innermost, state_of}
 
 pub no_depth : (changes : Changes) (scripts : Scripts) (id : List ℕ) (call : CallIn) (s : State) → at_depth changes 0 scripts id call s ≡ None

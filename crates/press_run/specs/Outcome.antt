@@ -2,9 +2,8 @@
 use Rattle.std.specs.Prelude.{◌≡◌, ℕ, ◌+◌, List, [], ◌∷◌, ◌++◌, Option, Some, None, IsSome, Result, MatchResult, Bool, true, false, ltb}
 use Rattle.press_text.specs.Gives.{GivesOrStays}
 use Rattle.press_hooks.specs.declared.open_run.OpenRun.{OpenRun}
-use Rattle.press_hooks.specs.NextEntry.{Table, begun, without_innermost}
+use Rattle.press_hooks.specs.NextEntry.{Table, begun}
 use Rattle.press_scan.specs.declared.tag_row.TagRow.{TagRow}
-use Rattle.press_callbacks.specs.declared.script.CallIn.{CallIn}
 use Rattle.press_callbacks.specs.declared.tables.Tables.{Tables}
 use Rattle.press_run.specs.declared.run_fault.RunFault.{RunFault}
 use Rattle.press_run.specs.declared.run_fault.RunFault.TheVariants.{Limit, NoMemory}
@@ -14,7 +13,7 @@ use Rattle.press_run.specs.Links.{Changes}
 use Rattle.press_site.specs.SiteView.{SiteView}
 use Rattle.press_run.specs.declared.job.Job.{Job}
 use Rattle.press_run.specs.declared.job.Job.TheVariants.{Fires, Apply}
-use Rattle.press_run.specs.Run.{Answer, answer, State, Stepped, Goes, Ends, within, do_fires, apply_hook, callbacks_of, most_turns}
+use Rattle.press_run.specs.Run.{Answer, answer, State, within, do_fires, apply_hook, callbacks_of, most_turns}
 use Rattle.press_callbacks.specs.Kits.{Scripts}
 use Rattle.std.specs.Prelude.{String, string_bytes}
 

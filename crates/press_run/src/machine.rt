@@ -67,12 +67,12 @@ impl Machine {
     }
 
     /// Where its counts take memory from.
-    pub fn allocator(&self) -> Global {
+    pub(crate) fn allocator(&self) -> Global {
         self.alloc
     }
 
     /// Counts a turn, where it is within the turns.
-    pub fn counts_turn(&mut self) -> bool
+    pub(crate) fn counts_turn(&mut self) -> bool
         ensures { CountsTurn self.old self.new result }
     {
         if self.turns >= MOST_TURNS {
@@ -83,7 +83,7 @@ impl Machine {
     }
 
     /// Counts the start of an action.
-    pub fn start(&mut self, hook: &HookName) -> Result<(), AllocError>
+    pub(crate) fn start(&mut self, hook: &HookName) -> Result<(), AllocError>
         ensures { OnOk result (self.new
             ≡ record self.old { did = self.old.did ++ hook.now ∷ [] }) }
     {
@@ -92,7 +92,7 @@ impl Machine {
     }
 
     /// Puts a hook on the stack of running hooks.
-    pub fn enter(&mut self, hook: &HookName) -> Result<(), AllocError>
+    pub(crate) fn enter(&mut self, hook: &HookName) -> Result<(), AllocError>
         ensures { OnOk result (self.new
             ≡ record self.old { doing = self.old.doing ++ hook.now ∷ [] }) }
     {
@@ -101,14 +101,14 @@ impl Machine {
     }
 
     /// Takes the last hook off the stack of running hooks.
-    pub fn leave(&mut self)
+    pub(crate) fn leave(&mut self)
         ensures { self.new ≡ record self.old { doing = without_last self.old.doing } }
     {
         self.doing.pop();
     }
 
     /// The answer to a question.
-    pub fn answer(&self, tables: &Tables, site: &Site, ask: &Ask) -> Result<Text, AllocError>
+    pub(crate) fn answer(&self, tables: &Tables, site: &Site, ask: &Ask) -> Result<Text, AllocError>
         ensures { IfOk result (λ t. t
             ≡ answer_of ask.now (state_of (stage tables.now self.now site.now None []))) }
     {

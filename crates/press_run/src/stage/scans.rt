@@ -45,7 +45,8 @@ impl<L: SiteLink + Drop> Stage<L> {
     ) -> Result<Step, RunFault>
         requires { GoesOn scan.old.scan }
         ensures long { is_short scan.old.scan.output ≡ false → IsErrOf result RunFault.Limit }
-        ensures steps { Steps L.changes (K.scripts kit.now) (frame.Scan scan.old) (frame.Scan scan.new)
+        ensures steps { Steps L.changes (K.scripts kit.now)
+            (frame.Scan scan.old) (frame.Scan scan.new)
             (standing L.view L.fixed self.old) (standing L.view L.fixed self.new) result }
     {
         computes_first();

@@ -1,4 +1,4 @@
-use Rattle.std.proofs.Common.{sym, ◌∙◌, true, false}
+use Rattle.std.proofs.Common.{sym, ◌∙◌}
 use Rattle.press_run.specs.Outcome.{state_of}
 use Rattle.press_run.specs.Standing.{standing}
 use Rattle.press_run.proofs.Begins.{turn_counts, turn_late, turn_long}

@@ -1,4 +1,3 @@
-use Rattle.std.proofs.Common.{sym}
 use Rattle.std.proofs.lemmas.Result.{err_from_is_err_and}
 use Rattle.press_run.specs.Standing.{standing}
 use Rattle.press_run.proofs.Entries.{fire_starts, fire_stops, fires_end_with}
