@@ -57,7 +57,7 @@ class Maker:
     def make(self):
         """A play file, as JSON has it."""
         chance = self.chance.random()
-        for share, way in ((0.40, self._mixed), (0.22, self._nested), (0.12, self._shortcodes), (0.15, self._site), (0.05, self._deep), (0.03, self._long), (0.02, self._nested_at_many), (0.005, self._rows), (0.005, self._many_tags)):
+        for share, way in ((0.40, self._mixed), (0.22, self._nested), (0.12, self._shortcodes), (0.15, self._site), (0.05, self._deep), (0.04, self._long), (0.02, self._nested_at_many), (0.005, self._rows), (0.005, self._many_tags)):
             if chance < share:
                 way()
                 break
@@ -65,7 +65,7 @@ class Maker:
         else:
             self._mixed()
         told = self._told()
-        return self._at_the_last_turn(told) if self.happens(0.03) else told
+        return self._at_the_last_turn(told) if self.happens(0.015) else told
 
     def _told(self):
         names = self.chance.sample(("P", "p", "q-1", "_z"), self.chance.randint(1, 3))
@@ -134,10 +134,15 @@ class Maker:
         hook = hook if self.happens(0.75) else self.chance.choice(self.hooks)
         callback = own if self.happens(0.2) else self.callback()
         op = self.some("add_hook", "add_hook", "add_hook", "remove_hook", "remove_hook", "remove_all")
+        place = self.at(near)
+        there = [load for load in self.loads if load.get("hook") == hook]
+        if there and op != "remove_all" and self.happens(0.35):
+            load = self.chance.choice(there)
+            callback, place = load["callback"], {"priority": load.get("priority", 10)}
         if op == "add_hook":
-            return {"op": op, "hook": hook, "callback": callback, **self.at(near), **self.accepted()}
+            return {"op": op, "hook": hook, "callback": callback, **place, **self.accepted()}
         if op == "remove_hook":
-            return {"op": op, "hook": hook, "callback": callback, **self.at(near)}
+            return {"op": op, "hook": hook, "callback": callback, **place}
         return {"op": op, "hook": hook, **({} if self.happens(0.2) else {"priority": self.at(near).get("priority", 10)})}
 
     def started(self, home):
@@ -159,8 +164,8 @@ class Maker:
         )
 
     def asked(self, home):
-        hook = self.some(home, *self.hooks)
-        return self.some({"op": "did", "hook": hook}, {"op": "doing", "hook": hook}, {"op": "has_hook", "hook": hook, "callback": self.callback()}, {"op": "has_tag", "tag": self.some(*self.tags, "no tag")}, {"op": "option", "name": self.some("a", "log")})
+        hook = self.some(home, "none", *self.hooks)
+        return self.some({"op": "did", "hook": hook}, {"op": "doing", "hook": hook}, {"op": "doing", "hook": self.hooks[0]}, {"op": "has_hook", "hook": hook, "callback": self.callback()}, {"op": "has_tag", "tag": self.some(*self.tags, "no tag")}, {"op": "option", "name": self.some("a", "log")})
 
     def changed(self):
         return self.some(
@@ -241,6 +246,8 @@ class Maker:
             inner = depth == deepest - 1
             edits = [self.edit(hook, place, name) for _ in range(self.chance.randint(3, 8) if inner else self.some(0, 0, 1, 2, 3))]
             after = [self.edit(hook, place, name) for _ in range(self.some(0, 0, 1, 2))]
+            if self.happens(0.3):
+                after += [self.some({"op": "doing", "hook": hook}, {"op": "did", "hook": hook}, {"op": "has_hook", "hook": hook, "callback": self.callback()}), {"op": "set", "text": [VALUE, "(", LAST, ")"]}]
             within = [] if inner else [
                 {"op": "apply", "hook": hook, "value": [VALUE, "<"], "more": [[{"arg": 1}, "i"]]} if self.happens(0.75) else {"op": "do", "hook": hook, "args": [[VALUE], [{"arg": 1}, "i"]]},
                 self.some({"op": "set", "text": [LAST, ">"]}, {"op": "echo", "text": ["<", LAST, ">"]}, {"op": "set", "text": [VALUE, str(depth)]}),
@@ -278,7 +285,7 @@ class Maker:
 
     def _site(self):
         """Posts, options and events by commands, with callbacks that keep what they get in an option."""
-        self.manner = MANNERS[3]
+        self.manner = self.some(MANNERS[3], MANNERS[3], MANNERS[4])
         self.hooks = tuple(self.chance.sample(OWN_HOOKS, 2)) + tuple(self.chance.sample(FIRED, 6))
         self._callbacks()
         self.scripts["note"] = [{"op": "option", "name": "log"}, {"op": "set_option", "name": "log", "value": [LAST, "(", {"arg": 0}, ",", {"arg": 1}, ",", {"arg": 2}, ")"]}]
@@ -361,13 +368,13 @@ class Maker:
         extra = "x" * (1_024 * less if letter != "é" else 0) if self.happens(0.5) else ""
         text = [VALUE, extra, more]
         end = self.some(
-            [{"op": "set", "text": text}], [{"op": "return", "text": text}], [{"op": "echo", "text": text}], [{"op": "echo", "text": text}, {"op": "echo", "text": [self.some("", "y")]}],
+            [{"op": "set", "text": text}], [{"op": "return", "text": text}], [{"op": "echo", "text": text}], [{"op": "echo", "text": [VALUE]}, {"op": "echo", "text": [self.some("", "y", extra + more)]}],
             [{"op": "apply", "hook": "none", "value": text}], [{"op": "apply", "hook": "none", "value": ["y"], "more": [[], text]}], [{"op": "do", "hook": "none", "args": [["y"], text]}],
             [{"op": "shortcodes", "text": text}], [{"op": "set_option", "name": "a", "value": text}], [{"op": "schedule", "after": 1, "hook": "none", "arg": text}], [{"op": "publish", "post": text}],
             [{"op": "skip_if", "left": [*text, "y"], "right": [*text, "y"], "skip": 1}, {"op": "echo", "text": ["no"]}], [{"op": "shortcodes", "text": ["[t]", self.some("", more), self.some("", "[t]")]}],
             [{"op": "apply", "hook": "scan", "value": ["[t][t]", self.some("", "x")]}],
         )
-        self.scripts["long"] = [{"op": "set", "text": [seed]}, *double, *end, {"op": "echo", "text": ["on"]}, {"op": "return", "text": [{"att": "none"}]}]
+        self.scripts["long"] = [{"op": "set", "text": [seed]}, *double, *end, {"op": "return", "text": ["on"]}]
         half = self.some(9, 9, 10)
         self.scripts["half"] = [{"op": "set", "text": [seed]}, *[{"op": "set", "text": [VALUE, VALUE]}] * half, {"op": "return", "text": [VALUE, extra]}]
         self.scripts["a"] = [{"op": "set", "text": [VALUE, "a"]}]
