@@ -36,8 +36,9 @@ VALUE, LAST, CONTENT, TAG = ({"from": word} for word in ("value", "last", "conte
 
 
 class Maker:
-    def __init__(self, chance):
+    def __init__(self, chance, escapes=False):
         self.chance = chance
+        self.escapes = escapes  # whether parts may be escaped
         self.manner = chance.choice(MANNERS)
         self.priorities = chance.choice(PRIORITIES)
         self.tags = chance.choice(TAG_SETS)
@@ -56,16 +57,12 @@ class Maker:
 
     def make(self):
         """A play file, as JSON has it."""
-        chance = self.chance.random()
-        for share, way in ((0.40, self._mixed), (0.22, self._nested), (0.12, self._shortcodes), (0.15, self._site), (0.05, self._deep), (0.04, self._long), (0.02, self._nested_at_many), (0.005, self._rows), (0.005, self._many_tags)):
-            if chance < share:
-                way()
-                break
-            chance -= share
-        else:
-            self._mixed()
+        ways = {
+            self._mixed: 38, self._nested: 22, self._site: 15, self._shortcodes: 12, self._deep: 5, self._long: 4, self._nested_at_many: 2, self._rows: 1, self._many_tags: 1,
+        }
+        self.chance.choices(list(ways), list(ways.values()))[0]()
         told = self._told()
-        return self._at_the_last_turn(told) if self.happens(0.015) else told
+        return self._at_the_last_turn(told) if self.happens(0.02) else told
 
     def _told(self):
         names = self.chance.sample(("P", "p", "q-1", "_z"), self.chance.randint(1, 3))
@@ -93,24 +90,36 @@ class Maker:
         def piece():
             tag = self.chance.choice(self.tags)
             return self.some(
-                f"[{tag}]", f"[{tag}]", f"[/{tag}]", f"[{tag}/]", f"[{tag} ", f"[{tag}", tag, f"[[{tag}]]", f"[[{tag}", f"[{tag}]{self.some('', 'in', '[')}[/{tag}]", f"[{tag} {self._atts()}]", f"[{tag} {self._atts()}/]",
+                f"[{tag}]", f"[{tag}]", f"[/{tag}]", f"[{tag}/]", f"[{tag} ", f"[{tag}", tag, f"[[{tag}]]", f"[[{tag}", f"[{tag}]{self.some('', 'in', '[')}[/{tag}]", f"[{tag} {self._atts()}]", f"[{tag} {self._atts()}]", f"[{tag}{self.some(' ', '')}{self._atts()}/]",
                 *self.chance.sample(PIECES, 9),
             )
 
         return "".join(piece() for _ in range(self.chance.randint(0, most)))
 
     def _atts(self):
-        return self.some("", " ").join(self.chance.choice(PIECES[4:]) for _ in range(self.chance.randint(0, 5)))
+        """Attributes in their forms, and what nearly is one."""
+        def one():
+            value = self.some("1", "2", "a b", "", "q=r", "é", "/", "z/", "\\", "a=b c")
+            quoted = self.some(f'"{value}"', f"'{value}'", f"'{value}'", value.split(" ")[0] or "w", value)
+            equals = self.some("=", "=", "=", " =", "= ", "\t=\n", "==")
+            return self.some(f"{self.some('x', 'x', 'X', 'y', '0', 'x-y')}{equals}{quoted}", f"{self.some('x', 'y', '0')}={quoted}", quoted, self.chance.choice(PIECES[4:]))
+
+        return "".join(one() + self.some(" ", " ", " ", " ", "\t", "  ", "\v", "\f\r\n", "", "\u00a0") for _ in range(self.chance.randint(0, 5)))
 
     def part(self):
-        return self.some("x", "y", "", VALUE, VALUE, LAST, {"arg": 0}, {"arg": self.chance.randint(0, 3)}, CONTENT, TAG, {"att": self.some("x", "y", "X", "1")}, {"att": self.chance.randint(0, 2)})
+        part = self._plain_part()
+        return {"escaped": part} if self.escapes and isinstance(part, dict) and self.happens(0.3) else part
+
+    def _plain_part(self):
+        return self.some("x", "y", "", VALUE, VALUE, LAST, {"arg": 0}, {"arg": self.chance.randint(0, 3)}, CONTENT, TAG, {"att": self.some("x", "x", "y", "X", "0")}, {"att": self.chance.randint(0, 2)})
 
     def parts(self):
         return [self.part() for _ in range(self.some(0, 1, 1, 2, 2, 3))]
 
     def shown(self):
         """A text that tells all that a callback of a shortcode got."""
-        return ["(", TAG, "|", CONTENT, "|", {"att": "x"}, "|", {"att": "y"}, "|", {"att": 0}, "|", {"att": 1}, "|", LAST, "|", VALUE, ")"]
+        shown = ["(", TAG, "|", CONTENT, "|", {"att": "x"}, "|", {"att": self.some("y", "0", "x-y")}, "|", {"att": 0}, "|", {"att": 1}, "|", LAST, "|", VALUE, ")"]
+        return [{"escaped": part} if self.escapes and isinstance(part, dict) and self.happens(0.3) else part for part in shown]
 
     # ---- ops
 
@@ -120,7 +129,7 @@ class Maker:
         return self.chance.choice(list(self.scripts) or list(LETTERS))
 
     def accepted(self):
-        return {} if self.happens(0.5) else {"accepted": self.some(0, 1, 2, 2, 3, 4, 2**32 - 1)}
+        return {} if self.happens(0.4) else {"accepted": self.some(0, 1, 2, 2, 3, 4, 2**32 - 1)}
 
     def at(self, near=None):
         """A priority, which is told or is 10."""
@@ -136,14 +145,14 @@ class Maker:
         op = self.some("add_hook", "add_hook", "add_hook", "remove_hook", "remove_hook", "remove_all")
         place = self.at(near)
         there = [load for load in self.loads if load.get("hook") == hook]
-        if there and op != "remove_all" and self.happens(0.35):
+        if there and self.happens(0.35 if op == "add_hook" else 0.6):
             load = self.chance.choice(there)
             callback, place = load["callback"], {"priority": load.get("priority", 10)}
         if op == "add_hook":
             return {"op": op, "hook": hook, "callback": callback, **place, **self.accepted()}
         if op == "remove_hook":
             return {"op": op, "hook": hook, "callback": callback, **place}
-        return {"op": op, "hook": hook, **({} if self.happens(0.2) else {"priority": self.at(near).get("priority", 10)})}
+        return {"op": op, "hook": hook, **({} if self.happens(0.15) else {"priority": place.get("priority", 10)})}
 
     def started(self, home):
         """An apply or a do: of a later hook mostly, so that it ends."""
@@ -326,8 +335,8 @@ class Maker:
 
     def _deep(self):
         """Callbacks within callbacks, a little fewer than 32, just as many or more, by any way that opens them."""
-        length = self.some(29, 30, 31, 31, 32, 32, 33, 34)
         way = self.some("apply", "do", "shortcodes", "set_option", "mixed")
+        length = self.some(15, 16, 16, 17, 17, 18) if way == "mixed" else self.some(30, 31, 31, 32, 32, 33, 33, 34)
         for name in LETTERS:
             self.scripts[name] = [self.letter(name)]
         full = "a" * length
@@ -389,7 +398,7 @@ class Maker:
         self.hooks = ("h", "g", "k", "m")
         count = self.chance.randint(960, 998)
         self.loads += [{"hook": "x" if self.happens(0.9) else f"x{place % 7}", "callback": self.chance.choice(LETTERS), "priority": place} for place in range(count)]
-        fill = [{"op": "add_hook", "hook": "y", "callback": "a", "priority": place} for place in range(ROWS - 2 - count - self.chance.randint(0, 4))]
+        fill = [{"op": "add_hook", "hook": "y", "callback": "a", "priority": place} for place in range(ROWS - 4 - count - self.chance.randint(0, 4))]
         self.scripts["fill"] = fill
         edits = []
         for _ in range(self.chance.randint(4, 14)):
@@ -425,8 +434,8 @@ class Maker:
         return told
 
 
-def make(seed, number):
+def make(seed, number, escapes=False):
     """The number-th play file of a seed, as JSON has it, and how it is spelt."""
     chance = random.Random(f"{seed}/{number}")
-    told = Maker(chance).make()
+    told = Maker(chance, escapes).make()
     return told, json.dumps(told, ensure_ascii=chance.random() < 0.5, separators=(",", ":")).encode()

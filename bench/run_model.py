@@ -368,6 +368,8 @@ class Call:
         ((key, told),) = part.items()
         if key == "arg":
             return self.arguments[told] if told < len(self.arguments) else ""
+        if key == "escaped":
+            return escaped(self._part(told))
         if key == "att":
             return self.atts.get(told, "")
         return getattr(self, told)
