@@ -425,7 +425,7 @@ class Maker:
         """Puts a play behind the others that has just as many shortcodes as turns are left, or one more or fewer, and a play after it that needs none."""
         left = TURNS - play_file(told).turns
         names = {callback["name"] for callback in told["kit"]["callbacks"]}
-        if left < 2 or "none" in names or "commands" in told:
+        if left < 2 or "none" in names or "commands" in told or len(self.loads) > TAGS - 1:
             return told
         told["kit"]["callbacks"].append({"name": "none", "script": []})
         told["kit"]["plugins"].append({"name": "zz", "load": [{"tag": "none", "callback": "none"}, {"hook": "last", "callback": "do_shortcode"}]})
