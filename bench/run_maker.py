@@ -311,11 +311,24 @@ class Maker:
         for _ in range(self.chance.randint(2, 14)):
             clock += self.some(0, 0, 1, 50, 3600, 90_000) if self.happens(0.9) else -20
             self.commands.append({"at": max(0, clock), **self._command(clock)})
+        if self.happens(0.3):
+            clock = self._beats(clock)
         self.pages = [self.some("front", f"post:{self.chance.randint(0, 4)}", f"json:{self.chance.randint(1, 4)}", f"result:ann/{self.chance.randint(1, 9)}", "post:01") for _ in range(self.chance.randint(0, 4))]
         self._play("tells")
         for _ in range(self.chance.randint(0, 4)):
             self._play(self.some(*self.hooks, "publish_future_post"), lambda: self.some("1", "2", "03", "x", ""))
         self.plays.append({"apply": "tells"})
+
+    def _beats(self, clock):
+        """A recurring event that keeps its times, and ticks behind them, on them and long after them; the moment of the last."""
+        self.scripts["beats"] = [{"op": "schedule", "after": self.some(0, 10, 3600), "every": self.some("hourly", "hourly", "twicedaily", "daily"), "hook": "beat", "arg": self.some([], ["b"], [VALUE])}]
+        self.scripts["count"] = [{"op": "option", "name": "log"}, {"op": "set_option", "name": "log", "value": [LAST, "b"]}]
+        self.loads += [{"hook": "add_option_beats", "callback": "beats"}, {"hook": "beat", "callback": self.some("count", "note")}]
+        self.commands.append({"at": clock, "kind": "option", "name": "beats", "value": "1"})
+        for _ in range(self.chance.randint(2, 6)):
+            clock += self.some(1, 10, 1_790, 1_800, 3_590, 3_600, 3_610, 43_200, 86_400, 100_000)
+            self.commands.append({"at": clock, "kind": "tick"})
+        return clock
 
     def _command(self, clock):
         def draft():
