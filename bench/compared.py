@@ -16,6 +16,18 @@ def ran(program, path, status=0, errors=b""):
     return run.stdout, None
 
 
+def ran_together(program, paths, seconds=120):
+    """What press_play printed for some files together, and what else is amiss: it should end with status 0, and with no more than warnings and met limits on the errors."""
+    try:
+        run = subprocess.run([*program, *paths], stdin=subprocess.DEVNULL, capture_output=True, timeout=seconds)
+    except subprocess.TimeoutExpired as late:
+        return late.stdout or b"", f"it didn't end within {seconds} seconds"
+    strange = [line for line in run.stderr.splitlines() if not line.startswith((b"press_play: warning in ", b"press_play: limit in "))]
+    if run.returncode or strange:
+        return run.stdout, f"status {run.returncode}, {b' '.join(strange)[:300].decode(errors='replace')!r} on the errors"
+    return run.stdout, None
+
+
 def first_difference(printed, wanted):
     lines = zip(printed.split(b"\n") + [None], wanted.split(b"\n") + [None])
     for number, (mine, theirs) in enumerate(lines, 1):
