@@ -12,21 +12,21 @@ use crate::line::{answer_line, limit_line};
 use press_callbacks::Kit;
 use press_kit::{Play, PlayKind};
 use press_posts::Fire;
-use press_run::{Job, RunFault, Stage};
+use press_run::{Job, Machine, RunFault, Stage};
 use press_site::Site;
 use press_text::{HookName, Items, Texts};
 use std::alloc::{AllocError, Global};
 use std::mem;
 
 /// The stage as the plays so far left it, and their lines.
-struct Playing<'j> {
+struct Playing {
     alloc: Global,
     stage: Stage<Site>,
     lines: String,
-    journal: &'j Journal,
+    journal: Journal,
 }
 
-impl<'j> Drop for Playing<'j> {
+impl Drop for Playing {
     fn drop(self) {
         let Playing {
             alloc: _,
@@ -37,19 +37,26 @@ impl<'j> Drop for Playing<'j> {
     }
 }
 
-// The content that a page has, on which the machine has a callback of its own.
-fn the_content(alloc: Global) -> Result<HookName, AllocError> {
-    HookName::from_valid(alloc, "the_content")
+// Whether a machine that met a limit has no step left: it is asked for one more, on a boot without plugins, where `the_content` has a built-in callback alone.
+// No clause says what a limit leaves of a machine, and nothing but a note rests on it.
+fn is_spent(alloc: Global, kit: &Kit, machine: &mut Machine) -> Result<bool, AllocError> {
+    let hook = HookName::from_valid(alloc, "the_content")?;
+    let args = Texts::new(alloc);
+    let mut bare = Stage::new(alloc, kit, Site::new(alloc))?;
+    mem::swap(&mut bare.machine, machine);
+    let asked = bare.run(kit, Job::Apply { hook, args });
+    Ok(matches!(asked, Err(RunFault::Limit)))
 }
 
-impl<'j> Playing<'j> {
+impl Playing {
     // A fresh boot of the site, and no line.
-    fn new(journal: &'j Journal, kit: &Kit, site: Site) -> Result<Playing<'j>, AllocError>
+    fn new(journal: &Journal, kit: &Kit, site: Site) -> Result<Playing, AllocError>
         ensures started { IfOk result (λ p. state_in p.stage
             ≡ started (booted_with (plugins_in kit.now) site.active) site) }
         ensures lines { IfOk result (λ p. string_bytes p.lines ≡ []) }
     {
         let alloc = journal.alloc();
+        let journal = journal.copy()?;
         let stage = Stage::new(alloc, kit, site)?;
         let lines = String::new(alloc);
         Ok(Playing {
@@ -71,16 +78,6 @@ impl<'j> Playing<'j> {
         Ok(())
     }
 
-    // Whether no step is left behind a limit: the machine is asked for one more, on a stage without plugins. No clause says what a limit leaves of the machine, and nothing but a note rests on it.
-    fn is_spent(&mut self, kit: &Kit) -> Result<bool, AllocError> {
-        let mut bare = Stage::new(self.alloc, kit, Site::new(self.alloc))?;
-        mem::swap(&mut bare.machine, &mut self.stage.machine);
-        let hook = the_content(self.alloc)?;
-        let args = Texts::new(self.alloc);
-        let asked = bare.run(kit, Job::Apply { hook, args });
-        Ok(matches!(asked, Err(RunFault::Limit)))
-    }
-
     // One play, whose line is put at the end; whether the plays go on.
     fn play(&mut self, kit: &Kit, play: &Play) -> Result<bool, AllocError>
         ensures { Plays
@@ -99,7 +96,7 @@ impl<'j> Playing<'j> {
             Err(RunFault::Limit) => {
                 let line = limit_line(self.alloc)?;
                 self.lines.push_str(line.as_str())?;
-                let is_spent = self.is_spent(kit)?;
+                let is_spent = is_spent(self.alloc, kit, &mut self.stage.machine)?;
                 self.journal.limit(is_spent);
                 self.journal.end(play);
                 Ok(false)
