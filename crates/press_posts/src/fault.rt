@@ -23,7 +23,7 @@ pub enum PostFault {
 }
 
 impl PostFault {
-    /// The number that tells the fault.
+    /// The fault's number.
     pub fn number(self) -> u8
         ensures { result ≡ post_fault_number self }
     {

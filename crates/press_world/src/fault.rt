@@ -16,7 +16,7 @@ pub enum WorldFault {
 }
 
 impl WorldFault {
-    /// The number that tells the fault.
+    /// The fault's number.
     pub fn number(self) -> u8
         ensures { result ≡ world_fault_number self }
     {

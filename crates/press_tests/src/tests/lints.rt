@@ -3,7 +3,7 @@ use press_lint::{LintFault, active_slips, lint, slips};
 use std::alloc::Global;
 use std::test::Fail;
 
-// The number of a kit file's fault and what is told of it, or 0 and its slips.
+// The number of a kit file's fault and its message, or 0 and its slips.
 fn told(alloc: Global, kit: &str) -> (u8, String) {
     match lint(alloc, "> ", kit.as_bytes()) {
         Ok(linted) => (0, linted.slips),
