@@ -63,7 +63,7 @@ IsPlaceAt p gs r =
     MatchResult r (λ i. (i < length gs) × HoldsAt (λ (g : Grouped). int_cmp g.priority p ≡ Equal) gs i)
     (λ i. (i ≤ length gs) × IsPartitionPoint (λ (g : Grouped). int_cmp g.priority p ≡ Less) (λ (g : Grouped). int_cmp g.priority p ≡ Greater) gs i)
 
--- how many groups stand at priorities not greater than the one reached
+-- how many groups are at priorities not greater than the one reached
 abbrev pub up_to : Option ℤ → List Grouped → ℕ
 up_to reached gs = length (filter (λ (g : Grouped). not (is_past reached g.priority)) gs)
 

@@ -54,7 +54,7 @@ statuses = codes "publish" ∷ codes "future" ∷ codes "draft" ∷ codes "pendi
 abbrev pub is_status : List ℕ → Bool
 is_status word = list_any (bytes_eq word) statuses
 
--- what stands behind a front
+-- what follows a prefix
 abbrev pub behind : List ℕ → List ℕ → Option (List ℕ)
 behind front whole = if bytes_eq (take (length front) whole) front then Some (drop (length front) whole) else None
 

@@ -45,7 +45,7 @@ abbrev pub ending_of : Result Ending ReplayFault → Ending
 ending_of (Ok end) = end
 ending_of (Err fault) = Fault fault
 
--- want of memory and failed reads come from outside, and may come at any run
+-- out of memory and failed reads come from outside, and may come at any run
 abbrev pub IsOutside : Ending → Type 0
 IsOutside (Printed status body) = ⊥
 IsOutside Replayed = ⊥
@@ -68,7 +68,7 @@ abbrev pub failed : ReplayFault → Result (Unit {0}) ReplayFault
 failed fault = Err fault
 
 -- The end of a replay of the schedule that a reader has left, over at most so many nodes of this kit, and what it has put on the output: the transcript, or
--- a front of it where a write failed or memory was wanting; nothing where the file is bad or couldn't be read.
+-- a prefix of it where a write failed or memory ran out; nothing where the file is bad or couldn't be read.
 unfoldable pub EndsReplay : KitView → ℕ → Option (List ℕ) → Option (List ℕ) → Option (List ℕ) → Ending → Type 0
 EndsReplay kit kits remaining out out' (Printed status body) = ⊥
 EndsReplay kit kits remaining out out' Replayed = Replays (schedule_in kits) (transcript kit) remaining out out' replayed
@@ -108,7 +108,7 @@ Finishes (Printed status body) result out out' err err' =
 Finishes Replayed result out out' err err' = (result ≡ 0) × Keeps out out' × Keeps err err'
 Finishes (Fault fault) result out out' err err' = (result ≡ 2) × Keeps out out' × AppendsFront err err' (fault_line fault)
 
--- Refused words: the usage, or want of memory to read them.
+-- Refused words: the usage, or no memory to read them.
 abbrev pub TellsUsage : ℕ → Option (List ℕ) → Option (List ℕ) → Option (List ℕ) → Option (List ℕ) → Type 0
 TellsUsage result out out' err err' = (result ≡ 2) × Keeps out out' × (AppendsFront err err' usage_line ⊎ AppendsFront err err' (fault_line NoMemory))
 
@@ -139,7 +139,7 @@ abbrev pub Does : KitView → Job → Option (List ℕ) → ℕ → Option (List
 Does kit (of_file wanted) remaining result out out' err err' = Shows kit wanted remaining result out out' err err'
 Does kit (serve server) remaining result out out' err err' = Listens server.place result out out'
 
--- Over the demonstration kit, or over that of a kit file, whose slips are told before anything else; a kit file that can't be used is told, and nothing else is done.
+-- Over the demonstration kit, or over that of a kit file, whose slips are reported before anything else; a kit file that can't be used is reported, and nothing else is done.
 abbrev pub RunsOver : Option (List ℕ) → Job → Option (List ℕ) → ℕ → Option (List ℕ) → Option (List ℕ) → Option (List ℕ) → Option (List ℕ) → Type 0
 RunsOver None job remaining result out out' err err' = Does demonstration job remaining result out out' err err'
 RunsOver (Some file) job remaining result out out' err err' =

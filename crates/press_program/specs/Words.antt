@@ -23,7 +23,7 @@ abbrev pub ◌>>=◌ : {A B : Type 0} → Option A → (A → Option B) → Opti
 None >>= f = None
 (Some x) >>= f = f x
 
--- ---- the program, as it is told to `clap`
+-- ---- the program, as it is given to `clap`
 
 -- a word that has to be there
 abbrev pub needed : Text → Rule
@@ -48,7 +48,7 @@ page_words = with_kit (with_rule (with_rule (helpless (codes "page")) (needed (c
 abbrev pub file_words : Text → App
 file_words name = with_kit (with_rule (helpless name) (needed (codes "FILE")))
 
--- where a server stands
+-- a server's place
 abbrev pub place_words : App
 place_words =
     with_rule (with_rule (with_rule (with_rule (helpless (codes "serve")) (named (codes "port"))) (named (codes "id"))) (named (codes "peers"))) (named (codes "tick"))
@@ -75,7 +75,7 @@ program = with_subcommand (with_subcommand (with_subcommand (with_subcommand bar
 abbrev pub OfFile : Type 0
 OfFile = List ℕ × Task
 
--- a server: where it stands, with the milliseconds of its tick; for so many connections, or until it is ended; over the store in a file, or in memory; with the file of a page for
+-- a server: its place, with the milliseconds of its tick; for so many connections, or until it is ended; over the store in a file, or in memory; with the file of a page for
 -- editors; and how many seconds ahead a command may be
 pub record Server : Type 0 where
   pub place : Where
@@ -185,7 +185,7 @@ asked_by (w ∷ ws) = asked_where (fault_of program (w ∷ ws)) (subcommand_of p
 abbrev pub is_input : List ℕ → Bool
 is_input file = bytes_eq file (codes "-")
 
--- ---- as it stands in memory
+-- ---- as it is in memory
 
 abbrev pub wanted_of : Wanted → OfFile
 wanted_of w = (w.file.now, w.task)

@@ -18,7 +18,7 @@ abbrev pub fault_of : {T : Type 0} → Result T NodeFault → Option NodeFault
 fault_of (Ok done) = None
 fault_of (Err fault) = Some fault
 
--- over a kind of node, by what is told of one before and after
+-- over a kind of node, by what is said of one before and after
 module _ {N : Type 0} (moved : N → N → NodeMove) where
   -- it goes on with what was sent, where there is memory for it; a fault ends it
   abbrev pub GoesOn : (List Message → Type 0) → N → N → Option NodeFault → Result (List Message) NodeFault → Type 0

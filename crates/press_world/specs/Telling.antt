@@ -1,4 +1,4 @@
--- What is told of a step that was played (own): whose step it was, the messages that were sent, whether it was cut, how many slots its node has applied,
+-- What is reported of a step that was played (own): whose step it was, the messages that were sent, whether it was cut, how many slots its node has applied,
 -- and the reply to a request for a page.
 use Rattle.std.specs.Prelude.{ℕ, ◌+◌, ◌-◌, ◌==◌, if◌then◌else◌, Bool, true, false, Option, None, Some, option_map, length}
 use Rattle.press_apply.specs.Apply.{site_after}
