@@ -1,4 +1,4 @@
--- What is kept beside the posts, so that a change looks at no others: how many there are, and the published ones in their order, the oldest first.
+-- What is kept beside the posts, so that a change looks at no others: how many stand, and the published ones in their order, the oldest first.
 use Rattle.std.specs.Prelude.{◌≡◌, ℕ, ◌<◌, ◌≤◌, List, length, insert, remove, reverse, Option, Some, None}
 use Rattle.std.specs.List.{prefix_len}
 use Rattle.press_posts.specs.declared.post.Post.{Post}
@@ -26,7 +26,7 @@ abbrev pub IsAmong : Option Dated → List Dated → Type 0
 IsAmong None ds = Unit {0}
 IsAmong (Some d) ds = place_among d ds < length ds
 
--- room for as many published posts as there are places, so that a post at a place that was assigned takes no memory
+-- room for as many published posts as there are places, so that a post at a place that was given out takes no memory
 pub record IsKept (posts : List (Option Post)) (count : ℕ) (order : List Dated) (room : ℕ) : Type 0 where
   pub counted : count ≡ standing posts
   pub ordered : order ≡ oldest_first posts
