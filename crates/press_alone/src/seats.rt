@@ -1,4 +1,4 @@
-//! Nodes side by side, whose connections come in pieces of different sizes. They are to answer alike.
+//! Nodes side by side, whose connections come in pieces of different sizes. They have to answer alike.
 
 use crate::posts::applied;
 use crate::seat::Seat;

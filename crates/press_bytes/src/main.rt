@@ -1,7 +1,7 @@
 //! Reads files as requests, commands and messages: `press_bytes FILE ..` prints what each asks or spells, or which
 //! fault it has. `replies` in place of a file prints replies, `writes` replies whose writes fail; after a word `fails`
 //! it is shown what comes of requests whose reads fail, and after a word `times=N` or `heads=N` the files are only
-//! read, so many times, for whoever measures it.
+//! read, that many times, for measuring.
 #![tactic(auto)]
 
 mod failing;

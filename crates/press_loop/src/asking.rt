@@ -149,7 +149,7 @@ fn message_request(alloc: Global, message: &Message) -> Result<Option<Vec<u8>>, 
     }
 }
 
-/// The bytes of the request by which a step comes to one of so many nodes. None for a step that comes without a
+/// The bytes of the request by which a step comes to a node. None for a step that comes without a
 /// connection: a wake, a restart, one that names no node or no message, and a command whose form is longer than a body
 /// may be.
 pub fn request_of(

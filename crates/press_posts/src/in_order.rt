@@ -7,7 +7,7 @@ ghost use Rattle.press_posts.specs.Published.{is_older, IsOldestFirst};
 use crate::posts::Dated;
 use std::alloc::{AllocError, Global};
 
-/// Room for so many published posts.
+/// Room for that many published posts.
 pub fn make_room(order: &mut Vec<Dated>, most: usize) -> Result<(), AllocError>
     ensures items { order.new.items ≡ order.old.items }
     ensures room { OnOk result (most ≤ vec_capacity order.new) }

@@ -1,7 +1,7 @@
 //! The attributes of an attribute text.
 //!
 //! Splitting reads each byte a bounded number of times: a quote is looked for from an opening quote to the next one of
-//! its kind, and an opening quote is tried at most twice, behind a name and where a token begins. A name is looked up
+//! its kind, and an opening quote is tried at most twice, after a name and where a token begins. A name is looked up
 //! among those so far by its hash.
 
 ghost use Rattle.std.specs.Prelude.{◌≡◌, ◌-◌, ◌^◌, ◌+◌, ◌<◌, ◌≤◌, ◌++◌, ◌∷◌, [], IfOk, OnOk, OnErr, IsTrue, ◌↔◌, length, string_bytes, slice_range};

@@ -159,7 +159,7 @@ impl Peers {
         }
     }
 
-    // Whether so many members but for this node make a majority with it.
+    // Whether that many other members make a majority with this node.
     fn is_majority(&self, others: usize) -> bool {
         self.all.len() < others.saturating_add(1).saturating_mul(2)
     }

@@ -13,7 +13,7 @@ use std::time::{Duration, Instant};
 
 const PIECE: usize = 8192;
 
-// More pieces than a request has, so that a look behind them asks for no more.
+// More pieces than a request has, so that a look after them asks for no more.
 const MOST_PIECES: u32 = 10;
 
 // The most pieces that are drained at once.

@@ -1,4 +1,4 @@
-//! Numbers, names and texts, each read off the front of bytes. Both decoders use it.
+//! Numbers, names and texts, each read from the beginning of bytes. Both decoders use it.
 
 ghost use Rattle.std.specs.Prelude.{◌≡◌, ◌==◌, length, option_map};
 ghost use Rattle.std.specs.Str.{is_utf8};

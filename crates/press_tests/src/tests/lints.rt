@@ -82,7 +82,7 @@ fn mistakes_are_told_with_their_places(rt: HostRuntime) {
     }
 }
 
-// A skip just behind the last step, hooks of the engine by their patterns, and one that a step runs are none.
+// A skip just after the last step, hooks of the engine by their patterns, and one that a step runs are none.
 #[test]
 fn slips_are_told_in_their_order(rt: HostRuntime) {
     let kit =
