@@ -18,7 +18,7 @@ pub enum StoreFault {
 }
 
 impl StoreFault {
-    /// The fault's number.
+    /// Its number in the table of faults.
     pub fn number(self) -> u8
         ensures { result ≡ store_fault_number self }
     {

@@ -27,7 +27,7 @@ pub enum Why {
 }
 
 impl Why {
-    /// The fault's number.
+    /// Its number in the table of faults.
     pub fn number(&self) -> u8
         ensures { result ≡ why_number self.now }
     {

@@ -30,7 +30,7 @@ pub enum NodeFault {
 }
 
 impl NodeFault {
-    /// The fault's number.
+    /// Its number in the table of faults.
     pub fn number(self) -> u8
         ensures { result ≡ node_fault_number self }
     {

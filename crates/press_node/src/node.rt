@@ -34,7 +34,6 @@ impl<S> Node<S> {
         self.state.applied()
     }
 
-    /// Its store.
     pub fn store(&self) -> &S
         ensures { result.now ≡ store_of self.now }
     {

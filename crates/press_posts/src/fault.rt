@@ -23,7 +23,7 @@ pub enum PostFault {
 }
 
 impl PostFault {
-    /// The fault's number.
+    /// Its number in the table of faults.
     pub fn number(self) -> u8
         ensures { result ≡ post_fault_number self }
     {

@@ -20,7 +20,7 @@ pub enum ProposerFault {
 }
 
 impl ProposerFault {
-    /// The fault's number.
+    /// Its number in the table of faults.
     pub fn number(self) -> u8
         ensures { result ≡ proposer_fault_number self }
     {

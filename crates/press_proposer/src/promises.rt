@@ -66,7 +66,6 @@ impl Promises {
         self.promises.as_slice()
     }
 
-    /// Adds a promise.
     pub fn push(&mut self, promise: Promise) -> Result<(), AllocError>
         ensures pushed { OnOk result (self.new ≡ self.old ++ promise ∷ []) }
         ensures unchanged { OnErr result (self.new ≡ self.old) }

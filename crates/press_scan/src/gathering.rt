@@ -114,7 +114,6 @@ fn lower(alloc: Global, text: &str, span: Span) -> Result<Text, AllocError>
     Text::from_string(name)
 }
 
-// Takes a token.
 fn take(alloc: Global, text: &str, found: &mut Gathering, token: Token) -> Result<(), AllocError>
     requires token { IsCutAt text.now token }
     requires room { found.old.next < 2 ^ 32 - 1 }

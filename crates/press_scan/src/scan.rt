@@ -118,7 +118,6 @@ impl Scan {
         self.text.len()
     }
 
-    // The next opening.
     fn opening(&self, tags: &TagTable) -> Option<Opening>
         ensures none { IfNone result (NoneFrom (HasShortcode self.now.text (names_of tags.now))
             self.now.at) }

@@ -91,12 +91,10 @@ impl Call {
         &self.reply
     }
 
-    /// What it is for.
     pub fn errand(&self) -> Errand {
         self.errand
     }
 
-    /// How far it is.
     pub fn course(&self) -> Course {
         self.course
     }

@@ -45,7 +45,6 @@ impl Drop for Calls {
 }
 
 impl Calls {
-    /// No requests.
     pub fn new(alloc: Global) -> Calls {
         Calls {
             alloc,

@@ -43,7 +43,7 @@ pub struct Arrival {
     pub begun: Instant,
 }
 
-/// A connection.
+/// A connection to a client: its request so far, then its reply.
 pub struct Talk {
     stream: TcpStream,
     arrival: Arrival,
@@ -95,7 +95,6 @@ fn log_served<E: Write>(alloc: Global, log: &mut E, came: &Gathered, status: u16
 }
 
 impl Talk {
-    /// A new connection.
     pub fn new(alloc: Global, stream: TcpStream, arrival: Arrival) -> Talk {
         Talk {
             stream,
@@ -109,7 +108,6 @@ impl Talk {
         }
     }
 
-    /// How far it is.
     pub fn phase(&self) -> Phase {
         self.phase
     }

@@ -20,14 +20,12 @@ impl Drop for Talks {
 }
 
 impl Talks {
-    /// No connection.
     pub fn new(alloc: Global) -> Talks {
         Talks {
             places: Vec::new(alloc),
         }
     }
 
-    /// Whether none is open.
     pub fn is_empty(&self) -> bool {
         self.places.iter().all(|talk| talk.is_none())
     }

@@ -217,7 +217,6 @@ impl World {
         slot_after(self.cluster.seats[index].applied())
     }
 
-    // Wakes a node.
     fn wake(&mut self, number: u64, cut: Option<Cut>) -> Result<Played, WorldFault>
         ensures statics { statics self.new ≡ statics self.old }
         ensures memory { IfErr result (λ fault. fault ≡ WorldFault.Node NodeFault.NoMemory →

@@ -23,7 +23,7 @@ pub enum ReplayFault {
 }
 
 impl ReplayFault {
-    /// The fault's number, which the program prints.
+    /// Its number in the table of faults, which the program prints.
     pub fn number(self) -> u8
         ensures { result ≡ fault_number self }
     {

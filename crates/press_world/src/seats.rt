@@ -78,7 +78,6 @@ impl Seat {
         self.state.applied()
     }
 
-    /// Whether it is down.
     pub(crate) fn is_down(&self) -> bool
         ensures { result ≡ is_down self.now.state }
     {
