@@ -113,7 +113,7 @@ impl Events {
         true
     }
 
-    /// A copy of the events.
+    /// The same events once more.
     pub fn copy(&self) -> Result<Events, AllocError>
         ensures { IfOk result (λ e. e ≡ self.now) }
     {
@@ -199,7 +199,7 @@ fn put_again(events: &mut Vec<Event>, event: Event)
     };
 }
 
-// They are the first ones, and are found by binary search.
+// They are the first ones: found by halves.
 fn due(alloc: Global, events: &[Event], now: Moment) -> Result<Items<Event>, AllocError>
     requires { IsByTime events.now }
     ensures { IfOk result (λ es. es ≡ due now events.now) }

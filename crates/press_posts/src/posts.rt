@@ -198,7 +198,7 @@ impl Posts {
         self.newest(self.places.len())
     }
 
-    /// The first `most` published posts. It looks at no others.
+    /// The first so many of the published posts. It looks at no others.
     pub fn newest(&self, most: usize) -> Result<Items<u64>, AllocError>
         ensures { IfOk result (λ ids. ids ≡ take most (published self.now)) }
     {
@@ -206,7 +206,7 @@ impl Posts {
         Ok(Items::from_vec(ids))
     }
 
-    /// A copy of the posts.
+    /// The same posts once more.
     pub fn copy(&self) -> Result<Posts, AllocError>
         ensures { IfOk result (λ p. p ≡ self.now) }
     {
