@@ -27,7 +27,7 @@ rows_of rows = map (λ (e : NumberedRow). e.row) rows
 
 -- ---- the edits
 
--- whether a row of the hook, priority and callback stands, which is also what a remove of it answers
+-- whether a row of the hook, priority and callback exists, which is also what a remove of it returns
 abbrev pub numbered_stands : List ℕ → List ℕ → ℤ → Numbered → Bool
 numbered_stands hook callback priority n = list_any (λ (e : NumberedRow). is_row hook priority callback e.row) n.rows
 
@@ -117,7 +117,7 @@ ordered_edit (Add hook callback priority accepted) rows = add_row hook callback 
 ordered_edit (Remove hook callback priority) rows = remove_row hook callback priority rows
 ordered_edit (RemoveAll hook priority) rows = remove_rows hook priority rows
 
--- the table after edits from no rows on: the edit that stands first in the list is made last
+-- the table after edits from no rows on: the first edit of the list is made last
 abbrev pub numbered_after : List Edit → Numbered
 numbered_after [] = record { rows = []; counter = 0 }
 numbered_after (e ∷ es) = numbered_edit e (numbered_after es)

@@ -1,4 +1,4 @@
--- Open runs with their cursors: a cursor is the number of groups of the hook at priorities not greater than the one reached, so that the next group stands there.
+-- Open runs with their cursors: a cursor is the number of groups of the hook at priorities not greater than the one reached, so that the next group is there.
 use Rattle.std.specs.Prelude.{◌≡◌, List, cond, bytes_eq, Some, map, reverse, ℕ}
 use Rattle.press_hooks.specs.declared.open_run.OpenRun.{OpenRun}
 use Rattle.press_hooks.specs.declared.open_run.PlacedRun.{PlacedRun}

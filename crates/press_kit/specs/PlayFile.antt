@@ -48,7 +48,7 @@ abbrev pub keys_of : PlayKind → List (List ℕ)
 keys_of Apply = codes "apply" ∷ codes "args" ∷ codes "times" ∷ codes "trace" ∷ []
 keys_of Do = codes "do" ∷ codes "args" ∷ codes "times" ∷ codes "trace" ∷ []
 
--- the key at which the hook stands
+-- the key of the hook
 abbrev pub hook_key : PlayKind → List ℕ
 hook_key Apply = codes "apply"
 hook_key Do = codes "do"

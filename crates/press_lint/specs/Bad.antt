@@ -1,4 +1,4 @@
--- How a place is told at which a file is bad: with the name of what stands there, where that is one, and what is wrong with it, as far as its keys tell (own).
+-- How a place is written at which a file is bad: with the name of what is there, where that is one, and what is wrong with it, as far as its keys show (own).
 use Rattle.std.specs.Prelude.{ℕ, List, [], ◌∷◌, ◌++◌, Bool, true, false, not, ◌&&◌, if◌then◌else◌, is_none, is_some, Option, Some, None, option_and_then, option_map, slice_get, codes}
 use Rattle.serde_json.specs.Data.{Data, Members, no_members, member}
 use Rattle.serde_json.specs.Find.{as_object, as_str, get}

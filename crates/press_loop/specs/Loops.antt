@@ -1,4 +1,4 @@
--- What a loop over sockets writes: the transcript of a replay, of which a failed socket leaves a front (own).
+-- What a loop over sockets writes: the transcript of a replay, of which a failed socket leaves a prefix (own).
 use Rattle.std.specs.Prelude.{◌≡◌, ℕ, List, Option, Result, Ok, Err}
 use Rattle.std.specs.Io.KnownBytes.{Appends}
 use Rattle.press_kit.specs.declared.place.Place.{Place}

@@ -45,7 +45,7 @@ queued = record { status = 202; kind = Json; body = codes "{\"queued\":true}" }
 abbrev pub taken : Reply
 taken = record { status = 200; kind = Text; body = [] }
 
--- what the bytes that were seen ask for, or why they ask for nothing: they are no request, or its route tells
+-- what the bytes that were seen ask for, or why they ask for nothing: they are no request, or its route says why
 abbrev pub AsksFor : List ℕ → Option (List ℕ) → Result Asked HttpFault → Type 0
 AsksFor seen left result =
     IsErrAnd result (λ e. Refuses e seen left) ⊎ ((r : Request) × IsRequest seen r × Gives meaning.Refuses Ok result (asked r.method r.target r.body))
@@ -101,7 +101,7 @@ abbrev pub IsClosed : HttpFault → Option ℕ → Option (List ℕ) → Option 
 IsClosed fault None old new result = (result ≡ Err fault) × (new ≡ old)
 IsClosed fault (Some status) old new result = TellsStatus status old new result
 
--- What is asked is done and told. A page leaves the node unchanged, and so does a command whose reply has no memory before it is played.
+-- What is asked is done, and the reply is written. A page leaves the node unchanged, and so does a command whose reply has no memory before it is played.
 abbrev pub IsAnswered : NodeMove → Option (List ℕ) → Option (List ℕ) → Asked → Result Served HttpFault → Type 0
 IsAnswered node old new (Page target) result = node.same × IsShown node.kit node.up target old new result
 IsAnswered node old new (Command stamped) result = PlaysAndTells node.plays (Submit stamped) queued old new result ⊎ (node.same × TellsStatus 503 old new result)

@@ -1,4 +1,4 @@
--- A change taken back: what stood at an id's place before is there again.
+-- A change taken back: what was at an id's place before is there again.
 use Rattle.std.specs.Prelude.{◌≡◌, ℕ, ◌+◌, ◌-◌, ◌≤◌, List, length, take, Option, Some, None, IfNone}
 use Rattle.press_posts.specs.declared.post.Post.{Post}
 use Rattle.press_posts.specs.PostChange.{Change, Changed, post_at, put_at}
@@ -27,7 +27,7 @@ changed_id (Edit id title content status date) posts = id
 changed_id (Moves id move) posts = id
 changed_id (Delete id) posts = id
 
--- the post that stood there before it
+-- the post that was there before it
 abbrev pub stood : Change → List (Option Post) → Option Post
 stood (Insert title content status date) posts = None
 stood (Edit id title content status date) posts = post_at posts id

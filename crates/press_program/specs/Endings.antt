@@ -74,7 +74,7 @@ EndsReplay kit kits remaining out out' (Printed status body) = ⊥
 EndsReplay kit kits remaining out out' Replayed = Replays (schedule_in kits) (transcript kit) remaining out out' replayed
 EndsReplay kit kits remaining out out' (Fault fault) = Replays (schedule_in kits) (transcript kit) remaining out out' (failed fault)
 
--- The same where the steps come over sockets, any of which may fail: then a front of the transcript is left.
+-- The same where the steps come over sockets, any of which may fail: then a prefix of the transcript is left.
 unfoldable pub EndsLoop : KitView → ℕ → Option (List ℕ) → Option (List ℕ) → Option (List ℕ) → Ending → Type 0
 EndsLoop kit kits remaining out out' (Printed status body) = ⊥
 EndsLoop kit kits remaining out out' Replayed = Loops (schedule_in kits) (transcript kit) remaining out out' replayed
@@ -92,7 +92,7 @@ EndsTask kit (Page target) remaining out out' end = EndsOn kit target remaining 
 EndsTask kit Replay remaining out out' end = EndsReplay kit (kits_for Replay) remaining out out' end
 EndsTask kit Loop remaining out out' end = EndsLoop kit (kits_for Loop) remaining out out' end
 
--- What is known of a file's bytes: on the standard input, what that tells. A file that is opened by its name has some bytes.
+-- What is known of a file's bytes: on the standard input, what contracts see of that. A file that is opened by its name has some bytes.
 abbrev pub known_of : List ℕ → Option (List ℕ) → Option (List ℕ)
 known_of file remaining = if is_input file then remaining else None
 
@@ -130,7 +130,7 @@ ReadsAsked (Some asked) input input' = ReadsFor asked.job input input'
 abbrev pub Shows : KitView → OfFile → Option (List ℕ) → ℕ → Option (List ℕ) → Option (List ℕ) → Option (List ℕ) → Option (List ℕ) → Type 0
 Shows kit wanted remaining result out out' err err' = (end : Ending) × (by_then : Option (List ℕ)) × EndsTask kit wanted.1 (known_of wanted.0 remaining) out by_then end × Finishes end result by_then out' err err'
 
--- A server's run: what it told on the output, as far as that took it. Sockets tell nothing of their bytes, and its lines on the errors tell of them.
+-- A server's run: what it printed on the output, as far as that took it. Contracts see no bytes of sockets, and its lines on standard error depend on them.
 abbrev pub Listens : Where → ℕ → Option (List ℕ) → Option (List ℕ) → Type 0
 Listens place result out out' = ((result ≡ 0) ⊎ (result ≡ 2)) × AppendsFront out out' (listening_line place)
 

@@ -114,7 +114,7 @@ if_within least most n = if nat_le least n && nat_le n most then Some n else Non
 abbrev pub number_in : ℕ → ℕ → Text → Option ℕ
 number_in least most text = decimal_in text >>= if_within least most
 
--- a number that may be told
+-- a number that may be given
 abbrev pub perhaps_number : ℕ → ℕ → Option Text → Option (Option ℕ)
 perhaps_number least most None = Some None
 perhaps_number least most (Some text) = option_map (λ n. Some n) (number_in least most text)
@@ -172,7 +172,7 @@ job_in name rows =
 abbrev pub asked_in : Text → List Row → Option Asked
 asked_in name rows = option_map (λ job. record { kit = first_of (codes "kit") rows; job = job }) (job_in name rows)
 
--- nothing where `clap` has a fault to tell
+-- nothing where `clap` has a fault
 abbrev pub asked_where : Kinds → Option (Text × List Row) → Option Asked
 asked_where [] found = option_and_then (λ p. asked_in p.0 p.1) found
 asked_where (k ∷ ks) found = None

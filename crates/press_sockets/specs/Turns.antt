@@ -43,7 +43,7 @@ module _ {N : Type 0} (moved : N → N → NodeMove) where
   abbrev pub WakesAfter : ℕ → N → N → Type 0
   WakesAfter status next after = (status ≡ 202 → (fault : Option NodeFault) × Wakes next after fault) × (status ≢ 202 → after ≡ next)
 
-  -- the status is told, or the fault
+  -- the status is returned, or the fault
   abbrev pub Ends : N → N → Result Served HttpFault → Result ℕ HttpFault → Type 0
   Ends next after (Ok served) result = (result ≡ Ok served.status) × WakesAfter served.status next after
   Ends next after (Err fault) result = (result ≡ Err fault) × (after ≡ next)

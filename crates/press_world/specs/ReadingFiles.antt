@@ -12,7 +12,7 @@ Refuses ReadFault found = Unit {0}
 Refuses BadSchedule found = (place : Place) × (found ≡ Err place)
 Refuses WriteFault found = ⊥
 
--- The bytes that a reader has left: those that it tells, and of one that tells none some bytes.
+-- The bytes that a reader has left: those that contracts see, and of one without such some bytes.
 abbrev pub Has : Option (List ℕ) → List ℕ → Type 0
 Has None input = Unit {0}
 Has (Some told) input = input ≡ told

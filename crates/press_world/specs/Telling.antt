@@ -39,7 +39,7 @@ stops_node (Deliver number cut) = is_cut cut
 stops_node (Restart number) = false
 stops_node (Get number target) = false
 
--- how many slots are applied: where the node is down, none is told
+-- how many slots are applied: where the node is down, none
 abbrev pub applied_at : Place → Option ℕ
 applied_at place = option_map (λ node. length node.values) place.up
 
