@@ -1,4 +1,4 @@
-"""A model of hooks, scripts and shortcodes, and of the lines that a play file gives, written from docs/RULES.md and docs/PLUGINS.md.
+"""A model of hooks, scripts and shortcodes, and of the lines that a play file gives, written from docs/PLUGINS.md.
 
 A hook table is a list of rows for each hook, a run of a hook asks it anew at each priority, a script is played op by op as the file spells it, and whatever a run starts is a call
 of its own. Files are taken to be right: what makes one bad is no matter of this model.

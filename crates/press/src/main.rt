@@ -1,5 +1,6 @@
-//! The program: `press page FILE TARGET` prints a page of the site that the commands of a file make, `press replay FILE` the transcript of a schedule, which
-//! `press loop FILE` carries over sockets; `press serve` serves a node, by itself or as a member of a cluster. Each of them takes `--kit FILE`.
+//! The program: `press page FILE TARGET` prints a page of the site that the commands of a file make, `press replay
+//! FILE` the transcript of a schedule, which `press loop FILE` carries over sockets; `press serve` serves a node, by
+//! itself or as a member of a cluster. Each of them takes `--kit FILE`.
 #![tactic(auto)]
 
 #[cfg(test)]
@@ -11,7 +12,7 @@ use std::process::ExitCode;
 use std::rt::{Stderr, Stdin, Stdout};
 use std::{env, io};
 
-// The words after the program's name.
+// The arguments after the program's name.
 fn words_of(rt: &HostRuntime) -> io::Result<Vec<String>> {
     let mut words = Vec::new(rt.alloc());
     for word in env::args(rt)?.skip(1) {

@@ -1,5 +1,5 @@
 -- The acceptor's part of a node's event: what a message that asks the acceptor has saved, and the messages that go out after the save
--- (Paxos Made Simple, 2.2 and 2.3; own: a vote is told to all members, and to the asker alone after a query).
+-- (Paxos Made Simple, 2.2 and 2.3; own: a vote is sent to all members, and to the asker alone after a query).
 use Rattle.std.specs.Prelude.{ℕ, Option, None, List, []}
 use Rattle.press_wire.specs.declared.ballot.Ballot.{Ballot}
 use Rattle.press_wire.specs.declared.message.Body.{Body}

@@ -1,4 +1,4 @@
--- The number that tells each fault of a store (own).
+-- The number of each fault of a store (own).
 use Rattle.std.specs.Prelude.{ℕ}
 use Rattle.press_acceptor.specs.declared.fault.StoreFault.{StoreFault}
 use Rattle.press_acceptor.specs.declared.fault.StoreFault.TheVariants.{NoMemory, Disk, Damaged}

@@ -1,4 +1,4 @@
--- How the calls of a store in memory may end (own): only by want of memory, and only where a vote is copied or a row is put in.
+-- How the calls of a store in memory may end (own): only by running out of memory, and only where a vote is copied or a row is put in.
 use Rattle.std.specs.Prelude.{◌≡◌, Option, None, IfSome, IsSome}
 use Rattle.press_acceptor.specs.Seen.{Call}
 use Rattle.press_acceptor.specs.Seen.Call.{LoadsRow, SavesRow, LoadsRound, SavesRound}

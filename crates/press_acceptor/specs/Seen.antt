@@ -4,7 +4,7 @@ use Rattle.press_acceptor.specs.StoreMap.{StoreMap, Save, saved, Only, OldOr, No
 use Rattle.press_acceptor.specs.declared.fault.StoreFault.{StoreFault}
 use Rattle.press_acceptor.specs.declared.fault.StoreFault.TheVariants.{Disk}
 
--- The calls by which a store is asked or told.
+-- The calls of a store, which read or save.
 pub data Call : Type 0 where
   LoadsRow : (slot : ℕ) → Call
   SavesRow : (slot : ℕ) → Call

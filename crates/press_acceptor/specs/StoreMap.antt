@@ -37,7 +37,7 @@ with_round store round = record { rows = store.rows; last_round = round }
 
 -- What one event saves.
 pub data Save : Type 0 where
-  -- a round that is used for the block, before it is told
+  -- a round that is used for the block, before it is sent
   SaveRound : (round block : ℕ) → Save
   -- a promise for the slot
   SavePromise : (slot : ℕ) (ballot : Ballot) → Save

@@ -38,7 +38,7 @@ abbrev pub LastEnds : List Call → Seen → Option StoreFault → Type 0
 LastEnds [] new fault = ⊥
 LastEnds (call ∷ calls) new fault = new.ends call fault ⊎ LastEnds calls new fault
 
--- The fault that is told is the one that the store answered last; or it is want of memory of the turn's own, after the store had answered well.
+-- The fault that is returned is the one that the store answered last; or it is the turn's own running out of memory, after the store had answered well.
 abbrev pub Ends : List Call → Type 0 → Seen → Option StoreFault → Type 0
 Ends calls takes new None = LastEnds calls new None
 Ends calls takes new (Some fault) = LastEnds calls new (Some fault) ⊎ ((fault ≡ NoMemory) × takes × LastEnds calls new None)
@@ -51,7 +51,7 @@ pub record Asked (calls : List Call) (takes : StoreMap → Type 0) (save : Store
   -- done, the store is as the save leaves it; ended by a fault, it is as before the save or after it
   pub saves : store.new.is_honest → SavesIf (save store.old.kept) store.old store.new fault
 
--- a turn that doesn't ask the store may meet want of memory of its own alone
+-- a turn that doesn't ask the store may meet out of memory of its own alone
 abbrev pub FailsAlone : Type 0 → Option StoreFault → Type 0
 FailsAlone takes None = Unit {0}
 FailsAlone takes (Some fault) = (fault ≡ NoMemory) × takes

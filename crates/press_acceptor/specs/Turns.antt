@@ -1,5 +1,5 @@
 -- What an acceptor does with each request: at most one save, and then what it says (Paxos Made Simple, 2.2 and 2.3; own: that a vote raises the
--- promise, that a vote is told again where it was cast in the ballot of an accept request, and queries).
+-- promise, that a vote is reported again where it was cast in the ballot of an accept request, and queries).
 use Rattle.std.specs.Prelude.{ℕ, Option, None, Some, if◌then◌else◌}
 use Rattle.press_wire.specs.Ballots.{is_less, is_same}
 use Rattle.press_wire.specs.declared.ballot.Ballot.{Ballot}
@@ -17,7 +17,7 @@ pub record Turn : Type 0 where
 abbrev pub left_by : StoreMap → Turn → StoreMap
 left_by store turn = saved_if store turn.save
 
--- ---- prepare: a ballot greater than the promise is promised, and the stored vote is reported; else the promise is told
+-- ---- prepare: a ballot greater than the promise is promised, and the stored vote is reported; else the promise is reported
 
 -- the promise, where the ballot isn't greater
 abbrev pub unless_greater : Option Ballot → Ballot → Option Ballot
@@ -31,7 +31,7 @@ prepare_by (Some promised) vote slot ballot = record { save = None; said = Nack 
 abbrev pub prepare_turn : StoreMap → ℕ → Ballot → Turn
 prepare_turn store slot ballot = prepare_by (unless_greater (promise_of store slot) ballot) (vote_of store slot) slot ballot
 
--- ---- accept: a vote that was cast in the ballot is told again; else a ballot that is at least the promise gets the vote; else the promise is told
+-- ---- accept: a vote that was cast in the ballot is reported again; else a ballot that is at least the promise gets the vote; else the promise is reported
 
 -- the promise, where the ballot is less
 abbrev pub if_less : Option Ballot → Ballot → Option Ballot
@@ -51,7 +51,7 @@ accept_by None (Some promised) slot vote = record { save = None; said = Nack pro
 abbrev pub accept_turn : StoreMap → ℕ → Vote → Turn
 accept_turn store slot vote = accept_by (cast_in (vote_of store slot) vote.ballot) (if_less (promise_of store slot) vote.ballot) slot vote
 
--- ---- query: the stored vote is told, where there is one
+-- ---- query: the stored vote is reported, if there is one
 
 abbrev pub told : Option Vote → Said
 told None = Nothing

@@ -14,7 +14,7 @@ use press_apply::Value;
 use press_wire::{Ballot, Slot, Vote};
 use std::alloc::Global;
 
-/// The acceptor of Paxos Made Simple (2.2 and 2.3): all that it knows stands in its store.
+/// The acceptor of Paxos Made Simple (2.2 and 2.3): all that it knows is in its store.
 ///
 /// What an answer says was saved before it is given. A fault leaves the store as it was before or after the save.
 #[derive(Clone, Copy, Debug)]
@@ -44,7 +44,8 @@ impl Acceptor {
         Ok(Said::Promise(promised.vote))
     }
 
-    /// Votes for a proposal in a ballot that is at least the promise for the slot; a repeated request is answered with the vote that was cast.
+    /// Votes for a proposal in a ballot that is at least the promise for the slot; a repeated request is answered with
+    /// the vote that was cast.
     pub fn on_accept<S: PromiseStore>(
         alloc: Global,
         store: &mut S,
@@ -72,7 +73,7 @@ impl Acceptor {
         Ok(Said::of_vote(voted.vote))
     }
 
-    /// Tells the vote for the slot, where there is one.
+    /// Reports the vote for the slot, if there is one.
     pub fn on_query<S: PromiseStore>(store: &mut S, slot: Slot) -> Result<Said, StoreFault>
         ensures said { Says (reads slot) (λ said. said) (λ kept. (query_turn kept slot).said)
             (moved S.seen store.old store.new) result }

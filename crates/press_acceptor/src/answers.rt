@@ -61,7 +61,7 @@ impl Acceptor {
     }
 }
 
-/// What is said to a prepare or accept request in the ballot.
+// What is said to a prepare or accept request in the ballot.
 fn request_messages(
     alloc: Global,
     members: u8,
@@ -85,7 +85,7 @@ fn request_messages(
     }
 }
 
-/// What is said to a query.
+// What is said to a query.
 fn query_messages(
     alloc: Global,
     id: Node,

@@ -5,7 +5,7 @@ ghost use Rattle.press_acceptor.specs.declared.fault.StoreFault.TheVariants.{NoM
 use std::alloc::{AllocError, AllocFailed};
 use thiserror::Error;
 
-/// Why a store doesn't answer.
+/// Why a call of a store fails.
 #[derive(Clone, Copy, Debug, PartialEq, Eq, Error)]
 pub enum StoreFault {
     #[error("no memory")]
@@ -18,7 +18,7 @@ pub enum StoreFault {
 }
 
 impl StoreFault {
-    /// The number that tells the fault.
+    /// Its number in the table of faults.
     pub fn number(self) -> u8
         ensures { result ≡ store_fault_number self }
     {

@@ -16,7 +16,8 @@ ghost use Rattle.press_acceptor.specs.Turns.{prepare_turn, accept_turn};
 
 use crate::store::PromiseStore;
 
-/// A legal trace chooses at most one value for a slot, also at two moments of it: whatever the number of members, and whichever slots share a block.
+/// A legal trace chooses at most one value for a slot, also at two moments of it: whatever the number of members, and
+/// whichever slots share a block.
 pub fn at_most_one_value_chosen()
     ensures now { (n : ℕ) (block_of : ℕ → ℕ) (trace : List Fact) (slot : ℕ) (v w : Value) →
         Legal n block_of trace → Chosen n trace slot v → Chosen n trace slot w → v ≡ w }

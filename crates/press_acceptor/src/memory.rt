@@ -13,7 +13,7 @@ use std::alloc::Global;
 use std::collections::BTreeMap;
 use std::marker::Model;
 
-/// A row in a store.
+// A row in a store.
 #[derive(Debug)]
 struct Kept {
     row: Row,
@@ -84,7 +84,7 @@ impl MemoryStore {
         }
     }
 
-    /// The row of a slot, where one was saved.
+    /// The row of a slot, if one was saved.
     pub fn row(&self, slot: Slot) -> Option<&Row>
         ensures { option_copied result ≡ get self.now.rows slot }
     {

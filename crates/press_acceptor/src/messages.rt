@@ -6,7 +6,7 @@ ghost use Rattle.press_acceptor.specs.Messages as model;
 use press_wire::{Body, Message, Node, Slot};
 use std::alloc::{AllocError, Global};
 
-/// The member with that number.
+// The member with that number.
 fn member(number: u8) -> Node
     requires least { 1 ≤ number }
     requires most { number ≤ 7 }
@@ -18,7 +18,7 @@ fn member(number: u8) -> Node
     node
 }
 
-/// One message.
+/// A message to one node.
 pub fn to_one(
     alloc: Global,
     from: Node,

@@ -35,7 +35,7 @@ impl Row {
         }
     }
 
-    /// The same row once more. Only a vote takes memory.
+    /// A copy of the row. Only a vote takes memory.
     pub fn copy(&self, alloc: Global) -> Result<Row, AllocError>
         ensures copied { IfOk result (λ r. r ≡ self.now) }
         ensures memory { OnErr result (IsSome self.now.vote) }

@@ -16,7 +16,7 @@ pub enum Said {
 }
 
 impl Said {
-    /// The vote, where there is one.
+    /// The vote, if there is one.
     pub(crate) fn of_vote(vote: Option<Vote>) -> Said
         ensures { result ≡ told vote }
     {

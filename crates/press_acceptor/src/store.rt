@@ -11,7 +11,7 @@ use press_wire::{Round, Slot};
 pub trait PromiseStore {
     ghost use Rattle.press_acceptor.specs.Seen.{Seen};
 
-    /// What is seen of it.
+    /// What contracts see of it.
     ghost seen: { Self → Seen };
 
     /// How often the device has failed.

@@ -3,7 +3,7 @@ use press_node::NodeFault;
 use press_wire::{Ballot, Body, Slot};
 use std::alloc::{AllocError, Global};
 
-/// What a message is called.
+/// The name of a message.
 pub fn kind_of(body: &Body) -> &'static str {
     match body {
         Body::Prepare { .. } => "Prepare",
@@ -31,7 +31,7 @@ pub fn sent_line(
     }
 }
 
-/// How many of the same were done, and the fault that ended them.
+/// How many of the same events were done, and the fault that ended them.
 pub fn done_line(
     alloc: Global,
     what: &str,
@@ -47,7 +47,7 @@ pub fn done_line(
     }
 }
 
-/// What a store keeps of a row.
+// What a store keeps of a row.
 fn row_line(alloc: Global, row: Option<&Row>) -> Result<String, AllocError> {
     let Some(row) = row else {
         return format!(in alloc; "slot 1 promised nothing, voted no");

@@ -1,8 +1,10 @@
-//! Plays a node by itself over memory: `press_alone WORD ..`. `new`, `kit=FILE`, `fails-before=N` and `fails-after=N` begin with new nodes; `replay=FILE` plays the schedule of a cluster; any other FILE is a
-//! connection that is served; `wake`, `deliver`, `settle`, `stop` and `fill=N` are what happens beside connections; `commands=N`, `applies=N` and, before a FILE, `serves=N` are for whoever measures it.
+//! Plays a node by itself over memory: `press_alone WORD ..`. `new`, `kit=FILE`, `fails-before=N` and `fails-after=N`
+//! begin with new nodes; `replay=FILE` plays the schedule of a cluster; any other FILE is a connection that is served;
+//! `wake`, `deliver`, `settle`, `stop` and `fill=N` are what happens beside connections; `commands=N`, `applies=N` and,
+//! before a FILE, `serves=N` are for whoever measures it.
 //!
-//! Functions here that change a node and play an event on it carry `requires always { Unit {0} }`, which always holds: `docs/DECISIONS.md` says why the
-//! checker wants it.
+//! Functions here that change a node and play an event on it carry `requires always { Unit {0} }`, which always holds:
+//! `docs/DECISIONS.md` says why the checker wants it.
 #![tactic(auto)]
 
 mod lines;

@@ -25,7 +25,7 @@ fn kit_file(rt: &HostRuntime, start: Start<'_>) -> anyhow::Result<Vec<u8>> {
     }
 }
 
-// The bytes of the file that a word names.
+// The bytes of the file that an argument names.
 fn request(rt: &HostRuntime, word: Word<'_>) -> anyhow::Result<Vec<u8>> {
     match word {
         Word::File(name) => Ok(fs::read(rt, name)?),
@@ -33,7 +33,7 @@ fn request(rt: &HostRuntime, word: Word<'_>) -> anyhow::Result<Vec<u8>> {
     }
 }
 
-/// Plays a schedule, or words on three new nodes.
+/// Plays a schedule, or the arguments on three new nodes.
 pub fn play(rt: &HostRuntime, scene: &Scene<'_>) -> anyhow::Result<()> {
     match scene.start {
         Start::Replay(name) => replay_file(rt, name),
@@ -43,7 +43,8 @@ pub fn play(rt: &HostRuntime, scene: &Scene<'_>) -> anyhow::Result<()> {
     }
 }
 
-// Starts three nodes and plays the words on them. The kit's closures are boxed here, and nodes stay here: a box may not be handed out.
+// Starts three nodes and plays the arguments on them. The kit's closures are boxed here, and nodes stay here: a
+// function can't return a box.
 fn play_words(rt: &HostRuntime, scene: &Scene<'_>) -> anyhow::Result<()> {
     let alloc = rt.alloc();
     let file = kit_file(rt, scene.start)?;

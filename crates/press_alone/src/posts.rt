@@ -23,7 +23,7 @@ pub fn post(alloc: Global, seq: u32) -> anyhow::Result<Stamped> {
     })
 }
 
-/// So many of them are applied to a site, without a node.
+/// Applies this many of them to a site, without a node.
 pub fn applied(alloc: Global, count: u32) -> anyhow::Result<Vec<u8>> {
     let kit = Kit::build(alloc, Vec::new(alloc), Vec::new(alloc))?;
     let mut site = Site::new(alloc);

@@ -58,7 +58,7 @@ impl Seat {
         self.node.applied()
     }
 
-    // Messages wait behind those that do so already; how many.
+    // Puts messages at the end of those that wait; returns how many.
     fn wait(&mut self, outbox: Vec<Message>) -> Result<usize, AllocError> {
         let count = outbox.len();
         for message in outbox {
@@ -67,7 +67,7 @@ impl Seat {
         Ok(count)
     }
 
-    // An event; how many messages it sent.
+    // Plays an event; returns how many messages it sent.
     fn on(&mut self, event: Event) -> Result<usize, NodeFault>
         requires always { Unit {0} }
     {
@@ -78,7 +78,7 @@ impl Seat {
         }
     }
 
-    /// One turn, and the line of what came of it.
+    /// Plays one turn; returns the line of its result.
     pub fn play(&mut self, turn: Turn) -> anyhow::Result<String>
         requires always { Unit {0} }
     {
@@ -97,7 +97,7 @@ impl Seat {
         sent_line(self.alloc, "wake", self.applied(), done)
     }
 
-    // The oldest message is delivered.
+    // Delivers the oldest message.
     fn deliver(&mut self) -> Result<String, AllocError>
         requires always { Unit {0} }
     {
@@ -109,7 +109,7 @@ impl Seat {
         sent_line(self.alloc, what.as_str(), self.applied(), done)
     }
 
-    // Messages are delivered, as long as any waits; how many were.
+    // Delivers messages as long as any waits; returns how many.
     fn deliver_all(&mut self, delivered: &mut u64) -> Result<(), NodeFault>
         requires always { Unit {0} }
     {
@@ -123,7 +123,7 @@ impl Seat {
         Ok(())
     }
 
-    // Messages are delivered until none waits, or one meets a fault.
+    // Delivers messages until none waits, or one meets a fault.
     fn settle(&mut self) -> Result<String, AllocError>
         requires always { Unit {0} }
     {
@@ -133,7 +133,7 @@ impl Seat {
         done_line(self.alloc, what.as_str(), self.applied(), fault)
     }
 
-    // So many commands come, until one meets a fault.
+    // Submits this many commands, until one meets a fault.
     fn fill(&mut self, count: u32) -> anyhow::Result<String>
         requires always { Unit {0} }
     {
@@ -151,7 +151,7 @@ impl Seat {
         Ok(line)
     }
 
-    /// The bytes of one connection are served.
+    /// Serves the bytes of one connection.
     pub fn serve(&mut self, name: &str, bytes: &[u8]) -> anyhow::Result<Vec<u8>>
         requires always { Unit {0} }
     {
@@ -176,7 +176,7 @@ impl Seat {
         }
     }
 
-    /// A command comes, and is chosen.
+    /// Submits a command, which is then chosen.
     pub fn choose(&mut self, seq: u32) -> anyhow::Result<()>
         requires always { Unit {0} }
     {
@@ -187,7 +187,7 @@ impl Seat {
         Ok(())
     }
 
-    /// The bytes of one connection are served in one piece, and its reply goes nowhere.
+    /// Serves the bytes of one connection in one piece, and drops its reply.
     pub fn serve_away(&mut self, bytes: &[u8])
         requires always { Unit {0} }
     {
@@ -195,7 +195,7 @@ impl Seat {
         let _ = serve_one(&mut self.node, &mut reader, &mut io::sink());
     }
 
-    /// The node ends, what waits is lost, and a node starts over what the store keeps.
+    /// Ends the node, drops what waits, and starts a node over what the store keeps.
     pub fn stop(self) -> anyhow::Result<(Seat, String)>
         requires always { Unit {0} }
     {

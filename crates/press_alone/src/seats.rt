@@ -1,4 +1,4 @@
-//! Nodes side by side, whose connections come in pieces of different sizes. They are to answer alike.
+//! Nodes side by side, whose connections come in pieces of different sizes. They have to answer alike.
 
 use crate::posts::applied;
 use crate::seat::Seat;
@@ -8,7 +8,7 @@ use press_callbacks::Kit;
 use std::alloc::Global;
 use std::mem;
 
-/// What one of the nodes says.
+// What one of the nodes says.
 #[derive(Drop)]
 struct Said {
     size: usize,
@@ -49,7 +49,7 @@ impl Seats {
         }
     }
 
-    /// One node more, over an empty store; its connections come in pieces of that size.
+    /// One node more, over an empty store; its connections come in pieces of this size.
     pub fn start(&mut self, kit: Kit, plan: Plan, size: usize) -> anyhow::Result<()> {
         let store = Failing::new(self.alloc, plan);
         let seat = Seat::start(self.alloc, kit, store, size)?;
@@ -126,7 +126,7 @@ impl Seats {
         Ok(format!(in self.alloc; "serves={times}: k={k}\n")?.into_bytes())
     }
 
-    /// What is printed for a word; a file's bytes come with it.
+    /// What is printed for an argument; a file's bytes come with it.
     pub fn play(&mut self, word: Word<'_>, request: &[u8]) -> anyhow::Result<Vec<u8>>
         requires always { Unit {0} }
     {

@@ -1,4 +1,4 @@
-//! A store in memory whose device fails once, where that is planned.
+//! A store in memory whose device fails once, if that is planned.
 
 ghost use Rattle.std.specs.Prelude.{◌≡◌, ◌⊎◌, ◌<◌, ◌≤◌, true, false};
 ghost use Rattle.press_acceptor.specs.declared.fault.StoreFault.TheVariants.{Damaged, Disk};
@@ -15,7 +15,7 @@ pub enum Plan {
     After(u32),
 }
 
-/// What becomes of a save.
+// What happens to a save.
 #[derive(Clone, Copy, Debug, PartialEq, Eq)]
 enum Fate {
     Takes,
@@ -60,7 +60,7 @@ impl Failing {
         &self.memory
     }
 
-    // The device fails, and is shut. A failure past the greatest count is told as damage.
+    // The device fails, and is shut. A failure past the greatest count is reported as damage.
     fn fails(&mut self) -> StoreFault
         ensures memory { self.new.memory ≡ self.old.memory }
         ensures shut { self.new.works ≡ false }

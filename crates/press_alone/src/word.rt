@@ -1,4 +1,4 @@
-/// The number that stands behind a name.
+/// The number after a name.
 pub fn number_behind(name: &str, word: &str) -> Option<u32> {
     word.strip_prefix(name)?.parse().ok()
 }
@@ -11,7 +11,7 @@ pub enum Turn {
     Deliver,
     /// Messages are delivered until none waits.
     Settle,
-    /// So many commands come.
+    /// This many commands come.
     Fill(u32),
 }
 
@@ -21,11 +21,11 @@ pub enum Word<'w> {
     Turn(Turn),
     /// The node ends, and one starts over its store.
     Stop,
-    /// So many commands come, each chosen before the next.
+    /// This many commands come, each chosen before the next.
     Commands(u32),
-    /// So many commands are applied to a site without a node.
+    /// This many commands are applied to a site without a node.
     Applies(u32),
-    /// The next file is served so many times.
+    /// The next file is served this many times.
     Serves(u32),
     /// A file is served.
     File(&'w str),

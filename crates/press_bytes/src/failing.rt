@@ -4,8 +4,8 @@ use press_http::{write_fault, write_reply};
 use press_page::{ContentKind, Reply};
 use press_text::Text;
 
-/// What comes of a request, in pieces of 16 bytes, where each of its reads fails in turn, and the one after the last. An outcome that is that of
-/// the read before gets no line.
+/// The outcome of a request, in pieces of 16 bytes, where each of its reads fails in turn, and the one after the last.
+/// An outcome that is that of the read before gets no line.
 pub fn show_failing_reads(rt: &HostRuntime, name: &str, bytes: &[u8]) -> anyhow::Result<()> {
     let mut before = String::new(rt.alloc());
     for call in 0..bytes.len() / 16 + 3 {

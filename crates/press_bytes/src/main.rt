@@ -1,5 +1,7 @@
-//! Reads files as requests, commands and messages: `press_bytes FILE ..` prints what each asks or spells, or which fault it has. `replies` in place
-//! of a file prints replies, `writes` replies whose writes fail; after a word `fails` it is shown what comes of requests whose reads fail, and after a word `times=N` or `heads=N` the files are only read, so many times, for whoever measures it.
+//! Reads files as requests, commands and messages: `press_bytes FILE ..` prints what each asks or spells, or which
+//! fault it has. `replies` in place of a file prints replies, `writes` replies whose writes fail; after a word `fails`
+//! it is shown what comes of requests whose reads fail, and after a word `times=N` or `heads=N` the files are only
+//! read, that many times, for measuring.
 #![tactic(auto)]
 
 mod failing;
@@ -20,7 +22,7 @@ use press_apply::Value;
 use press_wire::Message;
 use std::{env, fs};
 
-/// What is done with the files that are named next.
+// What is done with the files that are named next.
 #[derive(Clone, Copy)]
 enum Task {
     Show,
@@ -30,7 +32,7 @@ enum Task {
 }
 
 impl Task {
-    // The task that a word sets, if it sets one.
+    // The task that an argument sets, if it sets one.
     fn from_word(word: &str) -> Option<Task> {
         if word == "fails" {
             return Some(Task::Fail);

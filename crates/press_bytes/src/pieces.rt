@@ -11,7 +11,7 @@ pub enum Failure {
     AtCall(usize),
 }
 
-// That after which the standard library's own loops try again.
+// The error after which the standard library's own loops try again.
 fn interrupted() -> io::Error {
     io::Error::from(ErrorKind::Interrupted)
 }

@@ -11,7 +11,7 @@ fn show_reply(rt: &HostRuntime, status: u16, kind: ContentKind, body: &str) -> a
     Ok(())
 }
 
-// The reply that tells a fault.
+// The reply to a fault.
 fn show_fault(rt: &HostRuntime, fault: HttpFault) -> anyhow::Result<()> {
     if let Some(status) = fault.status() {
         write_fault(&mut rt.stdout(), status)?;

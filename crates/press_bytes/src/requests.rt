@@ -25,8 +25,8 @@ pub fn line(alloc: Global, mut reader: Pieces<'_>) -> Result<String, AllocError>
     }
 }
 
-/// What the request in the bytes asks, in pieces of 1, 7 and 4,096 bytes, and once more before a read that fails where the bytes end. What differs from
-/// the first of these gets a line of its own.
+/// What the request in the bytes asks, in pieces of 1, 7 and 4,096 bytes, and once more before a read that fails where
+/// the bytes end. What differs from the first of these gets a line of its own.
 pub fn show_request(rt: &HostRuntime, name: &str, bytes: &[u8]) -> anyhow::Result<()> {
     let first = line(rt.alloc(), Pieces::new(bytes, 1, Failure::Never))?;
     println!(rt; "{name}: {first}")?;

@@ -24,14 +24,14 @@ fn once(alloc: Global, kind: Kind, bytes: &[u8]) {
     }
 }
 
-/// Reads the bytes so many times, for whoever measures it.
+/// Reads the bytes this many times, for measuring.
 pub fn again(alloc: Global, kind: Kind, bytes: &[u8], times: u32) {
     for _ in 0..times {
         once(alloc, kind, bytes);
     }
 }
 
-/// Reads a request's head so many times, by `httparse` alone.
+/// Reads a request's head this many times, by `httparse` alone.
 pub fn heads(bytes: &[u8], times: u32) {
     for _ in 0..times {
         let mut fields = [EMPTY_HEADER_SPAN; 32];

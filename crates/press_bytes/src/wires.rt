@@ -33,14 +33,14 @@ impl Spelled for Message {
     }
 }
 
-/// The same answer to so many fronts of the bytes in turn.
+// The same answer to this many prefixes of the bytes in turn.
 #[derive(Clone, Copy, Drop)]
 struct Run {
     number: u8,
     count: usize,
 }
 
-// The number of the fault, or 255 where there is none.
+// The number of the fault, or 255 if there is none.
 fn number_of<T: Spelled>(alloc: Global, bytes: &[u8]) -> u8 {
     match T::read(alloc, bytes) {
         Ok(_) => 255,
@@ -48,7 +48,7 @@ fn number_of<T: Spelled>(alloc: Global, bytes: &[u8]) -> u8 {
     }
 }
 
-// What each shorter front of the bytes is read as.
+// What each shorter prefix of the bytes is read as.
 fn fronts<T: Spelled>(alloc: Global, bytes: &[u8]) -> Result<Vec<Run>, AllocError> {
     let mut runs: Vec<Run> = Vec::new(alloc);
     for n in 0..bytes.len() {
@@ -75,7 +75,7 @@ fn show_fronts<T: Spelled>(rt: &HostRuntime, name: &str, bytes: &[u8]) -> anyhow
     Ok(())
 }
 
-/// What the bytes spell, whether a copy of it is spelt by them again, and what fronts of them and one byte more give; or the fault.
+/// What the bytes spell, whether a copy of it is spelt by them again, and what prefixes of them and one byte more give; or the fault.
 pub fn show_spelled<T: Spelled>(rt: &HostRuntime, name: &str, bytes: &[u8]) -> anyhow::Result<()> {
     let alloc = rt.alloc();
     let value = match T::read(alloc, bytes) {

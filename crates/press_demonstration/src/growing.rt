@@ -18,7 +18,7 @@ pub fn grow() -> CallbackId
     callback_named("grow")
 }
 
-// The script of `grow`.
+/// The script of `grow`.
 pub fn growing(alloc: Global) -> Result<Script, AllocError>
     ensures { IfOk result (λ s. s ≡ spec.growing) }
 {
@@ -76,7 +76,7 @@ fn add_turn(alloc: Global, callback: &str, priority: i64) -> Result<Turn, AllocE
     })
 }
 
-/// What the closure of `grow` gives, written out.
+/// The turn that the closure of `grow` returns, written out.
 pub fn grow_turn(alloc: Global, input: &CallIn) -> Result<Turn, AllocError>
     ensures { IfOk result (λ t. t ≡ turn_of spec.growing input.now) }
 {

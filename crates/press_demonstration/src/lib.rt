@@ -1,6 +1,6 @@
 //! The demonstration kit of `press`: the scripts and plugins that it is made of.
 //!
-//! Its closures stand in boxes, which a function can't hand out: whoever wants the kit makes them of these parts and builds it.
+//! Its closures are boxed, and a function can't return a box: a caller makes them from these parts and builds the kit.
 #![tactic(auto)]
 
 mod growing;

@@ -9,7 +9,7 @@ use press_callbacks::{Load, Plugin};
 use press_text::{HookName, Items};
 use std::alloc::{AllocError, Global};
 
-// The plugins `grow`, `letters`, `loop`, `notes` and `tags`.
+/// The plugins `grow`, `letters`, `loop`, `notes` and `tags`.
 pub fn plugins(alloc: Global) -> Result<Vec<Plugin>, AllocError>
     ensures { IfOk result (λ v. v.items ≡ spec.plugins) }
 {
@@ -119,7 +119,7 @@ fn on_hook(alloc: Global, hook: &str, priority: i64, callback: &str) -> Result<L
     })
 }
 
-// A tag that the callback of its own name answers.
+// A tag whose callback has the tag's name.
 fn tag_of(alloc: Global, name: &str) -> Result<Load, AllocError>
     requires { name_fault 32 name.now ≡ None }
     ensures { IfOk result (λ l. l ≡ Load.Tag name.now name.now) }

@@ -11,7 +11,7 @@ use press_scan::AttKey;
 use press_text::{HookName, Items, Text};
 use std::alloc::{AllocError, Global};
 
-// The callbacks whose closures play their scripts.
+/// The callbacks whose closures play their scripts.
 pub fn played(alloc: Global) -> Result<Vec<Scripted>, AllocError>
     ensures { IfOk result (λ v. spec.told v.items ≡ spec.played) }
 {
@@ -107,7 +107,7 @@ fn again(alloc: Global, name: &str, hook: &str) -> Result<Scripted, AllocError>
     })
 }
 
-// Runs a filter on its value, and answers what that gave.
+// Runs a filter on its value, and returns the result.
 fn running(alloc: Global, hook: &str) -> Result<Script, AllocError>
     requires { name_fault 64 hook.now ≡ None }
     ensures { IfOk result (λ s. s ≡ spec.running hook.now) }
@@ -181,7 +181,7 @@ fn box_of_content(alloc: Global) -> Result<Scripted, AllocError>
     })
 }
 
-// Has the shortcodes of its content answered, in a box.
+// Runs the shortcodes of its content, in a box.
 fn boxing(alloc: Global) -> Result<Script, AllocError>
     ensures { IfOk result (λ s. s ≡ spec.boxing) }
 {

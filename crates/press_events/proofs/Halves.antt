@@ -1,4 +1,4 @@
--- Events by time are found by halves, and one of an identity among those of its time.
+-- Events by time are found by binary search, and one of an identity among those of its time.
 use Rattle.std.proofs.Common.{◌≡◌, refl, sym, ◌∙◌, ap, ℕ, zero, suc, ◌+◌, ◌-◌, ◌<◌, ◌≤◌, List, [], ◌∷◌, length, get_or, take, drop, filter, Bool, true, false, not, cond, nat_lt, Option, Some, None, arith, inl, inr, get_or-take, get_or-drop, length-take, length-drop}
 use Rattle.std.specs.Prelude.{◌||◌, ◌&&◌, nat_eq, nat_le, option_map, is_some, position}
 use Rattle.std.specs.List.{AllWithin, list_any, position_or_len, prefix_len}

@@ -33,7 +33,7 @@ cancels_first = refl
 cancels_once : cancels (codes "h") (codes "a") (cancelled (codes "h") (codes "a") (daily 259300 ∷ [])) ≡ false
 cancels_once = refl
 
--- where the event of that identity stands already, the taken one goes
+-- where the event of that identity is already, the taken one goes
 goes : take_event (daily 100) 100 (daily 100 ∷ daily 86500 ∷ []) ≡ daily 86500 ∷ []
 goes = refl
 

@@ -1,6 +1,6 @@
 -- Scheduled events (Plugin Handbook, Cron: `wp_schedule_event`, `wp_clear_scheduled_hook`, `wp_reschedule_event`, `wp_get_schedules`; that nearness in time
 -- refuses nothing, limits and what a taken event becomes are own).
--- Events stand by time, then in the order in which they were scheduled. The identity of one is its time, hook and argument.
+-- Events are ordered by time, then in the order in which they were scheduled. The identity of one is its time, hook and argument.
 use Rattle.press_text.specs.Gives.{GivesOrStays}
 use Rattle.std.specs.Prelude.{◌≡◌, ℕ, ◌<◌, ◌≤◌, ◌+◌, ◌-◌, ◌*◌, ◌/◌, List, [], ◌∷◌, length, filter, insert, remove, position, unwrap_or, slice_index_or, Bool, true, false, not, ◌&&◌, nat_eq, nat_lt, nat_le, bytes_eq, if◌then◌else◌, Option, Some, None, Result, Ok, Err}
 use Rattle.std.specs.List.{list_any}
@@ -19,7 +19,7 @@ is_of hook arg e = bytes_eq e.hook hook && bytes_eq e.arg arg
 abbrev pub is_same : Event → Event → Bool
 is_same e other = nat_eq e.time other.time && is_of other.hook other.arg e
 
--- where the event of this identity stands
+-- where the event of this identity is
 abbrev pub place_of : Event → List Event → Option ℕ
 place_of event events = position (λ e. is_same e event) events
 
@@ -68,7 +68,7 @@ cancels hook arg events = list_any (is_of hook arg) events
 abbrev pub cancelled : List ℕ → List ℕ → List Event → List Event
 cancelled hook arg events = filter (λ e. not (is_of hook arg e)) events
 
--- whether no event more may stand once these are out
+-- whether there is no room for another event once these are out
 abbrev pub is_full_without : List ℕ → List ℕ → List Event → Bool
 is_full_without hook arg events = nat_le 4096 (length (cancelled hook arg events))
 
@@ -77,8 +77,8 @@ is_full_without hook arg events = nat_le 4096 (length (cancelled hook arg events
 abbrev pub due : ℕ → List Event → List Event
 due now events = filter (is_due now) events
 
--- ---- taking an event: one that stands as Once goes; another is scheduled anew, at the least time + n intervals after now (n at least 1).
--- Where an event of that identity stands already, or that is past the greatest moment, it goes too.
+-- ---- taking an event: one that is scheduled as Once goes; another is scheduled anew, at the least time + n intervals after now (n at least 1).
+-- Where an event of that identity is scheduled already, or that is past the greatest moment, it goes too.
 
 abbrev pub interval : Every → Option ℕ
 interval Once = None
@@ -123,7 +123,7 @@ abbrev pub HasEachOnce : List Event → Type 0
 HasEachOnce [] = Unit {0}
 HasEachOnce (e ∷ es) = (stands e es ≡ false) × HasEachOnce es
 
--- ---- what `add` answers: a fault leaves the events as they were; want of memory stands only where the event would be put in
+-- ---- what `add` answers: a fault leaves the events as they were; out of memory comes only where the event would be put in
 
 abbrev pub IsPutIn : Result (List Event × Bool) EventFault → Type 0
 IsPutIn (Ok after) = after.1 ≡ true

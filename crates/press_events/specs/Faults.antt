@@ -1,4 +1,4 @@
--- The number that tells each fault of scheduling (own).
+-- The number of each fault of scheduling (own).
 use Rattle.std.specs.Prelude.{ℕ}
 use Rattle.press_events.specs.declared.fault.EventFault.{EventFault}
 use Rattle.press_events.specs.declared.fault.EventFault.TheVariants.{NoMemory, TooLong, TooManyEvents}

@@ -4,7 +4,7 @@ ghost use Rattle.press_events.specs.DueEvents.{is_same, is_of, is_earlier, is_la
 use press_text::{Copied, Every, HookName, Moment, Text};
 use std::alloc::{AllocError, Global};
 
-/// A hook that is to be done with an argument at a time. Time, hook and argument are its identity.
+/// A hook that is to run with an argument at a time. Time, hook and argument are its identity.
 #[derive(Debug)]
 pub struct Event {
     pub time: Moment,
@@ -33,7 +33,7 @@ impl Event {
             && self.is_of(other.hook.as_str(), other.arg.as_str())
     }
 
-    /// Whether it does that hook with that argument, at whatever time.
+    /// Whether it runs that hook with that argument, at whatever time.
     pub fn is_of(&self, hook: &str, arg: &str) -> bool
         ensures { result ≡ is_of hook.now arg.now self.now }
     {

@@ -1,4 +1,4 @@
-//! The events that stand.
+//! The scheduled events.
 
 ghost use Rattle.std.specs.Prelude.{◌≡◌, [], ◌<◌, ◌≤◌, length, true, false, IfOk, IfSome, is_some, vec_len, vec_capacity};
 ghost use Rattle.std.specs.List.Sorted.{IsPartitionPoint};
@@ -53,7 +53,7 @@ impl Events {
         }
     }
 
-    /// Schedules an event; false, and no change, where one of its identity stands (`wp_schedule_event`).
+    /// Schedules an event; false, and no change, where one of its identity is scheduled already (`wp_schedule_event`).
     pub fn add(&mut self, event: Event) -> Result<bool, EventFault>
         ensures { Adds result (add_event event self.old) self.old self.new }
     {
@@ -81,7 +81,7 @@ impl Events {
         self.events.len() < all
     }
 
-    /// Whether no event more may stand once every event of that hook and argument is out.
+    /// Whether there is no room for another event once every event of that hook and argument is removed.
     pub fn is_full_without(&self, hook: &str, arg: &str) -> bool
         ensures { result ≡ is_full_without hook.now arg.now self.now }
     {
@@ -96,8 +96,8 @@ impl Events {
         due(self.alloc, self.events.as_slice(), now)
     }
 
-    /// Takes the event of that identity off where it stands as Once, and else schedules it anew, at its first time after now
-    /// (`wp_reschedule_event`). False, and no change, where it doesn't stand. Takes no memory.
+    /// Removes the event of that identity if it is scheduled as Once, and else moves it to its first time after now
+    /// (`wp_reschedule_event`). False, and no change, where it isn't scheduled. Takes no memory.
     pub fn take(&mut self, event: &Event, now: Moment) -> bool
         ensures answer { result ≡ is_some (place_of event.now self.old) }
         ensures after { self.new ≡ take_event event.now now self.old }
@@ -144,7 +144,7 @@ fn stands(events: &[Event], event: &Event) -> bool
     place_of(events, event).is_some()
 }
 
-// Looked for among the events of its time alone.
+// Only the events of its time are searched.
 fn place_of(events: &[Event], event: &Event) -> Option<usize>
     requires { IsByTime events.now }
     ensures place { result ≡ place_of event.now events.now }
@@ -163,7 +163,7 @@ fn place_among(events: &[Event], event: &Event) -> Option<usize>
     events.iter().position(|e| e.is_same(event))
 }
 
-// Where the earlier events end, by halves.
+// Where the earlier events end, by binary search.
 fn start_of(events: &[Event], time: Moment) -> usize
     requires { IsByTime events.now }
     ensures parts { IsPartitionPoint (λ e. is_earlier time e ≡ true)
@@ -173,7 +173,7 @@ fn start_of(events: &[Event], time: Moment) -> usize
     events.partition_point(|e| e.is_earlier(time))
 }
 
-// Where the later events begin, by halves.
+// Where the later events begin, by binary search.
 fn place_in(events: &[Event], time: Moment) -> usize
     requires { IsByTime events.now }
     ensures place { result ≡ place_in time events.now }
@@ -184,7 +184,7 @@ fn place_in(events: &[Event], time: Moment) -> usize
     events.partition_point(|e| !e.is_later(time))
 }
 
-// Schedules an event in the room that it left, if none of its identity stands.
+// Schedules an event in the room that it left, if none of its identity exists.
 fn put_again(events: &mut Vec<Event>, event: Event)
     requires order { IsByTime events.old.items }
     requires room { vec_len events.old < vec_capacity events.old }

@@ -17,7 +17,7 @@ pub enum EventFault {
 }
 
 impl EventFault {
-    /// The number that tells the fault.
+    /// Its number in the table of faults.
     pub fn number(self) -> u8
         ensures { result ≡ event_fault_number self }
     {

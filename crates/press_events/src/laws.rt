@@ -20,7 +20,7 @@ pub fn takes_each_once()
         → HasEachOnce (take_event event now events) }
 {}
 
-/// Where at most 4,096 events stand, no more do after one more is scheduled.
+/// Where at most 4,096 events are scheduled, there are no more than that after another one.
 pub fn schedules_few()
     ensures { (event : Event) (events : List Event) → length events ≤ 4096
         → IfOk (add_event event events) (λ after. length after.0 ≤ 4096) }

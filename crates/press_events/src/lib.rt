@@ -1,6 +1,6 @@
-//! Scheduled events: which hook is to be done when, and what is due.
+//! Scheduled events: which hook is to run when, and what is due.
 //!
-//! They stand by time, and those of one time in the order in which they were scheduled.
+//! They are ordered by time, and those of one time in the order in which they were scheduled.
 #![tactic(auto)]
 
 mod event;

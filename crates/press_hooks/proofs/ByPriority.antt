@@ -124,7 +124,7 @@ first_entries g gs o =
     ∙ (ap (λ ys. group_entries g ++ ys) (none_pass t (entries_of gs) (each_entry (λ q. int_eq q g.priority ≡ false) gs (each_weaker (λ (h : Grouped). int_lt g.priority h.priority ≡ true) (λ (h : Grouped). int_eq h.priority g.priority ≡ false) gs (λ h. unlike g.priority h.priority) o.1)))
     ∙ append_none (group_entries g)))
 
--- ---- the search by halves
+-- ---- the binary search
 
 cmp_equal : (p q : ℤ) → int_cmp p q ≡ Equal → p ≡ q
 cmp_equal p q e = by (int_lt p q) (int_lt q p) refl refl e

@@ -91,7 +91,7 @@ split_unlike n (h ∷ hs) (suc i) low high =
 pub missing_rows : (n : List ℕ) (hs : List Hooked) (i : ℕ) → IsPartitionPoint (λ (g : Hooked). slice_cmp nat_cmp g.name n ≡ Less) (λ (g : Hooked). slice_cmp nat_cmp g.name n ≡ Greater) hs i → filter (is_of_hook n) (table_rows hs) ≡ []
 missing_rows n hs i p = others_none n hs (split_unlike n hs i p.0 p.1)
 
--- ---- the search by halves
+-- ---- the binary search
 
 rank_less : (a b n : List ℕ) (o : Ordering) → slice_cmp nat_cmp a b ≡ Less → slice_cmp nat_cmp b n ≡ o → ordering_index (slice_cmp nat_cmp a n) ≤ ordering_index o
 rank_less a b n Less l e = let k : slice_cmp nat_cmp a n ≡ Less = nat_list_cmp_total.trans a b n l e in rw k (omega arith)
@@ -363,7 +363,7 @@ length_set (h ∷ hs) (suc i) d h' lt =
     let lt' : i < length hs = omega arith in
     let a = length_rows h hs in let b = length_rows h (set hs i h') in let r = length_set hs i d h' lt' in omega arith
 
--- ---- what the search by halves answers
+-- ---- what the binary search answers
 
 pub placed : (n : List ℕ) (hs : List Hooked) (r : Result ℕ ℕ) → IsByName hs → IsSearchInRange r (length hs) → IsBinarySearchResult (λ (g : Hooked). slice_cmp nat_cmp g.name n) hs r → IsPlaceOf n hs r
 placed n hs (Ok i) o within at = (within, at)

@@ -1,4 +1,4 @@
--- The group that stands at the cursor of a run is the next one of its hook.
+-- The group that is at the cursor of a run is the next one of its hook.
 use Rattle.std.proofs.Common.{◌≡◌, refl, sym, ◌∙◌, ap, subst, ℕ, zero, suc, ◌+◌, ◌<◌, ◌≤◌, nat_eq, Bool, true, false, not, List, [], ◌∷◌, ◌++◌, map, filter, length, get_or, drop, Some, int_eq, arith}
 use Rattle.std.specs.Prelude.{option_map}
 use Rattle.std.specs.List.{list_any}

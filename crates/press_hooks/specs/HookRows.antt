@@ -1,6 +1,6 @@
 -- A hook table is a set of rows (hook, priority, callback, accepted); an edit puts in, changes or takes out the rows that it names
 -- (`WP_Hook`: `add_filter`, `remove_filter`, `remove_all_filters`, `has_filter`). Names are lists of bytes.
--- The rows stand hook by hook, by priority, then in the order in which they were added.
+-- The rows are ordered by hook, then by priority, then by when they were added.
 use Rattle.std.specs.Prelude.{ℕ, ℤ, List, [], ◌∷◌, length, Bool, true, false, not, ◌&&◌, ◌||◌, cond, ltb, int_lt, bytes_eq, Option, Some, None, filter, map, insert, position, unwrap_or}
 use Rattle.std.specs.Cmp.Lexicographic.{slice_cmp}
 use Rattle.std.specs.Ordering.{nat_cmp, int_eq}
@@ -20,24 +20,24 @@ most_rows = 1024
 abbrev pub accepted_as : List ℕ → ℤ → List ℕ → ℕ → Row → Row
 accepted_as hook priority callback accepted r = elim (is_row hook priority callback r) [ true ↦ record r { accepted = accepted } | false ↦ r ]
 
--- whether a row stands after a new one of this hook and priority
+-- whether a row is after a new one of this hook and priority
 abbrev pub stands_after : List ℕ → ℤ → Row → Bool
 stands_after hook priority r = elim (slice_cmp nat_cmp hook r.hook) [ Less ↦ true | Equal ↦ int_lt priority r.priority | Greater ↦ false ]
 
--- before the first row that stands after it, or last
+-- before the first row that is after it, or last
 abbrev pub place_in : List ℕ → ℤ → List Row → ℕ
 place_in hook priority rows = unwrap_or (position (stands_after hook priority) rows) (length rows)
 
 abbrev pub put_row : Row → List Row → List Row
 put_row r rows = insert rows (place_in r.hook r.priority rows) r
 
--- add: a row of this hook, priority and callback that stands changes `accepted` alone; otherwise a new row is put in where there is room
+-- add: a row of this hook, priority and callback that exists changes `accepted` alone; otherwise a new row is put in where there is room
 abbrev pub add_row : List ℕ → List ℕ → ℤ → ℕ → List Row → List Row
 add_row hook callback priority accepted rows =
     cond (list_any (is_row hook priority callback) rows) (map (accepted_as hook priority callback accepted) rows)
     (cond (ltb (length rows) most_rows) (put_row (record { hook = hook; priority = priority; callback = callback; accepted = accepted }) rows) rows)
 
--- whether the row then stands
+-- whether the row then exists
 abbrev pub adds_row : List ℕ → List ℕ → ℤ → List Row → Bool
 adds_row hook callback priority rows = list_any (is_row hook priority callback) rows || ltb (length rows) most_rows
 
@@ -85,6 +85,6 @@ is_of_hook hook r = bytes_eq r.hook hook
 abbrev pub has_rows : List ℕ → List Row → Bool
 has_rows hook rows = list_any (is_of_hook hook) rows
 
--- what is handed out of a row
+-- what is returned of a row
 abbrev pub entry_of : Row → Entry
 entry_of r = record { priority = r.priority; callback = r.callback; accepted = r.accepted }

@@ -57,13 +57,13 @@ abbrev pub AreGroups : List Grouped → Type 0
 AreGroups [] = Unit {0}
 AreGroups (g ∷ gs) = (0 < length g.members) × IsEach (λ (h : Grouped). int_lt g.priority h.priority ≡ true) gs × AreGroups gs
 
--- where the group of that priority stands, or else the place between the lesser ones and the greater ones
+-- where the group of that priority is, or else the place between the lesser ones and the greater ones
 abbrev pub IsPlaceAt : ℤ → List Grouped → Result ℕ ℕ → Type 0
 IsPlaceAt p gs r =
     MatchResult r (λ i. (i < length gs) × HoldsAt (λ (g : Grouped). int_cmp g.priority p ≡ Equal) gs i)
     (λ i. (i ≤ length gs) × IsPartitionPoint (λ (g : Grouped). int_cmp g.priority p ≡ Less) (λ (g : Grouped). int_cmp g.priority p ≡ Greater) gs i)
 
--- how many groups stand at priorities not greater than the one reached
+-- how many groups are at priorities not greater than the one reached
 abbrev pub up_to : Option ℤ → List Grouped → ℕ
 up_to reached gs = length (filter (λ (g : Grouped). not (is_past reached g.priority)) gs)
 
@@ -72,7 +72,7 @@ abbrev pub IsByName : List Hooked → Type 0
 IsByName [] = Unit {0}
 IsByName (h ∷ hs) = IsEach (λ (g : Hooked). slice_cmp nat_cmp h.name g.name ≡ Less) hs × IsByName hs
 
--- where the hook of that name stands, or else the place between the names before it and those behind
+-- where the hook of that name is, or else the place between the names before it and those after it
 abbrev pub IsPlaceOf : List ℕ → List Hooked → Result ℕ ℕ → Type 0
 IsPlaceOf hook hs r =
     MatchResult r (λ i. (i < length hs) × HoldsAt (λ (h : Hooked). slice_cmp nat_cmp h.name hook ≡ Equal) hs i)

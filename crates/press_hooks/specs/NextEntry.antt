@@ -1,5 +1,5 @@
 -- An open run is a hook, the priority last reached (or none) and a rest. Where the rest is empty, it becomes all entries of the hook
--- at the least priority greater than the one reached, in the order in which they were added, as they stand now (`WP_Hook::apply_filters`).
+-- at the least priority greater than the one reached, in the order in which they were added, as they are now (`WP_Hook::apply_filters`).
 -- A rest belongs to its run alone: no edit changes it.
 use Rattle.std.specs.Prelude.{ℕ, ℤ, List, [], ◌∷◌, length, Bool, true, false, ◌&&◌, nat_eq, int_lt, Option, Some, None, filter, map}
 use Rattle.press_hooks.specs.declared.row.Row.{Row}
@@ -83,7 +83,7 @@ without_innermost (r ∷ rs) = rs
 abbrev pub run_ended : Table → Table
 run_ended t = record t { open_runs = without_innermost t.open_runs }
 
--- what the innermost run hands out next, and the open runs after it
+-- what the innermost run returns next, and the open runs after it
 abbrev pub entry_next : List Row → List OpenRun → Option Entry
 entry_next rows [] = None
 entry_next rows (r ∷ rs) = next_entry rows r

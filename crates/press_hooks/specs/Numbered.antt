@@ -1,8 +1,8 @@
 -- The hook table as a set of numbered rows (`WP_Hook`: `add_filter`, `remove_filter`, `remove_all_filters`, `has_filter`), and that it answers as the
 -- rows of `HookRows`, which stand in order and have no numbers. A table is a set of rows (hook, priority, number, callback, accepted) with a counter.
--- Add of a hook, priority and callback that stands changes `accepted` alone and is true. Otherwise, with 1,024 rows, it changes nothing and is false;
+-- Add of a hook, priority and callback that exists changes `accepted` alone and is true. Otherwise, with 1,024 rows, it changes nothing and is false;
 -- else it puts in a row whose number is the counter, raises the counter and is true. Remove and remove all take out the rows named.
--- Has is the least priority with that hook and callback. The entries of a hook at a priority are handed out in order of number.
+-- Has is the least priority with that hook and callback. The entries of a hook at a priority are returned in order of number.
 use Rattle.std.specs.Prelude.{◌≡◌, ℕ, ℤ, ◌+◌, List, [], ◌∷◌, length, Bool, not, ◌||◌, cond, ltb, Option, filter, map}
 use Rattle.std.specs.Cmp.Lexicographic.{slice_cmp}
 use Rattle.std.specs.Ordering.{nat_cmp, int_cmp, ordering_then, is_lt}
@@ -27,7 +27,7 @@ rows_of rows = map (λ (e : NumberedRow). e.row) rows
 
 -- ---- the edits
 
--- whether a row of the hook, priority and callback stands, which is also what a remove of it answers
+-- whether a row of the hook, priority and callback exists, which is also what a remove of it returns
 abbrev pub numbered_stands : List ℕ → List ℕ → ℤ → Numbered → Bool
 numbered_stands hook callback priority n = list_any (λ (e : NumberedRow). is_row hook priority callback e.row) n.rows
 
@@ -80,7 +80,7 @@ rows_in_order n = rows_of (in_order n.rows)
 
 -- ---- the answers, each of the set as it is listed
 
--- what an add answers: whether the row then stands
+-- what an add answers: whether the row then exists
 abbrev pub numbered_adds : List ℕ → List ℕ → ℤ → Numbered → Bool
 numbered_adds hook callback priority n = numbered_stands hook callback priority n || numbered_has_room n
 
@@ -117,7 +117,7 @@ ordered_edit (Add hook callback priority accepted) rows = add_row hook callback 
 ordered_edit (Remove hook callback priority) rows = remove_row hook callback priority rows
 ordered_edit (RemoveAll hook priority) rows = remove_rows hook priority rows
 
--- the table after edits from no rows on: the edit that stands first in the list is made last
+-- the table after edits from no rows on: the first edit of the list is made last
 abbrev pub numbered_after : List Edit → Numbered
 numbered_after [] = record { rows = []; counter = 0 }
 numbered_after (e ∷ es) = numbered_edit e (numbered_after es)

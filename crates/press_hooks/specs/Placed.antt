@@ -1,11 +1,11 @@
--- Open runs with their cursors: a cursor is the number of groups of the hook at priorities not greater than the one reached, so that the next group stands there.
+-- Open runs with their cursors: a cursor is the number of groups of the hook at priorities not greater than the one reached, so that the next group is there.
 use Rattle.std.specs.Prelude.{◌≡◌, List, cond, bytes_eq, Some, map, reverse, ℕ}
 use Rattle.press_hooks.specs.declared.open_run.OpenRun.{OpenRun}
 use Rattle.press_hooks.specs.declared.open_run.PlacedRun.{PlacedRun}
 use Rattle.press_hooks.specs.NextEntry.{without_first}
 use Rattle.press_hooks.specs.Hooked.{Grouped, Hooked, group_entries, groups_named, up_to}
 
--- the run at the priority of a group, with its entries as they stand
+-- the run at the priority of a group, with its entries as they are
 abbrev pub at_group : Grouped → OpenRun → OpenRun
 at_group g run = record { hook = run.hook; reached = Some g.priority; rest = group_entries g }
 

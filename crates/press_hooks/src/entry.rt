@@ -1,6 +1,6 @@
 use press_text::CallbackId;
 
-/// What a run hands out: a callback, and how many arguments it accepts.
+/// What a run returns: a callback, and how many arguments it accepts.
 #[derive(Clone, Copy, Debug)]
 pub struct Entry {
     pub priority: i64,

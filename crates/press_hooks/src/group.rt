@@ -66,7 +66,7 @@ impl Group {
         self.members.iter().any(|m| m.callback.is(callback))
     }
 
-    /// Sets `accepted` of the entry where it stands.
+    /// Sets `accepted` of the entry, if it exists.
     pub fn accept(&mut self, entry: &Entry)
         ensures { self.new ≡ with_members (map (accepted_if entry.now.callback entry.now.accepted)
             self.old.members) self.old }
@@ -74,7 +74,7 @@ impl Group {
         accept_in(&mut self.members, &Member::of(entry));
     }
 
-    /// Puts in an entry behind the others.
+    /// Adds an entry after the others.
     pub fn put(&mut self, entry: &Entry) -> Result<(), AllocError>
         ensures put { OnOk result (self.new ≡ with_members (self.old.members
             ++ member_of entry.now ∷ []) self.old) }
@@ -84,7 +84,7 @@ impl Group {
         Ok(())
     }
 
-    /// Takes out the entry of a callback, or all; how many there were.
+    /// Removes the entry of a callback, or all; returns how many there were.
     pub fn remove(&mut self, callback: Option<CallbackId>) -> usize
         ensures members { self.new ≡ with_members (filter
             (λ m. not (is_member_of callback m)) self.old.members) self.old }

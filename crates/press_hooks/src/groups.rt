@@ -8,7 +8,7 @@ use crate::group::Group;
 use press_text::CallbackId;
 use std::alloc::{AllocError, Global};
 
-// Where the group of that priority stands, or would stand, by halves.
+// Where the group of that priority is, or would be, by binary search.
 fn find(groups: &[Group], priority: &i64) -> Result<usize, usize>
     requires { AreGroups groups.now }
     ensures { IsPlaceAt priority.now groups.now result }
@@ -16,7 +16,7 @@ fn find(groups: &[Group], priority: &i64) -> Result<usize, usize>
     groups.binary_search_by_key(priority, |g| g.priority())
 }
 
-/// How many stand at priorities not greater than the one reached, by halves.
+/// How many groups have priorities not greater than the one reached, by binary search.
 pub(crate) fn count_up_to(groups: &[Group], reached: Option<i64>) -> usize
     requires { AreGroups groups.now }
     ensures { result ≡ up_to reached groups.now }
@@ -27,7 +27,7 @@ pub(crate) fn count_up_to(groups: &[Group], reached: Option<i64>) -> usize
     }
 }
 
-/// Whether an entry of the callback stands at that priority.
+/// Whether the callback has an entry at that priority.
 pub(crate) fn has(groups: &[Group], priority: i64, callback: CallbackId) -> bool
     requires { AreGroups groups.now }
     ensures { result ≡ list_any (λ e. bytes_eq e.callback callback) (filter
@@ -50,7 +50,7 @@ pub(crate) fn priority_of(groups: &[Group], callback: CallbackId) -> Option<i64>
         .map(|g| g.priority())
 }
 
-/// Sets `accepted` of the entry where it stands.
+/// Sets `accepted` of the entry, if it exists.
 pub(crate) fn accept(groups: &mut Vec<Group>, entry: &Entry)
     requires { AreGroups groups.old.items }
     ensures entries { entries_of groups.new.items
@@ -63,7 +63,7 @@ pub(crate) fn accept(groups: &mut Vec<Group>, entry: &Entry)
     }
 }
 
-/// Puts in an entry behind those of its priority.
+/// Adds an entry after those of its priority.
 pub(crate) fn put(alloc: Global, groups: &mut Vec<Group>, entry: &Entry) -> Result<(), AllocError>
     requires { AreGroups groups.old.items }
     ensures entries { OnOk result (entries_of groups.new.items
@@ -86,7 +86,7 @@ fn put_group(groups: &mut Vec<Group>, place: usize, group: Group) -> Result<(), 
     Ok(())
 }
 
-/// Takes out the entry of a priority and a callback, or all of that priority; how many there were.
+/// Removes the entry of a priority and a callback, or all of that priority; returns how many there were.
 pub(crate) fn remove(groups: &mut Vec<Group>, priority: i64, callback: Option<CallbackId>) -> usize
     requires { AreGroups groups.old.items }
     ensures entries { entries_of groups.new.items ≡ filter

@@ -45,7 +45,7 @@ impl Hook {
         Ok(Hook { name, groups })
     }
 
-    /// How its name stands to another.
+    /// How its name compares with another.
     pub fn cmp_name(&self, name: &HookName) -> Ordering
         ensures { result ≡ slice_cmp nat_cmp self.now.name name.now }
     {
@@ -59,7 +59,7 @@ impl Hook {
         self.groups.as_slice()
     }
 
-    /// Sets `accepted` of the entry where it stands.
+    /// Sets `accepted` of the entry, if it exists.
     pub fn accept(&mut self, entry: &Entry)
         ensures name { self.new.name ≡ self.old.name }
         ensures entries { hook_entries self.new
@@ -69,7 +69,7 @@ impl Hook {
         groups::accept(&mut self.groups, entry);
     }
 
-    /// Puts in an entry behind those of its priority.
+    /// Adds an entry after those of its priority.
     pub fn put(&mut self, alloc: Global, entry: &Entry) -> Result<(), AllocError>
         ensures name { self.new.name ≡ self.old.name }
         ensures put { OnOk result (hook_entries self.new
@@ -79,7 +79,7 @@ impl Hook {
         groups::put(alloc, &mut self.groups, entry)
     }
 
-    /// Takes out the entry of a priority and a callback, or all of that priority; how many there were.
+    /// Removes the entry of a priority and a callback, or all of that priority; returns how many there were.
     pub fn remove(&mut self, priority: i64, callback: Option<CallbackId>) -> usize
         ensures name { self.new.name ≡ self.old.name }
         ensures entries { hook_entries self.new ≡ filter

@@ -9,7 +9,7 @@ use crate::hook::Hook;
 use press_text::{CallbackId, HookName};
 use std::alloc::{AllocError, Global};
 
-// Where the hook of that name stands, or would stand, by halves.
+// Where the hook of that name is, or would be, by binary search.
 fn find(hooks: &[Hook], name: &HookName) -> Result<usize, usize>
     requires { IsByName hooks.now }
     ensures { IsPlaceOf name.now hooks.now result }
@@ -31,7 +31,7 @@ pub(crate) fn groups_of<'a>(hooks: &'a [Hook], name: &HookName) -> &'a [Group]
     }
 }
 
-/// Sets `accepted` of the entry where it stands.
+/// Sets `accepted` of the entry, if it exists.
 pub(crate) fn accept(hooks: &mut Vec<Hook>, name: &HookName, entry: &Entry)
     requires { IsByName hooks.old.items }
     ensures rows { table_rows hooks.new.items
@@ -45,7 +45,7 @@ pub(crate) fn accept(hooks: &mut Vec<Hook>, name: &HookName, entry: &Entry)
     }
 }
 
-/// Puts in an entry behind those of its hook and priority.
+/// Adds an entry after those of its hook and priority.
 pub(crate) fn put(
     alloc: Global,
     hooks: &mut Vec<Hook>,
@@ -74,7 +74,7 @@ fn put_hook(hooks: &mut Vec<Hook>, place: usize, hook: Hook) -> Result<(), Alloc
     Ok(())
 }
 
-/// Takes out the hook's entry of a priority and a callback, or all of that priority; how many there were.
+/// Removes the hook's entry of a priority and a callback, or all of that priority; returns how many there were.
 pub(crate) fn remove(
     hooks: &mut Vec<Hook>,
     name: &HookName,
@@ -98,7 +98,7 @@ pub(crate) fn remove(
     gone
 }
 
-// Takes out a hook that has no group left.
+// Removes a hook that has no group left.
 fn drop_empty(hooks: &mut Vec<Hook>, place: usize)
     requires within { place < length hooks.old.items }
     requires order { IsByName hooks.old.items }
@@ -112,7 +112,7 @@ fn drop_empty(hooks: &mut Vec<Hook>, place: usize)
     }
 }
 
-/// Takes out all of the hook's entries; how many there were.
+/// Removes all of the hook's entries; returns how many there were.
 pub(crate) fn remove_hook(hooks: &mut Vec<Hook>, name: &HookName) -> usize
     requires order { IsByName hooks.old.items }
     requires small { length (table_rows hooks.old.items) < 2 ^ 64 }

@@ -1,6 +1,6 @@
-//! The hook table: which callbacks stand on a hook and in which order, and the runs that are open.
+//! The hook table: which callbacks are on a hook and in which order, and the runs that are open.
 //!
-//! A run takes the entries of one priority as they stand when it gets there; no edit changes what it has taken.
+//! A run takes the entries of one priority as they are when it gets there; no edit changes what it has taken.
 #![tactic(auto)]
 
 mod entry;

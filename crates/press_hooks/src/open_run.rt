@@ -12,7 +12,7 @@ use press_text::HookName;
 use std::alloc::{AllocError, Global};
 use std::marker::Model;
 
-/// Entries that a run has still to hand out.
+/// Entries that a run has still to return.
 #[derive(Debug)]
 pub struct Rest {
     priority: i64,
@@ -42,7 +42,7 @@ impl Model for Rest {
     ghost invariant = { λ r. r.given ≤ length r.members.items };
 }
 
-/// An open run of a hook: the priority last reached, and what is left of the entries that stood there then.
+/// An open run of a hook: the priority last reached, and what is left of the entries that were there then.
 #[derive(Debug)]
 pub struct OpenRun {
     pub hook: HookName,
@@ -72,14 +72,14 @@ impl OpenRun {
         })
     }
 
-    /// Whether the entries of the priority reached are handed out.
+    /// Whether all entries of the priority reached were returned.
     pub(crate) fn is_done(&self) -> bool
         ensures { result ≡ is_done self.now.rest }
     {
         self.rest.is_empty()
     }
 
-    /// Gets to the priority of a group, whose entries it takes as they stand.
+    /// Gets to the priority of a group, whose entries it takes as they are.
     pub(crate) fn reach(&mut self, group: &Group) -> Result<(), AllocError>
         requires { is_done self.old.rest ≡ true }
         ensures reached { OnOk result (self.new ≡ at_group group.now self.old) }
@@ -90,7 +90,7 @@ impl OpenRun {
         Ok(())
     }
 
-    /// Takes the first entry off the rest.
+    /// Removes the first entry of the rest.
     pub(crate) fn take_next(&mut self) -> Option<Entry>
         ensures given { result ≡ first_of self.old.rest }
         ensures after { self.new ≡ one_taken self.old }
@@ -116,7 +116,7 @@ impl Rest {
         self.given == self.members.len()
     }
 
-    // Takes over a group's entries, in the memory of those that were handed out.
+    // Takes over a group's entries, in the memory of those that were returned.
     fn refill(&mut self, group: &Group) -> Result<(), AllocError>
         requires { is_done self.old ≡ true }
         ensures filled { OnOk result (self.new ≡ group_entries group.now) }
@@ -145,7 +145,7 @@ impl Rest {
     }
 }
 
-/// An open run, and its cursor: how many groups of its hook stand at priorities not greater than the one reached.
+/// An open run, and its cursor: how many groups of its hook have priorities not greater than the one reached.
 #[derive(Debug)]
 pub struct PlacedRun {
     pub run: OpenRun,
@@ -168,7 +168,7 @@ impl PlacedRun {
         Ok(PlacedRun { run, cursor: 0 })
     }
 
-    /// Takes the next entry off, from the group behind the cursor where the last one is done.
+    /// Takes the next entry, from the group at the cursor where the last group is done.
     pub fn advance(&mut self, rows: &Rows) -> Result<Option<Entry>, AllocError>
         requires { IsInPlace rows.now self.old }
         ensures given { IfOk result (λ e. e ≡ next_entry (table_rows rows.now) self.old.run) }
@@ -209,7 +209,7 @@ impl PlacedRun {
         Ok(())
     }
 
-    // Puts the cursor of a run of that hook where it belongs.
+    // Counts the cursor of a run of that hook anew.
     fn mend(&mut self, hook: &HookName, rows: &Rows)
         ensures { self.new ≡ mended hook.now rows.now self.old }
     {
@@ -219,7 +219,7 @@ impl PlacedRun {
     }
 }
 
-/// Mends the cursors of the hook's runs after an edit of its rows.
+/// Counts the cursors of the hook's runs anew after an edit of its rows.
 pub(crate) fn mend_all(runs: &mut Vec<PlacedRun>, hook: &HookName, rows: &Rows)
     ensures { runs.new.items ≡ map (mended hook.now rows.now) runs.old.items }
 {

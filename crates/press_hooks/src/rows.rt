@@ -11,10 +11,10 @@ use press_text::{CallbackId, HookName, copied_all};
 use std::alloc::{AllocError, Global};
 use std::marker::Model;
 
-/// How many rows a table holds at most.
+// How many rows a table holds at most.
 const MOST_ROWS: usize = 1024;
 
-/// The entries of every hook: the hooks stand in the order of their names.
+/// The entries of every hook: the hooks are in the order of their names.
 #[derive(Debug)]
 pub struct Rows {
     hooks: Vec<Hook>,
@@ -74,7 +74,7 @@ impl Rows {
         groups::has(self.groups_of(hook), priority, callback)
     }
 
-    /// Sets `accepted` of the entry that stands, or puts in a new one where there is room; whether it then stands.
+    /// Sets `accepted` of the entry that is there already, or adds a new one if there is room; returns whether it is then there.
     pub fn add(&mut self, alloc: Global, hook: &HookName, e: &Entry) -> Result<bool, AllocError>
         ensures answer { IfOk result (λ b. b
             ≡ adds_row hook.now e.now.callback e.now.priority (table_rows self.old)) }
@@ -124,7 +124,7 @@ impl Rows {
         Ok(())
     }
 
-    /// Takes out the entry of that callback at that priority.
+    /// Removes the entry of that callback at that priority.
     pub fn remove(&mut self, hook: &HookName, callback: CallbackId, priority: i64)
         ensures rows { table_rows self.new ≡ remove_row hook.now callback priority
             (table_rows self.old) }
@@ -133,7 +133,7 @@ impl Rows {
         self.remove_at(hook, priority, Some(callback));
     }
 
-    /// Takes out the hook's entries at a priority, or at every one.
+    /// Removes the hook's entries at a priority, or at every one.
     pub fn remove_all(&mut self, hook: &HookName, priority: Option<i64>)
         ensures rows { table_rows self.new ≡ remove_rows hook.now priority (table_rows self.old) }
         ensures others { KeepsOthers hook.now self.old self.new }

@@ -13,7 +13,7 @@ use std::marker::Model;
 
 /// The entries of every hook, and the runs that are open (`WP_Hook`).
 ///
-/// Rows stand hook by hook, by priority, then in the order in which they were added.
+/// Rows are ordered by hook, then by priority, then by when they were added.
 #[derive(Debug)]
 pub struct HookTable {
     alloc: Global,
@@ -60,7 +60,7 @@ impl Model for RunId {
 }
 
 impl HookTable {
-    /// A table without rows and runs, which takes no memory until something is put in.
+    /// A table without rows and runs, which takes no memory until something is added.
     pub fn new(alloc: Global) -> HookTable
         ensures { result ≡ no_rows }
     {
@@ -84,7 +84,7 @@ impl HookTable {
         })
     }
 
-    /// Puts in an entry, or sets `accepted` of the one that stands, which keeps its place (`add_filter`).
+    /// Adds an entry, or sets `accepted` of the one that is there already, which keeps its place (`add_filter`).
     /// False, and no change, where a new entry would be the 1,025th; that takes no memory.
     pub fn add(
         &mut self,
@@ -109,7 +109,7 @@ impl HookTable {
         Ok(stands)
     }
 
-    /// Takes out the entry of that callback at that priority; whether one stood there (`remove_filter`).
+    /// Removes the entry of that callback at that priority; returns whether there was one (`remove_filter`).
     pub fn remove(&mut self, hook: &HookName, callback: CallbackId, priority: i64) -> bool
         ensures answer { result ≡ list_any (is_row hook.now priority callback) self.old.rows }
         ensures rows { self.new ≡ with_rows (remove_row hook.now callback priority self.old.rows)
@@ -121,7 +121,7 @@ impl HookTable {
         stood
     }
 
-    /// Takes out the hook's entries at a priority, or at every one (`remove_all_filters`).
+    /// Removes the hook's entries at a priority, or at every one (`remove_all_filters`).
     pub fn remove_all(&mut self, hook: &HookName, priority: Option<i64>)
         ensures { self.new ≡ with_rows (remove_rows hook.now priority self.old.rows) self.old }
     {
@@ -129,7 +129,7 @@ impl HookTable {
         mend_all(&mut self.runs, hook, &self.rows);
     }
 
-    /// The least priority at which the callback stands on the hook (`has_filter`).
+    /// The least priority at which the callback is on the hook (`has_filter`).
     pub fn has(&self, hook: &HookName, callback: CallbackId) -> Option<i64>
         ensures { result ≡ priority_of hook.now callback self.now.rows }
     {
@@ -155,7 +155,7 @@ impl HookTable {
         Ok(RunId { depth })
     }
 
-    /// The next entry of the innermost run, or None where no greater priority stands.
+    /// The next entry of the innermost run, or None where no greater priority is left.
     /// Takes memory only where it reaches a new priority.
     pub fn next(&mut self, run: RunId) -> Result<Option<Entry>, AllocError>
         requires { IsTrue (is_innermost run self.old.open_runs) }

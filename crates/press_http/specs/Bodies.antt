@@ -74,7 +74,7 @@ found_list values.More = []
 
 -- ---- reading a body
 
--- why so many bytes are not there, of those that stood behind the head and those that were read, and whether that was all
+-- why so many bytes are not there, of those after the head and those that were read, and whether that was all
 abbrev pub RefusesBody : HttpFault → ℕ → List ℕ → List ℕ → Option (List ℕ) → Type 0
 RefusesBody fault.NoMemory n rest more left = Unit {0}
 RefusesBody fault.ReadFault n rest more left = length rest + length more < n
@@ -90,6 +90,6 @@ RefusesBody fault.TooBig n rest more left = ⊥
 RefusesBody fault.FieldsTooLarge n rest more left = ⊥
 RefusesBody fault.NotDone n rest more left = ⊥
 
--- more bytes are wanted than stood behind the head and were read
+-- more bytes are wanted than were after the head and were read
 abbrev pub WantsBody : ℕ → List ℕ → List ℕ → Type 0
 WantsBody n rest more = length rest + length more < n

@@ -1,4 +1,4 @@
--- Faults of a connection: the status that tells each (RFC 9110, 15), or none where the connection is closed without a reply, and its number (own).
+-- Faults of a connection: the status of each (RFC 9110, 15), or none where the connection is closed without a reply, and its number (own).
 use Rattle.std.specs.Prelude.{ℕ, Option, Some, None}
 use Rattle.press_http.specs.declared.fault.HttpFault.{HttpFault}
 use Rattle.press_http.specs.declared.fault.HttpFault.TheVariants as fault

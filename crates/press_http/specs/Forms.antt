@@ -61,16 +61,16 @@ moment_in text = option_and_then moment_of (decimal_in text)
 abbrev pub moment_at : List ℕ → List ℕ → Result ℕ HttpFault
 moment_at name form = or_bad (option_and_then moment_in (first_named name form))
 
--- where nothing is told it is this one
+-- where none is given it is this one
 abbrev pub default : {A : Type 0} → A → (List ℕ → Option A) → Option (List ℕ) → Option A
 default x read None = Some x
 default x read (Some text) = read text
 
--- draft, where none is told (`wp_insert_post`)
+-- draft, where none is given (`wp_insert_post`)
 abbrev pub status_at : List ℕ → Result Status HttpFault
 status_at form = or_bad (default Draft status_named (first_named (codes "status") form))
 
--- the command's own moment, where none is told
+-- the command's own moment, where none is given
 abbrev pub date_at : ℕ → List ℕ → Result ℕ HttpFault
 date_at now form = or_bad (default now moment_in (first_named (codes "date") form))
 

@@ -16,7 +16,7 @@ most_fields = 32
 abbrev pub longest_head : ℕ
 longest_head = 8192
 
--- a head stands at the front, and then the rest
+-- a head is at the front, and then the rest
 abbrev pub ReadsHead : List ℕ → RequestHead → List ℕ → Type 0
 ReadsHead seen h rest = ReadsRequest seen h rest × (length h.fields ≤ most_fields) × (length (print_request h) ≤ longest_head)
 
@@ -24,11 +24,11 @@ ReadsHead seen h rest = ReadsRequest seen h rest × (length h.fields ≤ most_fi
 abbrev pub HasNoHead : List ℕ → Type 0
 HasNoHead seen = (h : RequestHead) (rest : List ℕ) → ¬ (ReadsHead seen h rest)
 
--- no head stands there yet, and more bytes may make it one, of any number of fields, or it ends in a target, whose UTF-8 is looked at only at its end
+-- no head is there yet, and more bytes may make it one, of any number of fields, or it ends in a target, whose UTF-8 is looked at only at its end
 abbrev pub IsUnfinished : List ℕ → Type 0
 IsUnfinished seen = HasNoRequest seen × MayBecomeRequest seen
 
--- no head within the limits stands there, and a front of it with an empty line is a head of more fields than there may be
+-- no head within the limits is there, and a prefix of it with an empty line is a head of more fields than there may be
 abbrev pub HasTooManyFields : List ℕ → Type 0
 HasTooManyFields seen = HasNoHead seen × RequestExceeds most_fields seen
 
@@ -91,6 +91,6 @@ Misses fault.TooBig read = ⊥
 Misses fault.FieldsTooLarge read = ⊥
 Misses fault.NotDone read = ⊥
 
--- no head stands there yet, and there is room for more
+-- no head is there yet, and there is room for more
 abbrev pub WantsHead : List ℕ → Type 0
 WantsHead seen = IsUnfinished seen × (length seen < longest_head)

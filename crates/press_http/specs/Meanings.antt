@@ -1,4 +1,4 @@
--- Meanings that are a value or a fault, and what a fault says of one; want of memory may come at any growth (own).
+-- Meanings that are a value or a fault, and what a fault says of one; out of memory may come at any growth (own).
 use Rattle.std.specs.Prelude.{◌≡◌, Option, Some, None, Result, Ok, Err}
 use Rattle.press_http.specs.declared.fault.HttpFault.{HttpFault}
 use Rattle.press_http.specs.declared.fault.HttpFault.TheVariants as fault

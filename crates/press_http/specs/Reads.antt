@@ -12,7 +12,7 @@ abbrev pub Took : Option (List ℕ) → Option (List ℕ) → Option (List ℕ) 
 Took old None new = Keeps old new
 Took old (Some bytes) new = Consumes old new bytes
 
--- all that reads gave; the last of them stands first
+-- all that reads gave, the last of them first
 abbrev pub seen_by : List (Option (List ℕ)) → List ℕ
 seen_by [] = []
 seen_by (read ∷ earlier) = seen_by earlier ++ came read

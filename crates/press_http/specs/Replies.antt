@@ -40,7 +40,7 @@ reply_bytes r = reply_head r ++ r.body
 
 -- ---- replies with a fixed body
 
--- the statuses that are told so
+-- the statuses that have such a body
 abbrev pub told : List ℕ
 told = 200 ∷ 202 ∷ 400 ∷ 404 ∷ 405 ∷ 411 ∷ 413 ∷ 431 ∷ 500 ∷ 501 ∷ 503 ∷ []
 

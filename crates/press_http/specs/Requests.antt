@@ -1,5 +1,5 @@
--- HTTP: what bytes are as a request, or which fault they have (RFC 9112). The rules stand in this order: the head; the target, a transfer coding and the
--- length of the body; the body. One request stands on a connection, and what is behind it is passed over.
+-- HTTP: what bytes are as a request, or which fault they have (RFC 9112). The rules are in this order: the head; the target, a transfer coding and the
+-- length of the body; the body. A connection has one request, and what is behind it is passed over.
 use Rattle.std.specs.Prelude.{◌≡◌, ◌⊎◌, ℕ, ◌+◌, ◌<◌, ◌≤◌, List, length, take, Option, Ok, Err}
 use Rattle.std.specs.Io.KnownBytes.{IsAtEnd}
 use Rattle.httparse.specs.Grammar.{RequestHead}
@@ -15,13 +15,13 @@ use Rattle.press_http.specs.Reads.{HasEnded, HasFailed}
 abbrev pub longest_request : ℕ
 longest_request = longest_head + longest_body
 
--- the head tells a length, and the rest has so many bytes; no more is read than a head may have and the body has
+-- the head gives a length, and the rest has so many bytes; no more is read than a head may have and the body has
 abbrev pub IsRequest : List ℕ → Request → Type 0
 IsRequest seen r =
     (h : RequestHead) × (rest : List ℕ) × (n : ℕ) × ReadsHead seen h rest × (length_of h ≡ Ok n) × (n ≤ length rest)
     × (r.method ≡ h.method) × (r.target ≡ h.target) × (r.body ≡ take n rest) × (length seen ≤ longest_head + n)
 
--- a head that tells the length of its body, and what stands behind it
+-- a head that gives the length of its body, and what follows it
 abbrev pub IsStart : List ℕ → Start → Type 0
 IsStart seen s =
     (h : RequestHead) × ReadsHead seen h s.rest × (length_of h ≡ Ok s.count) × (s.method ≡ h.method) × (s.target ≡ h.target)
@@ -30,7 +30,7 @@ IsStart seen s =
 abbrev pub IsWithinHead : List ℕ → Type 0
 IsWithinHead seen = length seen ≤ longest_head
 
--- a head whose fields tell the fault
+-- a head whose fields give the fault
 abbrev pub IsJudged : HttpFault → List ℕ → Type 0
 IsJudged e seen = (h : RequestHead) × (rest : List ℕ) × ReadsHead seen h rest × (length_of h ≡ Err e) × IsWithinHead seen
 
@@ -58,7 +58,7 @@ Refuses fault.NotAllowed seen left = ⊥
 abbrev pub WantsMore : List ℕ → Type 0
 WantsMore seen = WantsHead seen ⊎ IsCut seen
 
--- a read that failed and the end are told as what they are
+-- a read that failed and the end are returned as what they are
 abbrev pub EndsBy : HttpFault → List (Option (List ℕ)) → Type 0
 EndsBy fault.ReadFault reads = HasFailed reads
 EndsBy fault.Ended reads = HasEnded reads

@@ -83,7 +83,7 @@ front_by (Some id) = made target.Post (or_missing (decimal_in id))
 abbrev pub front_of : List ℕ → Result Target HttpFault
 front_of query = front_by (first_named (codes "p") query)
 
--- what stands behind the first so many slashes
+-- what follows the first so many slashes
 unfoldable pub behind : ℕ → List ℕ → List ℕ
 behind zero path = path
 behind (suc n) path = behind n (after_first (λ b. b == 47) path)

@@ -11,7 +11,7 @@ use crate::pieces::Pieces;
 use crate::streams::read_some;
 use press_text::Items;
 
-/// A body of so many bytes: those that stood behind the head, and then what is read.
+/// A body of that many bytes: those after the head, and then what is read.
 pub fn read_body<R: Pieces>(
     reader: &mut R,
     rest: Items<u8>,

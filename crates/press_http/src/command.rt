@@ -23,7 +23,7 @@ pub(crate) struct Written {
 }
 
 impl<'f> Form<'f> {
-    // Draft, where nothing is told.
+    // Draft, where none is given.
     fn status(&self) -> Result<Status, HttpFault>
         ensures { Gives Refuses Ok result (spec.status_at self.now.bytes.now) }
     {
@@ -36,7 +36,7 @@ impl<'f> Form<'f> {
         }
     }
 
-    // The command's own moment, where nothing is told.
+    // The command's own moment, where none is given.
     fn date(&self, now: Moment) -> Result<Moment, HttpFault>
         ensures { Gives Refuses Ok result (spec.date_at now self.now.bytes.now) }
     {
@@ -155,7 +155,7 @@ impl<'f> Form<'f> {
 }
 
 /// The command that a form gives, with its token and its moment. BadForm where a field is missing or out of its range;
-/// what a command may not do to a site is no matter of the form. Memory is first wanted for a name with `+` or `%`, or for the editor.
+/// what a site refuses of a command is not looked at here. Memory is first taken for a name with `+` or `%`, or for the editor.
 #[tactic(auto, unfolding(crate::specs::Forms::command_in))]
 pub fn form_command(alloc: Global, form: &[u8]) -> Result<Stamped, HttpFault>
     ensures value { Gives Refuses Ok result (spec.command_in form.now) }

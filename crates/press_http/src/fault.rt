@@ -34,13 +34,13 @@ pub enum HttpFault {
     TooBig,
     #[error("too long a head, or too many fields in it")]
     FieldsTooLarge,
-    /// The transfer codings of HTTP/1.1 are not there.
+    /// Transfer codings of HTTP/1.1 are not supported.
     #[error("not implemented")]
     NotDone,
 }
 
 impl HttpFault {
-    /// The status of the reply that tells the fault; none where the connection is closed without a reply.
+    /// The status of the reply to the fault; None where the connection is closed without a reply.
     pub fn status(self) -> Option<u16>
         ensures value { result ≡ status_of self }
         // It has a fixed reply.
@@ -59,7 +59,7 @@ impl HttpFault {
         }
     }
 
-    /// The number that tells the fault: that of the program's table where it has one, and else the status.
+    /// The fault's number: that of the program's table if it has one, and else the status.
     pub fn number(self) -> u16
         ensures { result ≡ http_fault_number self }
     {

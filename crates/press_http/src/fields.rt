@@ -11,7 +11,7 @@ use crate::fault::HttpFault;
 use httparse::spans::HeaderSpan;
 use std::str::from_utf8;
 
-/// How long a body may be.
+// How long a body may be.
 const LONGEST_BODY: u64 = 65_536;
 
 /// The values of the fields of one name.
@@ -28,7 +28,7 @@ fn is_named(name: &str, other: &[u8]) -> bool
     other.eq_ignore_ascii_case(name.as_bytes())
 }
 
-// The values of the fields of that name, over the bytes in which they stand.
+// The values of the fields of that name, over the bytes that hold them.
 fn values_of<'b>(buf: &'b [u8], fields: &[HeaderSpan], name: &str) -> Values<'b>
     requires { All (IsHeaderWithin (length buf.now)) fields.now }
     ensures { AreValues result (values_of name.now (map (header_bytes buf.now) fields.now)) }
@@ -57,7 +57,7 @@ fn are_digits(value: &[u8]) -> bool
     !value.is_empty() && all_digits(value)
 }
 
-// The text that digits are.
+// The digits as text.
 fn text_of(digits: &[u8]) -> &str
     requires { are_digits digits.now ≡ true }
     ensures { result.now ≡ digits.now }
@@ -77,7 +77,7 @@ fn number_of(digits: &str) -> Option<u64>
     digits.parse::<u64>().ok()
 }
 
-// The length that a field tells: digits alone, however many.
+// The length in a field: digits alone, however many.
 fn length_in(value: &[u8]) -> Result<usize, HttpFault>
     ensures { result ≡ length_in value.now }
 {

@@ -44,7 +44,7 @@ pub struct Form<'f> {
 }
 
 impl<'f> Form<'f> {
-    /// The text of a field, where it is there.
+    /// The text of a field, if it exists.
     pub fn found(&self, name: &str) -> Result<Option<Text>, HttpFault>
         ensures value { Gives Refuses Ok result
             (Ok (spec.first_named name.now self.now.bytes.now)) }
@@ -54,7 +54,6 @@ impl<'f> Form<'f> {
         Ok(found)
     }
 
-    /// A text.
     pub fn text(&self, name: &str) -> Result<Text, HttpFault>
         ensures value { Gives Refuses Ok result (spec.text_at name.now self.now.bytes.now) }
         ensures memory { spec.LacksPlainly name.now self.now.bytes.now → result
@@ -92,7 +91,6 @@ impl<'f> Form<'f> {
         }
     }
 
-    /// A whole number.
     pub fn number(&self, name: &str) -> Result<u64, HttpFault>
         ensures { Gives Refuses Ok result (spec.number_at name.now self.now.bytes.now) }
     {
@@ -103,7 +101,6 @@ impl<'f> Form<'f> {
         }
     }
 
-    /// A moment.
     pub fn moment(&self, name: &str) -> Result<Moment, HttpFault>
         ensures { Gives Refuses Ok result (spec.moment_at name.now self.now.bytes.now) }
     {

@@ -16,7 +16,7 @@ use std::alloc::Global;
 /// How many fields a head may have.
 pub const MOST_FIELDS: usize = 32;
 
-/// How long a head may be.
+// How long a head may be.
 const LONGEST_HEAD: usize = 8192;
 
 // One look at the bytes that came so far.
@@ -33,7 +33,7 @@ fn look(buf: &[u8], headers: &mut [HeaderSpan]) -> Result<Option<RequestSpans>, 
 }
 
 /// Reads a head in the pieces in which it comes: the bytes that were seen, which begin with the head, and where its parts are.
-/// Bytes after the head stand behind it.
+/// Bytes after the head follow it.
 pub fn read_head<R: Pieces>(
     alloc: Global,
     reader: &mut R,

@@ -1,6 +1,6 @@
 //! Requests and replies of HTTP/1.x as bytes, and what a request asks for.
 //!
-//! One request stands on a connection, and one reply ends it.
+//! A connection has one request, and one reply ends it.
 #![tactic(auto)]
 
 mod asked;

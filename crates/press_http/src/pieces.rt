@@ -1,4 +1,4 @@
-//! A reader whose reads are told one by one.
+//! A reader with a contract for each read.
 
 ghost use Rattle.std.specs.Prelude.{take, None, Some, MatchResult};
 ghost use Rattle.std.specs.Io.{ReadsAtMost};
@@ -7,7 +7,7 @@ ghost use Rattle.std.specs.Io.KnownBytes.{ReadConsumes};
 use std::io;
 use std::io::Read;
 
-/// A reader whose contract tells its reads one by one, as every reader's may.
+/// A reader with a contract for each read, which every reader can meet.
 pub trait Pieces {
     ghost use Rattle.std.specs.Prelude.{ℕ, List, Option};
 

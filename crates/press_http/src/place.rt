@@ -1,4 +1,4 @@
-//! The paths that are served, and what stands at each.
+//! The paths that are served, and what each is for.
 
 ghost use Rattle.std.specs.Prelude.{◌≡◌, [], IfOk, IfErr, OnOk};
 ghost use Rattle.press_text.specs.Gives.{Gives};
@@ -9,7 +9,7 @@ use crate::fault::HttpFault;
 use matchit::Router;
 use std::alloc::Global;
 
-/// What stands at a path.
+/// What a path is for.
 #[derive(Clone, Copy, Debug, PartialEq, Eq)]
 pub(crate) enum Place {
     Front,
@@ -20,7 +20,7 @@ pub(crate) enum Place {
 }
 
 impl Place {
-    /// What stands at that path. The router takes memory.
+    /// What that path is for. The router takes memory.
     #[tactic(auto, unfolding(crate::specs::Routes::place_at))]
     pub fn at(alloc: Global, path: &str) -> Result<Place, HttpFault>
         ensures { Gives Refuses Ok result (place_at path.now) }
@@ -43,7 +43,7 @@ impl Place {
     }
 }
 
-// A router's only refusal of these paths is want of memory.
+// A router refuses these paths only when out of memory.
 #[tactic(auto, using(crate::proofs::Tables::inserted), unfolding(crate::specs::Routes::with_route))]
 fn add(router: &mut Router<Place>, path: &str, place: Place) -> Result<(), HttpFault>
     ensures ok { OnOk result (router.new ≡ with_route path.now place router.old) }

@@ -54,7 +54,7 @@ fn after_slash(text: &str) -> &str
     }
 }
 
-// What stands behind the first so many slashes.
+// What follows the first `slashes` slashes.
 #[tactic(auto, using(crate::proofs::Slashes::one_more, crate::proofs::Slashes::none_left))]
 fn behind(path: &str, slashes: usize) -> &str
     ensures { result.now ≡ spec.behind slashes path.now }
@@ -152,8 +152,9 @@ fn allowed(method: &str, place: Place) -> Result<Place, HttpFault>
     }
 }
 
-/// What a request asks for: by its path, then its method, then what it carries. NotFound for a path that is not served, or whose id, editor or number
-/// doesn't read; NotAllowed for another method; BadForm and BadPeer for what a command or a message can't be read from.
+/// What a request asks for: by its path, then its method, then what it carries. NotFound for a path that is not served,
+/// or whose id, editor or number doesn't read; NotAllowed for another method; BadForm and BadPeer for what a command or
+/// a message can't be read from.
 #[tactic(auto, unfolding(crate::specs::Routes::asked))]
 pub fn route(alloc: Global, request: &Request) -> Result<Asked, HttpFault>
     ensures { Gives Refuses Ok result (spec.asked request.now.method request.now.target

@@ -20,7 +20,7 @@ use press_text::{Items, Text};
 use std::alloc::{AllocError, Global};
 use std::str::from_utf8;
 
-/// A head, the count of bytes of the body, and what stood behind the head.
+/// A head, the count of bytes of the body, and the bytes after the head.
 #[derive(Drop)]
 pub struct Start {
     pub method: Method,

@@ -68,16 +68,16 @@ signed_in d = option_and_then as_i64 (as_number d)
 abbrev pub below : ℕ → ℕ → Option ℕ
 below bound n = if nat_lt n bound then Some n else None
 
--- where nothing stands at the key it is this one
+-- where the key is missing it is this one
 abbrev pub default : {A : Type 0} → A → (Data → Option A) → Option Data → Option A
 default x read None = Some x
 default x read (Some d) = read d
 
--- WordPress's priority where none is told
+-- WordPress's priority where none is given
 abbrev pub priority_at : Place → Data → Result ℤ Place
 priority_at at d = or_bad at (default (pos 10) signed_in (get (codes "priority") d))
 
--- WordPress's count of accepted arguments where none is told
+-- WordPress's count of accepted arguments where none is given
 abbrev pub accepted_at : Place → Data → Result ℕ Place
 accepted_at at d = or_bad at (default 1 (λ n. option_and_then (below (2 ^ 32)) (number_in n)) (get (codes "accepted") d))
 
@@ -93,7 +93,7 @@ list_in d = option_map list_of (as_array d)
 abbrev pub list_at : Place → List ℕ → Data → Result (List Data) Place
 list_at at key d = or_bad at (option_and_then list_in (get key d))
 
--- each item of a list in turn, the first at this number; the first that is bad tells its place
+-- each item of a list in turn, the first at this number; the first that is bad gives its place
 unfoldable pub each : {A : Type 0} → (Place → Data → Result A Place) → Place → ℕ → List Data → Result (List A) Place
 each read at n [] = Ok []
 each read at n (d ∷ ds) = do

@@ -110,7 +110,7 @@ texts_where at (Some d) = do
   ds ← or_bad at (list_in d)
   each text_of at 0 ds
 
--- the texts of a list, none where nothing stands at the key
+-- the texts of a list, none where the key is missing
 abbrev pub texts_at : Place → List ℕ → Data → Result (List (List Part)) Place
 texts_at at key d = texts_where at (get key d)
 
@@ -125,7 +125,7 @@ callback_at at d = name_at 32 at (codes "callback") d
 abbrev pub some_signed : Data → Option (Option ℤ)
 some_signed d = option_map Some (signed_in d)
 
--- all priorities, where none is told
+-- all priorities, where none is given
 abbrev pub any_priority_at : Place → Data → Result (Option ℤ) Place
 any_priority_at at d = or_bad at (default None some_signed (get (codes "priority") d))
 
@@ -196,7 +196,7 @@ every_of word =
 abbrev pub every_in : Data → Option Every
 every_in d = option_and_then every_of (as_str d)
 
--- once, where none is told (`wp_schedule_single_event`)
+-- once, where none is given (`wp_schedule_single_event`)
 abbrev pub every_at : Place → Data → Result Every Place
 every_at at d = or_bad at (default Once every_in (get (codes "every") d))
 

@@ -1,9 +1,9 @@
--- Places in a file, as they are told to its author: keys and numbers of lists, counted from 0 (own).
+-- Places in a file, as its author sees them: keys and numbers of lists, counted from 0 (own).
 use Rattle.std.specs.Prelude.{ℕ, List, [], ◌++◌, codes, decimal}
 use Rattle.press_kit.specs.declared.place.Place.{Place}
 use Rattle.press_kit.specs.declared.place.Place.TheVariants.{File, Callbacks, Callback, Op, Plugins, Plugin, Load, Active, ActiveName, Commands, Command, Pages, Page, Plays, Play, Steps, Step}
 
--- the place of an item of the list at a place; an op or a load is told as a whole
+-- the place of an item of the list at a place; an op or a load is reported as a whole
 abbrev pub item_of : Place → ℕ → Place
 item_of File n = File
 item_of Callbacks n = Callback n
@@ -23,7 +23,7 @@ item_of (Play p) n = Play p
 item_of Steps n = Step n
 item_of (Step s) n = Step s
 
--- `name[n]`, with what stands behind it
+-- `name[n]`, with what follows it
 abbrev pub numbered : List ℕ → ℕ → List ℕ → List ℕ
 numbered name n rest = name ++ (codes "[" ++ (decimal n ++ (codes "]" ++ rest)))
 

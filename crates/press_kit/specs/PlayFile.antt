@@ -28,7 +28,7 @@ args_where at (Some d) = do
   ds ← or_bad at (list_in d)
   each text_in at 0 ds
 
--- none where none are told
+-- none where none are given
 abbrev pub args_at : Place → Data → Result (List (List ℕ)) Place
 args_at at d = args_where at (get (codes "args") d)
 
@@ -36,11 +36,11 @@ args_at at d = args_where at (get (codes "args") d)
 abbrev pub times_in : ℕ → Option ℕ
 times_in n = if nat_lt 0 n && nat_lt n (2 ^ 32) then Some n else None
 
--- once where nothing is told
+-- once where none is given
 abbrev pub times_at : Place → Data → Result ℕ Place
 times_at at d = or_bad at (default 1 (λ n. option_and_then times_in (number_in n)) (get (codes "times") d))
 
--- not where nothing is told
+-- not where none is given
 abbrev pub trace_at : Place → Data → Result Bool Place
 trace_at at d = or_bad at (default false as_bool (get (codes "trace") d))
 
@@ -48,7 +48,7 @@ abbrev pub keys_of : PlayKind → List (List ℕ)
 keys_of Apply = codes "apply" ∷ codes "args" ∷ codes "times" ∷ codes "trace" ∷ []
 keys_of Do = codes "do" ∷ codes "args" ∷ codes "times" ∷ codes "trace" ∷ []
 
--- the key at which the hook stands
+-- the key of the hook
 abbrev pub hook_key : PlayKind → List ℕ
 hook_key Apply = codes "apply"
 hook_key Do = codes "do"
@@ -101,7 +101,7 @@ targets_where (Some d) = do
   ds ← or_bad place.Pages (list_in d)
   each target_of place.Pages 0 ds
 
--- none where none are told
+-- none where none are given
 abbrev pub pages_of : Data → Result (List Target) Place
 pages_of d = targets_where (get (codes "pages") d)
 

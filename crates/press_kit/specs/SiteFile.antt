@@ -31,11 +31,11 @@ moment_at at key d = or_bad at (option_and_then moment_in (get key d))
 abbrev pub status_in : Data → Option Status
 status_in d = option_and_then status_named (as_str d)
 
--- draft, where none is told (`wp_insert_post`)
+-- draft, where none is given (`wp_insert_post`)
 abbrev pub status_at : Place → Data → Result Status Place
 status_at at d = or_bad at (default Draft status_in (get (codes "status") d))
 
--- the command's own moment, where none is told
+-- the command's own moment, where none is given
 abbrev pub date_at : ℕ → Place → Data → Result ℕ Place
 date_at now at d = or_bad at (default now moment_in (get (codes "date") d))
 

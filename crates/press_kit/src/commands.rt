@@ -47,7 +47,7 @@ fn moment(value: &Value) -> Option<Moment>
 }
 
 impl<'v> Fields<'v> {
-    // Draft, where nothing is told.
+    // Draft, where none is given.
     fn status(&self) -> Result<Status, KitFileFault>
         ensures { Gives Refuses Ok result (spec.status_at self.now.at (view self.now.value.now)) }
     {
@@ -65,7 +65,7 @@ impl<'v> Fields<'v> {
         Ok(moment(told).ok_or(self.at)?)
     }
 
-    // The command's own moment, where nothing is told.
+    // The command's own moment, where none is given.
     fn date(&self, now: Moment) -> Result<Moment, KitFileFault>
         ensures { Gives Refuses Ok result (spec.date_at now self.now.at (view self.now.value.now)) }
     {

@@ -66,7 +66,6 @@ impl<'v> Fields<'v> {
         self.value.get(key).and_then(Value::as_str)
     }
 
-    /// A text.
     pub fn text(&self, key: &str) -> Result<Text, KitFileFault>
         ensures { Gives Refuses Ok result (spec.text_at self.now.at key.now
             (view self.now.value.now)) }
@@ -126,7 +125,6 @@ impl<'v> Fields<'v> {
         }
     }
 
-    /// A whole number.
     pub fn number(&self, key: &str) -> Result<u64, KitFileFault>
         ensures { Gives Refuses Ok result (spec.number_at self.now.at key.now
             (view self.now.value.now)) }
@@ -148,7 +146,7 @@ impl<'v> Fields<'v> {
         }
     }
 
-    /// WordPress's priority, 10, where none is told.
+    /// The priority; 10, as in WordPress, where none is given.
     pub fn priority(&self) -> Result<i64, KitFileFault>
         ensures { Gives Refuses Ok result (spec.priority_at self.now.at (view self.now.value.now)) }
     {
@@ -158,7 +156,7 @@ impl<'v> Fields<'v> {
         }
     }
 
-    /// One argument, as in WordPress, where nothing is told.
+    /// How many arguments are accepted; 1, as in WordPress, where none is given.
     pub fn accepted(&self) -> Result<u32, KitFileFault>
         ensures { Gives Refuses Ok result (spec.accepted_at self.now.at (view self.now.value.now)) }
     {

@@ -1,6 +1,8 @@
-//! Kit files, play files and site files: callbacks with their scripts, plugins, plays and commands, as their author writes them in JSON.
+//! Kit files, play files and site files: callbacks with their scripts, plugins, plays and commands, as their author
+//! writes them in JSON.
 //!
-//! A file gives what the definitions give, or the first place at which it is bad. `file`, `Fields`, `Listed` and `each` read other files in the same way.
+//! A file gives what the definitions give, or the first place at which it is bad. `file`, `Fields`, `Listed` and `each`
+//! read other files in the same way.
 #![tactic(auto)]
 
 mod commands;

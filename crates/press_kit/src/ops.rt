@@ -46,7 +46,7 @@ fn every(value: &Value) -> Option<Every>
 }
 
 impl<'v> Fields<'v> {
-    // The priority that is told, or all of them.
+    // The priority that is given, or all of them.
     fn any_priority(&self) -> Result<Option<i64>, KitFileFault>
         ensures { Gives Refuses Ok result (spec.any_priority_at self.now.at
             (view self.now.value.now)) }
@@ -72,7 +72,7 @@ impl<'v> Fields<'v> {
         }
     }
 
-    // Once, where nothing is told.
+    // Once, where none is given.
     fn every(&self) -> Result<Every, KitFileFault>
         ensures { Gives Refuses Ok result (spec.every_at self.now.at (view self.now.value.now)) }
     {

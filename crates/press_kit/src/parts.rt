@@ -139,7 +139,7 @@ impl<'v> Fields<'v> {
         Parts::read(self.alloc, self.at, value)
     }
 
-    /// Texts by their parts, none where nothing is told.
+    /// Texts by their parts; none where the key is missing.
     pub fn texts(&self, key: &str) -> Result<Items<Parts>, KitFileFault>
         ensures { Gives Refuses Ok result (spec.texts_at self.now.at key.now
             (view self.now.value.now)) }

@@ -29,7 +29,7 @@ pub enum Place {
 }
 
 impl Place {
-    // The place of an item of the list that stands here.
+    /// The place of an item of the list at this place.
     pub(crate) fn item(self, n: usize) -> Place
         ensures { result ≡ item_of self n }
     {
@@ -54,7 +54,7 @@ impl Place {
         }
     }
 
-    /// The place as it is told to the file's author: `callbacks[1].script[2]`.
+    /// The place as the file's author sees it: `callbacks[1].script[2]`.
     pub fn text(self, alloc: Global) -> Result<String, AllocError>
         ensures { IfOk result (λ t. string_bytes t ≡ place_text self) }
     {

@@ -37,11 +37,12 @@ pub struct Play {
     pub args: Texts,
     /// How often it is done, at least once.
     pub times: u32,
-    /// Whether the callbacks that it runs are told.
+    /// Whether the callbacks that it runs are traced.
     pub trace: bool,
 }
 
-/// A kit, the plugins that are active or the commands that make the site, the pages that are shown of it, and what is to be played on it in turn.
+/// A kit, the plugins that are active or the commands that make the site, the pages that are shown of it, and what is
+/// to be played on it in turn.
 #[derive(Debug, Drop)]
 pub struct PlayFile {
     pub kit: KitParts,
@@ -150,7 +151,7 @@ impl<'v> Fields<'v> {
 }
 
 impl PlayKind {
-    // The key at which the hook stands.
+    // The key of the hook.
     fn key(self) -> &'static str
         ensures { result.now ≡ spec.hook_key self }
     {
@@ -175,7 +176,7 @@ impl Listed for Play {
     }
 }
 
-// Whether commands stand in place of the active plugins.
+// Whether there are commands in place of the active plugins.
 fn has_commands(value: &Value) -> bool
     ensures { result ≡ spec.has_commands (view value.now) }
 {

@@ -18,10 +18,10 @@ use press_text::Items;
 use serde_json::Value;
 use std::alloc::Global;
 
-/// The most commands that a list may have.
+// The most commands that a list may have.
 const COMMAND_LIMIT: usize = 100_000;
 
-// The values, where there are not too many.
+// The values, if there are not too many.
 fn few(values: &[Value]) -> Option<&[Value]>
     ensures { option_map (λ vs. map view vs.now) result ≡ spec.few (map view values.now) }
 {
@@ -32,7 +32,7 @@ fn few(values: &[Value]) -> Option<&[Value]>
     }
 }
 
-/// The commands that stand at `commands`.
+/// The commands of the key `commands`.
 #[tactic(auto, unfolding(crate::specs::SiteFile::commands_of))]
 pub(crate) fn commands(alloc: Global, value: &Value) -> Result<Items<Stamped>, KitFileFault>
     ensures { Gives Refuses Ok result (spec.commands_of (view value.now)) }
@@ -45,7 +45,8 @@ pub(crate) fn commands(alloc: Global, value: &Value) -> Result<Items<Stamped>, K
 
 /// The commands that the bytes of a site file give, in their order.
 ///
-/// Keys that nobody names are passed over; of a key that is repeated the last one counts. A file has at most 4,194,304 bytes and 100,000 commands.
+/// Keys that nobody names are passed over; of a key that is repeated the last one counts. A file has at most 4,194,304
+/// bytes and 100,000 commands.
 #[tactic(auto, unfolding(crate::specs::SiteFile::site_in))]
 pub fn read_site_file(alloc: Global, bytes: &[u8]) -> Result<Items<Stamped>, KitFileFault>
     ensures gives { Gives Refuses Ok result (spec.site_in bytes.now) }

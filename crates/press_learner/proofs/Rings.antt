@@ -98,7 +98,7 @@ votes_are : (n a : ℕ) (ring : List (Option Vote)) → votes_in n a ring ≡ vo
 unfolding votes_in
 votes_are n a ring = refl
 
--- the vote for a slot of the window stands at its place
+-- the vote for a slot of the window is at its place
 pub votes_at : (n a : ℕ) (ring : List (Option Vote)) (s m : ℕ) → get (votes_in n a ring) (s, m) ≡ cond (has_place n a s m) (placed ring s m) None
 votes_at n a ring s m = ap (λ (votes : FinMap place_cmp Vote). get votes (s, m)) (votes_are n a ring) ∙ go (has_place n a s m) refl
   where

@@ -21,7 +21,7 @@ has_place members applied slot member = is_in_window applied slot && (nat_le 1 m
 abbrev pub HasRoom : ℕ → List (Option Vote) → Type 0
 HasRoom members ring = 0 < length ring → length ring ≡ 64 * members
 
--- the same votes stand at the same places
+-- the same votes are at the same places
 abbrev pub IsAlike : List (Option Vote) → List (Option Vote) → Type 0
 IsAlike ring more = (place : ℕ) → slice_index_or more place None ≡ slice_index_or ring place None
 
@@ -54,7 +54,7 @@ unfoldable pub emptied : ℕ → ℕ → List (Option Vote) → List (Option Vot
 emptied zero slot ring = ring
 emptied (suc n) slot ring = slice_set (emptied n slot ring) (place_of slot (suc n)) None
 
--- a vote stands at a place that isn't one of the slot's
+-- a vote is at a place that isn't one of the slot's
 abbrev pub HasOther : List (Option Vote) → ℕ → Type 0
 HasOther ring slot = (place : ℕ) × (place % 64 ≢ slot % 64) × IsSome (slice_index_or ring place None)
 

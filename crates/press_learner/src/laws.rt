@@ -6,7 +6,8 @@ ghost use Rattle.press_wire.specs.declared.vote.Vote.{Vote};
 ghost use Rattle.press_learner.specs.Chosen.{IsChosenByKept, chosen_next, with_chosen_applied};
 ghost use Rattle.press_learner.specs.Kept.{Kept, IsWindow, AddsNone, AddsOnly, new_learner, vote_at, with_vote, advanced};
 
-/// A value is chosen exactly where more than half of the members have kept votes of one ballot for the next slot, and it is the value of the least of them.
+/// A value is chosen exactly where more than half of the members have kept votes of one ballot for the next slot, and
+/// it is the value of the least of them.
 pub fn chosen_by_majority()
     ensures { (k : Kept) (value : Value) → (chosen_next k ≡ Some value ↔ IsChosenByKept k value) }
 {}

@@ -11,8 +11,8 @@ use press_wire::{Ballot, Node, Slot, Vote};
 use std::alloc::{AllocError, Global};
 use std::marker::Model;
 
-/// The votes of a cluster's members for the next 64 slots, and how many slots are applied.
-/// They stand in a ring, with a place for each of these slots and members: that of an applied slot is handed on to the slot 64 after it.
+/// The votes of a cluster's members for the next 64 slots, and how many slots are applied. They are in a ring, with a
+/// place for each of these slots and members: the place of an applied slot is used again for the slot 64 after it.
 #[derive(Debug)]
 pub struct Learner {
     members: u8,
@@ -163,7 +163,7 @@ impl Learner {
         Ok(())
     }
 
-    /// A vote that came. It is kept where its slot is one of the next 64 and the member has no kept vote of as great a ballot for it,
+    /// Takes a vote that came. It is kept if its slot is one of the next 64 and the member has no kept vote of as great a ballot for it,
     /// and else dropped. The first vote that is kept takes memory, for all that come.
     pub fn on_vote(&mut self, from: Node, slot: Slot, vote: Vote) -> Result<(), AllocError>
         requires { from ≤ self.old.members }
@@ -180,7 +180,7 @@ impl Learner {
         Ok(())
     }
 
-    /// The next slot's value was applied. The votes for it are dropped.
+    /// Counts the next slot as applied, and drops the votes for it.
     pub fn advance(&mut self)
         requires { IsSome (chosen_next self.old) }
         ensures { self.new ≡ advanced self.old }

@@ -28,7 +28,7 @@ fn empty_ring(alloc: Global, members: u8) -> Result<Vec<Option<Vote>>, AllocErro
     Ok(ring)
 }
 
-// Room for the members' votes, where there is none yet: it takes memory once. What stands in the ring stays.
+/// Makes room for the members' votes, if there is none yet: it takes memory once. What is in the ring stays.
 pub(crate) fn make_room(
     ring: &mut Vec<Option<Vote>>,
     alloc: Global,
@@ -62,7 +62,7 @@ pub(crate) fn put_vote(ring: &mut Vec<Option<Vote>>, slot: u32, member: u8, vote
     ring[place_of(slot, member)] = Some(vote);
 }
 
-// Drops the members' votes for the slot.
+/// Drops the members' votes for the slot.
 #[tactic(auto, using(crate::proofs::Rings::emptied_none, crate::proofs::Rings::emptied_more, crate::proofs::Rings::emptied_past))]
 pub(crate) fn empty_slot(ring: &mut Vec<Option<Vote>>, slot: u32, members: u8)
     requires { members < 255 }
@@ -76,7 +76,7 @@ pub(crate) fn empty_slot(ring: &mut Vec<Option<Vote>>, slot: u32, members: u8)
     }
 }
 
-// Whether a vote for another slot stands in the ring.
+/// Whether a vote for another slot is in the ring.
 pub(crate) fn has_other(ring: &[Option<Vote>], slot: u32) -> bool
     ensures { MatchBool result (HasOther ring.now slot) (HasNoOther ring.now slot) }
 {

@@ -4,7 +4,7 @@ use Rattle.std.proofs.Math.ListN.{drop_of_length-le}
 use Rattle.press_lint.specs.Slips.{along}
 
 module _ {A : Type 0} (tells : ℕ → A → List A → List ℕ) (xs : List A) where
-  -- what is told from a place on
+  -- the message from a place on
   abbrev pub rest : ℕ → List ℕ
   rest i = along tells i (drop i xs)
 

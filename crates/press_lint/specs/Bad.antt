@@ -1,4 +1,4 @@
--- How a place is told at which a file is bad: with the name of what stands there, where that is one, and what is wrong with it, as far as its keys tell (own).
+-- How a place is written at which a file is bad: with the name of what is there, where that is one, and what is wrong with it, as far as its keys show (own).
 use Rattle.std.specs.Prelude.{ℕ, List, [], ◌∷◌, ◌++◌, Bool, true, false, not, ◌&&◌, if◌then◌else◌, is_none, is_some, Option, Some, None, option_and_then, option_map, slice_get, codes}
 use Rattle.serde_json.specs.Data.{Data, Members, no_members, member}
 use Rattle.serde_json.specs.Find.{as_object, as_str, get}
@@ -40,7 +40,7 @@ owner_where kit (Play n) = None
 owner_where kit Steps = None
 owner_where kit (Step n) = None
 
--- what stands at a place
+-- what is at a place
 abbrev pub item_where : Data → Place → Option Data
 item_where kit (Callback n) = callback_where kit n
 item_where kit (Op c o) = option_and_then (listed (codes "script") o) (callback_where kit c)
@@ -107,7 +107,7 @@ abbrev pub missing_key : List (List ℕ) → Data → Option (List ℕ)
 missing_key [] item = None
 missing_key (key ∷ keys) item = if not (is_optional key) && is_none (get key item) then Some key else missing_key keys item
 
--- ---- what is told
+-- ---- the message
 
 -- a word of the file, where it could be a name
 abbrev pub name_shown : Option (List ℕ) → List ℕ

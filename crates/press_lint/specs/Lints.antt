@@ -1,4 +1,4 @@
--- What a kit file comes to: its callbacks and plugins with the slips in them, or the number of its fault and what is told of it (own).
+-- What a kit file comes to: its callbacks and plugins with the slips in them, or the number of its fault and the message about it (own).
 use Rattle.std.specs.Prelude.{◌≡◌, ℕ, List, [], Option, Some, None, Result, Ok, Err, string_bytes}
 use Rattle.serde_json.specs.Data.{Data}
 use Rattle.press_kit.specs.KitFile.{file_in, kit_in}
@@ -12,7 +12,7 @@ use Rattle.press_lint.specs.declared.fault.LintFault.TheVariants.{NoMemory, Refu
 use Rattle.press_lint.specs.declared.linted.Linted.{Linted}
 use Rattle.press_lint.specs.declared.mistake.Mistake.{Mistake}
 
--- Of a file that is no JSON the reader of JSON tells, with line and column.
+-- Of a file that is no JSON it is what the reader of JSON says, with line and column.
 abbrev pub TellsBad : Result Data Place → Place → List ℕ → Type 0
 TellsBad (Ok kit) at text = text ≡ bad_told kit at
 TellsBad (Err place) at text = Unit {0}
@@ -26,7 +26,7 @@ abbrev pub TellsFile : List ℕ → Result KitParts Place → ℕ → List ℕ �
 TellsFile bytes (Err at) number text = (number ≡ 73) × TellsBad (file_in bytes) at text
 TellsFile bytes (Ok kit) number text = TellsMistake kit (mistake_in kit) number text
 
--- a kit that was read, with a front for each slip; want of memory may come at any time
+-- a kit that was read, with a prefix for each slip; out of memory may come at any time
 abbrev pub LintsKit : List ℕ → KitParts → Result Linted LintFault → Type 0
 LintsKit front kit (Ok linted) = (linted.parts ≡ kit) × (mistake_in kit ≡ None) × (string_bytes linted.slips ≡ slips front kit [])
 LintsKit front kit (Err NoMemory) = Unit {0}

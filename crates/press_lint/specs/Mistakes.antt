@@ -1,4 +1,4 @@
--- The first reason why callbacks and plugins make no kit, with its place, in the order in which a kit is refused; and how it is told (own).
+-- The first reason why callbacks and plugins make no kit, with its place, in the order in which a kit is refused; and its message (own).
 use Rattle.std.specs.Prelude.{ℕ, ◌+◌, List, [], ◌∷◌, ◌++◌, if◌then◌else◌, nat_lt, Bool, true, false, sum_by, count_by, Option, Some, None, codes}
 use Rattle.press_callbacks.specs.BuiltIns.{is_built_in}
 use Rattle.press_callbacks.specs.Kits.{callback_loaded, callback_named, is_known, is_named, most_hook_loads, most_tag_loads}
@@ -97,7 +97,7 @@ mistake_by callbacks plugins = or_else (names_mistaken callbacks plugins) (or_el
 abbrev pub mistake_in : KitParts → Option Mistake
 mistake_in kit = mistake_by kit.callbacks kit.plugins
 
--- ---- as it is told
+-- ---- its text
 
 -- its number among the faults
 abbrev pub why_number : Why → ℕ

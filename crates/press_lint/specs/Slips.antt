@@ -54,7 +54,7 @@ statuses = codes "publish" ∷ codes "future" ∷ codes "draft" ∷ codes "pendi
 abbrev pub is_status : List ℕ → Bool
 is_status word = list_any (bytes_eq word) statuses
 
--- what stands behind a front
+-- what follows a prefix
 abbrev pub behind : List ℕ → List ℕ → Option (List ℕ)
 behind front whole = if bytes_eq (take (length front) whole) front then Some (drop (length front) whole) else None
 
@@ -87,7 +87,7 @@ is_engines hook = list_any (bytes_eq hook) engine_hooks || is_transition hook ||
 abbrev pub is_run : List Scripted → List Play → List ℕ → Bool
 is_run callbacks plays hook = is_engines hook || is_run_by callbacks hook || list_any (λ (p : Play). bytes_eq p.hook hook) plays
 
--- ---- slips, each on a line behind a front
+-- ---- slips, each on a line after a prefix
 
 abbrev pub slip : List ℕ → KitParts → Place → List ℕ → List ℕ
 slip front kit at what = front ++ (place_in kit at ++ (what ++ codes "\n"))
@@ -98,7 +98,7 @@ past_end = codes "skips past the end of its script"
 abbrev pub unrun : List ℕ → List ℕ
 unrun hook = codes "puts a callback on a hook that nothing runs: \"" ++ (hook ++ codes "\"")
 
--- what each item of a list tells, by its number, itself and those behind it, one after the other
+-- what each item of a list gives, by its number, itself and those after it, one after the other
 abbrev pub along : {A : Type 0} → (ℕ → A → List A → List ℕ) → ℕ → List A → List ℕ
 along tells n [] = []
 along tells n (x ∷ xs) = tells n x xs ++ along tells (n + 1) xs

@@ -1,4 +1,4 @@
--- How a place in a kit is told to its author: what it is of, by its number and its name, and the step or load there (own).
+-- How a place in a kit is reported to its author: what it is of, by its number and its name, and the step or load there (own).
 use Rattle.std.specs.Prelude.{ℕ, List, [], ◌++◌, Option, Some, None, option_map, slice_get, codes, decimal}
 use Rattle.press_callbacks.specs.declared.plugin.Plugin.{Plugin}
 use Rattle.press_kit.specs.Places.{place_text}
@@ -12,7 +12,7 @@ abbrev pub quoted : Option (List ℕ) → List ℕ
 quoted None = []
 quoted (Some name) = codes " \"" ++ (name ++ codes "\"")
 
--- `list[n] "name": `, with what stands behind it
+-- `list[n] "name": `, with what follows it
 abbrev pub item_told : List ℕ → ℕ → Option (List ℕ) → List ℕ → List ℕ
 item_told list n name rest = list ++ (codes "[" ++ (decimal n ++ (codes "]" ++ (quoted name ++ (codes ": " ++ rest)))))
 
@@ -20,7 +20,7 @@ item_told list n name rest = list ++ (codes "[" ++ (decimal n ++ (codes "]" ++ (
 abbrev pub within : List ℕ → ℕ → List ℕ
 within list n = list ++ (codes "[" ++ (decimal n ++ codes "] "))
 
--- the place of something of that name, in front of what is told of it
+-- the place of something of that name, in front of the message about it
 abbrev pub place_told : Option (List ℕ) → Place → List ℕ
 place_told name (Callback n) = item_told (codes "callbacks") n name []
 place_told name (Op c o) = item_told (codes "callbacks") c name (within (codes "script") o)
@@ -47,7 +47,7 @@ callback_name callbacks n = option_map (λ (c : Scripted). c.id) (slice_get call
 abbrev pub plugin_name : List Plugin → ℕ → Option (List ℕ)
 plugin_name plugins n = option_map (λ (p : Plugin). p.name) (slice_get plugins n)
 
--- what stands at a place by its name
+-- what is at a place by its name
 abbrev pub name_at : KitParts → Place → Option (List ℕ)
 name_at kit (Callback n) = callback_name kit.callbacks n
 name_at kit (Op c o) = callback_name kit.callbacks c

@@ -9,7 +9,7 @@ use press_kit::KitParts;
 use press_text::Name;
 use std::alloc::{AllocError, Global};
 
-// A kit whose plugins are looked for, with a front for each line.
+// A kit whose plugins are looked for, with a prefix for each line.
 #[derive(Drop)]
 struct Search<'k> {
     alloc: Global,
@@ -56,7 +56,7 @@ fn installed_in(alloc: Global, kit: &KitParts) -> Result<Installed<'_>, AllocErr
     Ok(Installed { kit, names })
 }
 
-/// A line for each active plugin that the kit lacks, behind this front.
+/// A line for each active plugin that the kit lacks, after this prefix.
 pub fn active_slips(
     alloc: Global,
     front: &str,

@@ -64,7 +64,7 @@ fn load_where(kit: &Value, plugin: usize, load: usize) -> Option<&Value>
     listed(listed(kit, "plugins", plugin)?, "load", load)
 }
 
-// What stands at a place.
+// The value at a place.
 fn item_where(kit: &Value, at: Place) -> Option<&Value>
     ensures { option_map (λ v. view v.now) result ≡ spec.item_where (view kit.now) at }
 {
@@ -84,7 +84,7 @@ fn name_where(kit: &Value, at: Place) -> Option<&str>
     name_of(owner_where(kit, at)?)
 }
 
-// A word of the file behind a text, where it could be a name.
+// A word of the file after a text, if it could be a name.
 fn shown(alloc: Global, text: &str, word: &str) -> Result<String, AllocError>
     ensures { IfOk result (λ t. string_bytes t ≡ text.now ++ spec.shown word.now) }
 {
@@ -171,7 +171,7 @@ fn what_told(alloc: Global, kit: &Value, at: Place) -> Result<String, AllocError
     item_told(alloc, kit, at)
 }
 
-/// What is told of the place at which a kit's value is bad.
+/// The message about the place at which a kit's value is bad.
 pub fn bad_line(alloc: Global, kit: &Value, at: Place) -> Result<String, AllocError>
     ensures { IfOk result (λ t. string_bytes t ≡ spec.bad_told (view kit.now) at) }
 {
@@ -181,7 +181,7 @@ pub fn bad_line(alloc: Global, kit: &Value, at: Place) -> Result<String, AllocEr
     Ok(line)
 }
 
-/// What is told of bytes that are no JSON, or too many: what the reader of JSON says of them, with line and column, both from 1.
+/// The message about bytes that are no JSON, or too many: what the reader of JSON says of them, with line and column, both from 1.
 pub fn no_json(alloc: Global, bytes: &[u8]) -> Result<String, AllocError> {
     if bytes.len() > FILE_LIMIT {
         return format!(in alloc; "longer than {FILE_LIMIT} bytes");

@@ -11,7 +11,7 @@ use thiserror::Error;
 pub enum LintFault {
     #[error("no memory")]
     NoMemory,
-    /// The number of its fault, and what is told of it.
+    /// The number of its fault, and the message.
     #[error("fault {number}: {text}")]
     Refused { number: u8, text: String },
 }

@@ -54,7 +54,7 @@ fn is_status(word: &[u8]) -> bool
     is_among(word, &STATUSES)
 }
 
-// What stands behind a front.
+// What follows a prefix.
 fn behind<'h>(front: &str, whole: &'h [u8]) -> Option<&'h [u8]>
     ensures { option_map (λ rest. rest.now) result ≡ spec.behind front.now whole.now }
 {

@@ -1,4 +1,4 @@
-//! The keys that may stand in a piece of a kit file.
+//! The keys that a piece of a kit file may have.
 
 ghost use Rattle.std.specs.Prelude.{◌≡◌, ◌&&◌, codes, is_none, map, not, option_and_then, option_map, string_bytes};
 ghost use Rattle.serde_json.specs.Find.{as_str, get};
@@ -113,7 +113,7 @@ fn load_keys(item: &Value) -> Keys
     }
 }
 
-/// The keys that may stand in what stands at a place.
+/// The keys that the piece at a place may have.
 pub fn keys_for(at: Place, item: &Value) -> Option<Keys>
     ensures { option_map (λ ks. map (λ k. k.now) ks.now) result ≡ spec.keys_for at (view item.now) }
 {
@@ -133,7 +133,7 @@ fn is_one_of(keys: &[&str], key: &str) -> bool
     keys.iter().any(|k| key == *k)
 }
 
-/// The first key that may not stand there.
+/// The first key that is not allowed there.
 pub fn unknown_key<'v>(members: &'v Map<String, Value>, keys: &[&str]) -> Option<&'v String>
     ensures { option_map (λ k. string_bytes k.now) result
         ≡ spec.unknown_key (map (λ k. k.now) keys.now) (members_view members.now.entries) }
@@ -153,7 +153,7 @@ fn is_missing(item: &Value, key: &str) -> bool
     !is_optional(key) && item.get(key).is_none()
 }
 
-/// The first key that has to stand there, and doesn't.
+/// The first key that is required there and missing.
 pub fn missing_key(item: &Value, keys: Keys) -> Option<&'static str>
     ensures { option_map (λ k. k.now) result
         ≡ spec.missing_key (map (λ k. k.now) keys.now) (view item.now) }

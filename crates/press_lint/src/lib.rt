@@ -1,4 +1,4 @@
-//! What the author of a kit is told: why it is no kit, with the place and the name of what is wrong there, and what in it is surely a slip.
+//! Messages to the author of a kit: why it is no kit, with the place and the name of what is wrong there, and what in it is surely a slip.
 //!
 //! A kit file is refused exactly where a kit can't be built of it, with the same number; a slip refuses nothing.
 #![tactic(auto)]

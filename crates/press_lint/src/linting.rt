@@ -18,7 +18,7 @@ use crate::slipping::slips;
 use press_kit::{KitFileFault, KitParts, Place, file, read_kit_file};
 use std::alloc::{AllocError, Global};
 
-// A bad file, told.
+// The fault of a bad file, with its message.
 fn bad(alloc: Global, bytes: &[u8], at: Place) -> Result<String, AllocError>
     ensures { IfOk result (λ t. TellsBad (file_in bytes.now) at (string_bytes t)) }
 {
@@ -43,7 +43,7 @@ fn linted(alloc: Global, front: &str, parts: KitParts) -> Result<Linted, LintFau
     Ok(Linted { parts, slips })
 }
 
-/// The callbacks and plugins of a kit file, and a line for each slip in them, behind this front. A file of which no kit can be built is
+/// The callbacks and plugins of a kit file, and a line for each slip in them, after this prefix. A file of which no kit can be built is
 /// refused: by 73 where it is no kit file, else by what `mistake_in` finds.
 pub fn lint(alloc: Global, front: &str, bytes: &[u8]) -> Result<Linted, LintFault>
     ensures { Lints front.now bytes.now result }

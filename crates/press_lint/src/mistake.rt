@@ -16,18 +16,18 @@ pub enum Sort {
 /// What is wrong with a kit at a place.
 #[derive(Clone, Copy, Debug)]
 pub enum Why {
-    /// Another callback or plugin further on has the same name.
+    /// A later callback or plugin has the same name.
     SameName,
     /// A callback has the name of a built-in one.
     BuiltInName,
-    /// A step or a load names a callback that is neither there nor built in.
+    /// A step or a load names a callback that is neither in the kit nor built in.
     Unknown(CallbackId),
     /// All plugins together have more loads of that sort than a kit may have.
     TooMany(Sort),
 }
 
 impl Why {
-    /// The number that tells the fault.
+    /// Its number in the table of faults.
     pub fn number(&self) -> u8
         ensures { result ≡ why_number self.now }
     {

@@ -57,7 +57,7 @@ impl Titled for Plugin {
     }
 }
 
-/// The names of these, and the first that has the name of one behind it.
+/// The names of these, and the first that has the name of a later one.
 #[derive(Drop)]
 pub struct Titles<'k> {
     pub names: NameSet<'k>,
@@ -99,7 +99,7 @@ fn built_in_name(callbacks: &[Scripted]) -> Option<Mistake>
     None
 }
 
-// The first of these that has the name of one behind it.
+// The first of these that has the name of a later one.
 fn same_name<T: Titled>(alloc: Global, items: &[T]) -> Result<Option<Mistake>, AllocError>
     ensures { IfOk result (λ m. m ≡ spec.first (spec.same_name T.title T.place) 0 items.now) }
 {
@@ -107,7 +107,7 @@ fn same_name<T: Titled>(alloc: Global, items: &[T]) -> Result<Option<Mistake>, A
     Ok(same)
 }
 
-// The first of two that is there.
+// The first of two, where it is some, else the second.
 fn or_else(first: Option<Mistake>, other: Option<Mistake>) -> Option<Mistake>
     ensures { result ≡ spec.or_else first other }
 {
@@ -133,7 +133,7 @@ fn mistake_by(
 }
 
 /// The first reason why these make no kit: two callbacks or plugins of one name or a callback with a built-in one, then a callback that
-/// is named and not there, then too many loads.
+/// is named and missing, then too many loads.
 pub fn mistake_in(alloc: Global, kit: &KitParts) -> Result<Option<Mistake>, AllocError>
     ensures { IfOk result (λ m. m ≡ spec.mistake_in kit.now) }
 {

@@ -1,7 +1,7 @@
 use std::alloc::{AllocError, Global};
 use std::collections::BTreeSet;
 
-/// Names that stand elsewhere, each of which is found by halves.
+/// Names that are kept elsewhere, each of which is found by binary search.
 pub struct NameSet<'n> {
     names: BTreeSet<&'n [u8]>,
 }
@@ -24,7 +24,7 @@ impl<'n> NameSet<'n> {
         }
     }
 
-    /// Puts a name into the set, and tells whether it is new there.
+    /// Puts a name into the set; returns whether it is new there.
     pub fn insert(&mut self, name: &'n [u8]) -> Result<bool, AllocError>
         ensures added { IfOk result (λ added. added ≡ not (holds self.old name.now)) }
         ensures holds { OnOk result ((q : List ℕ) → holds self.new q

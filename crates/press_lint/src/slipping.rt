@@ -11,7 +11,7 @@ use press_kit::{KitParts, Place, Play, Scripted};
 use press_text::HookName;
 use std::alloc::{AllocError, Global};
 
-// A kit that is looked through beside plays, with a front for each line.
+// A kit that is looked through beside plays, with a prefix for each line.
 #[derive(Drop)]
 struct Look<'k> {
     alloc: Global,
@@ -119,7 +119,7 @@ impl Look<'_> {
     }
 }
 
-/// The slips of a kit, a line for each behind this front. What these plays run is run.
+/// The slips of a kit, a line for each after this prefix. What these plays run is run.
 pub fn slips(
     alloc: Global,
     front: &str,

@@ -1,4 +1,4 @@
-//! Places in a kit, as its author is told of them.
+//! Places in a kit, as its author sees them.
 
 ghost use Rattle.std.specs.Prelude.{◌≡◌, IfOk, option_map, string_bytes};
 ghost use Rattle.press_lint.specs.Mistakes.{mistake_told, why_told};
@@ -39,7 +39,7 @@ fn plugin_name(plugins: &[Plugin], n: usize) -> Option<&str>
     }
 }
 
-// The name of what stands at a place.
+// The name of what is at a place.
 fn name_at(kit: &KitParts, at: Place) -> Option<&str>
     ensures { option_map (λ t. t.now) result ≡ spec.name_at kit.now at }
 {
@@ -61,7 +61,7 @@ fn quoted(alloc: Global, name: Option<&str>) -> Result<String, AllocError>
     }
 }
 
-/// A place of something of that name, in front of what is told of it.
+/// A place of something of that name, as the beginning of a line about it.
 pub fn place_told(alloc: Global, name: Option<&str>, at: Place) -> Result<String, AllocError>
     ensures { IfOk result (λ t. string_bytes t
         ≡ spec.place_told (option_map (λ t. t.now) name.entry) at) }
@@ -81,7 +81,7 @@ pub fn place_told(alloc: Global, name: Option<&str>, at: Place) -> Result<String
     }
 }
 
-/// A place in a kit, in front of what is told of it.
+/// A place in a kit, as the beginning of a line about it.
 pub fn place_in(alloc: Global, kit: &KitParts, at: Place) -> Result<String, AllocError>
     ensures { IfOk result (λ t. string_bytes t ≡ spec.place_in kit.now at) }
 {
@@ -106,7 +106,7 @@ fn why_told(alloc: Global, why: &Why) -> Result<String, AllocError>
 }
 
 impl Mistake {
-    /// What its author is told: where it is in the kit, and what is wrong there.
+    /// The message to the author: where it is in the kit, and what is wrong there.
     pub fn told(&self, alloc: Global, kit: &KitParts) -> Result<String, AllocError>
         ensures { IfOk result (λ t. string_bytes t ≡ mistake_told kit.now self.now) }
     {

@@ -1,4 +1,4 @@
-//! Callbacks that a step or a load names, and that are not there.
+//! Callbacks that a step or a load names, and that the kit lacks.
 
 ghost use Rattle.std.specs.Prelude.{◌≡◌};
 ghost use Rattle.press_callbacks.specs.Kits.{callback_loaded, callback_named, is_known};
@@ -106,7 +106,7 @@ fn unknown_in_plugins(known: &Known<'_>, plugins: &[Plugin]) -> Option<Mistake>
     None
 }
 
-/// The first step or load that names a callback which is not there.
+/// The first step or load that names a callback which the kit lacks.
 pub fn unknown_in(known: &Known<'_>, plugins: &[Plugin]) -> Option<Mistake>
     ensures { result ≡ spec.unknown_in known.now.callbacks.now plugins.now }
 {

@@ -103,8 +103,8 @@ fn deliver_from(
     }
 }
 
-/// The step of what the request on a connection asks, with node and cut of the schedule's step. ReadFault where what came is something else than what
-/// the schedule has there; a message is the one with the step's number.
+/// The step of what the request on a connection asks, with node and cut of the schedule's step. ReadFault where what
+/// came is something else than what the schedule has there; a message is the one with the step's number.
 pub fn step_from<R: Read>(
     alloc: Global,
     reader: &mut R,
@@ -122,7 +122,7 @@ pub fn step_from<R: Read>(
     made.ok_or(ReplayFault::ReadFault)
 }
 
-// That a command waits to be chosen.
+// The reply that a command waits to be chosen.
 fn queued(alloc: Global) -> Result<Reply, AllocError> {
     Ok(Reply {
         status: 202,
@@ -131,7 +131,7 @@ fn queued(alloc: Global) -> Result<Reply, AllocError> {
     })
 }
 
-// That a message was taken.
+// The reply that a message was taken.
 fn taken(alloc: Global) -> Reply {
     Reply {
         status: 200,
@@ -164,8 +164,8 @@ fn tell_done<W: Write>(
     }
 }
 
-/// Answers a step as a node's connection does. The status that was told; none where the connection is to close without a reply, as that of a
-/// node that was stopped.
+/// Answers a step as a node's connection does; returns the status of the reply, or None where the connection is to
+/// close without one, as that of a node that was stopped.
 pub fn answer<W: Write>(
     alloc: Global,
     writer: &mut W,

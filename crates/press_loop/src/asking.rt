@@ -13,7 +13,7 @@ use press_wire::{Message, WireFault, encode_msg};
 use press_world::{Step, World};
 use std::alloc::{AllocError, Global};
 
-/// The most bytes that a body may have.
+// The most bytes that a body may have.
 const LONGEST_BODY: usize = 65_536;
 
 const FORM: &str = "application/x-www-form-urlencoded";
@@ -131,7 +131,7 @@ fn get(alloc: Global, target: &Target) -> Result<Vec<u8>, AllocError> {
     Ok(request.into_bytes())
 }
 
-// None, where the form is too long for a body.
+// None if the form is too long for a body.
 fn command_request(alloc: Global, stamped: &Stamped) -> Result<Option<Vec<u8>>, AllocError> {
     let form = form_of(alloc, stamped)?;
     if form.len() > LONGEST_BODY {
@@ -140,7 +140,7 @@ fn command_request(alloc: Global, stamped: &Stamped) -> Result<Option<Vec<u8>>, 
     Ok(Some(post(alloc, "/command", FORM, form.as_bytes())?))
 }
 
-// None, where no bytes spell the message.
+// None if no bytes spell the message.
 fn message_request(alloc: Global, message: &Message) -> Result<Option<Vec<u8>>, AllocError> {
     match encode_msg(alloc, message) {
         Ok(bytes) => Ok(Some(post(alloc, "/peer", BYTES, &bytes)?)),
@@ -149,8 +149,9 @@ fn message_request(alloc: Global, message: &Message) -> Result<Option<Vec<u8>>, 
     }
 }
 
-/// The bytes of the request by which a step comes to one of so many nodes. None for a step that comes without a connection: a wake, a restart,
-/// one that names no node or no message, and a command whose form is longer than a body may be.
+/// The bytes of the request by which a step comes to a node. None for a step that comes without a
+/// connection: a wake, a restart, one that names no node or no message, and a command whose form is longer than a body
+/// may be.
 pub fn request_of(
     alloc: Global,
     nodes: usize,

@@ -5,10 +5,10 @@ use std::io::{ErrorKind, Read, Write};
 use std::net::{Ipv4Addr, Net, OpenListener, OpenStream, SocketAddr, SocketAddrV4};
 use std::str::from_utf8;
 
-/// How many bytes are on their way at most.
+// The most bytes that are on their way.
 const PIECE: usize = 4096;
 
-/// The front of a reply with its status: `HTTP/1.1 200`.
+// The length of a reply's first bytes up to its status: `HTTP/1.1 200`.
 const FRONT: usize = 12;
 
 /// A listener on the loopback, and where it listens.
@@ -49,7 +49,7 @@ impl<'r, Rt: Net> Loopback<'r, Rt> {
     }
 }
 
-// The end that sends a request and hears the reply.
+// The end that sends a request and receives the reply.
 #[derive(Drop)]
 struct Client<'q, S> {
     stream: S,
@@ -61,7 +61,7 @@ struct Client<'q, S> {
 }
 
 impl<S: Read + Write> Client<'_, S> {
-    // Sends the next bytes of the request; how many.
+    // Sends the next bytes of the request; returns how many.
     fn send(&mut self) -> io::Result<usize> {
         let count = self.request.len().min(PIECE);
         let sent = self.stream.write(&self.request[..count])?;
@@ -79,7 +79,7 @@ impl<S: Read + Write> Client<'_, S> {
         }
     }
 
-    // Hears so many bytes of the reply.
+    // Receives this many bytes of the reply.
     fn hear(&mut self, count: usize) -> io::Result<()> {
         let mut piece = [0u8; PIECE];
         let mut left = count;
@@ -95,7 +95,7 @@ impl<S: Read + Write> Client<'_, S> {
         Ok(())
     }
 
-    // The status of the reply, which is to be over; none where nothing was heard.
+    // The status of the reply, which has to be over; None where nothing was received.
     fn told(&mut self) -> io::Result<Option<u16>> {
         if self.stream.read(&mut [0u8; 1])? > 0 {
             return Err(io::Error::from(ErrorKind::InvalidData));
@@ -115,8 +115,8 @@ fn status_in(front: &[u8]) -> Option<u16> {
     front.strip_prefix("HTTP/1.1 ")?.parse::<u16>().ok()
 }
 
-/// A connection as its server has it. What is read here the client sends just before, and what is written here it hears at once, so that neither end
-/// waits for the other.
+/// A connection as its server has it. What is read here the client sends just before, and what is written here it
+/// receives at once, so that neither end waits for the other.
 #[derive(Drop)]
 pub struct Connection<'q, S> {
     server: S,
@@ -154,7 +154,7 @@ impl<S: Read + Write> Write for Connection<'_, S> {
 }
 
 impl<S: Read + Write + Drop> Connection<'_, S> {
-    /// The server closes it: the status of the reply that the client heard, none where there was no reply.
+    /// The server closes it; returns the status of the reply that the client received, None where there was no reply.
     pub fn close(self) -> io::Result<Option<u16>> {
         let Connection {
             server,

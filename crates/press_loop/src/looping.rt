@@ -26,7 +26,7 @@ use std::io;
 use std::io::{ErrorKind, Read, Write};
 use std::net::Net;
 
-/// A cluster to which commands, messages and requests for pages come over the loopback.
+// A cluster to which commands, messages and requests for pages come over the loopback.
 #[derive(Drop)]
 struct Looped<'r, Rt: Net> {
     alloc: Global,
@@ -35,7 +35,7 @@ struct Looped<'r, Rt: Net> {
     world: World,
 }
 
-// A socket that can't be had, or that fails, is a read that failed.
+// A socket that can't be opened, or that fails, counts as a failed read.
 fn fault_of(e: io::Error) -> ReplayFault
     ensures { result ≢ ReplayFault.BadSchedule }
 {
@@ -95,7 +95,7 @@ impl<Rt: Net> Looped<'_, Rt> {
         }
     }
 
-    // A step and its line. Want of memory within a step ends the transcript.
+    // A step and its line. Out of memory within a step ends the transcript.
     fn play_one<W: Write>(
         &mut self,
         number: u64,
@@ -163,10 +163,12 @@ fn loop_new<Rt: AllocGlobal + Net, W: Write>(
     looped.play_all(steps, writer)
 }
 
-/// Writes the transcript of the schedule that a reader has left, as `press_world::replay` does. Each command, message and request for a page comes by a
-/// request of its own over a socket of the loopback, whose other end the program holds too, and is answered there.
+/// Writes the transcript of the schedule that a reader has left, as `press_world::replay` does. Each command, message
+/// and request for a page comes by a request of its own over a socket of the loopback, whose other end the program
+/// holds too, and is answered there.
 ///
-/// A socket that can't be had, that fails, or that brings something else than what was sent ends it with ReadFault; what was written before stays.
+/// A socket that can't be opened, that fails, or that brings something else than what was sent ends it with ReadFault;
+/// what was written before stays.
 pub fn loop_over<Rt: AllocGlobal + Net, R: Read, W: Write>(
     rt: &Rt,
     kits: Vec<Kit>,

@@ -1,4 +1,4 @@
--- Faults of a node: the number that tells each, and which of them stop the node (own).
+-- Faults of a node: the number of each, and which of them stop the node (own).
 use Rattle.std.specs.Prelude.{ℕ, Bool, true, false}
 use Rattle.press_acceptor.specs.declared.fault.StoreFault.{StoreFault}
 use Rattle.press_acceptor.specs.declared.fault.StoreFault.TheVariants as store_fault

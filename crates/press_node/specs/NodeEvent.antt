@@ -53,7 +53,7 @@ by_acceptor node answer = record { save = answer.save; after = node; out = answe
 
 -- ---- applying what is chosen
 
--- the next slot's value was applied: every part is told
+-- the next slot's value was applied: every part is informed
 abbrev pub with_applied : Running → Value → Running
 with_applied node value = record {
   proposer = applied_by node.proposer value;

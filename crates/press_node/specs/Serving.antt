@@ -45,7 +45,7 @@ queued = record { status = 202; kind = Json; body = codes "{\"queued\":true}" }
 abbrev pub taken : Reply
 taken = record { status = 200; kind = Text; body = [] }
 
--- what the bytes that were seen ask for, or why they ask for nothing: they are no request, or its route tells
+-- what the bytes that were seen ask for, or why they ask for nothing: they are no request, or its route says why
 abbrev pub AsksFor : List ℕ → Option (List ℕ) → Result Asked HttpFault → Type 0
 AsksFor seen left result =
     IsErrAnd result (λ e. Refuses e seen left) ⊎ ((r : Request) × IsRequest seen r × Gives meaning.Refuses Ok result (asked r.method r.target r.body))
@@ -56,11 +56,11 @@ AsksFor seen left result =
 abbrev pub Tells : Option (List ℕ) → Option (List ℕ) → Reply → ℕ → Type 0
 Tells old new reply status = ((status ≡ reply.status) × Appends old new (reply_bytes reply)) ⊎ ((status ≡ 503) × Appends old new (fault_bytes 503))
 
--- a front of it was
+-- a prefix of it was
 abbrev pub TellsFront : Option (List ℕ) → Option (List ℕ) → Reply → Type 0
 TellsFront old new reply = AppendsFront old new (reply_bytes reply) ⊎ AppendsFront old new (fault_bytes 503)
 
--- the page that is asked was told, or that there is none now
+-- the page that is asked for was written, or that there is none now
 abbrev pub Shows : KitView → Option Up → Target → Option (List ℕ) → Option (List ℕ) → ℕ → Type 0
 Shows kit up target old new status = ((reply : Reply) × IsPageAt kit up target reply × Tells old new reply status) ⊎ ((status ≡ 503) × Appends old new (fault_bytes 503))
 
@@ -91,7 +91,7 @@ abbrev pub IsShown : KitView → Option Up → Target → Option (List ℕ) → 
 IsShown kit up target old new result =
     MatchResult result (λ s. (s.outbox.items ≡ []) × Shows kit up target old new s.status) (λ e. (e ≡ WriteFault) × ShowsFront kit up target old new)
 
--- the fixed body of a status was told, with nothing to be sent
+-- the fixed body of a status was written, with nothing to be sent
 abbrev pub TellsStatus : ℕ → Option (List ℕ) → Option (List ℕ) → Result Served HttpFault → Type 0
 TellsStatus status old new result =
     MatchResult result (λ s. (s.status ≡ status) × (s.outbox.items ≡ []) × Appends old new (fault_bytes status)) (λ e. (e ≡ WriteFault) × AppendsFront old new (fault_bytes status))
@@ -101,7 +101,7 @@ abbrev pub IsClosed : HttpFault → Option ℕ → Option (List ℕ) → Option 
 IsClosed fault None old new result = (result ≡ Err fault) × (new ≡ old)
 IsClosed fault (Some status) old new result = TellsStatus status old new result
 
--- What is asked is done and told. A page leaves the node unchanged, and so does a command whose reply has no memory before it is played.
+-- What is asked is done, and the reply is written. A page leaves the node unchanged, and so does a command whose reply has no memory before it is played.
 abbrev pub IsAnswered : NodeMove → Option (List ℕ) → Option (List ℕ) → Asked → Result Served HttpFault → Type 0
 IsAnswered node old new (Page target) result = node.same × IsShown node.kit node.up target old new result
 IsAnswered node old new (Command stamped) result = PlaysAndTells node.plays (Submit stamped) queued old new result ⊎ (node.same × TellsStatus 503 old new result)

@@ -1,4 +1,4 @@
--- What stands in memory, as the model's, and what its parts leave of it.
+-- What is in memory, as the model's, and what its parts leave of it.
 use Rattle.std.specs.Prelude.{◌≡◌, ℕ, Bool, true, false, Option, None, Some, option_map}
 use Rattle.press_apply.specs.Apply.{applied, site_after}
 use Rattle.press_apply.specs.declared.value.Value.{Value}

@@ -6,7 +6,7 @@ use press_wire::Message;
 pub enum Event {
     /// An editor's command comes.
     Submit(Stamped),
-    /// The node is to see to the next slot.
+    /// The node is to work on the next slot.
     Wake,
     /// A message comes, from the node itself or from another.
     Deliver(Message),

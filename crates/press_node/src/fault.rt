@@ -10,7 +10,7 @@ use thiserror::Error;
 pub enum NodeFault {
     #[error("the node is down")]
     Down,
-    /// More than 16,384 bytes spell the command.
+    /// The command takes more than 16,384 bytes on the wire.
     #[error("too long a command")]
     TooLong,
     #[error("too many commands wait")]
@@ -30,7 +30,7 @@ pub enum NodeFault {
 }
 
 impl NodeFault {
-    /// The number that tells the fault.
+    /// Its number in the table of faults.
     pub fn number(self) -> u8
         ensures { result ≡ node_fault_number self }
     {

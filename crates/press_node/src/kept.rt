@@ -1,4 +1,4 @@
-//! The type of a node; its calls stand in `node.rt`.
+//! The type of a node; its calls are in `node.rt`.
 
 ghost use Rattle.std.specs.Prelude.{◌≡◌};
 ghost use Rattle.std.proofs.Props.{props};

@@ -7,7 +7,8 @@ ghost use Rattle.press_node.specs.NodeEvent.{Running, on_event};
 ghost use Rattle.press_node.specs.States.{IsWhole, NodeState, answer_in};
 ghost use Rattle.press_node.specs.declared.event.Event.{Event};
 
-/// What an event's answer says of the store, the store keeps after it: a promise and the vote reported with it, a vote, a round (Paxos Made Simple, 2.5).
+/// What an event's answer says of the store, the store keeps after it: a promise and the vote reported with it, a vote,
+/// a round (Paxos Made Simple, 2.5).
 pub fn what_is_said_is_stored()
     ensures { (members id : ℕ) (store : StoreMap) (node : Running) (event : Event) →
         IsAnswerStored store (on_event members id store node event) }

@@ -26,7 +26,7 @@ impl<S> Node<S> {
         self.state.is_down()
     }
 
-    /// How many values it has applied since its start; none where it is down.
+    /// How many values it has applied since its start; None where it is down.
     pub fn applied(&self) -> u64
         ensures value { result ≡ applied_count (state_of self.now) }
         ensures whole { IsWhole (state_of self.now) }
@@ -34,14 +34,13 @@ impl<S> Node<S> {
         self.state.applied()
     }
 
-    /// Its store.
     pub fn store(&self) -> &S
         ensures { result.now ≡ store_of self.now }
     {
         &self.store
     }
 
-    /// The node ends. Only kit and store are left.
+    /// Ends the node, and returns kit and store.
     pub fn down(self) -> (Kit, S)
         ensures kit { kit_view result.0 ≡ kit_of self }
         ensures store { result.1 ≡ store_of self }
@@ -64,7 +63,7 @@ impl<S> Node<S> {
 }
 
 impl<S: PromiseStore> Node<S> {
-    /// The node `id` of so many members begins over its store, of which it asks the last round. No value is applied and nothing waits.
+    /// Starts the node `id` of `members` over its store, of which it asks the last round. No value is applied and nothing waits.
     pub fn start(
         alloc: Global,
         id: Member,
@@ -99,8 +98,10 @@ impl<S: PromiseStore> Node<S> {
         }
     }
 
-    /// An event: the messages that it sends, after what they say was saved: at most 7, those to the node itself among them, which the caller delivers too.
-    /// Down, TooLong, Full, SlotsUsedUp and RoundsUsedUp leave the node and its store as they were; after Disk, Damaged or NoMemory the node is down, and the store is that before or that after the event's save.
+    /// Plays an event, and returns the messages that it sends, after what they say was saved: at most 7, with those to
+    /// the node itself, which the caller delivers too. Down, TooLong, Full, SlotsUsedUp and RoundsUsedUp leave the node
+    /// and its store as they were; after Disk, Damaged or NoMemory the node is down, and the store is that before or
+    /// that after the event's save.
     pub fn on(&mut self, event: Event) -> Result<Vec<Message>, NodeFault>
         ensures kit { kit_of self.new ≡ kit_of self.old }
         ensures member { IsMemberOf (state_of self.old) (state_of self.new) }

@@ -33,17 +33,17 @@ use press_wire::Message;
 use std::alloc::{AllocError, Global};
 use std::io::{Read, Write};
 
-/// What a connection got, and what is to be sent because of it.
+/// What was replied on a connection, and what is to be sent because of it.
 #[derive(Drop)]
 pub struct Served {
     /// The status of the reply that was written.
     pub status: u16,
-    /// In the order of sending; empty but for an event that sends.
+    /// In the order of sending; empty unless an event sends.
     pub outbox: Vec<Message>,
 }
 
 impl NodeFault {
-    /// The status of the reply that tells the fault.
+    /// The status of the reply to the fault.
     pub fn status(self) -> u16
         ensures value { result ≡ status_of_node self }
         ensures told { IsTold result }
@@ -61,7 +61,7 @@ impl NodeFault {
     }
 }
 
-/// What the request on a connection asks for.
+// What the request on a connection asks for.
 fn asked<R: Read>(alloc: Global, reader: &mut R) -> Result<Asked, HttpFault>
     ensures { (seen : List ℕ) × Consumes (R.remaining reader.old) (R.remaining reader.new) seen ×
         (length seen ≤ longest_request) × AsksFor seen (R.remaining reader.new) result }
@@ -72,7 +72,7 @@ fn asked<R: Read>(alloc: Global, reader: &mut R) -> Result<Asked, HttpFault>
     }
 }
 
-/// A reply with a fixed body, and nothing to be sent.
+// Writes a reply with a fixed body; nothing is to be sent.
 fn refused<W: Write>(alloc: Global, writer: &mut W, status: u16) -> Result<Served, HttpFault>
     requires { IsTold status }
     ensures ok { IfOk result
@@ -91,7 +91,7 @@ fn refused<W: Write>(alloc: Global, writer: &mut W, status: u16) -> Result<Serve
     }
 }
 
-/// That a command waits to be chosen.
+// The reply that a command waits to be chosen.
 fn queued(alloc: Global) -> Result<Reply, AllocError>
     ensures { IfOk result (λ r. r ≡ queued) }
 {
@@ -102,7 +102,7 @@ fn queued(alloc: Global) -> Result<Reply, AllocError>
     })
 }
 
-/// That a message was taken.
+// The reply that a message was taken.
 fn taken(alloc: Global) -> Reply
     ensures { result ≡ taken }
 {
@@ -113,7 +113,7 @@ fn taken(alloc: Global) -> Reply
     }
 }
 
-/// A reply, with what is to be sent. Where there is no memory for its head, 503 is told in its place.
+// Writes a reply; its outbox is to be sent. Without memory for its head, 503 is written in its place.
 fn told<W: Write>(
     alloc: Global,
     writer: &mut W,
@@ -143,7 +143,7 @@ fn told<W: Write>(
     }
 }
 
-/// The page that is asked, or 503 where the node is down or memory is wanting.
+// Writes the page that is asked for, or 503 where the node is down or out of memory.
 fn shown<S: PromiseStore, W: Write>(
     node: &Node<S>,
     writer: &mut W,
@@ -164,7 +164,7 @@ fn shown<S: PromiseStore, W: Write>(
     }
 }
 
-/// An event, with the reply that tells it, or its fault.
+// Plays an event, and writes its reply or the reply to its fault.
 fn played<S: PromiseStore, W: Write>(
     node: &mut Node<S>,
     writer: &mut W,
@@ -182,7 +182,7 @@ fn played<S: PromiseStore, W: Write>(
     }
 }
 
-/// A request that asks for nothing. A read that failed and an end before the whole request close the connection without a reply.
+// Answers a request that asks for nothing. A read that failed and an end before the whole request close the connection without a reply.
 fn closed<W: Write>(alloc: Global, writer: &mut W, fault: HttpFault) -> Result<Served, HttpFault>
     ensures { IsClosed fault (status_of fault) (W.contents writer.old) (W.contents writer.new)
         result }
@@ -193,7 +193,8 @@ fn closed<W: Write>(alloc: Global, writer: &mut W, fault: HttpFault) -> Result<S
     }
 }
 
-/// What is asked, done and told. The reply to a command is made before it is played, so that want of memory for it leaves the node as it was.
+// Does what is asked and replies. The reply to a command is made before it is played, so that running out of memory for
+// it leaves the node as it was.
 fn answered<S: PromiseStore, W: Write>(
     node: &mut Node<S>,
     writer: &mut W,
@@ -230,9 +231,10 @@ fn answered<S: PromiseStore, W: Write>(
     }
 }
 
-/// One request of a connection: it is read, what it asks is done, and the reply is written; a refusal is a reply too. The caller sends the outbox, and
-/// delivers what is for this node itself by `Node::on`. Err closes the connection: after ReadFault or Ended nothing was done or written; after WriteFault
-/// a front of the reply may be out, the event stands, and its messages are lost.
+/// Serves one request of a connection: reads it, does what it asks, and writes the reply; a refusal is a reply too. The
+/// caller sends the outbox, and delivers what is for this node itself by `Node::on`. Err closes the connection: after
+/// ReadFault or Ended nothing was done or written; after WriteFault a prefix of the reply may be out, the event is
+/// done, and its messages are lost.
 pub fn serve_one<S: PromiseStore, R: Read, W: Write>(
     node: &mut Node<S>,
     reader: &mut R,

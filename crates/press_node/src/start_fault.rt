@@ -1,7 +1,7 @@
 use press_acceptor::StoreFault;
 use press_callbacks::Kit;
 
-/// Why a node doesn't start: its store doesn't tell the last round. Kit and store come back.
+/// Why a node doesn't start: its store doesn't return the last round. It holds the kit and the store.
 #[derive(Drop)]
 pub struct StartFault<S> {
     pub fault: StoreFault,

@@ -25,7 +25,7 @@ use press_wire::{Message, Node as Member};
 use std::alloc::Global;
 use std::marker::Model;
 
-/// Which member a node is, and what it has in memory while it is up. (No kit stands in it, so it has a model.)
+/// Which member a node is, and what it has in memory while it is up. (It holds no kit, so it has a model.)
 pub struct State {
     id: Member,
     members: u8,
@@ -97,7 +97,7 @@ impl State {
         }
     }
 
-    /// How many values were applied; none where the node is down.
+    /// How many values were applied; None where the node is down.
     pub fn applied(&self) -> u64
         ensures value { result ≡ applied_count self.now }
         ensures whole { IsWhole self.now }
@@ -125,14 +125,14 @@ impl State {
         }
     }
 
-    /// It is down from now on.
+    /// Stops the node, which is down from now on.
     pub fn stop(&mut self)
         ensures { self.new ≡ stopped self.old }
     {
         drop(self.up.take());
     }
 
-    /// An event. After a fault of the store or want of memory the node is down.
+    /// Plays an event. After a fault of the store, or out of memory, the node is down.
     pub fn on<S: PromiseStore>(
         &mut self,
         kit: &Kit,

@@ -31,10 +31,10 @@ use press_site::Site;
 use press_wire::{Ballot, Body, Message, Node as Member, Slot, Vote, is_too_long};
 use std::alloc::Global;
 
-/// How many slots there are.
+// How many slots there are.
 const SLOTS: u64 = 1_000_000;
 
-/// For how many slots votes are kept.
+// For how many slots votes are kept.
 const WINDOW: u8 = 64;
 
 pub(crate) struct Up {
@@ -55,7 +55,7 @@ impl Drop for Up {
     }
 }
 
-/// The slot behind so many.
+// The slot after this many.
 fn slot_behind(applied: u64) -> Slot
     requires { applied < 1000000 }
     ensures { result ≡ applied + 1 }
@@ -66,7 +66,7 @@ fn slot_behind(applied: u64) -> Slot
     slot
 }
 
-/// The command, where it isn't too long.
+// The command, if it isn't too long.
 fn short(command: Stamped) -> Result<Stamped, NodeFault>
     ensures ok { IfOk result (λ c. (c ≡ command) × (spell.is_too_long (Cmd command) ≡ false)) }
     ensures err { IfErr result
@@ -82,7 +82,7 @@ fn short(command: Stamped) -> Result<Stamped, NodeFault>
     Ok(command)
 }
 
-/// What the acceptor answers to a request or a query.
+// What the acceptor answers to a request or a query.
 fn answered<S: PromiseStore>(
     alloc: Global,
     store: &mut S,
@@ -105,7 +105,7 @@ fn answered<S: PromiseStore>(
     }
 }
 
-/// Whether the message is for this node and from a member.
+// Whether the message is for this node and from a member.
 fn is_for(members: u8, id: Member, message: &Message) -> bool
     ensures { result ≡ is_for members id message.now }
 {
@@ -127,7 +127,7 @@ impl Up {
         }
     }
 
-    /// Applies the next slot's value, where one is chosen; whether one was.
+    // Applies the next slot's value, if one is chosen; returns whether one was.
     fn apply_next(&mut self, alloc: Global, kit: &Kit) -> Result<bool, NodeFault>
         requires count { self.old.learner.applied ≡ length self.old.values.items }
         ensures id { self.new.proposer.id ≡ self.old.proposer.id }
@@ -163,7 +163,7 @@ impl Up {
         Ok(true)
     }
 
-    /// Applies chosen values as long as the next slot has one.
+    // Applies chosen values as long as the next slot has one.
     fn settle(&mut self, alloc: Global, kit: &Kit) -> Result<(), NodeFault>
         requires count { self.old.learner.applied ≡ length self.old.values.items }
         ensures none { OnOk result (chosen_next self.new.learner ≡ None) }
@@ -179,7 +179,7 @@ impl Up {
             (IsUpFolded (kit_view kit.now) self.old → IsUpFolded (kit_view kit.now) self.new) }
     {
         none_is_chosen_after_64();
-        // Its contract tells that each kept vote is in the window.
+        // Its contract says that each kept vote is in the window.
         let _ = self.learner.applied();
         for i in 0..WINDOW {
             match self.apply_next(alloc, kit) {
@@ -191,7 +191,6 @@ impl Up {
         Ok(())
     }
 
-    /// A vote came.
     fn on_vote(
         &mut self,
         alloc: Global,
@@ -222,7 +221,6 @@ impl Up {
         }
     }
 
-    /// A command came.
     fn submit(&mut self, alloc: Global, command: Stamped) -> Result<(), NodeFault>
         ensures rest { IsBeside self.old self.new }
         ensures queued { OnOk result (self.new.proposer ≡ queued_by self.old.proposer command) }
@@ -246,7 +244,7 @@ impl Up {
         }
     }
 
-    /// Whether every slot has its value.
+    // Whether every slot has its value.
     #[tactic(auto, unfolding(crate::specs::Refusals::is_at_end))]
     fn is_at_end(&self) -> bool
         ensures value { result ≡ is_at_end (running_of self.now) }
@@ -255,7 +253,6 @@ impl Up {
         self.learner.applied() >= SLOTS
     }
 
-    /// A wake.
     fn wake<S: PromiseStore>(
         &mut self,
         store: &mut S,
@@ -276,7 +273,6 @@ impl Up {
         }
     }
 
-    /// A promise came.
     fn promise(
         &mut self,
         from: Member,
@@ -301,7 +297,6 @@ impl Up {
         }
     }
 
-    /// A refusal came.
     fn nack(&mut self, slot: Slot, refused: Ballot, promised: Ballot)
         ensures rest { IsBeside self.old self.new }
         ensures after { self.new.proposer ≡ nacked_by self.old.proposer slot refused promised }
@@ -309,7 +304,7 @@ impl Up {
         self.proposer.on_nack(slot, refused, promised);
     }
 
-    /// A message for the node came, from a member.
+    // Takes a message for this node from a member.
     fn on_body<S: PromiseStore>(
         &mut self,
         alloc: Global,
@@ -359,7 +354,7 @@ impl Up {
         }
     }
 
-    /// A message came; it is ignored where it is for another node or not from a member.
+    // Takes a message, which is ignored if it is for another node or not from a member.
     fn on_message<S: PromiseStore>(
         &mut self,
         alloc: Global,
@@ -383,7 +378,7 @@ impl Up {
         self.on_body(alloc, kit, store, id, members, message)
     }
 
-    /// An event. After a fault that stops the node nothing is said of what is in memory.
+    /// Plays an event. After a fault that stops the node nothing is said of what is in memory.
     pub(crate) fn on<S: PromiseStore>(
         &mut self,
         alloc: Global,

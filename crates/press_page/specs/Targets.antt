@@ -7,7 +7,7 @@ use Rattle.press_site.specs.declared.token.Token.{Token}
 use Rattle.press_page.specs.declared.reply.Target.{Target}
 use Rattle.press_page.specs.declared.reply.Target.TheVariants.{Front, Post, Json, Result}
 
--- what stands before and after the first such byte
+-- what is before and after the first such byte
 abbrev pub parted : ℕ → List ℕ → Option (List ℕ × List ℕ)
 parted at text =
     if nat_lt (position_or_len (λ b. b == at) text) (length text)

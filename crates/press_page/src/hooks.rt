@@ -1,4 +1,4 @@
-//! The hooks that a page does and applies, with their arguments.
+//! The hooks that a page runs, with their arguments.
 
 ghost use Rattle.std.specs.Prelude.{◌≡◌, ◌∷◌, [], IfOk, None, decimal};
 ghost use Rattle.press_text.specs.Names.{name_fault};

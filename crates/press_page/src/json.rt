@@ -23,7 +23,7 @@ use press_text::Text;
 use serde_json::{Value, json};
 use std::alloc::{AllocError, Global};
 
-/// How many bytes a body may have.
+// How many bytes a body may have.
 const MOST_BYTES: usize = 1_048_576;
 
 /// A post with its title and content by their filters, from a fresh boot; 404 where there is none, and 500 at a limit.
@@ -82,7 +82,7 @@ fn post_value(alloc: Global, post: &Post, texts: &Filtered) -> Result<Value, All
     })
 }
 
-/// What became of a command; 404 where there is no such command.
+/// The outcome of a command; 404 where there is none.
 pub fn result_reply(alloc: Global, outcome: Option<Outcome>) -> Result<Reply, AllocError>
     ensures { IfOk result (λ r. r ≡ result_reply outcome) }
 {
@@ -140,7 +140,7 @@ fn text_of(alloc: Global, value: &Value) -> Result<Text, AllocError>
     Text::from_string(text)
 }
 
-// A body within the bytes.
+// The body, if it is within the limit.
 fn within(body: Text) -> Result<Text, RunFault>
     ensures { Gives Refuses Some result (within body) }
 {

@@ -18,11 +18,11 @@ use press_site::Site;
 use press_text::{NameFault, OptName, Text, esc_html};
 use std::alloc::{AllocError, Global};
 
-/// How many posts a front page lists.
+// How many posts a front page lists.
 const MOST_LISTED: usize = 10;
 
 /// The reply to a request. Pages and posts in JSON come from a fresh boot each, and the site is only read.
-/// 404 stands for a post that isn't there or isn't published, and for a token without an outcome; a limit gives 500.
+/// The status is 404 for a post that doesn't exist or isn't published, and for a token without an outcome; a limit gives 500.
 pub fn page(alloc: Global, site: &Site, kit: &Kit, target: &Target) -> Result<Reply, AllocError>
     ensures { IfOk result (λ r. r ≡ page_of (kit_view kit.now) site.now target.now) }
 {
@@ -51,7 +51,7 @@ fn post(alloc: Global, site: &Site, kit: &Kit, id: u64) -> Result<Reply, AllocEr
     page_with(alloc, site, kit, &[id])
 }
 
-// A post that is there and published.
+// A post that exists and is published.
 fn public_post<'a>(post: Option<&'a Post>) -> Option<&'a Post>
     ensures { option_map (λ p. p.now) result ≡ public_post (option_map (λ p. p.now) post.entry) }
 {
@@ -99,7 +99,7 @@ fn body_of(alloc: Global, site: &Site, kit: &Kit, ids: &[u64]) -> Result<Text, R
     Ok(body)
 }
 
-// The name of the site, as it stands in a page.
+// The name of the site, as it is put into a page.
 fn site_name(alloc: Global, site: &Site) -> Result<String, AllocError>
     ensures { IfOk result (λ t. string_bytes t ≡ site_name site.now) }
 {

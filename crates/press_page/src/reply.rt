@@ -1,7 +1,7 @@
 use press_site::Token;
 use press_text::Text;
 
-/// What is asked of a site.
+/// What a request asks of a site.
 #[derive(Debug, Drop)]
 pub enum Target {
     /// The newest published posts, ten at most.
@@ -10,7 +10,7 @@ pub enum Target {
     Post(u64),
     /// That post in JSON.
     Json(u64),
-    /// What became of the command with that token, in JSON.
+    /// The outcome of the command with that token, in JSON.
     Result(Token),
 }
 

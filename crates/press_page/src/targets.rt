@@ -8,7 +8,7 @@ use press_site::Token;
 use press_text::{Name, NameFault, dec_u64};
 use std::alloc::{AllocError, Global};
 
-// What stands before and after the first such byte.
+// The texts before and after the first such byte.
 fn parted(text: &str, at: char) -> Option<(&str, &str)>
     requires { at < 128 }
     ensures { option_map (λ p. (p.0.now, p.1.now)) result ≡ spec.parted at text.now }

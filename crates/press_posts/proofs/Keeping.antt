@@ -51,7 +51,7 @@ module _ (posts : List (Option Post)) (count : ℕ) (ds : List Dated) (room : �
           roomy = omega (arith, length-set posts (id - 1) (Some p), k.roomy);
         }
 
-    -- a place where a post stands
+    -- a place where a post is
 
     stood : (q : Option Post) → IsGiven id posts → q ≡ get_or posts (id - 1) q → q ≡ Some p → get_or posts (id - 1) None ≡ Some p
     stood q g at is = sym (any_default posts (id - 1) q (omega (arith, g.0, g.1))) ∙ sym at ∙ is

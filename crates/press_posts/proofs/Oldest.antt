@@ -10,7 +10,7 @@ use Rattle.press_posts.specs.PostChange.{standing}
 use Rattle.press_posts.specs.Published.{dated_of, is_older, NoneOlder, IsOldestFirst}
 use Rattle.press_posts.proofs.Order.{put, puts, put_with, oldest_none, oldest_more}
 
--- ---- found by halves
+-- ---- found by binary search
 
 older_yet : (x e d : Dated) → is_older x e ≡ false → is_older x d ≡ true → is_older e d ≡ true
 older_yet x e d h k = grind (arith, nat_tests)

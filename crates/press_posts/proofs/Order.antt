@@ -76,7 +76,7 @@ turned_at d xs ys =
     reverse-append xs (d ∷ ys) ∙ ap (λ (zs : List Dated). zs ++ reverse xs) (reverse-append (d ∷ []) ys) ∙ append_assoc (reverse ys) (d ∷ []) (reverse xs)
     ∙ sym (seam d (reverse ys) (reverse xs)) ∙ ap (λ (m : ℕ). insert (reverse ys ++ reverse xs) m d) (length-reverse ys) ∙ ap (λ (zs : List Dated). insert zs (length ys) d) (sym (reverse-append xs ys))
 
--- an element put in before the last k stands behind the first k of the reverse
+-- an element put in before the last k is behind the first k of the reverse
 turned : (d : Dated) (ds : List Dated) (k : ℕ) → k ≤ length ds → reverse (insert ds (length ds - k) d) ≡ insert (reverse ds) k d
 turned d ds k h =
     let n : ℕ = length ds - k in

@@ -1,4 +1,4 @@
--- The number that tells each fault of a change of posts (own).
+-- The number of each fault of a change of posts (own).
 use Rattle.std.specs.Prelude.{ℕ}
 use Rattle.press_posts.specs.declared.fault.PostFault.{PostFault}
 use Rattle.press_posts.specs.declared.fault.PostFault.TheVariants.{NoMemory, TooLong, NoSuchPost, NotTrashed, IsTrashed, TooManyPosts}

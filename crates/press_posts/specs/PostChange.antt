@@ -1,6 +1,6 @@
 -- What a change of posts comes to: the posts after it, what it fires, and which events of `publish_future_post` go and come; or the first refusal
 -- (Plugin Handbook, Post Status Transitions; ids, limits, the trash and the order of refusals are own).
--- A post stands at a place for good: ids are 1, 2, .. by place, and the place of a deleted post stays empty.
+-- A post is at a place for good: ids are 1, 2, .. by place, and the place of a deleted post stays empty.
 use Rattle.std.specs.Prelude.{◌≡◌, ℕ, zero, suc, ◌+◌, ◌-◌, ◌^◌, List, [], ◌∷◌, ◌++◌, length, filter, set, slice_index_or, Bool, true, false, ◌&&◌, ◌||◌, nat_lt, nat_le, if◌then◌else◌, Option, Some, None, is_some, Result, Ok, Err, MatchResult}
 use Rattle.press_posts.specs.declared.fault.PostFault.{PostFault}
 use Rattle.press_posts.specs.declared.fault.PostFault.TheVariants.{NoMemory, TooLong, NoSuchPost, NotTrashed, IsTrashed, TooManyPosts}
@@ -74,7 +74,7 @@ post_at posts (suc i) = slice_index_or posts i None
 abbrev pub put_at : List (Option Post) → ℕ → Option Post → List (Option Post)
 put_at posts id post = set posts (id - 1) post
 
--- the posts that stand
+-- the posts that exist
 abbrev pub standing : List (Option Post) → ℕ
 standing posts = length (filter (λ p. is_some p) posts)
 
@@ -141,7 +141,7 @@ abbrev pub unless : Option PostFault → Changed → Result Changed PostFault
 unless None c = Ok c
 unless (Some fault) c = Err fault
 
--- what becomes of the post, where it stands
+-- what becomes of the post, where it exists
 abbrev pub of_post : Option Post → (Post → Result Changed PostFault) → Result Changed PostFault
 of_post None change = Err NoSuchPost
 of_post (Some p) change = change p
@@ -154,7 +154,7 @@ post_change posts (Moves id move) now = of_post (post_at posts id) (λ p. moved_
 post_change posts (Delete id) now = of_post (post_at posts id) (λ p. if is_trash p.status then Ok (deleted id posts) else Err NotTrashed)
 
 -- ---- what a call answers: a part of the change, and the posts are those after it; or its refusal, and they are as they were.
--- Want of memory stands only where something is fired.
+-- Out of memory comes only where something is fired.
 
 abbrev pub Done : {A : Type 0} → (Changed → A) → A → List (Option Post) → Result Changed PostFault → Type 0
 Done part answer new (Ok c) = (answer ≡ part c) × (new ≡ c.posts)

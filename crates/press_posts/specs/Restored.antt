@@ -1,4 +1,4 @@
--- A change taken back: what stood at an id's place before stands there again.
+-- A change taken back: what was at an id's place before is there again.
 use Rattle.std.specs.Prelude.{◌≡◌, ℕ, ◌+◌, ◌-◌, ◌≤◌, List, length, take, Option, Some, None, IfNone}
 use Rattle.press_posts.specs.declared.post.Post.{Post}
 use Rattle.press_posts.specs.PostChange.{Change, Changed, post_at, put_at}
@@ -9,11 +9,11 @@ abbrev pub restored : ℕ → Option Post → List (Option Post) → List (Optio
 restored id (Some p) posts = put_at posts id (Some p)
 restored id None posts = take (length posts - 1) posts
 
--- an id that was given out
+-- an id that was assigned
 abbrev pub IsGiven : ℕ → List (Option Post) → Type 0
 IsGiven id posts = (1 ≤ id) × (id ≤ length posts)
 
--- where a change may be taken back: the id was given out, and without a post it is the last one
+-- where a change may be taken back: the id was assigned, and without a post it is the last one
 pub record IsRestorable (id : ℕ) (post : Option Post) (posts : List (Option Post)) : Type 0 where
   pub given : IsGiven id posts
   pub last : IfNone post (id ≡ length posts)
@@ -27,7 +27,7 @@ changed_id (Edit id title content status date) posts = id
 changed_id (Moves id move) posts = id
 changed_id (Delete id) posts = id
 
--- the post that stood there before it
+-- the post that was there before it
 abbrev pub stood : Change → List (Option Post) → Option Post
 stood (Insert title content status date) posts = None
 stood (Edit id title content status date) posts = post_at posts id

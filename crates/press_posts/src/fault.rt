@@ -23,7 +23,7 @@ pub enum PostFault {
 }
 
 impl PostFault {
-    /// The number that tells the fault.
+    /// Its number in the table of faults.
     pub fn number(self) -> u8
         ensures { result ≡ post_fault_number self }
     {

@@ -34,7 +34,7 @@ impl Fire {
     }
 }
 
-// What a transition of a post fires; None for the status before the post was.
+/// What a transition of a post fires; None for the status before the post was.
 pub fn transition(
     alloc: Global,
     old: Option<Status>,

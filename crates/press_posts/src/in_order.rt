@@ -1,4 +1,4 @@
-//! Published posts in their order, oldest first: where one stands is found by halves.
+//! Published posts in their order, oldest first: a post's position is found by binary search.
 
 ghost use Rattle.std.specs.Prelude.{◌≡◌, ◌<◌, ◌≤◌, length, map, take, reverse, vec_len, vec_capacity, IfOk, OnOk};
 ghost use Rattle.press_posts.specs.Kept.{place_among, put_in, taken_out, IsAmong};
@@ -7,7 +7,7 @@ ghost use Rattle.press_posts.specs.Published.{is_older, IsOldestFirst};
 use crate::posts::Dated;
 use std::alloc::{AllocError, Global};
 
-/// Room for so many published posts.
+/// Room for that many published posts.
 pub fn make_room(order: &mut Vec<Dated>, most: usize) -> Result<(), AllocError>
     ensures items { order.new.items ≡ order.old.items }
     ensures room { OnOk result (most ≤ vec_capacity order.new) }
@@ -16,7 +16,7 @@ pub fn make_room(order: &mut Vec<Dated>, most: usize) -> Result<(), AllocError>
     order.reserve(most.saturating_sub(order.len()))
 }
 
-/// Puts one in its place, in the room that there is.
+/// Puts one at its position, in the room that there is.
 pub fn put_in(order: &mut Vec<Dated>, dated: Option<Dated>)
     requires order { IsOldestFirst order.old.items }
     requires room { vec_len order.old < vec_capacity order.old }
@@ -32,7 +32,7 @@ pub fn put_in(order: &mut Vec<Dated>, dated: Option<Dated>)
     };
 }
 
-/// Takes one out that is among them.
+/// Removes one that is among them.
 pub fn take_out(order: &mut Vec<Dated>, dated: Option<Dated>)
     requires order { IsOldestFirst order.old.items }
     requires among { IsAmong dated order.old.items }
@@ -46,7 +46,7 @@ pub fn take_out(order: &mut Vec<Dated>, dated: Option<Dated>)
     order.remove(place);
 }
 
-/// The ids of so many, newest first.
+/// The ids of the first `most`, newest first.
 pub fn newest(alloc: Global, order: &[Dated], most: usize) -> Result<Vec<u64>, AllocError>
     ensures { IfOk result (λ ids. ids.items ≡ map (λ d. d.id) (take most (reverse order.now))) }
 {

@@ -22,7 +22,7 @@ pub fn changes_keep_ids()
         → IfOk (post_change posts change now) (λ c. HaveIds c.posts) }
 {}
 
-/// A change that is done is taken back by its id and the post that stood there before it: by none after an insert.
+/// A change is undone by its id and the post that was there before it: by none after an insert.
 pub fn changes_are_taken_back()
     ensures { (posts : List (Option Post)) (change : Change) (now : ℕ)
         → IfOk (post_change posts change now) (IsTakenBack change posts) }

@@ -1,4 +1,4 @@
-//! Posts: what a change of them comes to, which actions each change of a status fires, and which posts are published.
+//! Posts: what a change of them gives, which actions each change of a status fires, and which posts are published.
 #![tactic(auto)]
 
 mod fault;

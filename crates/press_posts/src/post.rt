@@ -12,7 +12,7 @@ const MOST_TITLE: usize = 1024;
 
 const MOST_CONTENT: usize = 65_536;
 
-/// A post as it stands: no trace of what it was before.
+/// A post as it is now, without its history.
 #[derive(Debug)]
 pub struct Post {
     pub id: u64,
@@ -45,7 +45,7 @@ pub enum Move {
 }
 
 impl Post {
-    // Where it stands among the published posts, if it is one.
+    /// Its position among the published posts, if it is one.
     pub(crate) fn dated(&self) -> Option<Dated>
         ensures { result ≡ dated_of (Some self.now) }
     {
@@ -62,7 +62,7 @@ impl Post {
         self.status.is_future() && self.date.seconds() <= now.seconds()
     }
 
-    /// Why an edit of it is refused, where it is.
+    /// Why an edit of it is refused, if it is.
     pub fn edit_fault(&self, title: &str, content: &str, status: Status) -> Option<PostFault>
         ensures { result ≡ edit_fault title.now content.now status self.now }
     {

@@ -23,7 +23,7 @@ const MOST_POSTS: usize = 10_000;
 pub struct Posts {
     alloc: Global,
     places: Vec<Option<Post>>,
-    // How many stand.
+    // How many posts exist.
     count: usize,
     // The published ones, oldest date first, then least id; with room for one at each place.
     order: Vec<Dated>,
@@ -52,7 +52,7 @@ impl Model for Posts {
     ghost invariant = { λ p. IsKept p.places.items p.count p.order.items (vec_capacity p.order) };
 }
 
-// Where a published post stands among the others.
+/// The position of a published post among the others.
 #[derive(Clone, Copy, Debug)]
 pub struct Dated {
     pub date: Moment,
@@ -72,7 +72,7 @@ impl Posts {
         }
     }
 
-    /// A post more, with the next id; its title and content stand as they are given.
+    /// Adds a post with the next id; its title and content are stored as they are given.
     pub fn insert(
         &mut self,
         title: Text,
@@ -100,7 +100,7 @@ impl Posts {
         Ok((id, fires))
     }
 
-    /// Another title, content, status and date for a post.
+    /// Gives a post another title, content, status and date.
     pub fn edit(
         &mut self,
         id: u64,
@@ -133,7 +133,7 @@ impl Posts {
         Ok(fires)
     }
 
-    /// Another status for a post. PublishDue changes nothing, and fires nothing, where the post isn't future and due.
+    /// Gives a post another status. PublishDue changes nothing, and fires nothing, where the post isn't future and due.
     pub fn set_status(&mut self, id: u64, to: Move) -> Result<Items<Fire>, PostFault>
         ensures { (now : ℕ) → Changes (λ c. c.fires) result
             (post_change self.old (Moves id to) now) self.old self.new }
@@ -148,7 +148,7 @@ impl Posts {
         }
     }
 
-    /// Takes a post out of the trash for good.
+    /// Deletes a post that is in the trash, for good.
     pub fn delete(&mut self, id: u64) -> Result<(), PostFault>
         ensures { (now : ℕ) → Changes (λ _. tt) result (post_change self.old (Delete id) now)
             self.old self.new }
@@ -176,8 +176,8 @@ impl Posts {
         }
     }
 
-    /// Puts what stood at the place of an id there again; without a post, the id is the last one given, and goes back. So a change is taken back: an insert without
-    /// a post, any other with the post as it was. Takes no memory.
+    /// Undoes a change: puts back what was at the place of an id. Without a post, the id has to be the last one given,
+    /// and is given again. An insert is undone without a post, any other with the post as it was. Takes no memory.
     pub fn restore(&mut self, id: u64, post: Option<Post>)
         requires { IsRestorable id post self.old }
         ensures { self.new ≡ restored id post self.old }
@@ -228,7 +228,7 @@ impl Posts {
         self.places.len() as u64 + 1
     }
 
-    /// Why an insert is refused, where it is.
+    /// Why an insert is refused, if it is.
     pub fn insert_fault(&self, title: &str, content: &str, status: Status) -> Option<PostFault>
         ensures { result ≡ insert_fault title.now content.now status self.now }
     {
@@ -244,14 +244,14 @@ impl Posts {
         None
     }
 
-    // Whether no post more may stand.
+    // Whether there is no room for another post.
     fn is_full(&self) -> bool
         ensures { result ≡ is_full self.now }
     {
         self.count >= MOST_POSTS || self.places.len() == usize::MAX
     }
 
-    // Another status for the post that stands with the old one.
+    // Gives the post with the old status another one.
     fn turn(&mut self, id: u64, old: Status, status: Status) -> Result<Items<Fire>, AllocError>
         requires { is_some (post_at self.old id) ≡ true }
         ensures fires { IfOk result (λ fs. fs ≡ transition (Some old) status id) }
@@ -268,7 +268,7 @@ impl Posts {
         Ok(Items::from_vec(fires))
     }
 
-    // A post at a place more.
+    // Adds a post at a new place.
     fn push(&mut self, post: Post) -> Result<(), AllocError>
         requires { is_full self.old ≡ false }
         ensures ok { OnOk result (self.new ≡ self.old ++ Some post ∷ []) }
@@ -280,7 +280,7 @@ impl Posts {
         Ok(())
     }
 
-    // A post at a place that was given out, in place of what stood there.
+    // Puts a post at a place, in place of what was there.
     fn put(&mut self, id: u64, post: Post)
         requires { IsGiven id self.old }
         ensures { self.new ≡ put_at self.old id (Some post) }
@@ -300,7 +300,7 @@ impl Posts {
         Ok(())
     }
 
-    // Gives the last place back, which is empty.
+    // Removes the last place, which is empty.
     fn give_back(&mut self)
         requires { (1 ≤ length self.old) × (post_at self.old (length self.old) ≡ None) }
         ensures { self.new ≡ take (length self.old - 1) self.old }
@@ -308,7 +308,7 @@ impl Posts {
         drop(self.places.pop());
     }
 
-    // Empties a place; what stood there.
+    // Empties a place; returns what was there.
     fn empty(&mut self, id: u64) -> Option<Post>
         requires { IsGiven id self.old }
         ensures post { result ≡ post_at self.old id }

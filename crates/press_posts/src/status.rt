@@ -51,7 +51,7 @@ impl Status {
         }
     }
 
-    /// What a post of that date gets where this status is wanted for it.
+    /// The status that a post of that date gets when this one is asked for.
     pub fn settled(self, date: Moment, now: Moment) -> Status
         ensures { result ≡ settled self date now }
     {

@@ -45,7 +45,7 @@ abbrev pub ending_of : Result Ending ReplayFault → Ending
 ending_of (Ok end) = end
 ending_of (Err fault) = Fault fault
 
--- want of memory and failed reads come from outside, and may come at any run
+-- out of memory and failed reads come from outside, and may come at any run
 abbrev pub IsOutside : Ending → Type 0
 IsOutside (Printed status body) = ⊥
 IsOutside Replayed = ⊥
@@ -68,13 +68,13 @@ abbrev pub failed : ReplayFault → Result (Unit {0}) ReplayFault
 failed fault = Err fault
 
 -- The end of a replay of the schedule that a reader has left, over at most so many nodes of this kit, and what it has put on the output: the transcript, or
--- a front of it where a write failed or memory was wanting; nothing where the file is bad or couldn't be read.
+-- a prefix of it where a write failed or memory ran out; nothing where the file is bad or couldn't be read.
 unfoldable pub EndsReplay : KitView → ℕ → Option (List ℕ) → Option (List ℕ) → Option (List ℕ) → Ending → Type 0
 EndsReplay kit kits remaining out out' (Printed status body) = ⊥
 EndsReplay kit kits remaining out out' Replayed = Replays (schedule_in kits) (transcript kit) remaining out out' replayed
 EndsReplay kit kits remaining out out' (Fault fault) = Replays (schedule_in kits) (transcript kit) remaining out out' (failed fault)
 
--- The same where the steps come over sockets, any of which may fail: then a front of the transcript is left.
+-- The same where the steps come over sockets, any of which may fail: then a prefix of the transcript is left.
 unfoldable pub EndsLoop : KitView → ℕ → Option (List ℕ) → Option (List ℕ) → Option (List ℕ) → Ending → Type 0
 EndsLoop kit kits remaining out out' (Printed status body) = ⊥
 EndsLoop kit kits remaining out out' Replayed = Loops (schedule_in kits) (transcript kit) remaining out out' replayed
@@ -92,7 +92,7 @@ EndsTask kit (Page target) remaining out out' end = EndsOn kit target remaining 
 EndsTask kit Replay remaining out out' end = EndsReplay kit (kits_for Replay) remaining out out' end
 EndsTask kit Loop remaining out out' end = EndsLoop kit (kits_for Loop) remaining out out' end
 
--- What is known of a file's bytes: on the standard input, what that tells. A file that is opened by its name has some bytes.
+-- What is known of a file's bytes: on the standard input, what contracts see of that. A file that is opened by its name has some bytes.
 abbrev pub known_of : List ℕ → Option (List ℕ) → Option (List ℕ)
 known_of file remaining = if is_input file then remaining else None
 
@@ -108,7 +108,7 @@ Finishes (Printed status body) result out out' err err' =
 Finishes Replayed result out out' err err' = (result ≡ 0) × Keeps out out' × Keeps err err'
 Finishes (Fault fault) result out out' err err' = (result ≡ 2) × Keeps out out' × AppendsFront err err' (fault_line fault)
 
--- Refused words: the usage, or want of memory to read them.
+-- Refused words: the usage, or no memory to read them.
 abbrev pub TellsUsage : ℕ → Option (List ℕ) → Option (List ℕ) → Option (List ℕ) → Option (List ℕ) → Type 0
 TellsUsage result out out' err err' = (result ≡ 2) × Keeps out out' × (AppendsFront err err' usage_line ⊎ AppendsFront err err' (fault_line NoMemory))
 
@@ -130,7 +130,7 @@ ReadsAsked (Some asked) input input' = ReadsFor asked.job input input'
 abbrev pub Shows : KitView → OfFile → Option (List ℕ) → ℕ → Option (List ℕ) → Option (List ℕ) → Option (List ℕ) → Option (List ℕ) → Type 0
 Shows kit wanted remaining result out out' err err' = (end : Ending) × (by_then : Option (List ℕ)) × EndsTask kit wanted.1 (known_of wanted.0 remaining) out by_then end × Finishes end result by_then out' err err'
 
--- A server's run: what it told on the output, as far as that took it. Sockets tell nothing of their bytes, and its lines on the errors tell of them.
+-- A server's run: what it printed on the output, as far as that took it. Contracts see no bytes of sockets, and its lines on standard error depend on them.
 abbrev pub Listens : Where → ℕ → Option (List ℕ) → Option (List ℕ) → Type 0
 Listens place result out out' = ((result ≡ 0) ⊎ (result ≡ 2)) × AppendsFront out out' (listening_line place)
 
@@ -139,7 +139,7 @@ abbrev pub Does : KitView → Job → Option (List ℕ) → ℕ → Option (List
 Does kit (of_file wanted) remaining result out out' err err' = Shows kit wanted remaining result out out' err err'
 Does kit (serve server) remaining result out out' err err' = Listens server.place result out out'
 
--- Over the demonstration kit, or over that of a kit file, whose slips are told before anything else; a kit file that can't be used is told, and nothing else is done.
+-- Over the demonstration kit, or over that of a kit file, whose slips are reported before anything else; a kit file that can't be used is reported, and nothing else is done.
 abbrev pub RunsOver : Option (List ℕ) → Job → Option (List ℕ) → ℕ → Option (List ℕ) → Option (List ℕ) → Option (List ℕ) → Option (List ℕ) → Type 0
 RunsOver None job remaining result out out' err err' = Does demonstration job remaining result out out' err err'
 RunsOver (Some file) job remaining result out out' err err' =

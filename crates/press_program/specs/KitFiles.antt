@@ -1,4 +1,4 @@
--- The kit file of a run: what is told of it where it can't be used, and the kit that it gives (own).
+-- The kit file of a run: the message about it where it can't be used, and the kit that it gives (own).
 use Rattle.std.specs.Prelude.{◌≡◌, ℕ, List, ◌++◌, map, [], string_bytes, Option, None, Result, Ok, Err, codes, decimal}
 use Rattle.std.specs.Io.KnownBytes.{Keeps}
 use Rattle.press_callbacks.specs.Kits.{KitView, view_of}
@@ -41,7 +41,7 @@ view_chosen (OfFile bytes) = view_where (kit_in bytes.items)
 abbrev pub IsKitOf : List ℕ → KitParts → Type 0
 IsKitOf bytes kit = (kit_in bytes ≡ Ok kit) × (mistake_in kit ≡ None)
 
--- in front of what is told of a slip
+-- in front of the message about a slip
 abbrev pub slip_front : List ℕ → List ℕ
 slip_front file = codes "press: warning in " ++ (file ++ codes ": ")
 
@@ -51,13 +51,13 @@ kit_line file kit.ReadFault = codes "press: fault 40 in " ++ (file ++ codes "\n"
 kit_line file kit.TooLong = codes "press: fault 73 in " ++ (file ++ codes ": longer than 4194304 bytes\n")
 kit_line file (kit.Refused number text) = codes "press: fault " ++ (decimal number ++ (codes " in " ++ (file ++ (codes ": " ++ (string_bytes text ++ codes "\n")))))
 
--- a refused file is told as it is; want of memory, a failed read and a file that is too long may be met at any time
+-- a refused file is reported as it is; out of memory, a failed read and a file that is too long may be met at any time
 abbrev pub MeetsFault : KitFault → Type 0
 MeetsFault kit.NoMemory = Unit {0}
 MeetsFault kit.ReadFault = Unit {0}
 MeetsFault kit.TooLong = Unit {0}
 MeetsFault (kit.Refused number text) = (bytes : List ℕ) × TellsFile bytes (kit_in bytes) number (string_bytes text)
 
--- its fault is told, or want of memory to tell it, and nothing else is done
+-- its fault is reported, or that there is no memory for that, and nothing else is done
 abbrev pub RefusesKit : List ℕ → ℕ → Option (List ℕ) → Option (List ℕ) → Option (List ℕ) → Option (List ℕ) → Type 0
 RefusesKit file result out out' err err' = (result ≡ 2) × Keeps out out' × (fault : KitFault) × MeetsFault fault × AppendsFront err err' (kit_line file fault)

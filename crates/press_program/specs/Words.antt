@@ -23,7 +23,7 @@ abbrev pub ◌>>=◌ : {A B : Type 0} → Option A → (A → Option B) → Opti
 None >>= f = None
 (Some x) >>= f = f x
 
--- ---- the program, as it is told to `clap`
+-- ---- the program, as it is given to `clap`
 
 -- a word that has to be there
 abbrev pub needed : Text → Rule
@@ -48,7 +48,7 @@ page_words = with_kit (with_rule (with_rule (helpless (codes "page")) (needed (c
 abbrev pub file_words : Text → App
 file_words name = with_kit (with_rule (helpless name) (needed (codes "FILE")))
 
--- where a server stands
+-- a server's place
 abbrev pub place_words : App
 place_words =
     with_rule (with_rule (with_rule (with_rule (helpless (codes "serve")) (named (codes "port"))) (named (codes "id"))) (named (codes "peers"))) (named (codes "tick"))
@@ -75,7 +75,7 @@ program = with_subcommand (with_subcommand (with_subcommand (with_subcommand bar
 abbrev pub OfFile : Type 0
 OfFile = List ℕ × Task
 
--- a server: where it stands, with the milliseconds of its tick; for so many connections, or until it is ended; over the store in a file, or in memory; with the file of a page for
+-- a server: its place, with the milliseconds of its tick; for so many connections, or until it is ended; over the store in a file, or in memory; with the file of a page for
 -- editors; and how many seconds ahead a command may be
 pub record Server : Type 0 where
   pub place : Where
@@ -114,7 +114,7 @@ if_within least most n = if nat_le least n && nat_le n most then Some n else Non
 abbrev pub number_in : ℕ → ℕ → Text → Option ℕ
 number_in least most text = decimal_in text >>= if_within least most
 
--- a number that may be told
+-- a number that may be given
 abbrev pub perhaps_number : ℕ → ℕ → Option Text → Option (Option ℕ)
 perhaps_number least most None = Some None
 perhaps_number least most (Some text) = option_map (λ n. Some n) (number_in least most text)
@@ -172,7 +172,7 @@ job_in name rows =
 abbrev pub asked_in : Text → List Row → Option Asked
 asked_in name rows = option_map (λ job. record { kit = first_of (codes "kit") rows; job = job }) (job_in name rows)
 
--- nothing where `clap` has a fault to tell
+-- nothing where `clap` has a fault
 abbrev pub asked_where : Kinds → Option (Text × List Row) → Option Asked
 asked_where [] found = option_and_then (λ p. asked_in p.0 p.1) found
 asked_where (k ∷ ks) found = None
@@ -185,7 +185,7 @@ asked_by (w ∷ ws) = asked_where (fault_of program (w ∷ ws)) (subcommand_of p
 abbrev pub is_input : List ℕ → Bool
 is_input file = bytes_eq file (codes "-")
 
--- ---- as it stands in memory
+-- ---- as it is in memory
 
 abbrev pub wanted_of : Wanted → OfFile
 wanted_of w = (w.file.now, w.task)

@@ -38,7 +38,7 @@ impl From<AllocError> for KitFault {
     }
 }
 
-// The bytes of a file by its name. One that can't be opened can't be read.
+// The bytes of a file by its name. One that can't be opened counts as one that can't be read.
 fn bytes_of<Rt: AllocGlobal + Files>(rt: &Rt, file: &str) -> Result<Vec<u8>, KitFault>
     ensures { IfErr result (λ f. MeetsFault f) }
 {
@@ -88,7 +88,7 @@ pub fn read_kit<Rt: AllocGlobal + Files>(rt: &Rt, file: &str) -> Result<ReadKit,
     Ok(ReadKit { bytes, slips })
 }
 
-/// The line that tells a kit file's fault.
+/// The line that reports a kit file's fault.
 pub fn kit_line(alloc: Global, file: &str, fault: &KitFault) -> Result<String, AllocError>
     ensures { IfOk result (λ t. string_bytes t ≡ kit_line file.now fault.now) }
 {

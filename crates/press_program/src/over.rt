@@ -38,7 +38,7 @@ fn kits_for(task: &Task) -> usize
     }
 }
 
-// A program that runs over a kit.
+/// A program that runs over a kit.
 #[derive(Drop)]
 pub(crate) struct Over<'r, Rt> {
     pub rt: &'r Rt,
@@ -135,7 +135,7 @@ impl<Rt: AllocGlobal + Net> Over<'_, Rt> {
 }
 
 impl<Rt: AllocGlobal + Files + Net> Over<'_, Rt> {
-    // The end of a run on a file by its name. One that can't be opened can't be read.
+    // The end of a run on a file by its name. One that can't be opened counts as one that can't be read.
     fn shown_of<W: Write>(&self, wanted: &Wanted<'_>, writer: &mut W) -> Ending
         ensures { EndsTask (view_chosen self.now.kit.now) wanted.now.task None
             (W.contents writer.old) (W.contents writer.new) result }
@@ -170,7 +170,7 @@ impl<Rt: AllocGlobal + Files + Net> Over<'_, Rt> {
         }
     }
 
-    // What is asked of a file, told.
+    // Prints what is asked of a file.
     fn show<R: Read, W: Write, E: Write>(
         &self,
         wanted: &Wanted<'_>,
@@ -243,7 +243,7 @@ impl Over<'_, HostRuntime> {
         }
     }
 
-    // A server, and what is told of its fault.
+    // Runs a server, and reports its fault.
     fn serve<W: Write, E: Write>(&self, setup: &Setup<'_>, writer: &mut W, error: &mut E) -> u8
         ensures { Listens (where_of setup.now.place) result
             (W.contents writer.old) (W.contents writer.new) }

@@ -46,7 +46,7 @@ impl Asked<'_> {
     }
 }
 
-// What is asked, where something is. Refused words read nothing.
+// What is asked for, if anything is. Refused arguments read nothing.
 fn answered<R: Read, W: Write, E: Write>(
     rt: &HostRuntime,
     asked: &Option<Asked<'_>>,
@@ -71,17 +71,22 @@ fn answered<R: Read, W: Write, E: Write>(
     }
 }
 
-/// One run over an input and two outputs: `page FILE TARGET` prints the reply to what is asked after the commands of a site file, which is
-/// the standard input for `-`; without words that is `page - post:1`. The status is 0 for a reply of status 200, and 1 for another.
-/// `replay FILE` prints the transcript of a schedule over at most seven nodes, with status 0, and so does `loop FILE`, where each command, message and request for a page comes
-/// over a socket of the loopback. `serve --port N [--store FILE]` serves a node of a cluster of one at a port of 127.0.0.1, and `serve --id N --peers HOST:PORT,.. --store FILE [--tick N]`
-/// one of a cluster of up to seven at its own address among these; with `--turns N` for so many connections, and then it ends with status 0; with `--editor FILE` that file is shown at `/editor`, and
-/// with `--ahead N` no command is taken that is so many seconds ahead of the machine's clock. With `--kit FILE` each of them plays the callbacks and plugins of a kit file in place of the
-/// demonstration kit; what is wrong with that file is told with its place, and what in it is surely a slip is a line `press: warning in FILE: ..` before anything else. A fault is a line
-/// `press: fault N` on the errors, and status 2; so is `press: usage` for any other words, and then nothing is read.
+/// One run over an input and two outputs: `page FILE TARGET` prints the reply to what is asked after the commands of a
+/// site file, which is the standard input for `-`; without arguments that is `page - post:1`. The status is 0 for a
+/// reply of status 200, and 1 for another. `replay FILE` prints the transcript of a schedule over at most seven nodes,
+/// with status 0, and so does `loop FILE`, where each command, message and request for a page comes over a socket of
+/// the loopback. `serve --port N [--store FILE]` serves a node of a cluster of one at a port of 127.0.0.1, and `serve
+/// --id N --peers HOST:PORT,.. --store FILE [--tick N]` one of a cluster of up to seven at its own address among these;
+/// with `--turns N` for N connections, and then it ends with status 0; with `--editor FILE` that file is shown at
+/// `/editor`, and with `--ahead N` no command is taken that is more than N seconds ahead of the machine's clock. With
+/// `--kit FILE` each of them plays the callbacks and plugins of a kit file in place of the demonstration kit; what is
+/// wrong with that file is reported with its place, and what in it is surely a slip is a line `press: warning in FILE:
+/// ..` before anything else. A fault is a line `press: fault N` on standard error, and status 2; so is `press: usage`
+/// for any other arguments, and then nothing is read.
 ///
-/// Of a server the clauses say that its words are taken as told, and which line it prints: what goes over its sockets is outside them, since these tell no bytes.
-/// `serve_turn` says what each of its connections gets.
+/// Of a server the clauses say that its options are taken as given, and which line it prints: what goes over its
+/// sockets is outside them, since contracts see no bytes of a socket. `serve_turn` has the contract of each of its
+/// connections.
 pub fn run<R: Read, W: Write, E: Write>(
     rt: &HostRuntime,
     words: &[String],

@@ -1,4 +1,4 @@
-//! What a run tells: a body on the output, a fault on the errors.
+//! What a run prints: a body on standard output, a fault on standard error.
 
 ghost use Rattle.std.specs.Prelude.{◌≡◌, ◌⊎◌};
 ghost use Rattle.press_text.specs.Streams.{AppendsFront};
@@ -23,14 +23,14 @@ fn line_of(fault: ReplayFault) -> &'static [u8]
     }
 }
 
-/// Where the line can't be written there is nobody to tell.
+/// A line that can't be written is dropped.
 pub(crate) fn tell<E: Write>(error: &mut E, line: &[u8])
     ensures { AppendsFront (E.contents error.old) (E.contents error.new) line.now }
 {
     let _ = write_once(error, line);
 }
 
-/// Refused words.
+/// Prints the usage, for refused arguments.
 pub fn refuse<E: Write>(error: &mut E) -> u8
     ensures status { result ≡ 2 }
     ensures told { AppendsFront (E.contents error.old) (E.contents error.new) usage_line }
@@ -39,7 +39,7 @@ pub fn refuse<E: Write>(error: &mut E) -> u8
     2
 }
 
-/// Tells a fault: the line `press: fault N` on the errors, and status 2.
+/// Reports a fault: the line `press: fault N` on standard error, and status 2.
 pub fn fail<E: Write>(fault: ReplayFault, error: &mut E) -> u8
     ensures status { result ≡ 2 }
     ensures told { AppendsFront (E.contents error.old) (E.contents error.new) (fault_line fault) }
@@ -63,7 +63,7 @@ pub(crate) fn finish<W: Write, E: Write>(end: Ending, writer: &mut W, error: &mu
     }
 }
 
-/// Tells a kit file that can't be used.
+/// Reports a kit file that can't be used.
 pub(crate) fn refuse_kit<E: Write>(alloc: Global, file: &str, fault: &KitFault, error: &mut E) -> u8
     ensures status { result ≡ 2 }
     ensures told { AppendsFront (E.contents error.old) (E.contents error.new)

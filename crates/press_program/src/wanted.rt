@@ -16,7 +16,7 @@ pub enum Job<'a> {
     Serve(Setup<'a>),
 }
 
-/// What the words after the program's name ask for.
+/// What the arguments after the program's name ask for.
 #[derive(Debug, Drop)]
 pub struct Asked<'a> {
     /// The name of a kit file; without one it is the demonstration kit.

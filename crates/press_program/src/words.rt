@@ -1,4 +1,4 @@
-//! The words of the program, by `clap`.
+//! The arguments of the program, by `clap`.
 
 ghost use Rattle.std.specs.Prelude.{◌≡◌, ◌≢◌, ◌≤◌, IfOk, IfSome, None, codes, false, map, option_and_then, option_map, string_bytes};
 ghost use Rattle.clap.specs.Words.{FailsBy, app_of, fault_of, first_of, found_of, rows_of, subcommand_of, subcommand_rows_of};
@@ -15,7 +15,7 @@ use press_sockets::{Place, Setup};
 use press_text::dec_u64;
 use std::alloc::{AllocError, Global};
 
-// The word for a kit file, behind the others of a command.
+// The option for a kit file, after the other arguments of a command.
 fn with_kit<'a>(alloc: Global, command: Command<'a>) -> Result<Command<'a>, AllocError>
     requires local { (out-Command command).has_globals ≡ false }
     ensures app { IfOk result (λ c. app_of c ≡ spec.with_kit (app_of command.entry)) }
@@ -40,7 +40,7 @@ fn page_words<'a>(alloc: Global) -> Result<Command<'a>, AllocError>
     Ok(whole)
 }
 
-// A command with a file alone.
+// A command with a file as its only argument.
 fn file_words<'a>(alloc: Global, name: &'a str) -> Result<Command<'a>, AllocError>
     ensures app { IfOk result (λ c. app_of c ≡ spec.file_words name.now) }
     ensures local { IfOk result (λ c. (out-Command c).has_globals ≡ false) }
@@ -51,7 +51,7 @@ fn file_words<'a>(alloc: Global, name: &'a str) -> Result<Command<'a>, AllocErro
     Ok(whole)
 }
 
-// The words of where a server stands.
+// The options of a server's place.
 fn place_words<'a>(alloc: Global) -> Result<Command<'a>, AllocError>
     ensures app { IfOk result (λ c. app_of c ≡ spec.place_words) }
     ensures local { IfOk result (λ c. (out-Command c).has_globals ≡ false) }
@@ -69,7 +69,7 @@ fn place_words<'a>(alloc: Global) -> Result<Command<'a>, AllocError>
     Ok(serve)
 }
 
-// The words of a server.
+// The options of a server.
 fn server_words<'a>(alloc: Global) -> Result<Command<'a>, AllocError>
     ensures app { IfOk result (λ c. app_of c ≡ spec.server_words) }
     ensures local { IfOk result (λ c. (out-Command c).has_globals ≡ false) }
@@ -92,7 +92,7 @@ fn serve_words<'a>(alloc: Global) -> Result<Command<'a>, AllocError>
     Ok(whole)
 }
 
-// What the words come to, as `clap` reads them.
+// What the arguments ask for, as `clap` reads them.
 fn parsed<'a>(alloc: Global, words: &'a [String]) -> Result<ArgMatches<'a>, Error>
     ensures kinds { FailsBy (fault_of spec.program (map string_bytes words.entry.now)) result }
     ensures matches { IfOk result (λ m. subcommand_rows_of m
@@ -293,7 +293,7 @@ fn found_in<'a>(alloc: Global, matches: &ArgMatches<'a>) -> Result<Option<Asked<
     }
 }
 
-// Nothing is asked, or memory was wanting.
+// None for wrong arguments; out of memory stays an error.
 fn untold<'a>(e: Error) -> Result<Option<Asked<'a>>, AllocError>
     ensures { IfOk result (λ a. (a ≡ None) × (kind_of e ≢ ErrorKind.OutOfMemory)) }
 {
@@ -304,7 +304,7 @@ fn untold<'a>(e: Error) -> Result<Option<Asked<'a>>, AllocError>
     }
 }
 
-/// What the words after the program's name ask for, or nothing where they are refused.
+/// What the arguments after the program's name ask for, or nothing where they are refused.
 pub fn read_words<'a>(alloc: Global, words: &'a [String]) -> Result<Option<Asked<'a>>, AllocError>
     ensures { IfOk result (λ a. option_map (λ a. spec.asked_of a) a
         ≡ spec.asked_by (map string_bytes words.entry.now)) }

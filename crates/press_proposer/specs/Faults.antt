@@ -1,4 +1,4 @@
--- The number that tells each fault of a proposer (own).
+-- The number of each fault of a proposer (own).
 use Rattle.std.specs.Prelude.{ℕ, Option, None, Some}
 use Rattle.press_acceptor.specs.Faults.{store_fault_number}
 use Rattle.press_acceptor.specs.declared.fault.StoreFault.{StoreFault}

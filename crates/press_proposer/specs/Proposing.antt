@@ -12,7 +12,7 @@ pub record Proposing : Type 0 where
   -- the commands that wait to be chosen, the first that came first
   pub queue : List Stamped
   pub phase : Phase
-  -- the greatest round that a Nack told of since the start; at the start the last round that was saved
+  -- the greatest round that a Nack reported since the start; at the start the last round that was saved
   pub nacked : ℕ
 
 -- at most one save, then the proposer after it, then messages

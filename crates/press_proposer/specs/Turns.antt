@@ -22,13 +22,13 @@ abbrev pub queued_by : Proposing → Stamped → Proposing
 queued_by p command = with_queue p (p.queue ++ command ∷ [])
 
 -- ---- a wake, where the values of so many slots were applied: with nothing to propose it asks what was chosen for the next slot, else it
--- prepares the next slot in a new round, which is saved before it is told
+-- prepares the next slot in a new round, which is saved before it is sent
 
--- nothing waits, and no vote stands beyond the next slot
+-- nothing waits, and no vote is beyond the next slot
 abbrev pub is_content : Proposing → Bool → Bool
 is_content p gap = is_empty p.queue && not gap
 
--- one more than the greatest that was saved or told
+-- one more than the greatest that was saved or reported
 abbrev pub next_round : StoreMap → Proposing → ℕ
 next_round store p = max store.last_round p.nacked + 1
 

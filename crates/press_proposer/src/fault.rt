@@ -7,20 +7,20 @@ use press_acceptor::StoreFault;
 use std::alloc::AllocError;
 use thiserror::Error;
 
-/// Why a proposer does nothing.
+/// Why a call of a proposer fails.
 #[derive(Clone, Copy, Debug, PartialEq, Eq, Error)]
 pub enum ProposerFault {
     #[error("the queue is full")]
     Full,
     #[error("no round is left")]
     RoundsUsedUp,
-    /// The store doesn't answer, or there is no memory.
+    /// The store failed, or there is no memory.
     #[error("the store: {0}")]
     Store(StoreFault),
 }
 
 impl ProposerFault {
-    /// The number that tells the fault.
+    /// Its number in the table of faults.
     pub fn number(self) -> u8
         ensures { result ≡ proposer_fault_number self }
     {

@@ -8,7 +8,8 @@ ghost use Rattle.press_proposer.specs.declared.promises.Promise.{Promise};
 
 use press_acceptor::ballots_are_ordered;
 
-/// The vote whose value is proposed is one that was reported, and of the greatest ballot; where there is none, none was reported (Paxos Made Simple, 2.2, P2c).
+/// The vote whose value is proposed is one that was reported, and of the greatest ballot; where there is none, none was
+/// reported (Paxos Made Simple, 2.2, P2c).
 pub fn best_is_the_greatest_reported()
     ensures some { (promises : List Promise) (best : Vote) → best_of promises ≡ Some best →
         IsReported promises best ×

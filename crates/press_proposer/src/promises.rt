@@ -66,7 +66,6 @@ impl Promises {
         self.promises.as_slice()
     }
 
-    /// One more.
     pub fn push(&mut self, promise: Promise) -> Result<(), AllocError>
         ensures pushed { OnOk result (self.new ≡ self.old ++ promise ∷ []) }
         ensures unchanged { OnErr result (self.new ≡ self.old) }
@@ -103,7 +102,7 @@ pub fn value_with(
     }
 }
 
-/// The reported vote of the greatest ballot.
+// The reported vote of the greatest ballot.
 fn best_of(promises: &[Promise]) -> Option<&Vote>
     ensures { option_copied result ≡ model.best_of promises.now }
 {
@@ -114,7 +113,7 @@ fn best_of(promises: &[Promise]) -> Option<&Vote>
     best
 }
 
-/// The vote of the greater ballot, of equal ones the first.
+// The vote of the greater ballot, of equal ones the first.
 fn better<'a>(best: Option<&'a Vote>, other: Option<&'a Vote>) -> Option<&'a Vote>
     ensures { option_copied result ≡ model.better (option_copied best.entry)
         (option_copied other.entry) }

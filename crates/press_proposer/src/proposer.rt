@@ -61,7 +61,7 @@ impl Model for Proposer {
 }
 
 impl Proposer {
-    /// A proposer that waits, at a start of the node `id` of so many members.
+    /// A new, idle proposer of the node `id` of `members`.
     ///
     /// `last_round` is the last round of the store: no round up to it is used again, whatever the store answers later.
     pub fn new(alloc: Global, id: Node, members: u8, last_round: u64) -> Proposer
@@ -78,7 +78,7 @@ impl Proposer {
         }
     }
 
-    /// Puts a command at the end of the queue. Full where 256 wait, which is seen before any memory is taken.
+    /// Puts a command at the end of the queue. Full where 256 wait, which is checked before any memory is taken.
     pub fn submit(&mut self, command: Stamped) -> Result<(), ProposerFault>
         ensures queued { OnOk result (self.new ≡ queued_by self.old command) }
         ensures room { IfOk result (λ _. is_full self.old.queue ≡ false) }
@@ -136,7 +136,7 @@ impl Proposer {
         Ok(out)
     }
 
-    /// A member's promise came, with its vote. At a majority Accept goes to all members.
+    /// Takes a member's promise, with its vote. At a majority Accept goes to all members.
     pub fn on_promise(
         &mut self,
         from: Node,
@@ -166,7 +166,7 @@ impl Proposer {
         Ok(Vec::new(self.alloc))
     }
 
-    /// A refusal came, which tells the ballot that was promised.
+    /// Takes a refusal, which reports the ballot that was promised.
     pub fn on_nack(&mut self, slot: Slot, ballot: Ballot, promised: Ballot)
         ensures { self.new ≡ nacked_by self.old slot ballot promised }
     {
@@ -184,14 +184,14 @@ impl Proposer {
         self.queue.remove(value);
     }
 
-    /// Nothing waits, and no vote stands beyond the next slot.
+    // Whether nothing waits, and no vote is kept beyond the next slot.
     fn is_content(&self, gap: bool) -> bool
         ensures { result ≡ is_content self.now gap }
     {
         self.queue.is_empty() && !gap
     }
 
-    /// The round behind the greatest that was saved or told.
+    // The round after the greatest that was saved or reported.
     fn next_round<S: PromiseStore>(&self, store: &mut S) -> Result<Round, ProposerFault>
         ensures calls { Calls LoadsRound (S.seen store.old) (S.seen store.new)
             (store_fault (fault_in result)) }
@@ -211,7 +211,7 @@ impl Proposer {
         Ok(round)
     }
 
-    /// Asks each member for a vote.
+    // Asks each member for a vote.
     fn ask(&self, slot: Slot, ballot: &Ballot, value: Value) -> Result<Vec<Message>, AllocError>
         ensures { IfOk result
             (λ out. out.items ≡ messages.to_all self.now.members self.now.id slot
@@ -221,7 +221,7 @@ impl Proposer {
         self.to_all(slot, Body::Accept { round, value })
     }
 
-    /// A message to each member.
+    // A message to each member.
     fn to_all(&self, slot: Slot, body: Body) -> Result<Vec<Message>, AllocError>
         ensures { IfOk result
             (λ out. out.items ≡ messages.to_all self.now.members self.now.id slot body) }
@@ -230,7 +230,7 @@ impl Proposer {
     }
 }
 
-/// The slot behind so many.
+// The slot after this many.
 fn slot_after(applied: u32) -> Slot
     requires { applied < 1000000 }
     ensures { result ≡ applied + 1 }
@@ -241,7 +241,7 @@ fn slot_after(applied: u32) -> Slot
     slot
 }
 
-/// The round behind the last one, where one is left.
+// The round after the last one, if one is left.
 fn round_after(last: u64) -> Option<Round>
     ensures { result ≡ round_of (last + 1) }
 {

@@ -10,7 +10,7 @@ use press_text::Moment;
 use std::alloc::{AllocError, Global};
 use std::marker::Model;
 
-/// The most commands that wait.
+// The most commands that wait.
 const MOST: usize = 256;
 
 /// Commands that wait to be chosen, in the order in which they came.
@@ -84,7 +84,7 @@ impl Queue {
     }
 }
 
-/// The first command that is the value.
+// The first command that is the value.
 fn place_of(commands: &[Stamped], value: &Value) -> Option<usize>
     ensures place { result ≡ position (λ command.
         is_same_value (Cmd command) value.now) commands.now }
@@ -93,7 +93,7 @@ fn place_of(commands: &[Stamped], value: &Value) -> Option<usize>
     commands.iter().position(|command| is_value(command, value))
 }
 
-/// Whether the command is the value.
+// Whether the command is the value.
 fn is_value(command: &Stamped, value: &Value) -> bool
     ensures { result ≡ is_same_value (Cmd command.now) value.now }
 {

@@ -17,7 +17,7 @@ none_yet P from k a b p = absurd (omega arith)
 pub none_at_all : (P : ℕ → Type 0) (from n : ℕ) → ((k : ℕ) → P k → k < n) → NoneBetween P from n → NoneFrom P from
 none_at_all P from n within before k a p = before k a (within k p) p
 
--- a byte that isn't 0 stands in the text
+-- a byte that isn't 0 is in the text
 pub at_within : (text : List ℕ) (b k : ℕ) → 0 < b → At text b k → k < length text
 at_within text b k some h = elim (cases_lt k (length text)) [
   | inl lt ↦ lt

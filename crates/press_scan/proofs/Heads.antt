@@ -34,7 +34,7 @@ in_head text tags place lead tag head k a below here = elim (cases_lt k tag.star
       ])
 ]
 
--- where no `]` stands after a name, none stands after its bracket
+-- where no `]` is after a name, none is after its bracket
 pub no_bracket : (text : List ℕ) (tags : List (List ℕ)) (place : ℕ) (lead : Bool) (tag : Span) → IsHead text tags place lead tag → NoneFrom (At text 93) tag.end → NoneFrom (At text 93) place
 no_bracket text tags place lead tag head none k a here = elim (cases_lt k tag.end) [
   | inl early ↦ in_head text tags place lead tag head k a early here

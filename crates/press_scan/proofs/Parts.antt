@@ -25,7 +25,7 @@ tag_part text tags place lead tag u head =
     let some : tag.start < tag.end = head.name.some in
     record { order = omega arith; start = start; end = after_name text tag.start tag.end u start head.name.longest }
 
--- the `/` before the `]` stands after the name
+-- the `/` before the `]` is after the name
 slash_late : (text : List ℕ) (tag : Span) (close : ℕ) → tag.start < tag.end → IsFirst (AtNoName text) tag.start tag.end → tag.end ≤ close → At text 47 (close - 1) → tag.end + 1 ≤ close
 slash_late text tag close some longest late slash = elim (cases_lt tag.end close) [
   | inl lt ↦ omega arith

@@ -53,6 +53,6 @@ found_step : (test : ℕ → Bool) (P : ℕ → Type 0) (from n p : ℕ) (b : Bo
 found_step test P from n p true e tells within s = record { after = s.after; holds = (tells p).0 e; none_before = λ k a b h. s.before k a b ((tells k).1 h) }
 found_step test P from n p false e tells within s = none_past test P from n p tells within e s
 
--- what is sought is found, or stands nowhere
+-- what is sought is found, or is nowhere
 pub is_sought : (test : ℕ → Bool) (P : ℕ → Type 0) (from n : ℕ) → Tells test P → ((k : ℕ) → P k → k < from + n) → MatchOption (sought test from n) (NoneFrom P from) (λ p. IsFirst P from p)
 is_sought test P from n tells within = found_step test P from n (first_from test from n) (test (first_from test from n)) refl tells within (seeks test from n)

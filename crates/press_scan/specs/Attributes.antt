@@ -33,7 +33,7 @@ abbrev pub put_at : List Att → Option ℕ → Att → List Att
 put_at atts (Some i) att = slice_set atts i att
 put_at atts None att = atts ++ att ∷ []
 
--- A name that stands keeps its place and takes the value; another goes last.
+-- A name that exists keeps its place and takes the value; another goes last.
 abbrev pub with_name : List Att → List ℕ → List ℕ → List Att
 with_name atts name value = put_at atts (position (λ a. has_name a.key name) atts) (record { key = Name name; value = value })
 

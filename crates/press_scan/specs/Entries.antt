@@ -4,7 +4,7 @@ use Rattle.press_scan.specs.declared.att.Att.{Att}
 use Rattle.press_scan.specs.declared.att_key.AttKey.{AttKey}
 use Rattle.press_scan.specs.declared.att_key.AttKey.TheVariants.{Name, Place}
 
--- each attribute stands under its own key
+-- each attribute is under its own key
 abbrev pub HaveOwnKeys : List (AttKey × Att) → Type 0
 HaveOwnKeys [] = ⊤
 HaveOwnKeys (e ∷ es) = (e.1.key ≡ e.0) × HaveOwnKeys es

@@ -7,7 +7,7 @@ use Rattle.press_scan.specs.Shortcodes.{cut}
 use Rattle.press_scan.specs.declared.span.Span.{Span}
 use Rattle.press_scan.specs.declared.shortcode.Shortcode.{Shortcode}
 
--- whether the byte b stands at a place
+-- whether the byte b is at a place
 abbrev pub stands : List ℕ → ℕ → ℕ → Bool
 stands text b place = slice_index text place == b
 
@@ -18,7 +18,7 @@ stops_name text place = not (is_name_byte (slice_index text place))
 abbrev pub name_from : List ℕ → ℕ → Span
 name_from text start = record { start = start; end = first_from (stops_name text) start (length text) }
 
--- whether a second `[` stands after a place
+-- whether a second `[` is after a place
 abbrev pub has_lead : List ℕ → ℕ → Bool
 has_lead text place = stands text 91 (place + 1)
 
@@ -30,15 +30,15 @@ name_at text place = name_from text (place + (if has_lead text place then 2 else
 abbrev pub is_registered : List (List ℕ) → List ℕ → Span → Bool
 is_registered tags text tag = ltb tag.start tag.end && list_any (bytes_eq (cut text tag)) tags
 
--- whether a bracket and the name of a tag stand at a place
+-- whether a bracket and the name of a tag are at a place
 abbrev pub opens : List ℕ → List (List ℕ) → ℕ → Bool
 opens text tags place = elim (stands text 91 place) [ true ↦ is_registered tags text (name_at text place) | false ↦ false ]
 
--- whether `/name]` stands after a place
+-- whether `/name]` is after a place
 abbrev pub closes_after : List ℕ → List ℕ → ℕ → Bool
 closes_after text name place = stands text 47 (place + 1) && (bytes_eq (slice_range text (place + 2) (place + 2 + length name)) name && stands text 93 (place + 2 + length name))
 
--- whether `[/name]` stands at a place
+-- whether `[/name]` is at a place
 abbrev pub closes_tag : List ℕ → List ℕ → ℕ → Bool
 closes_tag text name place = elim (stands text 91 place) [ true ↦ closes_after text name place | false ↦ false ]
 

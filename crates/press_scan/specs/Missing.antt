@@ -4,7 +4,7 @@ use Rattle.press_scan.specs.Places.{NoneFrom}
 use Rattle.press_scan.specs.Shortcodes.{IsClosing, cut}
 use Rattle.press_scan.specs.declared.missing.Missing.{Missing}
 
--- the name is a part of the text, and no closing tag of it stands at or after `from`
+-- the name is a part of the text, and no closing tag of it is at or after `from`
 abbrev pub IsMissing : List ℕ → Missing → Type 0
 IsMissing text m = (m.name.start ≤ m.name.end) × (m.name.end ≤ length text) × NoneFrom (IsClosing text (cut text m.name)) m.from
 

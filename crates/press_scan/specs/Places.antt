@@ -2,11 +2,11 @@
 use Rattle.std.specs.Prelude.{◌≡◌, ℕ, ◌<◌, ◌≤◌, List, false, slice_index}
 use Rattle.press_text.specs.Names.{is_name_byte}
 
--- the byte b stands at the place p
+-- the byte b is at the place p
 abbrev pub At : List ℕ → ℕ → ℕ → Type 0
 At text b p = slice_index text p ≡ b
 
--- a byte that no name has stands at p, or p is past the end
+-- a byte that no name has is at p, or p is past the end
 abbrev pub AtNoName : List ℕ → ℕ → Type 0
 AtNoName text p = is_name_byte (slice_index text p) ≡ false
 

@@ -53,7 +53,7 @@ before s = if s.lead then 91 ∷ [] else []
 abbrev pub behind : Shortcode → List ℕ
 behind s = if s.tail then 93 ∷ [] else []
 
--- What a step answers. After want of memory nothing has changed.
+-- What a step answers. After running out of memory nothing has changed.
 abbrev pub StepGives : Result ScanStep AllocError → List (List ℕ) → Progress → Progress → Type 0
 StepGives (Ok Text) tags old new = TakesText tags old new
 StepGives (Ok (Call s)) tags old new = Calls tags old new s

@@ -1,4 +1,4 @@
--- Shortcode at a place (the Shortcode API): what stands at a place of a text, under a set of tags.
+-- Shortcode at a place (the Shortcode API): what is at a place of a text, under a set of tags.
 use Rattle.std.specs.Prelude.{◌≡◌, ℕ, ◌+◌, ◌-◌, ◌<◌, ◌≤◌, ◌⊎◌, List, length, Bool, true, false, Some, None, Contains, slice_range, if◌then◌else◌}
 use Rattle.press_scan.specs.Places.{At, AtNoName, IsFirst, NoneBetween, NoneFrom}
 use Rattle.press_scan.specs.declared.span.Span.{Span}
@@ -25,7 +25,7 @@ pub record IsHead (text : List ℕ) (tags : List (List ℕ)) (place : ℕ) (lead
 abbrev pub NoHead : List ℕ → List (List ℕ) → ℕ → Type 0
 NoHead text tags place = (lead : Bool) (tag : Span) → IsHead text tags place lead tag → ⊥
 
--- `[/name]` stands at the place p
+-- `[/name]` is at the place p
 pub record IsClosing (text name : List ℕ) (p : ℕ) : Type 0 where
   pub bracket : At text 91 p
   pub slash : At text 47 (p + 1)
@@ -67,13 +67,13 @@ pub record IsRest (text : List ℕ) (s : Shortcode) : Type 0 where
   pub no_tail : s.tail ≡ false → At text 93 after → ⊥
   pub ends : s.end ≡ after + (if s.tail then 1 else 0)
 
--- The shortcode s stands at the place. With both second brackets it is an escape.
+-- The shortcode s is at the place. With both second brackets it is an escape.
 pub record IsShortcode (text : List ℕ) (tags : List (List ℕ)) (place : ℕ) (s : Shortcode) : Type 0 where
   pub starts : s.start ≡ place
   pub head : IsHead text tags place s.lead s.tag
   pub rest : IsRest text s
 
--- some shortcode stands at the place
+-- some shortcode is at the place
 abbrev pub HasShortcode : List ℕ → List (List ℕ) → ℕ → Type 0
 HasShortcode text tags place = (s : Shortcode) × IsShortcode text tags place s
 

@@ -25,13 +25,13 @@ answered_by name callback r = elim (is_tag name r) [ true ↦ record r { callbac
 abbrev pub takes_tag : List ℕ → List TagRow → Bool
 takes_tag name rows = ltb (length rows) most_tags && is_name 32 name
 
--- add: a tag that stands changes its callback alone; otherwise a new one goes last where it can be added
+-- add: a tag that is registered changes its callback alone; otherwise a new one goes last where it can be added
 abbrev pub add_tag : List ℕ → List ℕ → List TagRow → List TagRow
 add_tag name callback rows =
     cond (list_any (is_tag name) rows) (map (answered_by name callback) rows)
     (cond (takes_tag name rows) (rows ++ record { name = name; callback = callback } ∷ []) rows)
 
--- whether the tag then stands
+-- whether the tag then exists
 abbrev pub adds_tag : List ℕ → List TagRow → Bool
 adds_tag name rows = list_any (is_tag name) rows || takes_tag name rows
 

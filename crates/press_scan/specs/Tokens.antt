@@ -8,11 +8,11 @@ use Rattle.press_scan.specs.declared.token.Token.{Token}
 abbrev pub is_space : ℕ → Bool
 is_space b = (nat_le 9 b && nat_le b 13) || b == 32
 
--- no space stands at p
+-- no space is at p
 abbrev pub NoSpace : List ℕ → ℕ → Type 0
 NoSpace text p = is_space (slice_index text p) ≡ false
 
--- a space stands at p, or the text has ended
+-- a space is at p, or the text has ended
 abbrev pub Ends : List ℕ → ℕ → Type 0
 Ends text p = (is_space (slice_index text p) ≡ true) ⊎ (length text ≤ p)
 

@@ -8,7 +8,7 @@ use crate::att_key::AttKey;
 use indexmap::IndexMap;
 use std::marker::Model;
 
-// As they were listed, where a key may stand twice, or each under its key.
+// As they were listed, where a key may occur twice, or each under its key.
 #[derive(Debug, Drop)]
 enum Kept {
     Listed(Vec<Att>),
@@ -50,7 +50,7 @@ impl Atts {
         }
     }
 
-    // Takes no memory.
+    /// Takes no memory.
     pub(crate) fn from_map(entries: IndexMap<AttKey, Att>) -> Atts
         requires { HaveOwnKeys entries.entries }
         ensures { result ≡ values entries }

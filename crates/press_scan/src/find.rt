@@ -1,4 +1,4 @@
-//! What stands at one place of a text.
+//! What is at one place of a text.
 
 ghost use Rattle.std.specs.Prelude.{◌≡◌, ◌+◌, ◌<◌, ◌≤◌, ◌⊎◌, IsTrue, ◌↔◌, length, MatchOption, slice_index, slice_range, true, false};
 ghost use Rattle.press_scan.specs.Places.{At, IsFirst, NoneFrom, NoneBetween};
@@ -51,7 +51,7 @@ pub fn head_at(text: &[u8], place: usize, tags: &TagTable) -> Option<Head>
     }
 }
 
-/// Whether `[/name]` stands at a place.
+// Whether `[/name]` is at a place.
 fn is_closing(text: &[u8], name: &[u8], place: usize) -> bool
     requires { place < length text.now }
     ensures { IsTrue result ↔ IsClosing text.now name.now place }

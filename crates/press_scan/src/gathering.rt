@@ -1,7 +1,8 @@
 //! The attributes of an attribute text.
 //!
-//! Splitting reads each byte a bounded number of times: a quote is looked for from an opening quote to the next one of its kind, and an opening quote is tried
-//! at most twice, behind a name and where a token begins. A name is looked up among those so far by its hash.
+//! Splitting reads each byte a bounded number of times: a quote is looked for from an opening quote to the next one of
+//! its kind, and an opening quote is tried at most twice, after a name and where a token begins. A name is looked up
+//! among those so far by its hash.
 
 ghost use Rattle.std.specs.Prelude.{◌≡◌, ◌-◌, ◌^◌, ◌+◌, ◌<◌, ◌≤◌, ◌++◌, ◌∷◌, [], IfOk, OnOk, OnErr, IsTrue, ◌↔◌, length, string_bytes, slice_range};
 ghost use Rattle.std.specs.Str.{str_to_ascii_lowercase};
@@ -59,7 +60,7 @@ impl Gathering {
         Atts::from_map(self.atts)
     }
 
-    // Puts a value under a name.
+    // Stores a value under a name.
     #[tactic(auto, using(crate::proofs::MapAtts::own_inserted, crate::proofs::MapAtts::before_inserted, crate::proofs::MapAtts::name_inserted))]
     fn put_name(&mut self, alloc: Global, name: Text, value: Text) -> Result<(), AllocError>
         ensures atts { OnOk result (self.new.atts ≡ with_name self.old.atts name value) }
@@ -113,7 +114,6 @@ fn lower(alloc: Global, text: &str, span: Span) -> Result<Text, AllocError>
     Text::from_string(name)
 }
 
-// Takes a token.
 fn take(alloc: Global, text: &str, found: &mut Gathering, token: Token) -> Result<(), AllocError>
     requires token { IsCutAt text.now token }
     requires room { found.old.next < 2 ^ 32 - 1 }
@@ -152,7 +152,7 @@ fn skipped(text: &str, from: usize, place: usize)
     ensures { IsCharBoundary text.now place }
 {}
 
-// The next place where no space stands.
+// The next place without a space.
 fn next_place(text: &str, from: usize) -> usize
     requires { IsCharBoundary text.now from }
     ensures first { IsFirst (NoSpace text.now) from result }

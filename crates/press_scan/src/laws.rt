@@ -21,7 +21,7 @@ pub fn one_reading()
         → IsShortcode text tags place s → IsShortcode text tags place t → s ≡ t }
 {}
 
-/// A shortcode ends behind the place where it stands, and within its text.
+/// A shortcode ends after its place, and within its text.
 pub fn ends_within()
     ensures { (text : List ℕ) (tags : List (List ℕ)) (place : ℕ) (s : Shortcode)
         → IsShortcode text tags place s → (place < s.end) × (s.end ≤ length text) }

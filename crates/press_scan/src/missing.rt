@@ -1,4 +1,4 @@
-//! Names that have no closing tag further on, as far as a scan has found out.
+//! Names that are known to have no closing tag further on.
 
 ghost use Rattle.std.specs.Prelude.{◌≡◌, ◌+◌, ◌-◌, ◌<◌, ◌≤◌, IsTrue, length, IfOk};
 ghost use Rattle.press_scan.specs.Places.{At, IsFirst, NoneFrom, NoneBetween};
@@ -12,14 +12,14 @@ use crate::shortcode::Shortcode;
 use crate::span::Span;
 use std::alloc::AllocError;
 
-/// No `[/name]` stands at or after `from`; the name is a part of the text.
+/// There is no `[/name]` at or after `from`; the name is a part of the text.
 #[derive(Clone, Copy, Debug)]
 pub struct Missing {
     pub name: Span,
     pub from: usize,
 }
 
-// Whether one such fact tells it of a name and a place.
+// Whether one such fact covers a name and a place.
 fn tells(text: &[u8], known: Missing, name: &[u8], from: usize) -> bool
     requires { IsMissing text.now known }
     ensures { IsTrue result → NoneFrom (IsClosing text.now name.now) from }

@@ -1,7 +1,8 @@
 //! The first shortcode at or after a place.
 //!
-//! One call reads the text from that place on: up to the first registered name behind a bracket, on to its `]`, and on to its closing tag or the end.
-//! Where that name has no `]` after it, no later place has a shortcode. Many calls on one text can search for the same missing closing tag again: `Scan` does not.
+//! One call reads the text from that place on: up to the first registered name after a bracket, on to its `]`, and on
+//! to its closing tag or the end. Where that name has no `]` after it, no later place has a shortcode. Many calls on
+//! one text can search for the same missing closing tag again: `Scan` does not.
 
 ghost use Rattle.std.specs.Prelude.{◌≡◌, ◌+◌, ◌<◌, ◌≤◌, ◌⊎◌, IsTrue, ◌↔◌, length, IfNone, IfSome, ◌-◌, MatchOption, Option, Some, None, true, false, if◌then◌else◌};
 ghost use Rattle.press_scan.specs.Places.{At, IsFirst, NoneFrom, NoneBetween};

@@ -15,14 +15,14 @@ pub fn all_name_bytes(bytes: &[u8]) -> bool
     bytes.iter().all(|b| is_name_byte(*b))
 }
 
-// The byte at a place, 0 past the end.
+/// The byte at a place, 0 past the end.
 pub fn byte_at(text: &[u8], place: usize) -> u8
     ensures { At text.now result place }
 {
     if place < text.len() { text[place] } else { 0 }
 }
 
-// The end of the longest run of name bytes.
+/// The end of the longest run of name bytes.
 pub fn name_end(text: &[u8], from: usize) -> usize
     requires { from ≤ length text.now }
     ensures first { IsFirst (AtNoName text.now) from result }
@@ -36,7 +36,7 @@ pub fn name_end(text: &[u8], from: usize) -> usize
     text.len()
 }
 
-// The first such byte at or after a place.
+/// The first such byte at or after a place.
 pub fn find_byte(text: &[u8], byte: u8, from: usize) -> Option<usize>
     requires { 0 < byte }
     ensures { MatchOption result (NoneFrom (At text.now byte) from)

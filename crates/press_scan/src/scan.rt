@@ -1,9 +1,10 @@
 //! A text, taken step by step.
 //!
-//! With the same tags at each step a scan reads each byte a bounded number of times for each tag, also where brackets and closing tags are missing:
-//! where no `]` stands ahead no later place has a shortcode, so the rest is taken at once; a name that has no closing tag is remembered with the place
-//! from which it has none, and looked for no more. A step that stops in front of a shortcode finds it a second time in the next one.
-//! Where the tags change between steps, each name that is new can cost one more search to the end of the text.
+//! With the same tags at each step a scan reads each byte a bounded number of times for each tag, also where brackets
+//! and closing tags are missing: where no `]` is ahead no later place has a shortcode, so the rest is taken at once; a
+//! name that has no closing tag is remembered with the place from which it has none, and looked for no more. A step
+//! that stops in front of a shortcode finds it a second time in the next one. Where the tags change between steps, each
+//! name that is new can cost one more search to the end of the text.
 
 ghost use Rattle.std.specs.Prelude.{IsSome, IfSome, IfNone, ◌≡◌, ◌+◌, ◌-◌, ◌<◌, ◌≤◌, ◌++◌, ◌∷◌, ◌⊎◌, [], IsTrue, length, IfOk, OnOk, OnErr, IfErr, MatchResult, string_bytes, slice_range, Some, None, true, false, Option};
 ghost use Rattle.std.specs.Str.{IsCharBoundary};
@@ -77,7 +78,7 @@ fn with_second(alloc: Global, answer: &str) -> Result<String, AllocError>
     format!(in alloc; "{answer}]")
 }
 
-// An answer with the brackets that its shortcode leaves standing.
+// An answer with the brackets that its shortcode leaves.
 fn in_brackets(alloc: Global, shortcode: Shortcode, answer: &str) -> Result<String, AllocError>
     ensures { IfOk result (λ t. string_bytes t ≡ before shortcode
         ++ (answer.now ++ behind shortcode)) }
@@ -117,7 +118,6 @@ impl Scan {
         self.text.len()
     }
 
-    // The next opening.
     fn opening(&self, tags: &TagTable) -> Option<Opening>
         ensures none { IfNone result (NoneFrom (HasShortcode self.now.text (names_of tags.now))
             self.now.at) }
@@ -127,7 +127,7 @@ impl Scan {
         next_opening(self.text.as_bytes(), self.at, tags)
     }
 
-    // The text up to a place, as it stands.
+    // The text up to a place, unchanged.
     fn take_front(&mut self, to: usize) -> Result<(), AllocError>
         requires order { self.old.at ≤ to }
         requires to { IsCharBoundary self.old.text to }
@@ -202,8 +202,8 @@ impl Scan {
         self.output.len()
     }
 
-    /// Takes the front up to the next shortcode, an escape, or the shortcode itself, under the tags that stand now.
-    /// A Text takes in at least one byte. Where memory is wanting nothing has changed. No answer may be awaited: `put` comes first.
+    /// Takes the front up to the next shortcode, an escape, or the shortcode itself, under the tags that are registered now.
+    /// A Text takes in at least one byte. If memory runs out, nothing has changed. No answer may be awaited: `put` comes first.
     pub fn step(&mut self, tags: &TagTable) -> Result<ScanStep, AllocError>
         requires { self.old.waiting ≡ None }
         ensures { StepGives result (names_of tags.now) self.old self.new }
@@ -258,7 +258,7 @@ impl Scan {
         }
     }
 
-    /// Puts the answer to the call in its place, which is not scanned again. Where memory is wanting nothing has changed.
+    /// Puts the answer to the call in its place, which is not scanned again. If memory runs out, nothing has changed.
     pub fn put(&mut self, answer: &str) -> Result<(), AllocError>
         requires { IsSome self.old.waiting }
         ensures { PutGives result answer.now self.old self.new }

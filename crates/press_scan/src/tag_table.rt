@@ -9,7 +9,7 @@ use press_text::{CallbackId, Text, copied_all};
 use std::alloc::{AllocError, Global};
 use std::marker::Model;
 
-/// How many tags a table holds at most.
+// How many tags a table holds at most.
 const MOST_TAGS: usize = 128;
 
 /// The registered tags in the order in which they were added, each with its callback (`$shortcode_tags`).
@@ -46,7 +46,7 @@ impl TagTable {
         }
     }
 
-    /// The same table once more.
+    /// A copy of the table.
     pub fn copy(&self) -> Result<TagTable, AllocError>
         ensures { IfOk result (λ t. t ≡ self.now) }
     {
@@ -57,7 +57,7 @@ impl TagTable {
         })
     }
 
-    /// Adds a tag; one that stands gets the new callback and keeps its place (`add_shortcode`).
+    /// Adds a tag; one that is registered gets the new callback and keeps its place (`add_shortcode`).
     /// False, and no change, where a new tag would be the 129th or is no name of a tag; that takes no memory.
     pub fn add(&mut self, tag: &str, callback: CallbackId) -> Result<bool, AllocError>
         ensures answer { IfOk result (λ b. b ≡ adds_tag tag.now self.old) }
@@ -68,7 +68,7 @@ impl TagTable {
         add_row(self.alloc, &mut self.rows, tag, callback)
     }
 
-    /// Takes a tag out; whether it stood there (`remove_shortcode`).
+    /// Removes a tag; returns whether it was registered (`remove_shortcode`).
     pub fn remove(&mut self, tag: &str) -> bool
         ensures answer { result ≡ list_any (is_tag tag.now) self.old }
         ensures tags { self.new ≡ remove_tag tag.now self.old }
@@ -85,7 +85,7 @@ impl TagTable {
         callback_of(&self.rows, tag.as_bytes())
     }
 
-    /// Whether a tag stands.
+    /// Whether a tag is registered.
     pub fn has(&self, name: &[u8]) -> bool
         ensures { IsTrue result ↔ Contains (names_of self.now) name.now }
     {
@@ -136,7 +136,7 @@ fn is_tag_name(name: &[u8]) -> bool
     0 < name.len() && name.len() <= 32 && all_name_bytes(name)
 }
 
-// Gives the tag that stands its callback, or adds a new one where there is room.
+// Gives a registered tag its callback, or adds a new one if there is room.
 fn add_row(
     alloc: Global,
     rows: &mut Vec<TagRow>,

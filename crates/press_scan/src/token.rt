@@ -45,7 +45,7 @@ fn ends(text: &[u8], place: usize) -> bool
     text.len() <= place || is_space(text[place])
 }
 
-// The first non-space at or after a place, or the end.
+/// The first non-space at or after a place, or the end.
 pub fn skip_spaces(text: &[u8], from: usize) -> usize
     requires { from ≤ length text.now }
     ensures first { IsFirst (NoSpace text.now) from result }
@@ -212,7 +212,7 @@ fn nameless_token(text: &[u8], place: usize) -> Token
     }
 }
 
-// The token at a place where no space stands.
+/// The token at a place without a space.
 pub fn token_at(text: &[u8], place: usize) -> Token
     requires place { place < length text.now }
     requires begins { NoSpace text.now place }

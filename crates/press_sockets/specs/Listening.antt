@@ -1,4 +1,4 @@
--- What a server tells when it listens (own).
+-- What a server prints when it listens (own).
 use Rattle.std.specs.Prelude.{ℕ, List, ◌++◌, codes, decimal}
 use Rattle.press_sockets.specs.declared.setup.Place.{Place}
 use Rattle.press_sockets.specs.declared.setup.Place.TheVariants.{Alone, Member}
@@ -12,7 +12,7 @@ unfoldable pub listening_line : Where → List ℕ
 listening_line (alone_at port) = codes "listening on 127.0.0.1:" ++ (decimal port ++ codes "\n")
 listening_line (member_of id peers) = codes "listening as " ++ (decimal id ++ (codes " of " ++ (peers ++ codes "\n")))
 
--- as it stands in memory
+-- as it is in memory
 abbrev pub where_of : Place → Where
 where_of (Alone port) = alone_at port
 where_of (Member id peers tick) = member_of id peers.now

@@ -18,7 +18,7 @@ abbrev pub fault_of : {T : Type 0} → Result T NodeFault → Option NodeFault
 fault_of (Ok done) = None
 fault_of (Err fault) = Some fault
 
--- over a kind of node, by what is told of one before and after
+-- over a kind of node, by what is said of one before and after
 module _ {N : Type 0} (moved : N → N → NodeMove) where
   -- it goes on with what was sent, where there is memory for it; a fault ends it
   abbrev pub GoesOn : (List Message → Type 0) → N → N → Option NodeFault → Result (List Message) NodeFault → Type 0
@@ -43,7 +43,7 @@ module _ {N : Type 0} (moved : N → N → NodeMove) where
   abbrev pub WakesAfter : ℕ → N → N → Type 0
   WakesAfter status next after = (status ≡ 202 → (fault : Option NodeFault) × Wakes next after fault) × (status ≢ 202 → after ≡ next)
 
-  -- the status is told, or the fault
+  -- the status is returned, or the fault
   abbrev pub Ends : N → N → Result Served HttpFault → Result ℕ HttpFault → Type 0
   Ends next after (Ok served) result = (result ≡ Ok served.status) × WakesAfter served.status next after
   Ends next after (Err fault) result = (result ≡ Err fault) × (after ≡ next)

@@ -1,4 +1,4 @@
-//! What stands behind a server: it answers requests, and has requests of its own to send.
+//! What a server serves: something that answers requests and has requests of its own to send.
 
 use press_http::HttpFault;
 use std::net::{IpAddr, SocketAddr};
@@ -41,7 +41,7 @@ pub trait Answers {
     fn answer(&mut self, from: IpAddr, request: &[u8], told: &mut Vec<u8>) -> Result<u16, HttpFault>
         requires always { Unit {0} };
 
-    /// The next request that goes out, where one waits.
+    /// The next request that goes out, if one waits.
     fn next_call(&mut self) -> Option<Outgoing>;
 
     /// A request that went out, or was to, has ended: its reply, as far as it is looked at; empty where it is lost.

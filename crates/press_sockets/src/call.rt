@@ -9,13 +9,13 @@ use std::time::{Duration, Instant};
 
 const PIECE: usize = 1024;
 
-// So many pieces of a reply are read away at once.
+// The most pieces of a reply that are drained at once.
 const MOST_AWAY: u32 = 16;
 
-// So many bytes of a reply are looked at.
+// How many bytes of a reply are looked at.
 const LONGEST: usize = 512;
 
-// It takes no longer.
+// Its time limit.
 const SECONDS: u64 = 2;
 
 /// How far a request is.
@@ -91,12 +91,10 @@ impl Call {
         &self.reply
     }
 
-    /// What it is for.
     pub fn errand(&self) -> Errand {
         self.errand
     }
 
-    /// How far it is.
     pub fn course(&self) -> Course {
         self.course
     }
@@ -110,7 +108,7 @@ impl Call {
         self.bytes.len() <= self.sent
     }
 
-    // The request goes out as far as the socket takes it.
+    // Sends the request as far as the socket takes it.
     fn send(&mut self) -> io::Result<()> {
         for _ in 0..self.bytes.len() {
             let left = self.bytes.get(self.sent..).unwrap_or(&[]);
@@ -135,7 +133,7 @@ impl Call {
         self.reply.extend_from_slice(front)
     }
 
-    // The reply is read away, until it ends.
+    // Drains the reply, until it ends.
     fn read_away(&mut self) -> io::Result<()> {
         let mut piece = [0u8; PIECE];
         for _ in 0..MOST_AWAY {
@@ -160,7 +158,7 @@ impl Call {
         Ok(())
     }
 
-    /// What its socket is ready for is done.
+    /// Does what its socket is ready for.
     pub fn step(&mut self) {
         if self.go_on().is_err() {
             self.course = Course::Lost;

@@ -6,10 +6,10 @@ use std::alloc::{AllocError, Global};
 use std::collections::VecDeque;
 use std::time::Instant;
 
-// So many stand at once for one member.
+// The most that are open at once for one member.
 const MOST_OPEN: usize = 32;
 
-// So many wait for one member; one more is lost.
+// The most that wait for one member; one more is lost.
 const MOST_WAITING: usize = 4_096;
 
 // The requests for one member.
@@ -27,7 +27,7 @@ impl Drop for Lane {
     }
 }
 
-/// Requests by the member that they are for: so many go out at once, and others wait their turn.
+/// Requests by the member that they are for: a limited number go out at once, and others wait their turn.
 pub struct Calls {
     alloc: Global,
     lanes: Vec<Lane>,
@@ -45,7 +45,6 @@ impl Drop for Calls {
 }
 
 impl Calls {
-    /// None goes out, and none waits.
     pub fn new(alloc: Global) -> Calls {
         Calls {
             alloc,
@@ -64,7 +63,7 @@ impl Calls {
         Ok(())
     }
 
-    /// A request waits, or is lost; whether it waits.
+    /// Puts a request at the end, or drops it; returns whether it waits.
     pub fn add(&mut self, outgoing: Outgoing) -> bool {
         let place = outgoing.place;
         if self.make_lane(place).is_err() {
@@ -108,7 +107,7 @@ impl Calls {
         Ok(count)
     }
 
-    /// One takes a free place.
+    /// Puts one at a free place.
     pub fn enter(&mut self, place: usize, call: Call) {
         if let Some(slot) = self.places.get_mut(place) {
             *slot = Some(call);
@@ -123,7 +122,7 @@ impl Calls {
         }
     }
 
-    /// One leaves its place.
+    /// Takes one from its place.
     pub fn leave(&mut self, place: usize) {
         let Some(call) = self.get_mut(place) else {
             return;
@@ -135,7 +134,7 @@ impl Calls {
         self.close_lane(lane);
     }
 
-    /// So many places there are.
+    /// How many places there are.
     pub fn len(&self) -> usize {
         self.places.len()
     }

@@ -9,7 +9,7 @@ use std::str::from_utf8;
 // Where a head is refused at the latest.
 const LONGEST_HEAD: usize = 8192;
 
-// Where the bytes of a head stand. Empty lines in front of it are none of its lines.
+// Where the bytes of a head are. Empty lines before it are none of its lines.
 #[derive(Clone, Copy, PartialEq, Eq)]
 enum Line {
     Before,
@@ -47,7 +47,7 @@ impl Read for Asking<'_> {
     }
 }
 
-// How many bytes more a request's reading asks for at the end of those that are there.
+// How many more bytes the reader of a request asks for at the end of those that came.
 fn asked_for(alloc: Global, bytes: &[u8]) -> usize {
     let mut asking = Asking {
         rest: bytes,
@@ -57,7 +57,7 @@ fn asked_for(alloc: Global, bytes: &[u8]) -> usize {
     asking.asked
 }
 
-// The word at the front, of visible ASCII, or `-`, and what stands behind it.
+// The first word, of visible ASCII, or `-`, and what follows it.
 fn word(bytes: &[u8]) -> (&str, &[u8]) {
     let count = bytes
         .iter()
@@ -83,7 +83,7 @@ pub fn words_of(bytes: &[u8]) -> (&str, &str) {
 pub struct Gathered {
     bytes: Vec<u8>,
     line: Line,
-    // With so many bytes a look may find more than the last one did.
+    // How many bytes there have to be for the next look.
     due: usize,
 }
 
@@ -98,7 +98,6 @@ impl Drop for Gathered {
 }
 
 impl Gathered {
-    /// Nothing yet.
     pub fn new(alloc: Global) -> Gathered {
         Gathered {
             bytes: Vec::new(alloc),
@@ -107,12 +106,12 @@ impl Gathered {
         }
     }
 
-    /// What there is by now.
+    /// The bytes so far.
     pub fn as_slice(&self) -> &[u8] {
         &self.bytes
     }
 
-    /// More bytes came.
+    /// Adds the bytes that came.
     pub fn add(&mut self, piece: &[u8]) -> Result<(), AllocError> {
         self.bytes.extend_from_slice(piece)?;
         let mut line = self.line;
@@ -131,8 +130,9 @@ impl Gathered {
         self.due <= self.bytes.len()
     }
 
-    /// A look found that more has to come. No whole request waits for the next one: a head is whole only where an empty line comes, and a body only with as many bytes as are asked for; a head that isn't
-    /// whole may be refused, and is looked at again at twice its bytes, so that bytes that come one by one don't cost the square of their count.
+    /// A look found that more has to come. No whole request waits for the next one: a head is whole only where an empty
+    /// line comes, and a body only with as many bytes as are asked for; a head that isn't whole may be refused, and is
+    /// looked at again at twice its bytes, so that bytes that come one by one don't cost the square of their count.
     pub fn wait(&mut self, alloc: Global) {
         let count = self.bytes.len();
         self.due = if self.line == Line::Empty {

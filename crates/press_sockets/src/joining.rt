@@ -18,7 +18,7 @@ use std::rt::HostRuntime;
 /// A store in a file.
 pub type FiledStore = SqlStore<FileStore<File>>;
 
-/// Where a member sits: among whom, over which file, and how many milliseconds its tick has.
+/// A member's place: its peers, its file, and the milliseconds of its tick.
 #[derive(Drop)]
 pub struct Seat<'a> {
     peers: Peers,
@@ -26,7 +26,8 @@ pub struct Seat<'a> {
     tick: u32,
 }
 
-// So many slots are chosen, by what the store keeps: who proposes for a slot has applied those before it, so these are all before the last one with a vote.
+// How many slots are chosen, by what the store keeps: who proposes for a slot has applied those before it, so these are
+// all before the last one with a vote.
 fn chosen_by<D: Alter>(store: &mut SqlStore<D>) -> Result<u64, StoreFault> {
     match store.last_vote()? {
         Some(slot) => Ok(u64::from(slot.number()).saturating_sub(1)),
@@ -84,7 +85,7 @@ fn pace_of(seat: &Seat<'_>, chosen: u64) -> Pace {
     pace
 }
 
-/// Where the member sits that a server is to be.
+/// The place of the member that a server is to be.
 pub fn seat_of<'a>(start: Start<'a>) -> Result<Seat<'a>, ServeFault> {
     let Start { rt, setup } = start;
     let (Place::Member { id, peers, tick }, Some(file)) = (setup.place, setup.store) else {

@@ -16,10 +16,10 @@ use std::collections::VecDeque;
 use std::net::{IpAddr, Ipv4Addr, SocketAddr};
 use std::str::from_utf8;
 
-// More messages than a node sends to itself behind one event.
+// More messages than a node sends to itself after one event.
 const MOST_OWN: u32 = 1_000;
 
-// So many requests wait to go out; another is lost, as a message may be.
+// The most requests that wait to go out; another is lost, as a message may be.
 const MOST_OUT: usize = 20_000;
 
 // The reply to a message that was taken begins so.
@@ -85,7 +85,7 @@ fn look_request(alloc: Global) -> Option<Vec<u8>> {
     Some(text.into_bytes())
 }
 
-// How many slots are chosen as far as a member knows, as its reply tells.
+// How many slots are chosen as far as a member knows, by its reply.
 fn chosen_in(reply: &[u8]) -> Option<u64> {
     let text = from_utf8(reply).ok()?;
     let (_, rest) = text.split_once("\"chosen\":")?;
@@ -117,7 +117,7 @@ fn is_answer(message: &Message) -> bool {
 }
 
 impl<'s, S: PromiseStore> Clustered<'s, S> {
-    /// The node, which hasn't heard of any peer yet.
+    /// A node that hasn't heard of any peer yet.
     pub fn new(alloc: Global, node: Node<S>, party: Party<'s>) -> Clustered<'s, S> {
         let Party {
             peers,
@@ -178,7 +178,7 @@ impl<'s, S: PromiseStore> Clustered<'s, S> {
         }
     }
 
-    // What a message that is sent tells of the time.
+    // What a message that is sent says about the pace.
     fn note(&mut self, message: &Message) {
         if message.to == self.member {
             if is_refusal(message) {
@@ -196,7 +196,7 @@ impl<'s, S: PromiseStore> Clustered<'s, S> {
         }
     }
 
-    // What it sends to itself is delivered, until nothing waits.
+    // Delivers what it sends to itself, until nothing waits.
     fn hear_own(&mut self)
         requires always { Unit {0} }
     {
@@ -228,7 +228,7 @@ impl<'s, S: PromiseStore> Clustered<'s, S> {
         self.hear_own();
     }
 
-    // A member is asked for its vote for a slot.
+    // Asks a member for its vote for a slot.
     fn ask_for(&mut self, to: Member, number: u64) {
         let from = self.member;
         let number = u32::try_from(number).unwrap_or(u32::MAX);
@@ -243,7 +243,8 @@ impl<'s, S: PromiseStore> Clustered<'s, S> {
         }
     }
 
-    // Each member that isn't busy is asked for the slots that are not applied, up to the one behind this: a vote there is the gap that has this one proposed anew, where too few members voted.
+    // Asks each member that isn't busy for the slots that are not applied, up to the one after this: a vote there is
+    // the gap that has this one proposed again, where too few members voted.
     fn ask(&mut self, last: u64)
         requires always { Unit {0} }
     {
@@ -261,7 +262,7 @@ impl<'s, S: PromiseStore> Clustered<'s, S> {
         self.hear_own();
     }
 
-    // The others are asked how far they are; this node sees to the next slot.
+    // Asks the others how far they are, and wakes this node.
     fn look(&mut self)
         requires always { Unit {0} }
     {
@@ -279,7 +280,7 @@ impl<'s, S: PromiseStore> Clustered<'s, S> {
         self.note_told();
     }
 
-    // Whether enough have told how far they are. A member by itself has nobody to wait for.
+    // Whether enough have reported how far they are. A member by itself has nobody to wait for.
     fn note_told(&mut self) {
         if self.peers.has_told() {
             self.pace.known();

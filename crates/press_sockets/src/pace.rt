@@ -1,21 +1,22 @@
-//! When a node of a cluster wakes, when it looks how far the others are, and when it asks what it has missed. It is a matter of time alone: what the cluster agrees on doesn't hang on it.
+//! When a node of a cluster wakes, when it looks how far the others are, and when it asks what it has missed. It is a
+//! matter of time alone: what the cluster agrees on doesn't depend on it.
 
 // Milliseconds between the turns of two nodes: the nodes take turns, by slots, so that two proposals seldom meet.
 const STEP: u64 = 4;
 
-// So long a proposal has, of this node or of another, before this node wakes again.
+// How long a proposal has, of this node or of another, before this node wakes again.
 const LEFT_ALONE: u64 = 40;
 
-// So long after a refusal it wakes again.
+// How long after a refusal it wakes again.
 const REFUSED: u64 = 10;
 
-// So long answers may be on their way before it asks again.
+// How long answers may be on their way before it asks again.
 const ON_ITS_WAY: u64 = 100;
 
-// As long as it doesn't know how far the others are, it looks as often as that.
+// How often it looks as long as it doesn't know how far the others are.
 const UNKNOWN: u64 = 50;
 
-// So many slots are asked for at once: as many as a node keeps votes for.
+// The most slots that are asked for at once: as many as a node keeps votes for.
 const WINDOW: u64 = 64;
 
 /// What is due.
@@ -32,19 +33,19 @@ pub enum Due {
 
 #[derive(Clone, Copy)]
 pub struct Pace {
-    // The node's place, from 0, among so many.
+    // The node's place, from 0, and how many nodes there are.
     place: u64,
     members: u64,
     // Milliseconds from one look to the next.
     tick: u64,
     now: u64,
-    // So many slots are applied.
+    // How many slots are applied.
     applied: u64,
     // When it wakes, where a command may wait.
     wake_at: Option<u64>,
     // When it looks again.
     look_at: u64,
-    // So many slots are chosen, as far as it knows by its own store and by what others have told, and whether enough have told.
+    // How many slots are chosen, as far as it knows by its own store and by what others reported, and whether enough have reported.
     newest: u64,
     is_known: bool,
     // The last slot that it asked for, and when it asks again.
@@ -54,7 +55,7 @@ pub struct Pace {
 }
 
 impl Pace {
-    /// The pace of the member at a place, of so many, with so many milliseconds to a tick.
+    /// The pace of the member at `place` of `members`, with the milliseconds of a tick.
     pub fn new(place: usize, members: usize, tick: u64) -> Pace {
         Pace {
             place: place as u64,
@@ -72,7 +73,7 @@ impl Pace {
         }
     }
 
-    /// Whether it has once had what a majority had.
+    /// Whether it has once applied what a majority knew to be chosen.
     pub fn is_settled(&self) -> bool {
         self.is_settled
     }
@@ -91,7 +92,7 @@ impl Pace {
         }
     }
 
-    // The time of this node's turn, so long from now.
+    // The time of this node's turn, counted from now.
     fn turn_after(&self, wait: u64) -> u64 {
         let turn = STEP.saturating_mul(self.rank());
         self.now.saturating_add(wait).saturating_add(turn)
@@ -144,7 +145,7 @@ impl Pace {
         }
     }
 
-    /// So many slots are applied.
+    /// This many slots are applied.
     pub fn moved(&mut self, applied: u64) {
         if applied <= self.applied {
             return;
@@ -157,17 +158,17 @@ impl Pace {
         self.settle();
     }
 
-    /// So many slots are chosen, by its own store or as another tells.
+    /// This many slots are chosen, by its own store or by another's report.
     pub fn told(&mut self, chosen: u64) {
         self.newest = self.newest.max(chosen);
     }
 
-    /// So many slots are chosen, as far as it knows.
+    /// How many slots are chosen, as far as it knows.
     pub fn chosen(&self) -> u64 {
         self.newest.max(self.applied)
     }
 
-    /// Enough have told how far they are.
+    /// Enough have reported how far they are.
     pub fn known(&mut self) {
         self.is_known = true;
         self.settle();
@@ -188,7 +189,7 @@ impl Pace {
         self.newest > self.applied && (self.applied >= self.asked_to || self.ask_at <= self.now)
     }
 
-    /// Time has passed; what is due.
+    /// Takes the time; returns what is due.
     pub fn pass(&mut self, now: u64) -> Due {
         self.now = now;
         if self.asks() {

@@ -7,19 +7,19 @@ use std::net::{IpAddr, Net, SocketAddr, ToSocketAddrs};
 // The members of a cluster are few.
 const MOST: usize = 7;
 
-// Who answered within so many milliseconds did so lately.
+// Who answered within this many milliseconds did so lately.
 const LATELY: u64 = 2_000;
 
-// With so many looks and questions on their way a member gets no more.
+// With this many looks and questions on their way a member gets no more.
 const MOST_ASKED: u32 = 32;
 
 struct Peer {
     addr: SocketAddr,
     // When it last took a request of this node.
     heard: Option<u64>,
-    // Whether it has told how far it is.
+    // Whether it has reported how far it is.
     has_told: bool,
-    // So many looks and questions are on their way to it.
+    // How many looks and questions are on their way to it.
     asked: u32,
 }
 
@@ -46,7 +46,7 @@ impl Drop for Peers {
     }
 }
 
-// Why no peers were read.
+/// Why no peers were read.
 pub enum PeersFault {
     NoMemory,
     /// The text names no members, or too many, or not this one; or an address can't be found.
@@ -69,7 +69,7 @@ fn has_addr(all: &[Peer], addr: SocketAddr) -> bool {
 }
 
 impl Peers {
-    /// The members whose addresses stand in the text, with commas between; the node's number is its place there, from 1.
+    /// The members whose addresses are in the text, with commas between; the node's number is its place there, from 1.
     pub fn read<N: Net>(
         alloc: Global,
         net: &N,
@@ -129,7 +129,7 @@ impl Peers {
         }
     }
 
-    /// A member told how far it is.
+    /// A member reported how far it is.
     pub fn told(&mut self, place: usize) {
         if let Some(peer) = self.all.get_mut(place) {
             peer.has_told = true;
@@ -150,7 +150,8 @@ impl Peers {
         }
     }
 
-    /// Whether many looks and questions are still on their way to a member: it gets no more for now, so that they don't pile up in front of its other messages.
+    /// Whether many looks and questions are still on their way to a member: it gets no more for now, so that they don't
+    /// pile up in front of its other messages.
     pub fn is_busy(&self, place: usize) -> bool {
         match self.all.get(place) {
             Some(peer) => peer.asked >= MOST_ASKED,
@@ -158,12 +159,12 @@ impl Peers {
         }
     }
 
-    // Whether so many members but for this node make a majority with it.
+    // Whether that many other members make a majority with this node.
     fn is_majority(&self, others: usize) -> bool {
         self.all.len() < others.saturating_add(1).saturating_mul(2)
     }
 
-    /// Whether a majority, this node among it, has told how far it is, in whichever looks.
+    /// Whether a majority, this node among it, has reported how far it is, in whichever looks.
     pub fn has_told(&self) -> bool {
         let own = self.place();
         let mut others: usize = 0;

@@ -15,7 +15,7 @@ pub enum Sort {
     Editor,
     /// That a message of a peer be taken.
     Peer,
-    /// That a command be taken, of so many seconds.
+    /// That a command be taken, with its time in seconds.
     Command(u64),
     /// A page of the site, or a reply in JSON.
     Page,
@@ -113,7 +113,7 @@ pub fn refuse_form(told: &mut Vec<u8>) -> Result<u16, HttpFault> {
     Ok(400)
 }
 
-/// Nothing is there.
+/// There is nothing at this path.
 pub fn not_found(told: &mut Vec<u8>) -> Result<u16, HttpFault> {
     write_fault(told, 404)?;
     Ok(404)
@@ -150,9 +150,9 @@ fn ready_head(alloc: Global, is_ready: bool, count: usize) -> Result<String, All
 #[derive(Clone, Copy)]
 pub struct Standing<'a> {
     pub is_ready: bool,
-    /// So many slots are applied.
+    /// How many slots are applied.
     pub applied: u64,
-    /// So many are chosen, as far as it knows.
+    /// How many are chosen, as far as it knows.
     pub chosen: u64,
     /// The numbers of the members that answered lately, with commas between.
     pub near: &'a str,

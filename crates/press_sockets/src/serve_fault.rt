@@ -10,13 +10,13 @@ use std::io;
 #[derive(Clone, Copy, Debug)]
 pub enum ServeFault {
     NoMemory,
-    /// The listener, or a connection, could not be had.
+    /// The listener, or a connection, could not be opened.
     NoConnections,
     /// The page for editors could not be read.
     ReadFault,
-    /// The peers are not told as they should be: nothing is opened.
+    /// The list of peers is wrong: nothing is opened.
     BadPeers,
-    /// That it listens could not be told.
+    /// The line that it listens could not be written.
     WriteFault,
     Disk,
     Damaged,

@@ -17,24 +17,24 @@ const LISTENER: usize = 0;
 
 const EVENTS: usize = 256;
 
-// So many connections are taken before others have their turn.
+// The most connections that are taken before others have their turn.
 const MOST_TAKEN: u32 = 256;
 
-// So many requests go out before others have their turn.
+// The most requests that go out before others have their turn.
 const MOST_CALLED: u32 = 256;
 
-// So long may pass before late connections are seen.
+// How long may pass before late connections are looked for.
 const MILLISECONDS: u64 = 100;
 
-// So long may pass where requests go out by time.
+// How long may pass where requests go out by time.
 const STEP: u64 = 2;
 
-/// Who has a token of the poll.
+// Who has a token of the poll.
 enum Holder {
     Listener,
-    /// The connection of that place.
+    // The connection of that place.
     Talk(usize),
-    /// The request of that place.
+    // The request of that place.
     Call(usize),
 }
 
@@ -61,9 +61,9 @@ pub struct Server {
     listener: TcpListener,
     talks: Talks,
     calls: Calls,
-    // So many connections came.
+    // How many connections came.
     came: u64,
-    // So many are still to have their turn, where it ends by that.
+    // How many are still to have their turn, if it ends by that.
     left: Option<u32>,
     // When it began, and when the last wait ended.
     begun: Instant,
@@ -91,7 +91,7 @@ impl Drop for Server {
 }
 
 impl Server {
-    /// Listens at an address, for so many connections, or until it is ended.
+    /// Listens at an address, for a number of connections, or until it is ended.
     pub fn listen<R: AllocGlobal + Net + Clock>(
         rt: &R,
         addr: SocketAddr,
@@ -136,7 +136,7 @@ impl Server {
         Ok(())
     }
 
-    // Those that wait are taken. Where no more can be had, one that stands gives way.
+    // Accepts those that wait. If no more can be opened, an open one is closed.
     fn take<E: Write>(&mut self, log: &mut E) -> io::Result<()> {
         for _ in 0..MOST_TAKEN {
             match self.listener.accept() {
@@ -152,7 +152,7 @@ impl Server {
                 },
             }
         }
-        // More may wait though nothing else comes: the listener is to be told of again.
+        // More may wait though nothing else comes: the listener is registered again.
         self.poll
             .registry()
             .reregister(&mut self.listener, Token(LISTENER), Interest::READABLE)
@@ -217,7 +217,7 @@ impl Server {
         }
     }
 
-    // A request that goes out is given up.
+    // Gives up a request that goes out.
     fn lose<A: Answers>(&mut self, answers: &mut A, place: usize) {
         if let Some(call) = self.calls.get_mut(place) {
             answers.called(call.place(), call.errand(), &[]);
@@ -239,7 +239,7 @@ impl Server {
         Ok(())
     }
 
-    // What waits goes out, as far as there is room.
+    // Sends what waits, as far as there is room.
     fn call_all<R: Net, A: Answers>(&mut self, net: &R, answers: &mut A) {
         for _ in 0..u64::MAX {
             let Some(outgoing) = answers.next_call() else {
@@ -274,7 +274,7 @@ impl Server {
         self.poll.poll(events, limit)
     }
 
-    // What the sockets are ready for is done.
+    // Does what the sockets are ready for.
     fn round<A: Answers, E: Write>(
         &mut self,
         answers: &mut A,
@@ -317,7 +317,8 @@ impl Server {
         })
     }
 
-    /// Serves until so many connections had their turn and the last reply is out, or until it is ended. A connection has its turn when its request is served, or it is closed without a reply.
+    /// Serves until all its connections had their turn and the last reply is out, or until it is ended. A connection
+    /// has its turn when its request is served, or it is closed without a reply.
     pub fn serve<R: Net + Clock, A: Answers, E: Write>(
         &mut self,
         rt: &R,

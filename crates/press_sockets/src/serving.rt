@@ -34,7 +34,7 @@ fn member() -> Member
     member
 }
 
-/// The only node of a cluster begins over its store.
+/// Starts the only node of a cluster over its store.
 pub fn begin<S: PromiseStore + Drop>(
     alloc: Global,
     kit: Kit,
@@ -46,7 +46,7 @@ pub fn begin<S: PromiseStore + Drop>(
     }
 }
 
-/// What its store keeps is chosen again, and applied: it is woken until nothing more is.
+/// Has what its store keeps chosen again, and applied: wakes it until nothing more is applied.
 pub fn catch_up<S: PromiseStore>(alloc: Global, node: &mut Node<S>)
     requires always { Unit {0} }
 {
@@ -88,7 +88,7 @@ pub struct Start<'a> {
     pub setup: &'a Setup<'a>,
 }
 
-// Tells that it listens.
+// Writes the line that it listens.
 #[tactic(auto, using(crate::proofs::Fronts::nothing))]
 fn announce<W: Write>(alloc: Global, place: &Place<'_>, writer: &mut W) -> Result<(), ServeFault>
     ensures { AppendsFront (W.contents writer.old) (W.contents writer.new)
@@ -102,7 +102,7 @@ fn announce<W: Write>(alloc: Global, place: &Place<'_>, writer: &mut W) -> Resul
     }
 }
 
-// It listens, tells so, and serves.
+// Listens, writes its line, and serves.
 #[tactic(auto, using(crate::proofs::Fronts::nothing))]
 fn serve_over<A: Answers, W: Write, E: Write>(
     start: Start<'_>,
@@ -183,8 +183,9 @@ fn serve_member<W: Write, E: Write>(
 }
 
 impl Setup<'_> {
-    /// Serves one node: it listens and tells so on the writer, and connections are served until so many had their turn, or until it is ended, with a line for each on the errors.
-    /// One by itself is first woken until nothing more is applied; a member of a cluster answers no page and no command until its peers have nothing newer.
+    /// Serves one node: it listens, writes its line, and serves connections until as many as were asked for had their
+    /// turn, or until it is ended, with a line for each on the other writer. One by itself is first woken until nothing
+    /// more is applied; a member of a cluster answers no page and no command until its peers have nothing newer.
     #[tactic(auto, using(crate::proofs::Fronts::nothing))]
     pub fn serve<W: Write, E: Write>(
         &self,

@@ -1,4 +1,4 @@
-/// Where a server stands.
+/// A server's place: by itself, or in a cluster.
 #[derive(Clone, Copy, Debug)]
 pub enum Place<'a> {
     /// A node by itself, which listens at a port of 127.0.0.1.
@@ -18,12 +18,12 @@ pub enum Place<'a> {
 #[derive(Clone, Copy, Debug)]
 pub struct Setup<'a> {
     pub place: Place<'a>,
-    /// So many connections are served; without it, as many as come until it is ended.
+    /// How many connections are served; without it, as many as come until it is ended.
     pub turns: Option<u32>,
     /// The file of its store, which is in memory without one.
     pub store: Option<&'a str>,
     /// The file of the page for editors.
     pub editor: Option<&'a str>,
-    /// A command may be so many seconds ahead of the machine's clock.
+    /// How many seconds a command may be ahead of the machine's clock.
     pub ahead: Option<u32>,
 }

@@ -1,4 +1,4 @@
-//! One connection, from its begin to its end.
+//! One connection, from its beginning to its end.
 
 use crate::answers::Answers;
 use crate::gathered::Gathered;
@@ -13,13 +13,13 @@ use std::time::{Duration, Instant};
 
 const PIECE: usize = 8192;
 
-// More pieces than a request has, so that a look behind them asks for no more.
+// More pieces than a request has, so that a look after them asks for no more.
 const MOST_PIECES: u32 = 10;
 
-// So many pieces are read away at once.
+// The most pieces that are drained at once.
 const MOST_AWAY: u32 = 64;
 
-// All its reads and writes together take no longer.
+// The time limit of all its reads and writes together.
 const SECONDS: u64 = 10;
 
 #[derive(Clone, Copy, PartialEq, Eq)]
@@ -28,7 +28,8 @@ pub enum Phase {
     Reading,
     /// The reply isn't out yet.
     Writing,
-    /// The reply is out, and what still comes is read away: a close with bytes unread would reset the connection, and the client could lose the reply.
+    /// The reply is out, and what still comes is drained: a close with bytes unread would reset the connection, and the
+    /// client could lose the reply.
     Ending,
     Over,
 }
@@ -37,12 +38,12 @@ pub enum Phase {
 #[derive(Clone, Copy)]
 pub struct Arrival {
     pub from: IpAddr,
-    /// So many came before it.
+    /// How many came before it.
     pub number: u64,
     pub begun: Instant,
 }
 
-/// A connection.
+/// A connection to a client: its request so far, then its reply.
 pub struct Talk {
     stream: TcpStream,
     arrival: Arrival,
@@ -70,7 +71,7 @@ impl Drop for Talk {
     }
 }
 
-// A line of what came of a connection; one that can't be written is passed over.
+// Writes the line of a connection; one that can't be written is dropped.
 fn write_line<E: Write>(log: &mut E, line: Result<String, AllocError>) {
     if let Ok(line) = line {
         let _ = write_once(log, line.as_bytes());
@@ -94,7 +95,6 @@ fn log_served<E: Write>(alloc: Global, log: &mut E, came: &Gathered, status: u16
 }
 
 impl Talk {
-    /// A connection that has just come.
     pub fn new(alloc: Global, stream: TcpStream, arrival: Arrival) -> Talk {
         Talk {
             stream,
@@ -108,7 +108,6 @@ impl Talk {
         }
     }
 
-    /// How far it is.
     pub fn phase(&self) -> Phase {
         self.phase
     }
@@ -133,13 +132,13 @@ impl Talk {
         Duration::from_secs(SECONDS) <= now.duration_since(self.arrival.begun)
     }
 
-    /// It is given up before its request was whole.
+    /// Gives it up before its request was whole.
     pub fn give_up<E: Write>(&mut self, log: &mut E, why: &str) {
         log_closed(self.alloc, log, why);
         self.phase = Phase::Over;
     }
 
-    // What is there of the request is taken; whether the input has ended.
+    // Reads what has come of the request; returns whether the input has ended.
     fn gather(&mut self) -> io::Result<bool> {
         let mut piece = [0u8; PIECE];
         for _ in 0..MOST_PIECES {
@@ -153,7 +152,7 @@ impl Talk {
         Ok(false)
     }
 
-    // What came is looked at, where that is due; whether the connection had its turn.
+    // Looks at what came, if that is due; returns whether the connection had its turn.
     fn look<A: Answers, E: Write>(&mut self, answers: &mut A, ended: bool, log: &mut E) -> bool
         requires always { Unit {0} }
     {
@@ -191,7 +190,7 @@ impl Talk {
         }
     }
 
-    // The reply goes out as far as the socket takes it, and then its end is told.
+    // Sends the reply as far as the socket takes it, and then shuts the write side.
     fn send(&mut self) -> io::Result<()> {
         for _ in 0..self.told.len() {
             let left = self.told.get(self.sent..).unwrap_or(&[]);
@@ -210,7 +209,7 @@ impl Talk {
         Ok(())
     }
 
-    // What still comes goes nowhere.
+    // Drains what still comes.
     fn read_away(&mut self) -> io::Result<()> {
         let mut piece = [0u8; PIECE];
         for _ in 0..MOST_AWAY {
@@ -228,7 +227,7 @@ impl Talk {
         Ok(())
     }
 
-    // What is left to do behind a look.
+    // What is left to do after a look.
     fn reply(&mut self) -> io::Result<()> {
         if self.phase == Phase::Writing {
             self.send()?;
@@ -239,7 +238,8 @@ impl Talk {
         Ok(())
     }
 
-    /// What its socket is ready for is done; whether the connection had its turn by that: a reply was made, or it was closed without one.
+    /// Does what its socket is ready for; returns whether the connection had its turn by that: a reply was made, or it
+    /// was closed without one.
     pub fn step<A: Answers, E: Write>(&mut self, answers: &mut A, log: &mut E) -> bool
         requires always { Unit {0} }
     {

@@ -1,14 +1,14 @@
-//! The connections that stand at once.
+//! The open connections.
 
 use crate::talk::{Phase, Talk};
 use std::alloc::{AllocError, Global};
 use std::io::Write;
 use std::time::Instant;
 
-// So many connections stand at once.
+// The most connections that are open at once.
 const MOST: usize = 1024;
 
-/// Connections by their places. Where each place is taken, the oldest whose request isn't whole gives way.
+/// Connections by their places. Where each place is taken, the oldest whose request isn't whole is closed.
 pub struct Talks {
     places: Vec<Option<Talk>>,
 }
@@ -20,14 +20,12 @@ impl Drop for Talks {
 }
 
 impl Talks {
-    /// No connection.
     pub fn new(alloc: Global) -> Talks {
         Talks {
             places: Vec::new(alloc),
         }
     }
 
-    /// Whether none is open.
     pub fn is_empty(&self) -> bool {
         self.places.iter().all(|talk| talk.is_none())
     }
@@ -61,7 +59,8 @@ impl Talks {
         found.map(|(place, _)| place)
     }
 
-    /// One gives way: the oldest whose request isn't whole, else the oldest whose reply is out, else the oldest. Its place, where there was one.
+    /// Closes one: the oldest whose request isn't whole, else the oldest whose reply is out, else the oldest. Returns
+    /// its place, if there was one.
     pub fn give_way<E: Write>(&mut self, log: &mut E) -> Option<usize> {
         for phase in [Phase::Reading, Phase::Ending, Phase::Writing] {
             if let Some(place) = self.oldest(phase) {
@@ -82,7 +81,7 @@ impl Talks {
         self.leave(place);
     }
 
-    /// A place is free again.
+    /// Frees a place.
     pub fn leave(&mut self, place: usize) {
         if let Some(slot) = self.places.get_mut(place) {
             *slot = None;
@@ -102,7 +101,7 @@ impl Talks {
         Ok(self.give_way(log).unwrap_or(0))
     }
 
-    /// A connection takes a place.
+    /// Puts a connection at a free place.
     pub fn enter<E: Write>(&mut self, talk: Talk, log: &mut E) -> Result<usize, AllocError> {
         let place = self.place(log)?;
         if let Some(slot) = self.places.get_mut(place) {
@@ -111,7 +110,7 @@ impl Talks {
         Ok(place)
     }
 
-    /// Those whose time is over end; how many of them had had no turn.
+    /// Closes those whose time is over; returns how many of them had had no turn.
     pub fn end_late<E: Write>(&mut self, now: Instant, log: &mut E) -> u32 {
         let mut count: u32 = 0;
         for place in 0..self.places.len() {
@@ -129,7 +128,7 @@ impl Talks {
         count
     }
 
-    /// Those whose request isn't whole end.
+    /// Closes those whose request isn't whole.
     pub fn end_unheard(&mut self) {
         for place in 0..self.places.len() {
             let is_unheard = match self.places.get(place) {

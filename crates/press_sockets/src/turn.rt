@@ -1,4 +1,4 @@
-//! One turn of a server: a connection, and behind a command that was taken a wake with what the node sends to itself.
+//! One turn of a server: a connection, and after a command that was taken a wake with what the node sends to itself.
 
 ghost use Rattle.std.specs.Prelude.{◌≡◌, ◌++◌, OnOk};
 ghost use Rattle.press_node.specs.Nodes.{kit_of, node_moved};
@@ -13,10 +13,11 @@ use std::alloc::{AllocError, Global};
 use std::collections::VecDeque;
 use std::io::{Read, Write};
 
-// So many deliveries at most follow a wake of a node of seven, whose seven questions bring it a promise, seven calls for a vote and seven votes.
+// The most deliveries that follow a wake of a node of seven, whose seven questions bring it a promise, seven calls for
+// a vote and seven votes.
 const MOST_DELIVERIES: u32 = 22;
 
-// An event.
+// Plays an event.
 fn played<S: PromiseStore>(node: &mut Node<S>, event: Event) -> Result<Vec<Message>, NodeFault>
     requires always { Unit {0} }
     ensures kit { kit_of node.new ≡ kit_of node.old }
@@ -28,7 +29,7 @@ fn played<S: PromiseStore>(node: &mut Node<S>, event: Event) -> Result<Vec<Messa
     }
 }
 
-// Messages wait behind those that do so already.
+// Puts messages at the end of those that wait.
 fn wait(waiting: &mut VecDeque<Message>, sent: Vec<Message>) -> Result<(), AllocError>
     ensures { OnOk result (waiting.new.items ≡ waiting.old.items ++ sent.items) }
 {
@@ -38,7 +39,7 @@ fn wait(waiting: &mut VecDeque<Message>, sent: Vec<Message>) -> Result<(), Alloc
     Ok(())
 }
 
-// What waits is delivered, the oldest first, so many at most.
+// Delivers what waits, the oldest first, up to a limit.
 fn deliver<S: PromiseStore>(
     node: &mut Node<S>,
     waiting: &mut VecDeque<Message>,
@@ -64,7 +65,7 @@ fn deliver<S: PromiseStore>(
     Ok(())
 }
 
-/// The node is woken, and its own messages are delivered, the oldest first, until none is left. The first fault ends it.
+/// Wakes the node, and delivers its own messages, the oldest first, until none is left. The first fault ends it.
 pub fn wake<S: PromiseStore>(alloc: Global, node: &mut Node<S>) -> Result<(), NodeFault>
     requires always { Unit {0} }
     ensures kit { kit_of node.new ≡ kit_of node.old }
@@ -82,8 +83,8 @@ pub fn wake<S: PromiseStore>(alloc: Global, node: &mut Node<S>) -> Result<(), No
     }
 }
 
-/// Serves one connection, and answers its status; behind a command that was taken the node is woken. A fault in that wake ends the wake alone: the command was
-/// taken all the same.
+/// Serves one connection, and returns its status; after a command that was taken the node is woken. A fault in that
+/// wake ends the wake alone: the command was taken all the same.
 pub fn serve_turn<S: PromiseStore, R: Read, W: Write>(
     alloc: Global,
     node: &mut Node<S>,

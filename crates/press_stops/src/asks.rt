@@ -1,4 +1,4 @@
-//! What is asked of a store, and the lines of what came of it.
+//! What is asked of a store, and the lines of the answers.
 
 use crate::lines::{fault_line, row_line};
 use crate::rows::row_of;
@@ -13,12 +13,12 @@ use std::io::Write;
 #[derive(Clone, Copy)]
 enum Ask {
     LastRound,
-    /// The last slot with a vote.
+    // The last slot with a vote.
     LastVote,
     SaveRound(u64),
-    /// The row of a slot.
+    // The row of a slot.
     Load(u32),
-    /// A promise and a vote of that round are saved for the slot.
+    // A promise and a vote of that round are saved for the slot.
     Save(u32, u64),
 }
 
@@ -72,7 +72,7 @@ fn vote_line(alloc: Global, last: Option<Slot>) -> Result<String, AllocError> {
     }
 }
 
-// The line of what came of it.
+// The line of the answer.
 fn asked<D: Alter>(alloc: Global, store: &mut SqlStore<D>, ask: Ask) -> Result<String, AllocError> {
     match ask {
         Ask::LastVote => match store.last_vote() {
@@ -114,7 +114,7 @@ pub fn ask_all<D: Alter>(
     Ok(())
 }
 
-/// So many times a round, and a row of one of a thousand slots.
+/// Saves this many times a round, and a row of one of a thousand slots.
 pub fn save_often<S: PromiseStore>(store: &mut S, count: u32) -> Result<(), StoreFault> {
     for number in 0..count {
         let round = u64::from(number) + 1;

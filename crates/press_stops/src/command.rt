@@ -39,7 +39,8 @@ fn play<S: PromiseStore>(
     Ok(())
 }
 
-// The command of that number comes, the node is woken, and what it sends is delivered until nothing waits; `told` counts the events that were done.
+// Submits the command of that number, wakes the node, and delivers what it sends until nothing waits; `told` counts the
+// events that were done.
 fn run_command<S: PromiseStore>(
     alloc: Global,
     node: &mut Node<S>,
@@ -80,7 +81,7 @@ fn goes_on<S: PromiseStore>(
     Ok(node.applied() == 1 && (first, second) == wanted)
 }
 
-/// A node starts over the store, and takes a command; how many of its events were done.
+/// Starts a node over the store, which takes a command; returns how many of its events were done.
 pub fn command_over<S: PromiseStore>(alloc: Global, store: S) -> (S, u32) {
     let Ok(kit) = Kit::build(alloc, Vec::new(alloc), Vec::new(alloc)) else {
         return (store, 0);

@@ -1,7 +1,10 @@
-//! Plays stores on a SQL database: `press_stops WORD ..`. `store`, `store-over-files` and `store-loose` begin with a new one, and the words behind them ask it; `stops-of-log`, `stops-of-file`,
-//! `command-stops-of-log` and `command-stops-of-file` stop one on two files in memory at each call of one of them; `saves=N` and `wary-saves=N` save in a file, for whoever measures it.
+//! Plays stores on a SQL database: `press_stops WORD ..`. `store`, `store-over-files` and `store-loose` begin with a
+//! new one, and the arguments after them ask it; `stops-of-log`, `stops-of-file`, `command-stops-of-log` and
+//! `command-stops-of-file` stop one on two files in memory at each call of one of them; `saves=N` and `wary-saves=N`
+//! save in a file, for whoever measures it.
 //!
-//! Functions here that play an event on a node carry `requires always { Unit {0} }`, which always holds: `docs/DECISIONS.md` says why the checker wants it.
+//! Functions here that play an event on a node carry `requires always { Unit {0} }`, which always holds:
+//! `docs/DECISIONS.md` says why the checker wants it.
 #![tactic(auto)]
 
 mod asks;

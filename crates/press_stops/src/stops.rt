@@ -64,7 +64,6 @@ fn files_of(store: Stored) -> Files<Stopped> {
     store.into_connection().into_store().close()
 }
 
-// ---- a round and two rows
 
 fn save_all<S: PromiseStore>(store: &mut S, told: &mut u32) -> Result<(), StoreFault> {
     if let (Some(slot), Some(round), Some(first), Some(second)) = (
@@ -94,9 +93,8 @@ fn saves_in(round: u64, row: &Row) -> Option<u32> {
     }
 }
 
-// ---- a command of a node by itself
 
-// How many saves had gone before so many events were done: a round with the wake, a promise with the first delivery, a vote with the third.
+// How many saves come before this many events are done: a round with the wake, a promise with the first delivery, a vote with the third.
 fn saves_before(events: u32) -> u32 {
     match events {
         0 | 1 => 0,
@@ -117,9 +115,8 @@ fn saves_of_command_in(round: u64, row: &Row) -> Option<u32> {
     }
 }
 
-// ---- each stop in turn
 
-// The work over files of which one stops; the files then, and how many saves were told.
+// Does the work over files of which one stops; returns the files, and how many saves were reported as done.
 fn played(alloc: Global, work: Work, files: Files<Stopped>) -> (Files<Stopped>, u32) {
     let mut store = match opened(alloc, files) {
         Ok(store) => store,
@@ -149,13 +146,13 @@ fn kept_of<S: PromiseStore>(work: Work, store: &mut S) -> Option<u32> {
     }
 }
 
-/// What came of one stop.
+// The outcome of one stop.
 enum Came {
-    /// The run ended before the stop.
+    // The run ended before the stop.
     Whole,
-    /// It was stopped, and what was told is kept, with at most one save more.
+    // It was stopped, and what was reported as done is kept, with at most one save more.
     Kept,
-    /// Something that was told is lost, or what is kept is no front of what was saved.
+    // Something that was reported as done is lost, or what is kept is no prefix of what was saved.
     Lost,
 }
 

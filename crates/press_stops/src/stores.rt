@@ -1,5 +1,6 @@
-//! A store on a SQL database, in memory or over two files in memory: it stands over the connection for the words of a session, and gives it back. What is opened is closed on each way out,
-//! since whoever drops a database proves how each of its parts is dropped.
+//! A store on a SQL database, in memory or over two files in memory: it uses the connection for the words of a session,
+//! and gives it back. What is opened is closed on each way out, since a caller that drops a database has to prove how
+//! each of its parts is dropped.
 
 use crate::asks::{ask_all, save_often};
 use press_acceptor::StoreFault;
@@ -8,7 +9,7 @@ use sqlite::{Alter, Connection, FileStore, Files, MemStore, Options, Wary};
 use sqlite_disk::Memory;
 use std::alloc::Global;
 
-/// On what the database stands.
+/// What the database is kept in.
 #[derive(Clone, Copy, PartialEq, Eq)]
 pub enum Base {
     Memory,
@@ -30,7 +31,7 @@ fn refused(fault: StoreFault) -> anyhow::Error {
     anyhow::anyhow!("no store: {fault}")
 }
 
-// A store stands over the connection, and is asked.
+// Makes a store over the connection, and asks it.
 fn session<D: Alter>(
     rt: &HostRuntime,
     conn: Connection<D>,
@@ -86,7 +87,7 @@ fn closed(conn: Connection<FileStore<Memory>>) -> (Files<Memory>, anyhow::Result
     }
 }
 
-// The files are opened, the store over them is asked, and they are closed.
+// Opens the files, asks the store over them, and closes them.
 fn session_over_files(
     rt: &HostRuntime,
     files: Files<Memory>,
@@ -140,7 +141,7 @@ fn saved_in_file(rt: &HostRuntime, name: &str, count: u32, syncs: Syncs) -> Resu
     }
 }
 
-/// Saves so many rounds and rows in the file of that name.
+/// Saves this many rounds and rows in the file of that name.
 pub fn save_in_file(rt: &HostRuntime, name: &str, count: u32, syncs: Syncs) -> anyhow::Result<()> {
     match saved_in_file(rt, name, count, syncs) {
         Ok(()) => {

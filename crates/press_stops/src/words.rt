@@ -2,7 +2,7 @@ use crate::stops::{Stops, Work};
 use crate::stores::{Base, Session, Syncs};
 use std::alloc::{AllocError, Global};
 
-/// The number that stands behind a name.
+/// The number after a name.
 pub fn number_behind(name: &str, word: &str) -> Option<u32> {
     word.strip_prefix(name)?.parse().ok()
 }
@@ -14,7 +14,7 @@ pub enum Start {
     Store(Base),
     /// Stops of a store, at each call.
     Stop(Work, Stops),
-    /// Saves in the file `saves.db`, for whoever measures them: so many, and how often each commit syncs.
+    /// Saves in the file `saves.db`, for measuring: how many, and how often each commit syncs.
     Saves(u32, Syncs),
 }
 
@@ -41,7 +41,7 @@ impl Start {
     }
 }
 
-/// A beginning, and what is asked of its store: behind `again` by another one over the same database.
+/// A beginning, and what is asked of its store: after `again` by another one over the same database.
 #[derive(Drop)]
 pub struct Scene<'w> {
     pub start: Start,

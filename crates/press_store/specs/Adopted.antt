@@ -20,7 +20,7 @@ pub record Adopts (old new : State) : Type 0 where
   pub kept : ((old.now.schema ≡ no_schema) × (kept_by new ≡ new_store)) ⊎ ((old.now.schema ≡ store_schema) × (kept_by new ≡ kept_by old))
   pub durable : Only (kept_by new) (MayLeave new)
 
--- What is handed back: the database as it was. A crash leaves what could stand before, or a new store where there was nothing.
+-- What is returned: the database as it was. A crash leaves what it could leave before, or a new store where there was nothing.
 pub record HandsBack (old new : State) : Type 0 where
   pub same : IsTrue new.is_open → IsTrue old.is_open × (new.now ≡ old.now)
   pub crash : (db : Trees) → new.may_leave db → old.may_leave db ⊎ ((old.now.schema ≡ no_schema) × IsFresh (record { schema = store_schema; trees = db }))

@@ -5,7 +5,7 @@ use Rattle.sqlite.specs.declared.error.ErrorCode.TheVariants.{OutOfMemory, Syste
 use Rattle.press_acceptor.specs.declared.fault.StoreFault.{StoreFault}
 use Rattle.press_acceptor.specs.declared.fault.StoreFault.TheVariants.{NoMemory, Disk, Damaged}
 
--- want of memory, the disk or a size; and damage for any other cause
+-- out of memory, the disk or a size; and damage for any other cause
 abbrev pub told : Error → StoreFault
 told (SqliteFailure OutOfMemory) = NoMemory
 told (SqliteFailure SystemIoFailure) = Disk

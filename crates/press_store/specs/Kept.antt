@@ -21,7 +21,7 @@ pub record Kept (S : Type 0) : Type 0 where
   pub conn : Held S
   -- how many answers of the connection named the disk or a size
   pub faults : ℕ
-  -- the tables are those that a store makes, and nothing stands beside them
+  -- the tables are those that a store makes, and nothing is beside them
   pub is_ours : Bool
 
 abbrev pub kept_code : {S : Type 0} → Coded S → Coded (Kept S)

@@ -78,6 +78,6 @@ store_schema = record { tables = promise ∷ meta ∷ []; indexes = meta_key ∷
 abbrev pub no_schema : Schema
 no_schema = record { tables = []; indexes = []; views = [] }
 
--- nothing stands in the table beside its columns and keys
+-- nothing is in the table beside its columns and keys
 abbrev pub IsBareTable : Table → Type 0
 IsBareTable table = (table.checks ≡ []) × (table.references ≡ []) × (table.computed ≡ []) × (table.stamps ≡ promise.stamps) × (table.is_counted ≡ false)

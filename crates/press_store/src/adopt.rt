@@ -40,7 +40,7 @@ fn is_one(rows: &[Shown]) -> bool {
     }
 }
 
-/// Whether `meta` has a last round.
+// Whether `meta` has a last round.
 fn has_round<D: Alter>(conn: &mut Connection<D>) -> Result<bool, Error>
     ensures looks { LooksAt D.Store conn.old conn.new }
     ensures shows { Shows D.Store conn.old conn.new result }
@@ -55,7 +55,7 @@ fn has_round<D: Alter>(conn: &mut Connection<D>) -> Result<bool, Error>
     Ok(is_one_number(&rows))
 }
 
-/// Whether `meta` has the version of these tables.
+// Whether `meta` has the version of these tables.
 fn has_version<D: Alter>(conn: &mut Connection<D>) -> Result<bool, Error>
     ensures looks { LooksAt D.Store conn.old conn.new }
     ensures shows { Shows D.Store conn.old conn.new result }
@@ -65,7 +65,7 @@ fn has_version<D: Alter>(conn: &mut Connection<D>) -> Result<bool, Error>
     Ok(is_one(&rows))
 }
 
-/// Whether `meta` has its two rows.
+// Whether `meta` has its two rows.
 fn has_both<D: Alter>(conn: &mut Connection<D>) -> Result<bool, Error>
     requires quiet { conn.old.in_transaction ≡ false }
     requires unlimited { conn.old.step_limit ≡ None }
@@ -80,7 +80,7 @@ fn has_both<D: Alter>(conn: &mut Connection<D>) -> Result<bool, Error>
     has_version(conn)
 }
 
-/// Refused unless `meta` has its two rows.
+// Refused unless `meta` has its two rows.
 fn prepare_ours<D: Alter>(conn: &mut Connection<D>) -> Result<(), StoreFault>
     requires quiet { conn.old.in_transaction ≡ false }
     requires unlimited { conn.old.step_limit ≡ None }
@@ -96,7 +96,7 @@ fn prepare_ours<D: Alter>(conn: &mut Connection<D>) -> Result<(), StoreFault>
     }
 }
 
-/// A database with nothing in it.
+// Adopts a database with nothing in it.
 fn prepare_empty<D: Alter>(conn: &mut Connection<D>) -> Result<(), StoreFault>
     requires quiet { conn.old.in_transaction ≡ false }
     requires unlimited { conn.old.step_limit ≡ None }
@@ -108,7 +108,7 @@ fn prepare_empty<D: Alter>(conn: &mut Connection<D>) -> Result<(), StoreFault>
     make(conn).map_err(fault_of)
 }
 
-/// A database with other tables, of which no clause speaks.
+// Adopts a database with other tables, of which no clause speaks.
 fn prepare_other<D: Alter>(conn: &mut Connection<D>) -> Result<(), StoreFault>
     requires quiet { conn.old.in_transaction ≡ false }
     requires unlimited { conn.old.step_limit ≡ None }
@@ -126,7 +126,7 @@ fn prepare_other<D: Alter>(conn: &mut Connection<D>) -> Result<(), StoreFault>
     make(conn).map_err(fault_of)
 }
 
-/// Makes the tables where there are none. Answers whether they are those that a store makes, with nothing beside them.
+/// Makes the tables if there are none. Returns whether they are those that a store makes, with nothing else.
 pub fn prepare<D: Alter>(conn: &mut Connection<D>) -> Result<bool, StoreFault>
     ensures ours { IfOk result (λ is_ours. IsServed (state D.Store conn.old) → IsTrue is_ours) }
     ensures adopts { IfOk result (λ is_ours. IsTrue is_ours → IsAdopted D.Store conn.old conn.new) }

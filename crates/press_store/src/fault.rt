@@ -6,7 +6,7 @@ ghost use Rattle.press_store.specs.Faults.{told};
 use press_acceptor::StoreFault;
 use sqlite::{Error, ErrorCode};
 
-/// Want of memory, a failure of the disk or a size that the disk's format can't hold; else damage.
+/// The fault of an error: out of memory, a failure of the disk or a size that the disk's format can't hold; else damage.
 pub fn fault_of(error: Error) -> StoreFault
     ensures { result ≡ told error }
 {

@@ -95,7 +95,7 @@ fn keeps_vote<S: Alter>(alloc: Global, conn: &mut Connection<S>, slot: Slot) -> 
     }
 }
 
-/// None where a row is damaged.
+/// The last slot with a vote; None where a row is damaged.
 pub fn read_last<S: Alter>(
     alloc: Global,
     conn: &mut Connection<S>,

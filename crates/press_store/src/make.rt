@@ -39,7 +39,7 @@ fn make_rows<S: Alter>(tx: &mut Transaction<'_, S>) -> Result<usize, Error>
     tx.execute("INSERT INTO meta (name, n) VALUES ('last_round', 0)", &[])
 }
 
-/// The two tables, or nothing.
+/// Makes the two tables, or nothing.
 pub fn make<S: Alter>(conn: &mut Connection<S>) -> Result<(), Error>
     requires quiet { conn.old.in_transaction ≡ false }
     requires settled { IsSettled (state S.Store conn.old) }

@@ -72,7 +72,7 @@ fn round_of(row: &Shown) -> Option<u64>
     }
 }
 
-/// None where the number is damaged.
+/// Reads the last round; None where it is damaged.
 pub fn read_round<S: Alter>(conn: &mut Connection<S>) -> Result<Option<u64>, Error>
     ensures looks { Looks S.Store conn.old conn.new }
     ensures round { Answers S.Store conn.old conn.new result

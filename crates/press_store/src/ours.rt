@@ -56,7 +56,7 @@ fn is_meta_table(columns: &[Column]) -> bool
     }
 }
 
-/// Nothing stands in the table beside its columns and keys.
+// Whether the table has nothing but its columns and keys.
 fn is_bare(table: &Table) -> bool
     ensures tells { IsTrue result → IsBareTable table.now }
     ensures same { IsBareTable table.now → IsTrue result }
@@ -123,7 +123,7 @@ fn is_meta_key(index: &Index) -> bool
         && index.is_unique
 }
 
-/// Whether the tables are those of a store, and nothing stands beside them.
+/// Whether the tables are those of a store, with nothing else.
 pub fn is_ours(schema: &Schema) -> bool
     ensures tells { IsTrue result → schema.now ≡ store_schema }
     ensures same { schema.now ≡ store_schema → IsTrue result }
@@ -136,7 +136,7 @@ pub fn is_ours(schema: &Schema) -> bool
     }
 }
 
-/// Whether there is nothing.
+/// Whether the schema is empty.
 pub fn is_empty(schema: &Schema) -> bool
     ensures tells { IsTrue result → schema.now ≡ no_schema }
     ensures same { schema.now ≡ no_schema → IsTrue result }

@@ -19,7 +19,6 @@ use sqlite::types::ValueRef;
 use sqlite::{Alter, Connection, Error, ErrorCode, Row as Shown};
 use std::alloc::Global;
 
-// ---- what is written
 
 fn hold_ballot(ballot: Option<Ballot>)
     ensures { IsPerhapsBallot ballot }
@@ -131,7 +130,6 @@ pub fn put_row<S: Alter>(
     )
 }
 
-// ---- what is read
 
 fn find_row<S: Alter>(conn: &mut Connection<S>, slot: Slot) -> Result<Vec<Shown>, Error>
     ensures looks { Looks S.Store conn.old conn.new }
@@ -235,7 +233,7 @@ fn decode(alloc: Global, rows: &[Shown]) -> Result<Option<Row>, Error>
     }
 }
 
-/// None where the row is damaged.
+/// Reads a row; None where it is damaged.
 pub fn read_row<S: Alter>(
     alloc: Global,
     conn: &mut Connection<S>,

@@ -59,8 +59,8 @@ impl<D: Alter> Model for SqlStore<D> {
 }
 
 impl<D: Alter> SqlStore<D> {
-    /// A store over the connection, which has no limit on its steps from then on. Its tables are made where it has none. A fault hands
-    /// the connection back: Damaged where it is in a transaction, or where the tables are not those of a store.
+    /// A store over the connection, which has no limit on its steps from then on. Its tables are made where it has none. A fault returns
+    /// the connection: Damaged where it is in a transaction, or where the tables are not those of a store.
     pub fn adopt(
         alloc: Global,
         conn: Connection<D>,
@@ -85,7 +85,8 @@ impl<D: Alter> SqlStore<D> {
         }
     }
 
-    /// The last slot with a vote, by the store's order of slots and not by its search: one statement, however many slots stand. None where no slot has a vote.
+    /// The last slot with a vote, by the store's order of slots and not by its search: one statement, however many
+    /// slots there are. None where no slot has a vote.
     pub fn last_vote(&mut self) -> Result<Option<Slot>, StoreFault>
         ensures honest { (seen_of D.Store self.new).is_honest →
             (seen_of D.Store self.old).is_honest }
@@ -118,7 +119,7 @@ impl<D: Alter> SqlStore<D> {
 }
 
 impl<S: Start> SqlStore<FileStore<FileFrom<S>>> {
-    /// A store in the file at the path, which is made where there is none; `S` stands for what it held.
+    /// A store in the file at the path, which is created if it doesn't exist; `S` is what it held.
     pub fn open_from(
         rt: &HostRuntime,
         path: &str,
@@ -142,7 +143,7 @@ impl<S: Start> SqlStore<FileStore<FileFrom<S>>> {
 }
 
 impl SqlStore<FileStore<File>> {
-    /// A store in the file at the path, which is made where there is none.
+    /// A store in the file at the path, which is created if it doesn't exist.
     pub fn open(rt: &HostRuntime, path: &str) -> Result<SqlStore<FileStore<File>>, StoreFault>
         ensures up { IfOk result (λ store. HasCleanDisk (file_state store.conn) →
             IsTrue store.is_ours → IsUp (file_state store.conn)) }
@@ -152,7 +153,7 @@ impl SqlStore<FileStore<File>> {
     }
 }
 
-/// The fault that the error is, counted where it names the disk.
+// The fault that the error is, counted where it names the disk.
 fn counted(faults: &mut u64, error: Error) -> StoreFault
     ensures disk { result ≡ StoreFault.Disk → faults.old < faults.new }
     ensures counts { faults.old ≤ faults.new }

@@ -1,4 +1,4 @@
-//! Tests over the libraries: what only typed calls show, and that each call which takes memory succeeds where memory is there.
+//! Tests over the libraries: what only typed calls show, and that each call which takes memory succeeds where there is enough.
 #![tactic(auto)]
 
 #[cfg(test)]

@@ -1,4 +1,4 @@
--- The number that tells each fault of the wire (own).
+-- The number of each fault of the wire (own).
 use Rattle.std.specs.Prelude.{ℕ}
 use Rattle.press_wire.specs.declared.fault.WireFault.{WireFault}
 use Rattle.press_wire.specs.declared.fault.WireFault.TheVariants.{NoMemory, TooLong, Short, BadKind, BadField, Extra}

@@ -1,4 +1,4 @@
--- Fields are read off the front of bytes, one after another; the first that fails tells the fault (own).
+-- Fields are read off the front of bytes, one after another; the first that fails gives the fault (own).
 use Rattle.std.specs.Prelude.{ℕ, List, [], ◌∷◌, length, take, drop, nat_lt, Option, Some, None, Result, Ok, Err, if◌then◌else◌}
 use Rattle.std.specs.Int.{Width, w32, w64, byte_len, from_be_bytes}
 use Rattle.std.specs.Str.{is_utf8}

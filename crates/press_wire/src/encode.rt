@@ -14,7 +14,7 @@ use crate::writer::Writer;
 use press_apply::Value;
 use std::alloc::{AllocError, Global};
 
-/// The most bytes of a message beside those of the value in it.
+// The most bytes of a message beside those of the value in it.
 const BESIDE: usize = 30;
 
 /// Whether more than 16,384 bytes spell the value, which `encode_cmd` refuses. It takes no memory.
@@ -24,7 +24,7 @@ pub fn is_too_long(value: &Value) -> bool
     spelled_len(value).is_none()
 }
 
-/// The bytes that spell the value. TooLong where they are more than 16,384, which is seen before any memory is taken.
+/// The bytes that spell the value. TooLong where they are more than 16,384, which is checked before any memory is taken.
 #[tactic(auto, using(crate::proofs::Lengths::is_short))]
 pub fn encode_cmd(alloc: Global, value: &Value) -> Result<Vec<u8>, WireFault>
     ensures spelled { IfOk result (λ bytes. bytes.items ≡ spelled_command value.now) }
@@ -42,7 +42,8 @@ pub fn encode_cmd(alloc: Global, value: &Value) -> Result<Vec<u8>, WireFault>
     Ok(bytes)
 }
 
-/// The bytes that spell the message. TooLong where the value in it is spelled by more than 16,384, which is seen before any memory is taken.
+/// The bytes that spell the message. TooLong where the value in it is spelled by more than 16,384, which is checked
+/// before any memory is taken.
 pub fn encode_msg(alloc: Global, message: &Message) -> Result<Vec<u8>, WireFault>
     ensures spelled { IfOk result (λ bytes. bytes.items ≡ spelled_message message.now) }
     ensures short { IfOk result (λ _. is_too_long_message message.now ≡ false) }

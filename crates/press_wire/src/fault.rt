@@ -26,7 +26,7 @@ pub enum WireFault {
 }
 
 impl WireFault {
-    /// The number that tells the fault.
+    /// Its number in the table of faults.
     pub fn number(self) -> u8
         ensures { result ≡ wire_fault_number self }
     {

@@ -24,20 +24,20 @@ pub struct Message {
 pub enum Body {
     /// Asks for a promise; the ballot is this round with the sender.
     Prepare { round: Round },
-    /// Promises the ballot, and tells the sender's vote for the slot, if it has one.
+    /// Promises the ballot, and reports the sender's vote for the slot, if it has one.
     Promise { ballot: Ballot, vote: Option<Vote> },
     /// Refuses a ballot, because another was promised.
     Nack { refused: Ballot, promised: Ballot },
     /// Asks for a vote; the ballot is this round with the sender.
     Accept { round: Round, value: Value },
-    /// Tells the sender's vote.
+    /// Reports the sender's vote.
     Accepted { vote: Vote },
     /// Asks for the receiver's vote.
     Query,
 }
 
 impl Message {
-    /// The same message once more.
+    /// A copy of the message.
     pub fn copy(&self, alloc: Global) -> Result<Message, AllocError>
         ensures { IfOk result (λ m. m ≡ self.now) }
     {
@@ -66,7 +66,7 @@ impl Body {
         }
     }
 
-    /// The same body once more.
+    /// A copy of the body.
     pub fn copy(&self, alloc: Global) -> Result<Body, AllocError>
         ensures { IfOk result (λ b. b ≡ self.now) }
     {

@@ -1,4 +1,4 @@
-//! Messages, read off the front of bytes.
+//! Messages, read from the beginning of bytes.
 
 ghost use Rattle.std.specs.Prelude.{◌≡◌};
 ghost use Rattle.press_text.specs.Gives.{Gives};

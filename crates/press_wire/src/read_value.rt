@@ -1,4 +1,4 @@
-//! Commands, read off the front of bytes.
+//! Commands, read from the beginning of bytes.
 
 ghost use Rattle.std.specs.Prelude.{◌≡◌, ◌<◌, length, IsErrOf};
 ghost use Rattle.press_text.specs.Gives.{Gives};

@@ -1,4 +1,4 @@
-//! Numbers, names and texts, each read off the front of bytes. Both decoders stand on it.
+//! Numbers, names and texts, each read from the beginning of bytes. Both decoders use it.
 
 ghost use Rattle.std.specs.Prelude.{◌≡◌, ◌==◌, length, option_map};
 ghost use Rattle.std.specs.Str.{is_utf8};
@@ -205,7 +205,7 @@ impl<'a> Reader<'a> {
     }
 }
 
-// The text that the bytes are, where they are UTF-8.
+// The text that the bytes are, if they are UTF-8.
 #[tactic(auto, using(crate::proofs::Names::is_text, crate::proofs::Names::is_no_text))]
 fn as_text(bytes: &[u8]) -> Option<&str>
     ensures { option_map (λ s. s.now) result ≡ only is_utf8 bytes.now }

@@ -22,7 +22,7 @@ impl Drop for Vote {
 }
 
 impl Vote {
-    /// The same vote once more.
+    /// A copy of the vote.
     pub fn copy(&self, alloc: Global) -> Result<Vote, AllocError>
         ensures { IfOk result (λ v. v ≡ self.now) }
     {

@@ -1,4 +1,4 @@
-//! Messages, put behind bytes.
+//! Messages, appended to bytes.
 #![tactic(auto, using(crate::proofs::Lengths::regroup))]
 
 ghost use Rattle.std.specs.Prelude.{◌≡◌, ◌++◌, false, OnOk};

@@ -1,4 +1,4 @@
-//! Values, put behind bytes, and how long they are.
+//! Values, appended to bytes, and how long they are.
 #![tactic(auto, using(crate::proofs::Lengths::regroup))]
 
 ghost use Rattle.std.specs.Prelude.{◌≡◌, ◌≤◌, ◌+◌, ◌++◌, length, OnOk};
@@ -134,7 +134,7 @@ fn fields_len(command: &Command) -> Option<usize>
     }
 }
 
-/// How many bytes spell the value; None where they are too many.
+/// How many bytes spell the value; None if they are too many.
 #[tactic(auto, using(crate::proofs::Lengths::length_spelled))]
 pub fn spelled_len(value: &Value) -> Option<usize>
     ensures { Measures result (length (spell.spelled_command value.now)) }

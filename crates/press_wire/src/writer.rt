@@ -1,4 +1,4 @@
-//! Numbers, names and texts, each put behind bytes. Both encoders stand on it.
+//! Numbers, names and texts, each appended to bytes. Both encoders use it.
 #![tactic(auto, using(crate::proofs::Lengths::regroup))]
 
 ghost use Rattle.std.specs.Prelude.{◌≡◌, ◌≤◌, [], ◌∷◌, ◌++◌, length, OnOk, IfOk};
@@ -11,7 +11,7 @@ use press_text::{Moment, Name, OptName, Text};
 use std::alloc::{AllocError, Global};
 use std::marker::Model;
 
-/// The bytes that are written so far. Nothing is said of them once memory was wanting.
+/// The bytes that are written so far. Nothing is said of them once memory ran out.
 pub struct Writer {
     bytes: Vec<u8>,
 }
@@ -31,7 +31,7 @@ impl Model for Writer {
 }
 
 impl Writer {
-    /// No bytes, and room for so many.
+    /// No bytes, and room for `room` of them.
     pub fn with_room(alloc: Global, room: usize) -> Result<Writer, AllocError>
         ensures { IfOk result (λ w. w ≡ []) }
     {

@@ -21,7 +21,7 @@ module _ (kit : KitView) (n : ℕ) (steps : List Step) (i number : ℕ) (s : Sto
     one : lines kit n number s (drop i steps) ≡ line_of kit n number s x ++ lines kit n (number + 1) (stored_step n s x) (drop (i + 1) steps)
     one = ap (lines kit n number s) (cut steps i x lt here)
 
-    -- a step was told
+    -- the line of a step was written
     pub goes_on : (t : Stored) (new : Option (List ℕ)) → t ≡ stored_step n s x → Appends now new (line_of kit n number s x) →
         (more : List ℕ) × Appends old new more × (more ++ lines kit n (number + 1) t (drop (i + 1) steps) ≡ whole)
     goes_on t new e told = (

@@ -1,4 +1,4 @@
--- A step that was played or refused has the outcome that its line tells, and a step that is refused leaves the world.
+-- A step that was played or refused has the outcome that its line shows, and a step that is refused leaves the world.
 use Rattle.std.proofs.Common.{ℕ, ◌+◌, ◌-◌, ◌≡◌, ◌≢◌, Bool, true, false, List, length, slice_get, Option, None, Some, option_and_then, option_map, Result, Ok, Err, OnOk, OnErr, refl, sym, subst, ap, ◌∙◌}
 use Rattle.std.specs.Io.KnownBytes.{Appends}
 use Rattle.press_callbacks.specs.Kits.{KitView}

@@ -95,7 +95,7 @@ module _ (n id which : ℕ) (sent : List Message) (t : List Fact) (store : Store
   body_named message (Accepted vote) e f = tt
   body_named message Query e f = subst (λ x. Named (answer_to n id store message.from message.slot x).save) (sym f) tt
 
--- a message that comes stands at its index
+-- a message that comes is at its index
 abbrev pub Stands : List Message → ℕ → Event → Type 0
 Stands sent which (event.Submit command) = Unit {0}
 Stands sent which event.Wake = Unit {0}

@@ -1,4 +1,4 @@
--- What an event did to a world: it was done, or refused; or want of memory ended it.
+-- What an event did to a world: it was done, or refused; or running out of memory ended it.
 use Rattle.std.specs.Prelude.{ℕ, ◌+◌, ◌-◌, ◌≡◌, Option, None, Result, Ok, Err, length, slice_get}
 use Rattle.press_node.specs.declared.event.Event.{Event}
 use Rattle.press_world.specs.Refusing.{refused_at}

@@ -5,14 +5,14 @@ use Rattle.press_kit.specs.declared.place.Place.{Place}
 use Rattle.press_world.specs.declared.replay_fault.ReplayFault.{ReplayFault}
 use Rattle.press_world.specs.declared.replay_fault.ReplayFault.TheVariants.{NoMemory, ReadFault, WriteFault, BadSchedule}
 
--- BadSchedule stands exactly where the bytes are bad at a place; a read may fail and memory run out at any time.
+-- BadSchedule is returned exactly where the bytes are bad at a place; a read may fail and memory run out at any time.
 abbrev pub Refuses : {Y : Type 0} → ReplayFault → Result Y Place → Type 0
 Refuses NoMemory found = Unit {0}
 Refuses ReadFault found = Unit {0}
 Refuses BadSchedule found = (place : Place) × (found ≡ Err place)
 Refuses WriteFault found = ⊥
 
--- The bytes that a reader has left: those that it tells, and of one that tells none some bytes.
+-- The bytes that a reader has left: those that contracts see, and of one without such some bytes.
 abbrev pub Has : Option (List ℕ) → List ℕ → Type 0
 Has None input = Unit {0}
 Has (Some told) input = input ≡ told

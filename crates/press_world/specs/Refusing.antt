@@ -64,7 +64,7 @@ refused_step s (Deliver number cut) = refused_of s (message_numbered s number) c
 refused_step s (Restart number) = is_missing (place_numbered s number)
 refused_step s (Get number target) = get_refused (place_numbered s number)
 
--- ---- want of memory
+-- ---- out of memory
 
 -- it may come only where the step names a node or a message that exists, at a request for a page only where that isn't refused, and never at a restart
 abbrev pub TakesMemory : Stored → Step → Type 0

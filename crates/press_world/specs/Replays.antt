@@ -50,12 +50,12 @@ transcript kit schedule = lines kit schedule.0 1 (new_stored schedule.0) schedul
 
 -- ---- a replay
 
--- all of these bytes, or a front of them where a write failed or memory was wanting
+-- all of these bytes, or a prefix of them where a write failed or memory ran out
 abbrev pub WritesLines : {T E : Type 0} → List ℕ → Option (List ℕ) → Option (List ℕ) → Result T E → Type 0
 WritesLines bytes old new (Ok done) = Appends old new bytes
 WritesLines bytes old new (Err fault) = AppendsFront old new bytes
 
--- The transcript, or a front of it where a write failed or memory was wanting; nothing where the file is bad or couldn't be read.
+-- The transcript, or a prefix of it where a write failed or memory ran out; nothing where the file is bad or couldn't be read.
 abbrev pub Writes : {T : Type 0} → (ℕ × List Step → List ℕ) → Result (ℕ × List Step) file.Place → Option (List ℕ) → Option (List ℕ) → Result T ReplayFault → Type 0
 Writes shows (Ok schedule) old new (Ok done) = Appends old new (shows schedule)
 Writes shows (Ok schedule) old new (Err NoMemory) = AppendsFront old new (shows schedule)

@@ -32,7 +32,7 @@ cut_where None d = option_map AfterMessages (option_and_then (below (2 ^ 32)) (n
 abbrev pub cut_in : Data → Option Cut
 cut_in d = cut_where (as_str d) d
 
--- none where none is told
+-- none where none is given
 abbrev pub cut_at : Place → Data → Result (Option Cut) Place
 cut_at at d = or_bad at (default None (λ told. option_map Some (cut_in told)) (get (codes "cut") d))
 

@@ -1,4 +1,4 @@
--- What a step did to a world: it was played as the definition has it, or refused; or want of memory ended it.
+-- What a step did to a world: it was played as the definition has it, or refused; or running out of memory ended it.
 use Rattle.std.specs.Prelude.{ℕ, ◌≡◌, ◌⊎◌, Bool, true, false, Option, None, Some, Result, Ok, Err}
 use Rattle.press_callbacks.specs.Kits.{KitView}
 use Rattle.press_node.specs.Faults.{stops}
@@ -15,7 +15,7 @@ use Rattle.press_world.specs.declared.step.Cut.TheVariants.{BeforeSave, AfterSav
 use Rattle.press_world.specs.declared.step.Step.{Step}
 use Rattle.press_world.specs.declared.step.Step.TheVariants.{Submit, Wake, Deliver, Restart, Get}
 
--- want of memory stops a node before its save or after it
+-- out of memory stops a node before its save or after it
 abbrev pub cut_of : Bool → Cut
 cut_of false = BeforeSave
 cut_of true = AfterSave
@@ -24,7 +24,7 @@ cut_of true = AfterSave
 abbrev pub IsCut : (Option Cut → Stored) → Stored → Type 0
 IsCut by t = (b : Bool) × (t ≡ by (Some (cut_of b)))
 
--- A fault of a node: the step was refused and nothing changed; or it was want of memory, which came before all else or stopped the node.
+-- A fault of a node: the step was refused and nothing changed; or it was out of memory, which came before all else or stopped the node.
 abbrev pub FailsBy : Stored → (Option Cut → Stored) → Option WorldFault → NodeFault → Bool → Stored → Type 0
 FailsBy s by refused fault true t = (fault ≡ NoMemory) × ((t ≡ s) ⊎ IsCut by t)
 FailsBy s by refused fault false t = (refused ≡ Some (Node fault)) × (t ≡ s)

@@ -1,4 +1,4 @@
--- What is told of a step that was played (own): whose step it was, the messages that were sent, whether it was cut, how many slots its node has applied,
+-- What is reported of a step that was played (own): whose step it was, the messages that were sent, whether it was cut, how many slots its node has applied,
 -- and the reply to a request for a page.
 use Rattle.std.specs.Prelude.{ℕ, ◌+◌, ◌-◌, ◌==◌, if◌then◌else◌, Bool, true, false, Option, None, Some, option_map, length}
 use Rattle.press_apply.specs.Apply.{site_after}
@@ -39,7 +39,7 @@ stops_node (Deliver number cut) = is_cut cut
 stops_node (Restart number) = false
 stops_node (Get number target) = false
 
--- how many slots are applied: where the node is down, none is told
+-- how many slots are applied: where the node is down, none
 abbrev pub applied_at : Place → Option ℕ
 applied_at place = option_map (λ node. length node.values) place.up
 

@@ -1,4 +1,4 @@
--- The number that tells each fault of a step (own).
+-- The number of each fault of a step (own).
 use Rattle.std.specs.Prelude.{ℕ}
 use Rattle.press_node.specs.Faults.{node_fault_number}
 use Rattle.press_world.specs.declared.fault.WorldFault.{WorldFault}

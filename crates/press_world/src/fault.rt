@@ -16,7 +16,7 @@ pub enum WorldFault {
 }
 
 impl WorldFault {
-    /// The number that tells the fault.
+    /// Its number in the table of faults.
     pub fn number(self) -> u8
         ensures { result ≡ world_fault_number self }
     {

@@ -25,8 +25,8 @@ ghost use Rattle.press_world.specs.declared.step.Step.{Step};
 
 use press_learner::{chosen_by_majority, only_votes_that_came_are_kept};
 
-/// Whatever is submitted, delivered, lost, repeated, cut or restarted, in whatever order: world and trace agree, no slot is chosen two ways, at any
-/// two moments, and each applied value is chosen.
+/// Whatever is submitted, delivered, lost, repeated, cut or restarted, in whatever order: world and trace agree, no
+/// slot is chosen two ways, at any two moments, and each applied value is chosen.
 pub fn every_schedule()
     ensures agrees { (n : ℕ) (steps : List Step) → Agrees n (run n steps (new_world n)) }
     ensures once { (n : ℕ) (early late : List Step) (slot : ℕ) (v w : Value) →
@@ -54,14 +54,16 @@ pub fn entries_stand_for_facts()
     only_votes_that_came_are_kept();
 }
 
-/// What a proposer saves with a wake, a round that is its next one, is a legal fact, and its store holds again what the trace says (Paxos Made Simple, 2.2 and 2.5).
+/// What a proposer saves with a wake, a round that is its next one, is a legal fact, and its store holds again what the
+/// trace says (Paxos Made Simple, 2.2 and 2.5).
 pub fn a_wake_prepares_legally()
     ensures { (n : ℕ) (store : StoreMap) (p : Proposing) (applied : ℕ) (gap : _) (save : Save)
         (trace : List Fact) → StoreAgrees p.id store trace →
         (wake_turn store p applied gap).save ≡ Some save → IsLegalSave n p.id store trace save }
 {}
 
-/// What a proposer asks votes for, once more than half of the members have promised, is what their promises allow (Paxos Made Simple, 2.2, P2c).
+/// What a proposer asks votes for, once more than half of the members have promised, is what their promises allow
+/// (Paxos Made Simple, 2.2, P2c).
 pub fn what_is_proposed_is_allowed()
     ensures { (n member slot : ℕ) (ballot : Ballot) (promises : List Promise) (queue : List Stamped)
         (trace : List Fact) → PhaseAgrees n member trace (Preparing slot ballot promises) →

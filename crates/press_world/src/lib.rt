@@ -1,6 +1,8 @@
-//! A cluster of nodes under any schedule: every message that was ever sent may come at any time, again, or never, and nodes may stop and start.
+//! A cluster of nodes under any schedule: every message that was ever sent may come at any time, again, or never, and
+//! nodes may stop and start.
 //!
-//! What a schedule chooses is chosen once, and pages are those of the chosen values. Schedules are read from files, and transcripts tell what came of them.
+//! What a schedule chooses is chosen once, and pages are those of the chosen values. Schedules are read from files, and
+//! transcripts show their steps.
 #![tactic(auto)]
 
 mod cluster;

@@ -36,7 +36,7 @@ use press_wire::{Message, Slot};
 
 const SLOTS: u64 = 1_000_000;
 
-// Of so many, numbered from 1, the index of the one with this number.
+// The index of the item with this number, of `count` that are numbered from 1.
 fn index_of(number: u64, count: usize) -> Option<usize>
     ensures { result ≡ index_of count number }
 {
@@ -56,7 +56,7 @@ fn first_slot() -> Slot
     slot
 }
 
-// The slot after so many; the last, where there is none.
+// The slot after this many; the last one where there is none.
 fn slot_after(applied: u64) -> Slot
     ensures { applied < 1000000 → applied + 1 ≡ result }
 {
@@ -67,7 +67,7 @@ fn slot_after(applied: u64) -> Slot
     slot
 }
 
-// The number of the first of so many messages.
+// The number of the first of `count` messages; 0 where there are none.
 fn first_of(before: usize, count: usize) -> u64
     requires { before + count < 2 ^ 64 }
     ensures { result ≡ first_of before count }
@@ -93,7 +93,7 @@ impl World {
         self.cluster.sent.as_slice().get(index)
     }
 
-    /// How many slots a node has applied since its start; nothing where it is down or there is no such node.
+    /// How many slots a node has applied since its start; None where it is down or doesn't exist.
     pub fn applied(&self, node: u64) -> Option<u64>
         ensures { result ≡ applied_in (place_numbered (model self.now) node) }
     {
@@ -101,7 +101,7 @@ impl World {
         self.cluster.seats.as_slice().get(index)?.counted()
     }
 
-    // An event of the node at this index, which a stop may cut.
+    // Plays an event of the node at this index, which a stop may cut.
     fn turn(&mut self, index: usize, coming: Coming, cut: Option<Cut>) -> Result<usize, NodeFault>
         requires inside { index < size self.old }
         requires about { (p : Place) → slice_get (model self.old).places index ≡ Some p →
@@ -128,7 +128,7 @@ impl World {
         self.cluster.turn(index, coming, cut)
     }
 
-    // What is told of an event that was done, before which so many messages were sent.
+    // The report of an event that was done, before which there were `before` messages.
     fn told(&self, index: usize, before: usize, count: usize, cut: Option<Cut>) -> Played
         requires inside { index < size self.now }
         requires sent { before + count ≤ length (model self.now).sent }
@@ -151,7 +151,7 @@ impl World {
         }
     }
 
-    // An event of the node at this index, which a stop may cut, and what is told of it.
+    // Plays an event of the node at this index, which a stop may cut; returns its report.
     fn happen(
         &mut self,
         index: usize,
@@ -181,7 +181,7 @@ impl World {
         index_of(number, self.cluster.seats.len())
     }
 
-    // A command comes to a node.
+    // Submits a command to a node.
     fn submit(
         &mut self,
         number: u64,
@@ -217,7 +217,6 @@ impl World {
         slot_after(self.cluster.seats[index].applied())
     }
 
-    // A node is to see to its next slot.
     fn wake(&mut self, number: u64, cut: Option<Cut>) -> Result<Played, WorldFault>
         ensures statics { statics self.new ≡ statics self.old }
         ensures memory { IfErr result (λ fault. fault ≡ WorldFault.Node NodeFault.NoMemory →
@@ -236,7 +235,7 @@ impl World {
         self.happen(index, coming, cut)
     }
 
-    // A message that was sent comes to the node that it is to.
+    // Delivers a message that was sent to the node that it is to.
     fn deliver(&mut self, number: u64, cut: Option<Cut>) -> Result<Played, WorldFault>
         ensures statics { statics self.new ≡ statics self.old }
         ensures memory { IfErr result (λ fault. fault ≡ WorldFault.Node NodeFault.NoMemory →
@@ -262,7 +261,7 @@ impl World {
         self.happen(index, coming, cut)
     }
 
-    // A node starts anew over its store, whether it runs or not.
+    // Starts a node again over its store, whether it runs or not.
     fn restart(&mut self, number: u64) -> Result<Played, WorldFault>
         ensures statics { statics self.new ≡ statics self.old }
         ensures memory { IfErr result (λ fault. fault ≡ WorldFault.Node NodeFault.NoMemory →
@@ -280,7 +279,7 @@ impl World {
         Ok(self.told(index, before, 0, None))
     }
 
-    // A page request comes to a node. Nothing changes.
+    // Answers a page request at a node. Nothing changes.
     fn get(&self, number: u64, target: &Target) -> Result<Played, WorldFault>
         ensures memory { IfErr result (λ fault. fault ≡ WorldFault.Node NodeFault.NoMemory →
             TakesMemory (model self.now) (Get number target.now)) }

@@ -2,7 +2,7 @@ ghost use Rattle.std.specs.Prelude.{◌≡◌, Some};
 
 use press_page::Reply;
 
-/// What came of a step that was played.
+/// The result of a step that was played.
 #[derive(Debug)]
 pub struct Played {
     /// The number of the node whose step it was.

@@ -9,7 +9,7 @@ use press_text::{ReadLimitedFault, WriteFault};
 use std::alloc::{AllocError, AllocFailed};
 use thiserror::Error;
 
-/// Why a file could not be read or an answer not be written.
+/// Why a file could not be read, or an answer could not be written.
 #[derive(Clone, Copy, Debug, PartialEq, Eq, Error)]
 pub enum ReplayFault {
     #[error("no memory")]
@@ -23,7 +23,7 @@ pub enum ReplayFault {
 }
 
 impl ReplayFault {
-    /// The number that tells the fault to whoever started the run.
+    /// Its number in the table of faults, which the program prints.
     pub fn number(self) -> u8
         ensures { result ≡ fault_number self }
     {

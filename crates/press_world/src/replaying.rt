@@ -1,4 +1,4 @@
-//! A schedule, played and told.
+//! A schedule, played, with its transcript.
 
 ghost use Rattle.std.specs.Prelude.{◌≡◌, ◌≢◌, ◌⊎◌, Err, false, ◌≤◌, ◌+◌, IfErr, IfOk, OnErr, OnOk, length, map};
 ghost use Rattle.std.specs.Io.KnownBytes.{Appends};
@@ -110,7 +110,7 @@ fn is_wanting(played: &Result<Played, WorldFault>) -> bool
     }
 }
 
-// A step and its line. Want of memory within a step ends the transcript.
+// A step and its line. Out of memory within a step ends the transcript.
 fn play_one<W: Write>(
     world: &mut World,
     number: u64,
@@ -171,9 +171,9 @@ fn play_new<W: Write>(
     play_all(&mut world, steps, writer)
 }
 
-/// Writes the transcript of the schedule that a reader has left, over as many new nodes as it tells, each with one of these kits.
+/// Writes the transcript of the schedule that a reader has left, over as many new nodes as it asks for, each with one of these kits.
 ///
-/// A bad schedule, or one that couldn't be read, writes nothing; a failed write or want of memory leaves a front of the transcript.
+/// A bad schedule, or one that couldn't be read, writes nothing; a failed write or out of memory leaves a prefix of the transcript.
 pub fn replay<R: Read, W: Write>(
     alloc: Global,
     kits: Vec<Kit>,

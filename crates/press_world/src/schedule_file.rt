@@ -18,7 +18,7 @@ use press_text::Items;
 use serde_json::Value;
 use std::alloc::Global;
 
-/// The most steps that a schedule may have.
+// The most steps that a schedule may have.
 const STEP_LIMIT: usize = 100_000;
 
 fn cut_named(word: &str) -> Option<Cut>
@@ -42,7 +42,7 @@ fn cut(value: &Value) -> Option<Cut>
     }
 }
 
-// None, where nothing is told.
+// None, where none is given.
 fn told_cut(fields: &Fields<'_>) -> Result<Option<Cut>, KitFileFault>
     ensures { Gives Refuses Ok result (spec.cut_at fields.now.at (view fields.now.value.now)) }
 {
@@ -135,7 +135,7 @@ impl Listed for Step {
     }
 }
 
-// The values, where there are not too many.
+// The values, if there are not too many.
 fn few(values: &[Value]) -> Option<&[Value]>
     ensures { option_map (λ vs. map view vs.now) result ≡ spec.few (map view values.now) }
 {
@@ -179,7 +179,8 @@ fn schedule(alloc: Global, value: &Value, kits: usize) -> Result<(usize, Items<S
 
 /// How many nodes there are, `kits` at most, and the steps that the bytes of a schedule file give, in their order.
 ///
-/// Keys that nobody names are passed over; of a key that is repeated the last one counts. A file has at most 4,194,304 bytes and 100,000 steps.
+/// Keys that nobody names are passed over; of a key that is repeated the last one counts. A file has at most 4,194,304
+/// bytes and 100,000 steps.
 #[tactic(auto, unfolding(crate::specs::ScheduleFile::schedule_in))]
 pub fn read_schedule_file(
     alloc: Global,

@@ -30,7 +30,7 @@ fn no_messages(alloc: Global) -> Vec<Message>
     Vec::new(alloc)
 }
 
-// So many messages, or all where there are fewer.
+// The first `count` messages, or all where there are fewer.
 fn first_of(out: Vec<Message>, count: u32) -> Vec<Message>
     ensures { result.items ≡ take count out.items }
 {
@@ -40,7 +40,7 @@ fn first_of(out: Vec<Message>, count: u32) -> Vec<Message>
 }
 
 impl Seat {
-    /// The node `id` of so many members begins over an empty store.
+    /// Starts the node `id` of `members` over an empty store.
     pub(crate) fn start(alloc: Global, id: Member, members: u8, kit: Kit) -> Seat
         requires few { members ≤ 7 }
         requires member { id ≤ members }
@@ -58,7 +58,7 @@ impl Seat {
         }
     }
 
-    /// It begins anew over its store.
+    /// Starts it again over its store.
     pub(crate) fn restart(&mut self, id: Member, members: u8)
         requires few { members ≤ 7 }
         requires member { id ≤ members }
@@ -70,7 +70,7 @@ impl Seat {
         self.state = State::new(self.alloc, id, members, self.store.round());
     }
 
-    /// How many values it has applied since its start; none where it is down.
+    /// How many values it has applied since its start; None where it is down.
     pub(crate) fn applied(&self) -> u64
         ensures value { result ≡ applied_count self.now.state }
         ensures whole { IsWhole self.now.state }
@@ -78,7 +78,6 @@ impl Seat {
         self.state.applied()
     }
 
-    /// Whether it is down.
     pub(crate) fn is_down(&self) -> bool
         ensures { result ≡ is_down self.now.state }
     {
@@ -108,7 +107,7 @@ impl Seat {
         self.state.get(&self.kit, target)
     }
 
-    // An event, without a stop.
+    // Plays an event, without a stop.
     fn on(&mut self, event: Event) -> Result<Vec<Message>, NodeFault>
         ensures fixed { static_of self.new ≡ static_of self.old }
         ensures few { IfOk result (λ out. length out.items ≤ 7) }
@@ -118,12 +117,12 @@ impl Seat {
             self.old.store (running_in self.old.state) event None fault (place_of self.new)) }
     {
         few_messages_go_out();
-        // Its contract tells that the node is whole.
+        // Its contract says that the node is whole.
         let _ = self.state.applied();
         self.state.on(&self.kit, &mut self.store, event)
     }
 
-    // It is down from now on.
+    // Stops it, so that it is down from now on.
     fn stop(&mut self)
         ensures fixed { static_of self.new ≡ static_of self.old }
         ensures place { place_of self.new ≡ record { store = self.old.store; up = None } }
@@ -131,7 +130,7 @@ impl Seat {
         self.state.stop();
     }
 
-    // An event, and a stop after the first messages.
+    // Plays an event, with a stop after the first messages.
     fn on_first(&mut self, event: Event, count: u32) -> Result<Vec<Message>, NodeFault>
         ensures fixed { static_of self.new ≡ static_of self.old }
         ensures few { IfOk result (λ out. length out.items ≤ 7) }
@@ -151,7 +150,7 @@ impl Seat {
         }
     }
 
-    // An event, and a stop after its save.
+    // Plays an event, with a stop after its save.
     fn on_silent(&mut self, event: Event) -> Result<Vec<Message>, NodeFault>
         ensures fixed { static_of self.new ≡ static_of self.old }
         ensures few { IfOk result (λ out. length out.items ≤ 7) }
@@ -171,7 +170,7 @@ impl Seat {
         }
     }
 
-    // A stop before an event. A node that is down refuses it, and nothing changes.
+    // Stops before an event. A node that is down refuses it, and nothing changes.
     fn stop_before(&mut self, event: Event) -> Result<Vec<Message>, NodeFault>
         ensures fixed { static_of self.new ≡ static_of self.old }
         ensures few { IfOk result (λ out. length out.items ≤ 7) }
@@ -196,7 +195,7 @@ impl Seat {
         }
     }
 
-    /// An event, which a stop may cut: its messages.
+    /// Plays an event, which a stop may cut; returns its messages.
     pub(crate) fn act(&mut self, event: Event, cut: Option<Cut>) -> Result<Vec<Message>, NodeFault>
         ensures fixed { static_of self.new ≡ static_of self.old }
         ensures few { IfOk result (λ out. length out.items ≤ 7) }

@@ -157,10 +157,10 @@ fn write_with_page<W: Write>(
     }
 }
 
-/// A step as a transcript tells it.
+/// A step as a transcript shows it.
 #[derive(Clone, Copy)]
 pub(crate) struct StepLine<'a> {
-    /// The node that its message is to, where there is that message.
+    /// The node that its message is to, if the message exists.
     pub to: Option<u64>,
     pub number: u64,
     pub step: &'a Step,

@@ -1,4 +1,4 @@
-//! A turn of one node of a cluster, with what it saves and sends written down.
+//! A turn of one node of a cluster, which records what it saves and sends.
 
 ghost use Rattle.std.specs.Prelude.{◌≡◌, ◌<◌, ◌≤◌, ◌+◌, OnOk, IfErr, IfOk, length, slice_get, Some};
 ghost use Rattle.press_callbacks.specs.Kits.{KitView};
@@ -41,7 +41,7 @@ pub(crate) fn member_at(index: usize) -> Member
     member
 }
 
-// An event of the node at this index, which a stop may cut.
+// Plays an event of the node at this index, which a stop may cut.
 fn act(
     seats: &mut Vec<Seat>,
     index: usize,
@@ -64,7 +64,7 @@ fn act(
     seats[index].act(event, cut)
 }
 
-// What is seen of the store of the node at this index.
+// What can be seen of the store of the node at this index.
 fn look_at(seats: &Vec<Seat>, index: usize, slot: Slot) -> Seen
     requires { index < length seats.now.items }
     ensures { (p : Place) → slice_get (places_of seats.now.items) index ≡ Some p →
@@ -74,7 +74,7 @@ fn look_at(seats: &Vec<Seat>, index: usize, slot: Slot) -> Seen
 }
 
 impl Cluster {
-    /// An event of the node at this index, which a stop may cut; how many messages it sent.
+    /// Plays an event of the node at this index, which a stop may cut; returns how many messages it sent.
     pub(crate) fn turn(
         &mut self,
         index: usize,
@@ -135,7 +135,7 @@ impl Cluster {
         }
     }
 
-    /// The node at this index starts anew over its store.
+    /// Starts the node at this index again over its store.
     pub(crate) fn restart(&mut self, index: usize)
         requires inside { index < length self.old.seats.items }
         requires members { ∥ ((kit : KitView)

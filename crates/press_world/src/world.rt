@@ -1,4 +1,4 @@
-//! The type of a cluster; its calls stand in `play.rt`.
+//! The type of a cluster; its calls are in `play.rt`.
 
 ghost use Rattle.press_callbacks.specs.Kits.{KitView};
 ghost use Rattle.press_world.specs.Seats.{stored_of, statics_of};

@@ -2,7 +2,7 @@ use std::alloc::Global;
 use std::io;
 use std::io::{Read, Write};
 
-/// A reader that gives seven bytes at a time. Its read after so many fails, and any later one gives more.
+/// A reader that gives seven bytes at a time. The read after a given number fails, and any later one gives more.
 #[derive(Drop)]
 pub struct Failing {
     rest: &'static [u8],
@@ -35,7 +35,7 @@ impl Read for Failing {
     }
 }
 
-/// A writer that takes three bytes at a time. Its write after so many fails or takes none, and any later one goes well.
+/// A writer that takes three bytes at a time. The write after a given number fails or takes none, and any later one goes well.
 #[derive(Drop)]
 pub struct Narrow {
     pub taken: Vec<u8>,

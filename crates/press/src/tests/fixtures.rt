@@ -1,11 +1,11 @@
 use press_program::run;
 use std::test::Fail;
 
-/// The file that stands beside the program as its input.
+/// The site file that is the input of the stored run.
 pub const LETTERS: &[u8] =
     b"{\"commands\":[{\"editor\":\"ann\",\"seq\":1,\"at\":10,\"kind\":\"activate\",\"plugin\":\"letters\"},{\"editor\":\"ann\",\"seq\":2,\"at\":10,\"kind\":\"insert\",\"title\":\"x\",\"content\":\"Hello\",\"status\":\"publish\",\"date\":10}]}";
 
-/// What a run left: its status, what it printed, what it told of a fault, and how many bytes of its input.
+/// What a run left: its status, what it printed, what it reported of a fault, and how many bytes of its input it read.
 #[derive(Drop)]
 pub struct EndedRun {
     pub status: u8,
@@ -27,17 +27,17 @@ fn ended(rt: &HostRuntime, words: &[String], file: &[u8]) -> EndedRun {
     }
 }
 
-/// A run without words.
+/// A run without arguments.
 pub fn ran(rt: &HostRuntime, file: &[u8]) -> EndedRun {
     ended(rt, &[], file)
 }
 
-/// A run for these words on the letters.
+/// A run for these arguments on the site of the stored run.
 pub fn asked(rt: &HostRuntime, words: &[&str]) -> Result<EndedRun, Fail> {
     asked_of(rt, words, LETTERS)
 }
 
-/// A run for these words on this file.
+/// A run for these arguments on this file.
 pub fn asked_of(rt: &HostRuntime, words: &[&str], file: &[u8]) -> Result<EndedRun, Fail> {
     let mut given: Vec<String> = Vec::new(rt.alloc());
     for word in words {
@@ -47,14 +47,14 @@ pub fn asked_of(rt: &HostRuntime, words: &[&str], file: &[u8]) -> Result<EndedRu
 }
 
 impl EndedRun {
-    /// Whether it ended with this status, printed this text and told this line.
+    /// Whether it ended with this status, printed this text and reported this line.
     pub fn left(&self, status: u8, out: &str, told: &str) -> bool {
         self.status == status
             && self.out.as_slice() == out.as_bytes()
             && self.told.as_slice() == told.as_bytes()
     }
 
-    /// Whether the usage was told, and nothing read.
+    /// Whether the usage was printed, and nothing read.
     pub fn is_refused(&self) -> bool {
         self.left(2, "", "press: usage\n") && self.rest == LETTERS.len()
     }

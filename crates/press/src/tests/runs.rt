@@ -83,7 +83,7 @@ fn reads_one_byte_past_the_limit(rt: HostRuntime) {
     assert_eq!(rt; input.given, FILE_LIMIT + 1);
 }
 
-// 28 reads give the 192 bytes, and the next tells the end. None is tried again.
+// 28 reads give the 192 bytes, and the next one finds the end. None is tried again.
 #[test]
 fn a_failed_read_is_told(rt: HostRuntime) {
     for good in 0..29u32 {
@@ -130,7 +130,7 @@ fn a_failed_write_is_told(rt: HostRuntime) {
     }
 }
 
-// The line of a fault is not tried again either, and the status stays.
+// The line of a fault is not tried again either, and the status is the same.
 #[test]
 fn a_fault_that_cannot_be_told(rt: HostRuntime) {
     let mut input: &[u8] = b"{}";

@@ -18,7 +18,7 @@ fn a_file_that_is_not_there_cannot_be_read(rt: HostRuntime) -> Result<(), Fail> 
     Ok(())
 }
 
-// A kit file that is not there, before anything else is opened.
+// A kit file that does not exist, before anything else is opened.
 #[test]
 fn a_kit_file_is_opened_first(rt: HostRuntime) -> Result<(), Fail> {
     for words in [
@@ -47,7 +47,7 @@ fn other_words_are_refused(rt: HostRuntime) -> Result<(), Fail> {
     Ok(())
 }
 
-// Where the store can't be had, as in a folder that is not there, nothing is served.
+// Where the store can't be opened, as in a folder that does not exist, nothing is served.
 #[test]
 fn words_ask_for_a_server(rt: HostRuntime) -> Result<(), Fail> {
     let outcome = asked(
@@ -77,7 +77,8 @@ fn other_words_of_a_server_are_refused(rt: HostRuntime) -> Result<(), Fail> {
     Ok(())
 }
 
-// Words of a node by itself beside those of a member, a member without one of its words, and one whose addresses are none: nothing is opened.
+// Options of a node by itself beside those of a member, a member without one of its options, and one whose addresses
+// are none: nothing is opened.
 #[test]
 fn words_of_a_server_that_do_not_fit_are_refused(rt: HostRuntime) -> Result<(), Fail> {
     let peers = "127.0.0.1:1,127.0.0.1:2";

@@ -32,7 +32,7 @@ enum Edit {
     TakeOut(i64),
 }
 
-// The priorities that the innermost run hands out next, two digits each.
+// The priorities that the innermost run returns next, two digits each.
 fn handed_out(table: &mut HookTable, run: RunId, times: usize) -> Result<i64, AllocError> {
     let mut seen: i64 = 0;
     for _ in 0..times {
@@ -61,14 +61,14 @@ fn left_of(table: &mut HookTable, run: RunId) -> Result<i64, AllocError> {
     Ok(left)
 }
 
-// A run that has handed out so many entries.
+// A run that has returned this many entries.
 fn run_behind(table: &mut HookTable, hook: &HookName, times: usize) -> Result<RunId, AllocError> {
     let run = table.begin(hook)?;
     handed_out(table, run, times)?;
     Ok(run)
 }
 
-// What the innermost run, the one around it and the outermost hand out after the edit: four priorities, 00 where there is none.
+// What the innermost run, the one around it and the outermost return after the edit: four priorities, 00 where there is none.
 fn left_after(alloc: Global, edit: Edit) -> Result<[i64; 3], NameFault> {
     let hook = HookName::new(alloc, "h")?;
     let callback = CallbackId::new("c")?;

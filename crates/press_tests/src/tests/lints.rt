@@ -3,7 +3,7 @@ use press_lint::{LintFault, active_slips, lint, slips};
 use std::alloc::Global;
 use std::test::Fail;
 
-// The number of a kit file's fault and what is told of it, or 0 and its slips.
+// The number of a kit file's fault and its message, or 0 and its slips.
 fn told(alloc: Global, kit: &str) -> (u8, String) {
     match lint(alloc, "> ", kit.as_bytes()) {
         Ok(linted) => (0, linted.slips),
@@ -82,7 +82,7 @@ fn mistakes_are_told_with_their_places(rt: HostRuntime) {
     }
 }
 
-// A skip just behind the last step, hooks of the engine by their patterns, and one that a step runs are none.
+// A skip just after the last step, hooks of the engine by their patterns, and one that a step runs are none.
 #[test]
 fn slips_are_told_in_their_order(rt: HostRuntime) {
     let kit =

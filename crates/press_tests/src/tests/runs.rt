@@ -49,7 +49,7 @@ fn a_filter_runs(rt: HostRuntime) -> Result<(), Fail> {
     Ok(())
 }
 
-// The script has two turns, and its closure is in want of memory at its second call.
+// The script has two turns, and its closure runs out of memory at its second call.
 #[test]
 fn a_closure_wants_memory(rt: HostRuntime) -> Result<(), Fail> {
     let alloc = rt.alloc();

@@ -1,4 +1,4 @@
-//! Scripts of tests, calls, and what comes of them.
+//! Scripts of tests, calls, and their results.
 
 ghost use Rattle.std.specs.Prelude.{◌≡◌, ◌∷◌, [], IfOk};
 ghost use Rattle.press_callbacks.specs.Turns.{turn_of};
@@ -24,7 +24,7 @@ pub fn appending(alloc: Global, text: &str) -> Result<Script, AllocError>
     Ok(Items::from_vec(vec![in alloc; set]?))
 }
 
-/// The script's turn, except that the second call finds no memory.
+/// The script's turn, except that the second call runs out of memory.
 pub fn fails_once(
     alloc: Global,
     calls: &Cell<u32>,
