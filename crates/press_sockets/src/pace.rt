@@ -10,6 +10,9 @@ const LEFT_ALONE: u64 = 40;
 // How long after a refusal it wakes again.
 const REFUSED: u64 = 10;
 
+// The most times that these waits are doubled: to some 1.3 seconds.
+const DOUBLINGS: u32 = 5;
+
 // How long answers may be on their way before it asks again.
 const ON_ITS_WAY: u64 = 100;
 
@@ -43,6 +46,8 @@ pub struct Pace {
     applied: u64,
     // When it wakes, where a command may wait.
     wake_at: Option<u64>,
+    // How many proposals it has begun since a slot was applied: each leaves the next one twice the time.
+    tries: u32,
     // When it looks again.
     look_at: u64,
     // How many slots are chosen, as far as it knows by its own store and by what others reported, and whether enough have reported.
@@ -64,6 +69,7 @@ impl Pace {
             now: 0,
             applied: 0,
             wake_at: None,
+            tries: 0,
             look_at: 0,
             newest: 0,
             is_known: false,
@@ -92,10 +98,19 @@ impl Pace {
         }
     }
 
+    // A wait, doubled for each proposal that came to nothing: an answer takes as long as it takes.
+    fn patient(&self, wait: u64) -> u64 {
+        let mut longer = wait;
+        for _ in 0..self.tries.min(DOUBLINGS) {
+            longer = longer.saturating_mul(2);
+        }
+        longer
+    }
+
     // The time of this node's turn, counted from now.
     fn turn_after(&self, wait: u64) -> u64 {
         let turn = STEP.saturating_mul(self.rank());
-        self.now.saturating_add(wait).saturating_add(turn)
+        self.now.saturating_add(self.patient(wait.saturating_add(turn)))
     }
 
     fn wake_by(&mut self, time: u64) {
@@ -108,14 +123,19 @@ impl Pace {
 
     /// A command was taken.
     pub fn submitted(&mut self) {
-        let turn = self.turn_after(0);
-        self.wake_by(turn);
+        if self.wake_at.is_none() {
+            let turn = self.turn_after(0);
+            self.wake_at = Some(turn);
+        }
     }
 
     /// It was woken; whether it proposes.
     pub fn woken(&mut self, proposes: bool) {
         let again = self.turn_after(LEFT_ALONE);
         self.wake_at = if proposes { Some(again) } else { None };
+        if proposes {
+            self.tries = self.tries.saturating_add(1);
+        }
     }
 
     /// Another proposes.
@@ -151,6 +171,7 @@ impl Pace {
             return;
         }
         self.applied = applied;
+        self.tries = 0;
         if self.wake_at.is_some() {
             let turn = self.turn_after(0);
             self.wake_at = Some(turn);
