@@ -7,7 +7,7 @@ ghost use Rattle.press_callbacks.specs.Order.{by_name};
 use crate::kit::Kit;
 use crate::kit_fault::KitFault;
 use crate::known::fault_of;
-use crate::named::{place_of, sorted_by_name};
+use crate::named::{place_of, place_of_id, sorted_by_name};
 use crate::plugin::Plugin;
 use crate::stored::Stored;
 use press_text::{CallbackId, Name};
@@ -54,7 +54,7 @@ impl Kit {
         ensures named { IfSome result (λ place. name_at place (scripts_in self.now) ≡ Some id) }
         ensures missing { IsNone result → IsTrue (is_missing id (scripts_in self.now)) }
     {
-        place_of(self.callbacks.as_slice(), id.as_bytes())
+        place_of_id(self.callbacks.as_slice(), &id)
     }
 
     /// The callback at a place.

@@ -139,9 +139,17 @@ impl Text {
         if more.is_empty() {
             return Ok(());
         }
-        if let Held::Shared(rc) = &mut self.inside {
-            if let Some(own) = Rc::get_mut(rc) {
-                return own.push_str(more);
+        match &mut self.inside {
+            Held::Inline(short) => {
+                if more.len() <= MOST - short.as_str().len() {
+                    short.push(more);
+                    return Ok(());
+                }
+            }
+            Held::Shared(rc) => {
+                if let Some(own) = Rc::get_mut(rc) {
+                    return own.push_str(more);
+                }
             }
         }
         let inside = joined(self.alloc, self.as_str(), more)?;
@@ -173,15 +181,11 @@ impl Text {
     }
 }
 
-// One text behind another, in one block of bytes.
+// One text behind another, in a block of bytes that has room for both.
 fn joined(alloc: Global, first: &str, more: &str) -> Result<Held, AllocError>
     ensures { IfOk result (λ h. bytes_of h ≡ first.now ++ more.now) }
 {
-    let len = first.len() + more.len();
-    if len <= MOST {
-        return Ok(Held::Inline(Short::joined(first, more)));
-    }
-    let mut long = String::with_capacity(alloc, len)?;
+    let mut long = String::with_capacity(alloc, first.len() + more.len())?;
     long.push_str(first)?;
     long.push_str(more)?;
     Ok(Held::Shared(Rc::new(alloc, long)?))
