@@ -1,24 +1,18 @@
 -- Names that stand in place compare by words as they do byte by byte.
-use Rattle.std.proofs.Common.{◌≡◌, refl, sym, ◌∙◌, ap, ap₂, subst, ℕ, zero, suc, ◌+◌, ◌*◌, ◌<◌, ◌≤◌, Bool, true, false, ◌&&◌, nat_lt, nat_le, List, [], ◌∷◌, length, drop, replicate, get_or, arith}
+use Rattle.std.proofs.Common.{◌≡◌, refl, sym, ◌∙◌, ap, ap₂, subst, ℕ, zero, suc, ◌+◌, ◌*◌, ◌<◌, ◌≤◌, Bool, true, false, ◌&&◌, nat_lt, nat_le, List, [], ◌∷◌, length, drop, replicate, arith}
 use Rattle.std.specs.Prelude.{◌++◌, slice_index, take}
-use Rattle.std.specs.Int.{w64, from_be_bytes}
 use Rattle.std.specs.List.{list_all, AllByRecursion}
 use Rattle.std.specs.Cmp.{nat_cmp_is}
 use Rattle.std.specs.Cmp.Lexicographic.{slice_cmp}
-use Rattle.std.specs.Ordering.{nat_cmp, ordering_then, MatchOrdering}
+use Rattle.std.specs.Ordering.{nat_cmp, ordering_then}
 use Rattle.std.specs.declared.cmp.Ordering.{Ordering}
 use Rattle.std.specs.declared.cmp.Ordering.TheVariants.{Less, Equal, Greater}
 use Rattle.std.proofs.lemmas.Bool.Decides.{nat_tests}
 use Rattle.std.proofs.lemmas.Bool.{and_parts}
 use Rattle.std.proofs.lemmas.List.{length-drop}
-use Rattle.std.proofs.lemmas.Cmp.{ranked, nat_cmp_total, nat_list_cmp_total, tied_itself}
+use Rattle.std.proofs.lemmas.Cmp.{ranked, nat_cmp_total, tied_itself}
 use Rattle.press_text.specs.Names.{is_name_byte, IsName}
-use Rattle.press_text.specs.Padded.{AreBytes, eight, padded, IsKept}
-
--- the number that bytes spell behind n, the greatest first
-abbrev number : ℕ → List ℕ → ℕ
-number n [] = n
-number n (b ∷ bs) = number (n * 256 + b) bs
+use Rattle.press_text.specs.Padded.{AreBytes, eight, number, IsKept}
 
 -- what begins less stays less
 less : (m n : ℕ) (xs ys : List ℕ) → length xs ≡ length ys → AreBytes xs → AreBytes ys → m < n → number m xs < number n ys
@@ -50,14 +44,6 @@ ordered n (x ∷ xs) (y ∷ ys) e s t =
         sym (nat_cmp_is _ _ Greater (less (n * 256 + y) (n * 256 + x) ys xs (sym long) t.1 s.1 (omega arith)))
 
 -- ---- eight bytes as a word
-
-spelled : (a b c d e f g h : ℕ) → from_be_bytes w64 (a ∷ b ∷ c ∷ d ∷ e ∷ f ∷ g ∷ h ∷ []) ≡ number 0 (a ∷ b ∷ c ∷ d ∷ e ∷ f ∷ g ∷ h ∷ [])
-spelled a b c d e f g h = omega arith
-
-spelled_at : (at : ℕ) (xs : List ℕ) → from_be_bytes w64 (eight at xs) ≡ number 0 (eight at xs)
-spelled_at at xs =
-    spelled (slice_index xs at) (slice_index xs (at + 1)) (slice_index xs (at + 2)) (slice_index xs (at + 3)) (slice_index xs (at + 4))
-    (slice_index xs (at + 5)) (slice_index xs (at + 6)) (slice_index xs (at + 7))
 
 then_assoc : (a b c : Ordering) → ordering_then (ordering_then a b) c ≡ ordering_then a (ordering_then b c)
 then_assoc Less b c = refl
@@ -107,15 +93,14 @@ eight_bytes at xs s =
 -- the first word that differs decides
 word_first : (at : ℕ) (xs ys : List ℕ) → at + 8 ≤ length xs → at + 8 ≤ length ys → AreBytes xs → AreBytes ys →
     slice_cmp nat_cmp (drop at xs) (drop at ys)
-    ≡ ordering_then (nat_cmp (from_be_bytes w64 (eight at xs)) (from_be_bytes w64 (eight at ys))) (slice_cmp nat_cmp (drop (at + 8) xs) (drop (at + 8) ys))
+    ≡ ordering_then (nat_cmp (number 0 (eight at xs)) (number 0 (eight at ys))) (slice_cmp nat_cmp (drop (at + 8) xs) (drop (at + 8) ys))
 word_first at xs ys le le' s t =
     rw (parted at xs le, parted at ys le')
     (joined (eight at xs) (eight at ys) (drop (at + 8) xs) (drop (at + 8) ys) refl
     ∙ ap (λ o. ordering_then o (slice_cmp nat_cmp (drop (at + 8) xs) (drop (at + 8) ys)))
-    (sym (ordered 0 (eight at xs) (eight at ys) refl (eight_bytes at xs s) (eight_bytes at ys t))
-    ∙ sym (ap₂ nat_cmp (spelled_at at xs) (spelled_at at ys))))
+    (sym (ordered 0 (eight at xs) (eight at ys) refl (eight_bytes at xs s) (eight_bytes at ys t))))
 
-module _ (at : ℕ) (xs ys : List ℕ) (x y : ℕ) (le : at + 8 ≤ length xs) (le' : at + 8 ≤ length ys) (s : AreBytes xs) (t : AreBytes ys) (e : x ≡ from_be_bytes w64 (eight at xs)) (f : y ≡ from_be_bytes w64 (eight at ys)) where
+module _ (at : ℕ) (xs ys : List ℕ) (x y : ℕ) (le : at + 8 ≤ length xs) (le' : at + 8 ≤ length ys) (s : AreBytes xs) (t : AreBytes ys) (e : x ≡ number 0 (eight at xs)) (f : y ≡ number 0 (eight at ys)) where
   by_words : slice_cmp nat_cmp (drop at xs) (drop at ys) ≡ ordering_then (nat_cmp x y) (slice_cmp nat_cmp (drop (at + 8) xs) (drop (at + 8) ys))
   by_words = rw (e, f) (word_first at xs ys le le' s t)
 

@@ -1,5 +1,5 @@
 -- A callback's name in place: its bytes, and zeros up to 32.
-use Rattle.std.specs.Prelude.{◌≡◌, ◌<◌, ℕ, ◌+◌, List, [], ◌∷◌, ◌++◌, length, take, drop, replicate, slice_index}
+use Rattle.std.specs.Prelude.{◌≡◌, ◌<◌, ℕ, ◌+◌, ◌*◌, List, [], ◌∷◌, ◌++◌, length, take, drop, replicate, slice_index}
 use Rattle.std.specs.List.{AllByRecursion}
 use Rattle.press_text.specs.Names.{IsName}
 
@@ -20,3 +20,8 @@ abbrev pub eight : ℕ → List ℕ → List ℕ
 eight at xs =
     slice_index xs at ∷ slice_index xs (at + 1) ∷ slice_index xs (at + 2) ∷ slice_index xs (at + 3) ∷ slice_index xs (at + 4)
     ∷ slice_index xs (at + 5) ∷ slice_index xs (at + 6) ∷ slice_index xs (at + 7) ∷ []
+
+-- the number that bytes spell behind n, the greatest first
+abbrev pub number : ℕ → List ℕ → ℕ
+number n [] = n
+number n (b ∷ bs) = number (n * 256 + b) bs
