@@ -104,6 +104,12 @@ fn first_not_before<T: Named>(sorted: &[T], name: &[u8]) -> usize
     sorted.partition_point(|y| is_before(y.name_bytes(), name))
 }
 
+fn is_of_id<T: Identified>(x: &T, id: &CallbackId) -> bool
+    ensures { result ≡ bytes_eq (T.id x.now) id.now }
+{
+    x.callback_id().order(id).is_eq()
+}
+
 /// Where the first callback of that name stands among these in the order of their names, found by halves.
 pub fn place_of_id<T: Identified>(sorted: &[T], id: &CallbackId) -> Option<usize>
     requires { in_order T.id sorted.now ≡ true }
@@ -113,7 +119,7 @@ pub fn place_of_id<T: Identified>(sorted: &[T], id: &CallbackId) -> Option<usize
     if place == sorted.len() {
         return None;
     }
-    if sorted[place].callback_id().is(*id) {
+    if is_of_id(&sorted[place], id) {
         return Some(place);
     }
     None

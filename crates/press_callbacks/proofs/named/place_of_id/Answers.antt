@@ -7,8 +7,8 @@ returns-then-place-sorted g c =
     let past : length c.args.sorted.now ≤ c.first_id_not_before-place.result = omega arith in
     sym (all_before g.T.Identified.id c.args.id.now c.args.sorted.now c.first_id_not_before-place.result c.first_id_not_before-place.ensures.parts.0 past)
 
-pub returns-then-is_named : goal.returns-then-is_named
-returns-then-is_named g c =
+pub returns-then-is_of_id : goal.returns-then-is_of_id
+returns-then-is_of_id g c =
     let within : c.first_id_not_before-place.result < length c.args.sorted.now = omega arith in
     let e : bytes_eq (g.T.Identified.id c.index-sorted-place.result) c.args.id.now ≡ true = cc in
     sym (halved g.T.Identified.id c.args.id.now c.args.sorted.now c.first_id_not_before-place.result c.index-sorted-place.result c.first_id_not_before-place.ensures.parts.0 within c.index-sorted-place.is e)
