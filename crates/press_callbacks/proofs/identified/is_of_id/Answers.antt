@@ -1,7 +1,7 @@
 use Rattle.std.proofs.Common.{◌∙◌, ap}
 use Rattle.std.specs.Ordering.{is_eq}
 use Rattle.std.proofs.lemmas.Map.Text.{is_eq-slice_cmp}
-use Rattle.press_callbacks.proofs.named.is_of_id.Goals as goal
+use Rattle.press_callbacks.proofs.identified.is_of_id.Goals as goal
 
 pub returns : goal.returns
 returns g c =

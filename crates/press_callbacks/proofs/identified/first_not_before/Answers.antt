@@ -2,7 +2,7 @@ use Rattle.std.proofs.Common.{rules}
 use Rattle.std.proofs.lemmas.List.Sorted.{IsPartitionPoint-from_clause}
 use Rattle.press_callbacks.specs.Order.{is_before}
 use Rattle.press_callbacks.proofs.Halves.{parted}
-use Rattle.press_callbacks.proofs.named.first_id_not_before.Goals as goal
+use Rattle.press_callbacks.proofs.identified.first_not_before.Goals as goal
 
 pub returns-clause-parts : goal.returns-clause-parts
 returns-clause-parts g c =
