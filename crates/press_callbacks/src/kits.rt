@@ -4,6 +4,7 @@ ghost use Rattle.std.specs.Prelude.{◌≡◌, Some, IfOk, IfSome, IsNone, IsTru
 ghost use Rattle.press_callbacks.specs.Kits.{id_of, script_in, scripts_in, plugins_in, callbacks_in, name_at, is_missing, kit_view, scripts_given, view_of, kit_fault, Builds, script_of, script_at, plugin_of};
 ghost use Rattle.press_callbacks.specs.Order.{by_name};
 
+use crate::identified;
 use crate::kit::Kit;
 use crate::kit_fault::KitFault;
 use crate::known::fault_of;
@@ -54,7 +55,7 @@ impl Kit {
         ensures named { IfSome result (λ place. name_at place (scripts_in self.now) ≡ Some id) }
         ensures missing { IsNone result → IsTrue (is_missing id (scripts_in self.now)) }
     {
-        place_of(self.callbacks.as_slice(), id.as_bytes())
+        identified::place_of(self.callbacks.as_slice(), &id)
     }
 
     /// The callback at a place.

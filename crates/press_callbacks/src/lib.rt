@@ -6,6 +6,7 @@
 mod built_in;
 mod callback;
 mod copies;
+mod identified;
 mod kit;
 mod kit_fault;
 mod kits;

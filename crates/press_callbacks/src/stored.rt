@@ -47,6 +47,12 @@ impl Stored {
         self.id
     }
 
+    pub(crate) fn id_in(&self) -> &CallbackId
+        ensures { result.now ≡ self.now.id }
+    {
+        &self.id
+    }
+
     pub(crate) fn id_bytes(&self) -> &[u8]
         ensures { result.now ≡ self.now.id }
     {

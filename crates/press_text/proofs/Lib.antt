@@ -1,3 +1,4 @@
 pub mod Escapes
 pub mod Digits
 pub mod Taken
+mod Words

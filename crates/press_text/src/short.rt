@@ -1,6 +1,5 @@
 ghost use Rattle.std.specs.Prelude.{◌≡◌, ◌≤◌, ◌+◌, ◌++◌, [], length};
 
-use arrayvec::ArrayString;
 use std::marker::Model;
 use std::str;
 
@@ -47,15 +46,15 @@ impl Short {
         }
     }
 
-    /// One text behind another.
-    pub fn joined(first: &str, more: &str) -> Short
-        requires { length first.now + length more.now ≤ 22 }
-        ensures { result ≡ first.now ++ more.now }
+    /// Appends.
+    pub fn push(&mut self, more: &str)
+        requires { length self.old + length more.now ≤ 22 }
+        ensures { self.new ≡ self.old ++ more.now }
     {
-        let mut text = ArrayString::<22>::new();
-        text.push_str(first);
-        text.push_str(more);
-        Short::from_str(text.as_str())
+        let len = self.len as usize;
+        let end = len + more.len();
+        self.cells[len..end].copy_from_slice(more.as_bytes());
+        self.len = end as u8;
     }
 
     /// The same text once more.

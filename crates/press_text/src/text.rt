@@ -17,7 +17,7 @@ enum Held {
 /// A text, which contracts see as its bytes.
 ///
 /// Up to 22 bytes lie in the value itself; a longer text is shared by its copies, so that a copy takes no memory at any length.
-/// An append to a text that is shared makes a text of its own first.
+/// An append to a text that is shared makes a text of its own.
 pub struct Text {
     inside: Held,
     alloc: Global,
@@ -136,14 +136,25 @@ impl Text {
         ensures ok { OnOk result (self.new ≡ self.old ++ more.now) }
         ensures err { OnErr result (self.new ≡ self.old) }
     {
+        if more.is_empty() {
+            return Ok(());
+        }
         match &mut self.inside {
             Held::Inline(short) => {
-                let inside = joined(self.alloc, short.as_str(), more)?;
-                self.inside = inside;
-                Ok(())
+                if more.len() <= MOST - short.as_str().len() {
+                    short.push(more);
+                    return Ok(());
+                }
             }
-            Held::Shared(rc) => Rc::make_mut(rc)?.push_str(more),
+            Held::Shared(rc) => {
+                if let Some(own) = Rc::get_mut(rc) {
+                    return own.push_str(more);
+                }
+            }
         }
+        let inside = joined(self.alloc, self.as_str(), more)?;
+        self.inside = inside;
+        Ok(())
     }
 
     /// Appends; an empty text then shares what the other holds. Where memory is wanting the text stays as it was.
@@ -170,15 +181,12 @@ impl Text {
     }
 }
 
-// One text behind another.
+// One text behind another, in a block of bytes that has room for both.
 fn joined(alloc: Global, first: &str, more: &str) -> Result<Held, AllocError>
-    requires { length first.now ≤ 22 }
     ensures { IfOk result (λ h. bytes_of h ≡ first.now ++ more.now) }
 {
-    if more.len() <= MOST - first.len() {
-        return Ok(Held::Inline(Short::joined(first, more)));
-    }
-    let mut long = String::from_str(alloc, first)?;
+    let mut long = String::with_capacity(alloc, first.len() + more.len())?;
+    long.push_str(first)?;
     long.push_str(more)?;
     Ok(Held::Shared(Rc::new(alloc, long)?))
 }

@@ -5,12 +5,12 @@ use Rattle.press_callbacks.proofs.kit.Kit.place.Goals as goal
 
 pub returns-clause-script : goal.returns-clause-script
 returns-clause-script g c =
-    rw (c.place_of.ensures, c.as_slice.ensures.value, c.as_bytes.ensures.value)
+    rw (c.place_of.ensures, c.as_slice.ensures.value)
     (script_placed (λ s. (s.id, s.script)) c.args.id c.args.self.now.callbacks.items)
 
 pub returns-clause-named : goal.returns-clause-named
 returns-clause-named g c =
-    rw (c.place_of.ensures, c.as_slice.ensures.value, c.as_bytes.ensures.value)
+    rw (c.place_of.ensures, c.as_slice.ensures.value)
     (name_placed (λ s. (s.id, s.script)) c.args.id c.args.self.now.callbacks.items)
 
 pub returns-clause-missing : goal.returns-clause-missing
