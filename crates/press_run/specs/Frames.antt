@@ -4,6 +4,7 @@ use Rattle.press_hooks.specs.NextEntry.{is_innermost, without_innermost}
 use Rattle.press_scan.specs.declared.shortcode.Shortcode.{Shortcode}
 use Rattle.press_scan.specs.Scans.{Progress, before, behind}
 use Rattle.press_callbacks.specs.declared.script.Turn.{Turn}
+use Rattle.press_callbacks.specs.declared.script.Turn.TheVariants as turns
 use Rattle.press_callbacks.specs.Kits.{Scripts, script_at}
 use Rattle.press_run.specs.declared.run_fault.RunFault.{RunFault}
 use Rattle.press_run.specs.declared.step.Kind.{Kind}
@@ -249,6 +250,25 @@ PlaysAs changes scripts whole weighs c' old new result = MatchResult result
 
 abbrev pub CountsAs : Changes → Scripts → OpenCallback → Turn → OpenCallback → Stage → Stage → Result Step RunFault → Type 0
 CountsAs changes scripts c turn c' old new result = PlaysAs changes scripts (counted changes scripts c turn (state_of old)) 0 c' old new result
+
+-- a turn that the callback goes on from or ends by, one that begins what it waits for, and one that edits the tables or asks
+abbrev pub group : Turn → ℕ
+group (turns.Go t) = 0
+group (turns.Skip n) = 0
+group (turns.Echo t) = 0
+group (turns.Return t) = 0
+group (turns.Apply h ts) = 1
+group (turns.Do h ts) = 1
+group (turns.Shortcodes t) = 1
+group (turns.SetOption n t) = 1
+group (turns.Schedule after every h t) = 1
+group (turns.Publish t) = 1
+group (turns.AddHook h c p n) = 2
+group (turns.RemoveHook h c p) = 2
+group (turns.RemoveAll h p) = 2
+group (turns.AddTag t c) = 2
+group (turns.RemoveTag t) = 2
+group (turns.Ask a) = 2
 
 -- the turn is counted already
 abbrev pub Turns : Changes → Scripts → OpenCallback → Turn → OpenCallback → Stage → Stage → Result Step RunFault → Type 0

@@ -100,7 +100,7 @@ impl Drop for OpenScan {
 pub enum Frame {
     Callback(Held<OpenCallback>),
     Hook(OpenHook),
-    Fires(OpenFires),
+    Fires(Held<OpenFires>),
     Scan(Held<OpenScan>),
 }
 

@@ -1,14 +1,14 @@
 //! What frames hold in a box, so that they are moved as a few words.
 
 ghost use Rattle.std.specs.Prelude.{◌≡◌, ◌<◌, ◌^◌, IfOk, IsSome, OnOk};
+ghost use Rattle.press_callbacks.specs.Kits.{Scripts};
 ghost use Rattle.press_run.specs.Run.{next_call};
 ghost use Rattle.press_run.specs.Frames.{GoesOn, IsFew, MovesTo, Steps, put};
-ghost use Rattle.press_run.specs.Outcome.{around, state_of};
 ghost use Rattle.press_run.specs.Standing.{standing};
 ghost use Rattle.press_run.specs.declared.frame.Frame.TheVariants as frame;
 
 use crate::callbacks::Callbacks;
-use crate::frame::{OpenCallback, OpenScan};
+use crate::frame::{OpenCallback, OpenFires, OpenScan};
 use crate::link::SiteLink;
 use crate::run_fault::RunFault;
 use crate::stage::Stage;
@@ -69,6 +69,17 @@ impl Held<OpenCallback> {
         } }
     {
         self.inside.with_last(last)
+    }
+}
+
+impl Held<OpenFires> {
+    /// Its next action.
+    pub fn fire<L: SiteLink + Drop>(&mut self, stage: &mut Stage<L>) -> Result<Step, RunFault>
+        ensures { (scripts : Scripts) → Steps L.changes scripts
+            (frame.Fires self.old) (frame.Fires self.new)
+            (standing L.view L.fixed stage.old) (standing L.view L.fixed stage.new) result }
+    {
+        stage.fire(&mut self.inside)
     }
 }
 

@@ -83,6 +83,7 @@ impl<L: SiteLink + Drop> Stage<L> {
     }
 
     // One of the built-in callbacks on its first argument: one turn.
+    #[inline(never)]
     fn open_built_in(&mut self, room: u32, id: CallbackId, call: &CallIn) -> Result<Begun, RunFault>
         ensures late { one_turn (state_of (standing L.view L.fixed self.old)) ≡ None
             → IsErrOf result RunFault.Limit }

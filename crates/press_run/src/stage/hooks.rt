@@ -20,6 +20,7 @@ use press_text::{HookName, Texts};
 
 impl<L: SiteLink + Drop> Stage<L> {
     // The callbacks of a hook, where so many may be open; without one the hook answers at once.
+    #[inline(never)]
     pub(super) fn begin(
         &mut self,
         room: u32,
@@ -48,6 +49,7 @@ impl<L: SiteLink + Drop> Stage<L> {
     }
 
     // An action: its start is counted, and its answers are ignored.
+    #[inline(never)]
     pub(super) fn begin_action(
         &mut self,
         room: u32,

@@ -11,6 +11,7 @@ use crate::callbacks::Callbacks;
 use crate::frame::{Frame, OpenFires};
 use crate::frames::Frames;
 use crate::job::Job;
+use crate::held::Held;
 use crate::link::SiteLink;
 use crate::run_fault::RunFault;
 use crate::step::{Begun, Kind, Moved, Step};
@@ -29,9 +30,9 @@ impl<L: SiteLink + Drop> Stage<L> {
     {
         match job {
             Job::Fires(fires) => {
-                let gives = Text::new(self.machine.allocator());
-                let fires = OpenFires::new(MOST_OPEN, fires, gives);
-                Ok(Begun::Opens(Frame::Fires(fires)))
+                let alloc = self.machine.allocator();
+                let fires = OpenFires::new(MOST_OPEN, fires, Text::new(alloc));
+                Ok(Begun::Opens(Frame::Fires(Held::new(alloc, fires)?)))
             }
             Job::Apply { hook, args } => {
                 let begun = self.begin(MOST_OPEN, Kind::Filter, &hook, args);
@@ -92,7 +93,7 @@ impl<L: SiteLink + Drop> Stage<L> {
         match top {
             Frame::Callback(callback) => Ok(Moved::By(callback.turn(self, kit)?)),
             Frame::Hook(run) => self.entry(kit, run),
-            Frame::Fires(fires) => Ok(Moved::By(self.fire(fires)?)),
+            Frame::Fires(fires) => Ok(Moved::By(fires.fire(self)?)),
             Frame::Scan(scan) => scan.piece(self, kit),
         }
     }

@@ -23,6 +23,7 @@ use press_text::Text;
 
 impl<L: SiteLink + Drop> Stage<L> {
     // What a text means, where so many callbacks may be open.
+    #[inline(never)]
     pub(super) fn begin_scan(&mut self, room: u32, text: Text) -> Result<Begun, RunFault>
         ensures long { is_short text ≡ false → IsErrOf result RunFault.Limit }
         ensures begins { (scripts : Scripts) → BeginsAs L.changes scripts

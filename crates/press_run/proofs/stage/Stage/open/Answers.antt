@@ -1,5 +1,7 @@
-use Rattle.std.proofs.Common.{◌≡◌, ◌∙◌, ◌<◌, sym, ap, true, false, arith}
+use Rattle.std.proofs.Common.{◌≡◌, ◌∙◌, ◌<◌, sym, ap, subst, true, false, arith}
+use Rattle.std.proofs.lemmas.Result.{err_from_is_err_and}
 use Rattle.press_callbacks.specs.BuiltIns.{is_built_in}
+use Rattle.press_run.specs.Frames.{CallsAs}
 use Rattle.press_run.specs.Outcome.{state_of}
 use Rattle.press_run.specs.Standing.{standing}
 use Rattle.press_run.proofs.Begins.{opens_built_in, opens_callback}
@@ -9,11 +11,24 @@ use Rattle.press_run.proofs.stage.Stage.open.Goals as goal
 pub returns-then-room-eq0-clause-begins : goal.returns-then-room-eq0-clause-begins
 returns-then-room-eq0-clause-begins g c = rw c.if-room-eq0.true (no_depth g.L.SiteLink.changes (g.K.Callbacks.scripts c.args.kit.now) c.args.id c.args.call (state_of (standing g.L.SiteLink.view g.L.SiteLink.fixed c.args.self.now)))
 
-pub returns-in_err-open_built_in-clause-begins : goal.returns-in_err-open_built_in-clause-begins
-returns-in_err-open_built_in-clause-begins g c = ?
+pub returns-in_err-begun-clause-begins : goal.returns-in_err-begun-clause-begins
+returns-in_err-begun-clause-begins g c =
+    let k = g.K.Callbacks.scripts c.args.kit.now in
+    let old = standing g.L.SiteLink.view g.L.SiteLink.fixed c.args.self.now in
+    let new = standing g.L.SiteLink.view g.L.SiteLink.fixed c.open_built_in-begun.new.self in
+    let own : is_built_in c.args.id ≡ true = ap is_built_in (sym c.as_bytes.ensures.value) ∙ sym c.is_built_in.ensures ∙ c.if-is_built_in.true in
+    let room : 0 < c.args.room = omega arith in
+    let p = err_from_is_err_and c.from_residual.result c.from_residual.ensures.1 in
+    rw (p.1, p.2) (rw c.in_err-begun.is at (opens_built_in g.L.SiteLink.changes k c.args.room c.args.id c.args.call old new c.open_built_in-begun.result room own (c.open_built_in-begun.ensures.begins k)))
 
-pub returns-in_ok-clause-begins : goal.returns-in_ok-clause-begins
-returns-in_ok-clause-begins g c = ?
+pub returns-then-is_built_in-clause-begins : goal.returns-then-is_built_in-clause-begins
+returns-then-is_built_in-clause-begins g c =
+    let k = g.K.Callbacks.scripts c.args.kit.now in
+    let old = standing g.L.SiteLink.view g.L.SiteLink.fixed c.args.self.now in
+    let new = standing g.L.SiteLink.view g.L.SiteLink.fixed c.open_built_in-begun.new.self in
+    let own : is_built_in c.args.id ≡ true = ap is_built_in (sym c.as_bytes.ensures.value) ∙ sym c.is_built_in.ensures ∙ c.if-is_built_in.true in
+    let room : 0 < c.args.room = omega arith in
+    rw c.in_ok-begun.is at (opens_built_in g.L.SiteLink.changes k c.args.room c.args.id c.args.call old new c.open_built_in-begun.result room own (c.open_built_in-begun.ensures.begins k))
 
 pub turns-requires : goal.turns-requires
 turns-requires g c = omega (arith, c.requires)
