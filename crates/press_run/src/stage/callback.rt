@@ -40,9 +40,8 @@ impl<L: SiteLink + Drop> Stage<L> {
             return Err(RunFault::Limit);
         }
         if is_built_in(id.as_bytes()) {
-            let begun = self.open_built_in(room - 1, id, &call);
-            drop(call);
-            return Ok(Called::Begun(begun?));
+            let begun = self.open_built_in(room - 1, id, &call)?;
+            return Ok(Called::Begun(begun));
         }
         let place = kit.place(id);
         let callback = OpenCallback {

@@ -1,4 +1,4 @@
-use Rattle.std.proofs.Common.{◌≡◌, ◌∙◌, ◌<◌, sym, ap, subst, true, false, arith}
+use Rattle.std.proofs.Common.{◌≡◌, ◌∙◌, ◌<◌, sym, ap, subst, true, false, Ok, Err, arith}
 use Rattle.std.proofs.lemmas.Result.{err_from_is_err_and}
 use Rattle.press_callbacks.specs.BuiltIns.{is_built_in}
 use Rattle.press_run.specs.Frames.{CallsAs}
@@ -15,20 +15,20 @@ pub returns-in_err-begun-clause-begins : goal.returns-in_err-begun-clause-begins
 returns-in_err-begun-clause-begins g c =
     let k = g.K.Callbacks.scripts c.args.kit.now in
     let old = standing g.L.SiteLink.view g.L.SiteLink.fixed c.args.self.now in
-    let new = standing g.L.SiteLink.view g.L.SiteLink.fixed c.open_built_in-begun.new.self in
+    let new = standing g.L.SiteLink.view g.L.SiteLink.fixed c.open_built_in.new.self in
     let own : is_built_in c.args.id ≡ true = ap is_built_in (sym c.as_bytes.ensures.value) ∙ sym c.is_built_in.ensures ∙ c.if-is_built_in.true in
     let room : 0 < c.args.room = omega arith in
     let p = err_from_is_err_and c.from_residual.result c.from_residual.ensures.1 in
-    rw (p.1, p.2) (rw c.in_err-begun.is at (opens_built_in g.L.SiteLink.changes k c.args.room c.args.id c.args.call old new c.open_built_in-begun.result room own (c.open_built_in-begun.ensures.begins k)))
+    rw (p.1, p.2) (opens_built_in g.L.SiteLink.changes k c.args.room c.args.id c.args.call old new (Err c.in_err-begun.field-0.0) room own (c.in_err-begun.ensures.begins k))
 
 pub returns-then-is_built_in-clause-begins : goal.returns-then-is_built_in-clause-begins
 returns-then-is_built_in-clause-begins g c =
     let k = g.K.Callbacks.scripts c.args.kit.now in
     let old = standing g.L.SiteLink.view g.L.SiteLink.fixed c.args.self.now in
-    let new = standing g.L.SiteLink.view g.L.SiteLink.fixed c.open_built_in-begun.new.self in
+    let new = standing g.L.SiteLink.view g.L.SiteLink.fixed c.open_built_in.new.self in
     let own : is_built_in c.args.id ≡ true = ap is_built_in (sym c.as_bytes.ensures.value) ∙ sym c.is_built_in.ensures ∙ c.if-is_built_in.true in
     let room : 0 < c.args.room = omega arith in
-    rw c.in_ok-begun.is at (opens_built_in g.L.SiteLink.changes k c.args.room c.args.id c.args.call old new c.open_built_in-begun.result room own (c.open_built_in-begun.ensures.begins k))
+    opens_built_in g.L.SiteLink.changes k c.args.room c.args.id c.args.call old new (Ok c.in_ok-begun.begun) room own (c.in_ok-begun.ensures.begins k)
 
 pub turns-requires : goal.turns-requires
 turns-requires g c = omega (arith, c.requires)
