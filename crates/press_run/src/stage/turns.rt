@@ -46,11 +46,7 @@ impl<L: SiteLink + Drop> Stage<L> {
 
     // A turn that begins something, for which the callback waits.
     #[inline(never)]
-    fn begun(
-        &mut self,
-        callback: &mut OpenCallback,
-        turn: Turn,
-    ) -> Result<Step, RunFault>
+    fn begun(&mut self, callback: &mut OpenCallback, turn: Turn) -> Result<Step, RunFault>
         requires few { IsFew 1 callback.old }
         requires begins { 1 ≤ group turn }
         ensures { (scripts : Scripts) → Turns L.changes scripts callback.old turn callback.new
@@ -93,11 +89,7 @@ impl<L: SiteLink + Drop> Stage<L> {
 
     // A turn that edits the tables or asks a question.
     #[inline(never)]
-    fn edited(
-        &mut self,
-        callback: &mut OpenCallback,
-        turn: Turn,
-    ) -> Result<Step, RunFault>
+    fn edited(&mut self, callback: &mut OpenCallback, turn: Turn) -> Result<Step, RunFault>
         requires few { IsFew 1 callback.old }
         requires edits { 2 ≤ group turn }
         ensures { (scripts : Scripts) → Turns L.changes scripts callback.old turn callback.new
