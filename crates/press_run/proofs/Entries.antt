@@ -9,6 +9,7 @@ use Rattle.press_callbacks.specs.declared.script.CallIn.{CallIn}
 use Rattle.press_callbacks.specs.Kits.{Scripts}
 use Rattle.press_run.specs.declared.run_fault.RunFault.{RunFault}
 use Rattle.press_run.specs.declared.step.Begun.{Begun}
+use Rattle.press_run.specs.declared.step.Called.{Called}
 use Rattle.press_run.specs.declared.frame.OpenHook.{OpenHook}
 use Rattle.press_run.specs.declared.frame.OpenFires.{OpenFires}
 use Rattle.press_run.specs.declared.frame.Frame.TheVariants as frame
@@ -16,8 +17,8 @@ use Rattle.press_run.specs.Links.{Changes}
 use Rattle.press_run.specs.Counts.{Counts}
 use Rattle.press_run.specs.Run.{◌>>=◌, Answer, answer, Meaning, at_depth, do_fires, do_hook, run_entries, first_text, hook_call, handed_on, without_last}
 use Rattle.press_run.specs.Outcome.{Stage, Around, around, state_of, innermost, Refuses}
-use Rattle.press_run.specs.Frames.{meant, taken, round, shown, turns_left, weight, Gives, Leaves, Begins, awaited}
-use Rattle.press_run.proofs.Resumed.{awaits, awaits_none}
+use Rattle.press_run.specs.Frames.{meant, taken, round, shown, turns_left, weight, Gives, Leaves, Begins, Calls, Moves, awaited, moved}
+use Rattle.press_run.proofs.Resumed.{awaits, awaits_called, awaits_none}
 use Rattle.press_run.proofs.Steps.{no_entries, with_table, entries_step, around_kept, open_kept, one_fire, fires_end}
 
 bind_assoc : (o : Option Answer) (f g : Answer → Option Answer) → ((o >>= f) >>= g) ≡ (o >>= λ x. f x >>= g)
@@ -81,9 +82,9 @@ module _ (changes : Changes) (scripts : Scripts) (h : OpenHook) (w : Stage) wher
           ∙ ap (λ (x : CallIn). (m e.callback x (state_of (with_table t w)) >>= goes_on) >>= run_answer) is
           ∙ sym (ap (λ o. o >>= run_answer) (entries_step m h.kind h.args h.run w t h.left (h.left - 1) left_more stands on (Some e) some))
 
-      pub entry_calls : (new : Stage) (b : Begun) → Begins changes scripts asked (around (with_table t w)) (turns_left w.counts.turns + 1) new b → Leaves changes scripts whole beside bound (frame.Hook one_less) new (awaited b)
+      pub entry_calls : (new : Stage) (b : Called) → Calls changes scripts asked (around (with_table t w)) (turns_left w.counts.turns + 1) new b → Moves changes scripts whole beside bound (frame.Hook one_less) new (moved b)
       entry_calls new b g =
-          awaits changes scripts asked whole beside 1 bound (frame.Hook one_less) (with_table t w) new b entry_comes beside_kept (open_kept m h.kind h.args h.run w t h.left (h.left - 1) left_more stands on) (omega arith) g
+          awaits_called changes scripts asked whole beside 1 bound (frame.Hook one_less) (with_table t w) new b entry_comes beside_kept (open_kept m h.kind h.args h.run w t h.left (h.left - 1) left_more stands on) (omega arith) g
 
       pub entry_stops : (fault : RunFault) → Refuses fault asked → Refuses fault whole
       entry_stops fault refused = awaits_none changes scripts asked whole (frame.Hook one_less) (with_table t w) fault entry_comes refused

@@ -7,10 +7,14 @@ use Rattle.press_run.specs.declared.frame.Frame.{Frame}
 use Rattle.press_run.specs.declared.frame.Frame.TheVariants as frame
 use Rattle.press_run.specs.declared.step.Begun.{Begun}
 use Rattle.press_run.specs.declared.step.Begun.TheVariants as begun
+use Rattle.press_run.specs.declared.step.Called.{Called}
+use Rattle.press_run.specs.declared.step.Called.TheVariants as called
+use Rattle.press_run.specs.declared.step.Step.{Step}
+use Rattle.press_run.specs.declared.step.Step.TheVariants as step
 use Rattle.press_run.specs.Links.{Changes}
 use Rattle.press_run.specs.Run.{◌>>=◌, Answer, answer}
 use Rattle.press_run.specs.Outcome.{Stage, Around, around, state_of, GivesText, Refuses}
-use Rattle.press_run.specs.Frames.{meant, taken, round, resumed, Ready, Waits, TakesAnswer, Stand, turns_left, weight, weight_waiting, all_wait, Goes, Opens, Takes, Gives, Leaves, Begins, awaited}
+use Rattle.press_run.specs.Frames.{meant, taken, round, resumed, Ready, Waits, TakesAnswer, Stand, turns_left, weight, weight_waiting, all_wait, Goes, Opens, Nests, Takes, Gives, Leaves, Begins, Calls, Moves, awaited, moved}
 
 -- ---- what is awaited comes to what it began as
 
@@ -42,6 +46,22 @@ module _ (changes : Changes) (scripts : Scripts) where
         → Begins changes scripts o (around old) (turns_left old.counts.turns + weighs) new b → Leaves changes scripts whole beside bound f new (awaited b)
     awaits (begun.Opens inner) comes stands waits le g = opens_awaited inner comes stands waits le g
     awaits (begun.Gives text) comes stands waits le g = takes_awaited text comes stands waits le g
+
+    nests_awaited : (callback inner : Frame) → Comes → round f (around old) ≡ beside → Waits f (around old) → turns_left old.counts.turns + (weighs + weight_waiting f) ≤ bound
+        → Opens changes scripts o (around old) (turns_left old.counts.turns + weighs) callback new inner → Nests changes scripts whole beside bound f new callback inner
+    nests_awaited callback inner comes stands waits le g = record {
+      same = rw (g.stands, g.same) comes;
+      stands = ap (round f) g.stands ∙ stands;
+      waits = subst (Waits f) (sym g.stands) waits;
+      within = g.waits;
+      ready = g.ready;
+      less = omega (arith, g.less, le);
+    }
+
+    pub awaits_called : (c : Called) → Comes → round f (around old) ≡ beside → Waits f (around old) → turns_left old.counts.turns + (weighs + weight_waiting f) ≤ bound
+        → Calls changes scripts o (around old) (turns_left old.counts.turns + weighs) new c → Moves changes scripts whole beside bound f new (moved c)
+    awaits_called (called.Begun b) comes stands waits le g = awaits b comes stands waits le g
+    awaits_called (called.Waits callback inner) comes stands waits le g = nests_awaited callback inner comes stands waits le g
 
   pub awaits_none : (o whole : Option Answer) (f : Frame) (old : Stage) (fault : RunFault) → (o >>= λ x. meant changes scripts (taken f x.text) (around old) x.state) ≡ whole → Refuses fault o → Refuses fault whole
   awaits_none o whole f old Limit comes none = sym comes ∙ ap (λ p. p >>= λ x. meant changes scripts (taken f x.text) (around old) x.state) none
@@ -143,6 +163,29 @@ module _ (changes : Changes) (scripts : Scripts) where
         let e : all_wait waiting' ≡ weight_waiting top' + all_wait waiting = ap all_wait pushed ∙ more_wait top' waiting in
         omega (arith, e, i, g.less)
 
+    module _ (top' callback inner inner' : Frame) (waiting' waiting'' : List Frame) (w : Stage) (on_top : inner' ≡ inner) (first : waiting' ≡ top' ∷ waiting) (second : waiting'' ≡ callback ∷ waiting') (g : Nests changes scripts (meant changes scripts top (around old) (state_of old)) (round top (around old)) bound top' w callback inner) where
+      all_pushed : waiting'' ≡ callback ∷ (top' ∷ waiting)
+      all_pushed = second ∙ ap (λ fs. callback ∷ fs) first
+
+      pub nests : Playing changes scripts whole base waiting'' inner' w
+      nests = subst (λ x. Playing changes scripts whole base waiting'' x w) (sym on_top) (
+          let a = round inner (around w) in
+          let o = meant changes scripts inner (around w) (state_of w) in
+          let o' = o >>= λ x. meant changes scripts (taken callback x.text) a x.state in
+          record {
+            same = ap (λ fs. resumed changes scripts fs a o) all_pushed ∙ more_frames changes scripts callback (top' ∷ waiting) a o ∙ more_frames changes scripts top' waiting (round callback a) o'
+                ∙ same_as (o' >>= λ y. meant changes scripts (taken top' y.text) (round callback a) y.state) (round top' (round callback a)) g.same g.stands;
+            stands = subst (λ fs. Stand fs a base) (sym all_pushed) (more_stand callback (top' ∷ waiting) a base g.within (more_stand top' waiting (round callback a) base g.waits (subst (λ x. Stand waiting x base) (sym g.stands) p.stands)));
+            ready = g.ready;
+          })
+
+      pub nests_less : turns_left w.counts.turns + (weight inner' + all_wait waiting'') < turns_left old.counts.turns + (weight top + all_wait waiting)
+      nests_less =
+          let i : weight inner' ≡ weight inner = ap weight on_top in
+          let e : all_wait waiting'' ≡ weight_waiting callback + all_wait (top' ∷ waiting) = ap all_wait all_pushed ∙ more_wait callback (top' ∷ waiting) in
+          let e' : all_wait (top' ∷ waiting) ≡ weight_waiting top' + all_wait waiting = more_wait top' waiting in
+          omega (arith, e, e', i, g.less)
+
     module _ (text : List ℕ) (w : Stage) (g : Gives changes scripts (meant changes scripts top (around old) (state_of old)) (round top (around old)) bound w text) where
       pub ends : waiting ≡ [] → (whole ≡ answer text (state_of w)) × (around w ≡ base)
       ends e =
@@ -184,3 +227,24 @@ module _ (changes : Changes) (scripts : Scripts) where
 -- a run of what a job began with is the job's
 pub job_runs : (o whole : Option Answer) (a beside : Around) (w : Stage) (result : Result (List ℕ) RunFault) → o ≡ whole → a ≡ beside → GivesText o a w result → GivesText whole beside w result
 job_runs o whole a beside w result e r h = subst (λ x. GivesText x beside w result) e (subst (λ x. GivesText o x w result) r h)
+
+-- ---- a callback that takes its turns where it is called
+
+module _ (changes : Changes) (scripts : Scripts) (whole : Option Answer) (beside : Around) (bound : ℕ) where
+  pub turns_begin : (f : Frame) (w : Stage) → Ready f (around w) → turns_left w.counts.turns + weight f < bound → meant changes scripts f (around w) (state_of w) ≡ whole → round f (around w) ≡ beside → Goes changes scripts whole beside bound f w
+  turns_begin f w ready less same stands = record { same = same; stands = stands; ready = ready; less = less }
+
+  module _ (f : Frame) (old : Stage) (g : Goes changes scripts whole beside bound f old) where
+    pub then_leaves : (f' : Frame) (w : Stage) (s : Step) → Leaves changes scripts (meant changes scripts f (around old) (state_of old)) (round f (around old)) (turns_left old.counts.turns + weight f) f' w s → Leaves changes scripts whole beside bound f' w s
+    then_leaves f' w step.Goes h = record { same = h.same ∙ g.same; stands = h.stands ∙ g.stands; ready = h.ready; less = omega (arith, h.less, g.less) }
+    then_leaves f' w (step.Opens inner) h = record { same = h.same ∙ g.same; stands = h.stands ∙ g.stands; waits = h.waits; ready = h.ready; less = omega (arith, h.less, g.less) }
+    then_leaves f' w (step.Takes text) h = record { same = h.same ∙ g.same; stands = h.stands ∙ g.stands; waits = h.waits; less = omega (arith, h.less, g.less) }
+    then_leaves f' w (step.Gives text) h = record { same = h.same ∙ g.same; stands = h.stands ∙ g.stands; less = omega (arith, h.less, g.less) }
+
+    pub then_refused : (fault : RunFault) → Refuses fault (meant changes scripts f (around old) (state_of old)) → Refuses fault whole
+    then_refused fault h = subst (Refuses fault) g.same h
+
+  pub takes_on : (f f' : Frame) (w : Stage) (text : List ℕ) → f' ≡ taken f text → Takes changes scripts whole beside bound f w text → Goes changes scripts whole beside bound f' w
+  takes_on f f' w text e t = subst (λ x. Goes changes scripts whole beside bound x w) (sym e) (
+      let l : weight (taken f text) ≤ weight_waiting f + 1 = taken_less f text (around w) t.waits in
+      record { same = t.same; stands = same_round f text (around w) ∙ t.stands; ready = taken_ready f text (around w) t.waits; less = omega (arith, t.less, l) })

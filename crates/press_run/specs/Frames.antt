@@ -4,6 +4,7 @@ use Rattle.press_hooks.specs.NextEntry.{is_innermost, without_innermost}
 use Rattle.press_scan.specs.declared.shortcode.Shortcode.{Shortcode}
 use Rattle.press_scan.specs.Scans.{Progress, before, behind}
 use Rattle.press_callbacks.specs.declared.script.Turn.{Turn}
+use Rattle.press_callbacks.specs.declared.script.Turn.TheVariants as turns
 use Rattle.press_callbacks.specs.Kits.{Scripts, script_at}
 use Rattle.press_run.specs.declared.run_fault.RunFault.{RunFault}
 use Rattle.press_run.specs.declared.step.Kind.{Kind}
@@ -15,6 +16,10 @@ use Rattle.press_run.specs.declared.step.Begun.{Begun}
 use Rattle.press_run.specs.declared.step.Begun.TheVariants as begun
 use Rattle.press_run.specs.declared.step.Step.{Step}
 use Rattle.press_run.specs.declared.step.Step.TheVariants as step
+use Rattle.press_run.specs.declared.step.Called.{Called}
+use Rattle.press_run.specs.declared.step.Called.TheVariants as called
+use Rattle.press_run.specs.declared.step.Moved.{Moved}
+use Rattle.press_run.specs.declared.step.Moved.TheVariants as moves
 use Rattle.press_run.specs.Links.{Changes}
 use Rattle.press_run.specs.Run.{◌>>=◌, without_last, Answer, answer, State, Meaning, Stepped, within, scan_from, run_hook, run_entries, do_fires, play, at_depth, or_empty, after_step, counted_step, turn_step, handed_on, next_call, most_turns}
 use Rattle.press_run.specs.Outcome.{Stage, Around, around, state_of, innermost, Refuses}
@@ -153,6 +158,16 @@ module _ (changes : Changes) (scripts : Scripts) (whole : Option Answer) (beside
     pub ready : Ready inner (around w)
     pub less : turns_left w.counts.turns + (weight inner + weight_waiting f) < bound
 
+  -- a frame that waits for a callback, which waits for another one
+  pub record Nests (f : Frame) (w : Stage) (callback inner : Frame) : Type 0 where
+    pub same : ((meant changes scripts inner (around w) (state_of w) >>= λ x. meant changes scripts (taken callback x.text) (round inner (around w)) x.state)
+        >>= λ y. meant changes scripts (taken f y.text) (round callback (round inner (around w))) y.state) ≡ whole
+    pub stands : round f (round callback (round inner (around w))) ≡ beside
+    pub waits : Waits f (round callback (round inner (around w)))
+    pub within : Waits callback (round inner (around w))
+    pub ready : Ready inner (around w)
+    pub less : turns_left w.counts.turns + (weight inner + (weight_waiting callback + weight_waiting f)) < bound
+
   -- a frame that waits for this text
   pub record Takes (f : Frame) (w : Stage) (text : List ℕ) : Type 0 where
     pub same : meant changes scripts (taken f text) (around w) (state_of w) ≡ whole
@@ -176,10 +191,22 @@ module _ (changes : Changes) (scripts : Scripts) (whole : Option Answer) (beside
   Begins w (begun.Opens f) = Goes f w
   Begins w (begun.Gives text) = Gives w text
 
+  abbrev pub Calls : Stage → Called → Type 0
+  Calls w (called.Begun b) = Begins w b
+  Calls w (called.Waits callback inner) = Opens callback w inner
+
+  abbrev pub Moves : Frame → Stage → Moved → Type 0
+  Moves f w (moves.By s) = Leaves f w s
+  Moves f w (moves.Calls callback inner) = Nests f w callback inner
+
 -- who begins something takes its answer at once, or waits
 abbrev pub awaited : Begun → Step
 awaited (begun.Opens f) = step.Opens f
 awaited (begun.Gives text) = step.Takes text
+
+abbrev pub moved : Called → Moved
+moved (called.Begun b) = moves.By (awaited b)
+moved (called.Waits callback inner) = moves.Calls callback inner
 
 -- what began is to come to this
 abbrev pub BeginsAs : Changes → Scripts → Option Answer → ℕ → Stage → Stage → Result Begun RunFault → Type 0
@@ -190,6 +217,17 @@ BeginsAs changes scripts whole weighs old new result =
 abbrev pub Steps : Changes → Scripts → Frame → Frame → Stage → Stage → Result Step RunFault → Type 0
 Steps changes scripts f f' old new result = MatchResult result
     (λ s. Leaves changes scripts (meant changes scripts f (around old) (state_of old)) (round f (around old)) (turns_left old.counts.turns + weight f) f' new s)
+    (λ fault. Refuses fault (meant changes scripts f (around old) (state_of old)))
+
+-- what a callback began with is to come to this
+abbrev pub CallsAs : Changes → Scripts → Option Answer → ℕ → Stage → Stage → Result Called RunFault → Type 0
+CallsAs changes scripts whole weighs old new result =
+    MatchResult result (λ c. Calls changes scripts whole (around old) (turns_left old.counts.turns + weighs) new c) (λ fault. Refuses fault whole)
+
+-- the innermost frame moves
+abbrev pub MovesTo : Changes → Scripts → Frame → Frame → Stage → Stage → Result Moved RunFault → Type 0
+MovesTo changes scripts f f' old new result = MatchResult result
+    (λ m. Moves changes scripts (meant changes scripts f (around old) (state_of old)) (round f (around old)) (turns_left old.counts.turns + weight f) f' new m)
     (λ fault. Refuses fault (meant changes scripts f (around old) (state_of old)))
 
 -- a callback after what a turn comes to
@@ -212,6 +250,25 @@ PlaysAs changes scripts whole weighs c' old new result = MatchResult result
 
 abbrev pub CountsAs : Changes → Scripts → OpenCallback → Turn → OpenCallback → Stage → Stage → Result Step RunFault → Type 0
 CountsAs changes scripts c turn c' old new result = PlaysAs changes scripts (counted changes scripts c turn (state_of old)) 0 c' old new result
+
+-- a turn that the callback goes on from or ends by, one that begins what it waits for, and one that edits the tables or asks
+abbrev pub group : Turn → ℕ
+group (turns.Go t) = 0
+group (turns.Skip n) = 0
+group (turns.Echo t) = 0
+group (turns.Return t) = 0
+group (turns.Apply h ts) = 1
+group (turns.Do h ts) = 1
+group (turns.Shortcodes t) = 1
+group (turns.SetOption n t) = 1
+group (turns.Schedule after every h t) = 1
+group (turns.Publish t) = 1
+group (turns.AddHook h c p n) = 2
+group (turns.RemoveHook h c p) = 2
+group (turns.RemoveAll h p) = 2
+group (turns.AddTag t c) = 2
+group (turns.RemoveTag t) = 2
+group (turns.Ask a) = 2
 
 -- the turn is counted already
 abbrev pub Turns : Changes → Scripts → OpenCallback → Turn → OpenCallback → Stage → Stage → Result Step RunFault → Type 0

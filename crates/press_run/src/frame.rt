@@ -4,6 +4,7 @@ ghost use Rattle.std.specs.Prelude.{◌≡◌, ◌+◌, ◌*◌, ◌<◌, ◌≤
 ghost use Rattle.press_run.specs.Run.{handed_on, next_call};
 ghost use Rattle.press_run.specs.Frames.{TakesAnswer, put, taken};
 
+use crate::held::Held;
 use crate::step::{Kind, Step};
 use crate::texts;
 use press_callbacks::CallIn;
@@ -97,10 +98,10 @@ impl Drop for OpenScan {
 /// What a run has open, while it goes on or waits for an answer.
 #[derive(Drop)]
 pub enum Frame {
-    Callback(OpenCallback),
+    Callback(Held<OpenCallback>),
     Hook(OpenHook),
-    Fires(OpenFires),
-    Scan(OpenScan),
+    Fires(Held<OpenFires>),
+    Scan(Held<OpenScan>),
 }
 
 impl OpenCallback {
@@ -176,7 +177,7 @@ impl OpenFires {
 
 impl OpenScan {
     // The answer to the shortcode that the scan waits for.
-    fn take(&mut self, text: Text) -> Result<(), AllocError>
+    pub fn take(&mut self, text: Text) -> Result<(), AllocError>
         requires { IsSome self.old.scan.waiting }
         ensures { OnOk result (self.new ≡ record self.old {
           scan = put self.old.scan.waiting self.old.scan text;

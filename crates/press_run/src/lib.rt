@@ -9,6 +9,7 @@ mod boots;
 mod callbacks;
 mod frame;
 mod frames;
+mod held;
 mod job;
 mod link;
 mod links;

@@ -1,5 +1,5 @@
 ghost use Rattle.std.specs.Prelude.{◌≡◌};
-ghost use Rattle.press_run.specs.Frames.{awaited};
+ghost use Rattle.press_run.specs.Frames.{awaited, moved};
 
 use crate::frame::Frame;
 use press_text::Text;
@@ -20,7 +20,14 @@ pub enum Begun {
     Gives(Text),
 }
 
-/// What a step of the innermost frame leaves.
+/// What a callback comes to where it is called: its answer, a built-in one's frame, or its own frame, which waits for the other one.
+#[derive(Drop)]
+pub enum Called {
+    Begun(Begun),
+    Waits(Frame, Frame),
+}
+
+/// What a step of a frame leaves.
 #[derive(Drop)]
 pub enum Step {
     /// It goes on.
@@ -33,6 +40,14 @@ pub enum Step {
     Gives(Text),
 }
 
+/// What the innermost frame comes to.
+#[derive(Drop)]
+pub enum Moved {
+    By(Step),
+    /// It waits for the first frame, a callback's, which waits for the second.
+    Calls(Frame, Frame),
+}
+
 impl Begun {
     /// The step of the frame that waits for it.
     pub fn awaited(self) -> Step
@@ -41,6 +56,18 @@ impl Begun {
         match self {
             Begun::Opens(frame) => Step::Opens(frame),
             Begun::Gives(text) => Step::Takes(text),
+        }
+    }
+}
+
+impl Called {
+    /// What the frame comes to that waits for it.
+    pub fn awaited(self) -> Moved
+        ensures { result ≡ moved self }
+    {
+        match self {
+            Called::Begun(begun) => Moved::By(begun.awaited()),
+            Called::Waits(callback, inner) => Moved::Calls(callback, inner),
         }
     }
 }

@@ -2,18 +2,19 @@
 
 ghost use Rattle.std.specs.Prelude.{◌≡◌, None, false, IsErrOf};
 ghost use Rattle.press_callbacks.specs.Kits.{Scripts};
-ghost use Rattle.press_run.specs.Frames.{BeginsAs, CountsAs, IsFew, Steps};
+ghost use Rattle.press_run.specs.Frames.{BeginsAs, CallsAs, CountsAs, IsFew, Steps, meant};
 ghost use Rattle.press_run.specs.Run.{at_depth, built_in, fits, one_turn};
-ghost use Rattle.press_run.specs.Outcome.{state_of};
+ghost use Rattle.press_run.specs.Outcome.{around, state_of};
 ghost use Rattle.press_run.specs.Standing.{standing};
 ghost use Rattle.press_run.specs.declared.frame.Frame.TheVariants as frame;
 
 use super::Stage;
 use crate::callbacks::Callbacks;
 use crate::frame::{FUEL, Frame, OpenCallback};
+use crate::held::Held;
 use crate::link::SiteLink;
 use crate::run_fault::RunFault;
-use crate::step::{Begun, Step};
+use crate::step::{Begun, Called, Step};
 use crate::texts;
 use press_callbacks::{CallIn, Turn, is_built_in, is_do_shortcode};
 use press_text::CallbackId;
@@ -26,10 +27,10 @@ impl<L: SiteLink + Drop> Stage<L> {
         room: u32,
         id: CallbackId,
         call: CallIn,
-    ) -> Result<Begun, RunFault>
+    ) -> Result<Called, RunFault>
         requires { call.turn ≡ 0 }
         ensures shut { room ≡ 0 → IsErrOf result RunFault.Limit }
-        ensures begins { BeginsAs L.changes (K.scripts kit.now)
+        ensures begins { CallsAs L.changes (K.scripts kit.now)
             (at_depth L.changes room (K.scripts kit.now) id call
             (state_of (standing L.view L.fixed self.old)))
             1 (standing L.view L.fixed self.old) (standing L.view L.fixed self.new) result }
@@ -39,20 +40,49 @@ impl<L: SiteLink + Drop> Stage<L> {
             return Err(RunFault::Limit);
         }
         if is_built_in(id.as_bytes()) {
-            let begun = self.open_built_in(room - 1, id, &call);
-            drop(call);
-            return begun;
+            let begun = self.open_built_in(room - 1, id, &call)?;
+            return Ok(Called::Begun(begun));
         }
         let place = kit.place(id);
-        Ok(Begun::Opens(Frame::Callback(OpenCallback {
+        let callback = OpenCallback {
             room: room - 1,
             left: FUEL,
             place,
             call,
-        })))
+        };
+        self.turns(kit, callback)
+    }
+
+    // The turns of a callback up to its answer, or to a frame that it waits for.
+    fn turns<K: Callbacks>(
+        &mut self,
+        kit: &K,
+        mut callback: OpenCallback,
+    ) -> Result<Called, RunFault>
+        requires { IsFew 0 callback }
+        ensures { CallsAs L.changes (K.scripts kit.now)
+            (meant L.changes (K.scripts kit.now) (frame.Callback callback)
+            (around (standing L.view L.fixed self.old))
+            (state_of (standing L.view L.fixed self.old)))
+            1 (standing L.view L.fixed self.old) (standing L.view L.fixed self.new) result }
+    {
+        loop {
+            match self.turn(kit, &mut callback)? {
+                Step::Goes => {}
+                Step::Takes(text) => {
+                    callback.with_last(text);
+                }
+                Step::Gives(text) => return Ok(Called::Begun(Begun::Gives(text))),
+                Step::Opens(inner) => {
+                    let held = Held::new(self.machine.allocator(), callback)?;
+                    return Ok(Called::Waits(Frame::Callback(held), inner));
+                }
+            }
+        }
     }
 
     // One of the built-in callbacks on its first argument: one turn.
+    #[inline(never)]
     fn open_built_in(&mut self, room: u32, id: CallbackId, call: &CallIn) -> Result<Begun, RunFault>
         ensures late { one_turn (state_of (standing L.view L.fixed self.old)) ≡ None
             → IsErrOf result RunFault.Limit }
@@ -73,7 +103,7 @@ impl<L: SiteLink + Drop> Stage<L> {
     }
 
     // The next turn.
-    pub(super) fn turn<K: Callbacks>(
+    pub(crate) fn turn<K: Callbacks>(
         &mut self,
         kit: &K,
         callback: &mut OpenCallback,

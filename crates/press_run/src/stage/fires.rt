@@ -11,6 +11,7 @@ ghost use Rattle.press_run.specs.declared.frame.Frame.TheVariants as frame;
 use super::Stage;
 use crate::answers::one_if;
 use crate::frame::{Frame, OpenFires};
+use crate::held::Held;
 use crate::link::SiteLink;
 use crate::links;
 use crate::run_fault::RunFault;
@@ -22,6 +23,7 @@ use std::mem;
 impl<L: SiteLink + Drop> Stage<L> {
     // A change of the site, and the actions that it fires: `1` where something changed.
     // A refused change changes nothing.
+    #[inline(never)]
     pub(super) fn begin_change(
         &mut self,
         room: u32,
@@ -39,10 +41,11 @@ impl<L: SiteLink + Drop> Stage<L> {
         let changed = links::change(alloc, &mut self.site, effect)?;
         let gives = one_if(alloc, changed.did)?;
         let fires = OpenFires::new(room, changed.fires, gives);
-        Ok(Begun::Opens(Frame::Fires(fires)))
+        Ok(Begun::Opens(Frame::Fires(Held::new(alloc, fires)?)))
     }
 
     // Publishes the post with that id in decimal, if it is future and due; the id is the answer.
+    #[inline(never)]
     pub(super) fn begin_publish(&mut self, room: u32, id: Text) -> Result<Begun, RunFault>
         ensures { (scripts : Scripts) → BeginsAs L.changes scripts
             (publish L.changes (at_depth L.changes room scripts) id
@@ -53,13 +56,14 @@ impl<L: SiteLink + Drop> Stage<L> {
         let Some(effect) = effect else {
             return Ok(Begun::Gives(id));
         };
-        let changed = links::change(self.machine.allocator(), &mut self.site, effect)?;
+        let alloc = self.machine.allocator();
+        let changed = links::change(alloc, &mut self.site, effect)?;
         let fires = OpenFires::new(room, changed.fires, id);
-        Ok(Begun::Opens(Frame::Fires(fires)))
+        Ok(Begun::Opens(Frame::Fires(Held::new(alloc, fires)?)))
     }
 
     // The next action is begun; after the last one the answer is given.
-    pub(super) fn fire(&mut self, fires: &mut OpenFires) -> Result<Step, RunFault>
+    pub(crate) fn fire(&mut self, fires: &mut OpenFires) -> Result<Step, RunFault>
         ensures { (scripts : Scripts) → Steps L.changes scripts
             (frame.Fires fires.old) (frame.Fires fires.new)
             (standing L.view L.fixed self.old) (standing L.view L.fixed self.new) result }

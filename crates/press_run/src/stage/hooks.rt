@@ -3,7 +3,7 @@
 ghost use Rattle.std.specs.Prelude.{IsTrue};
 ghost use Rattle.press_hooks.specs.NextEntry.{is_innermost};
 ghost use Rattle.press_callbacks.specs.Kits.{Scripts};
-ghost use Rattle.press_run.specs.Frames.{BeginsAs, Steps, hooked};
+ghost use Rattle.press_run.specs.Frames.{BeginsAs, MovesTo, hooked};
 ghost use Rattle.press_run.specs.Run.{at_depth, do_hook};
 ghost use Rattle.press_run.specs.Outcome.{state_of};
 ghost use Rattle.press_run.specs.Standing.{standing};
@@ -14,12 +14,13 @@ use crate::callbacks::Callbacks;
 use crate::frame::{FUEL, Frame, OpenHook};
 use crate::link::SiteLink;
 use crate::run_fault::RunFault;
-use crate::step::{Begun, Kind, Step};
+use crate::step::{Begun, Kind, Moved, Step};
 use crate::texts;
 use press_text::{HookName, Texts};
 
 impl<L: SiteLink + Drop> Stage<L> {
     // The callbacks of a hook, where so many may be open; without one the hook answers at once.
+    #[inline(never)]
     pub(super) fn begin(
         &mut self,
         room: u32,
@@ -48,6 +49,7 @@ impl<L: SiteLink + Drop> Stage<L> {
     }
 
     // An action: its start is counted, and its answers are ignored.
+    #[inline(never)]
     pub(super) fn begin_action(
         &mut self,
         room: u32,
@@ -69,9 +71,9 @@ impl<L: SiteLink + Drop> Stage<L> {
         &mut self,
         kit: &K,
         run: &mut OpenHook,
-    ) -> Result<Step, RunFault>
+    ) -> Result<Moved, RunFault>
         requires { IsTrue (is_innermost run.old.run self.old.tables.hooks.open_runs) }
-        ensures { Steps L.changes (K.scripts kit.now) (frame.Hook run.old) (frame.Hook run.new)
+        ensures { MovesTo L.changes (K.scripts kit.now) (frame.Hook run.old) (frame.Hook run.new)
             (standing L.view L.fixed self.old) (standing L.view L.fixed self.new) result }
     {
         if run.left == 0 {
@@ -83,10 +85,10 @@ impl<L: SiteLink + Drop> Stage<L> {
             let text = texts::shown(alloc, run.kind, &run.args)?;
             self.tables.hooks.end(run.run);
             self.machine.leave();
-            return Ok(Step::Gives(text));
+            return Ok(Moved::By(Step::Gives(text)));
         };
         let call = texts::hook_call(alloc, &run.args, entry.accepted)?;
-        let begun = self.open(kit, run.room, entry.callback, call)?;
-        Ok(begun.awaited())
+        let called = self.open(kit, run.room, entry.callback, call)?;
+        Ok(called.awaited())
     }
 }

@@ -2,7 +2,7 @@
 
 ghost use Rattle.std.specs.Prelude.{◌^◌};
 ghost use Rattle.press_callbacks.specs.Kits.{Scripts};
-ghost use Rattle.press_run.specs.Frames.{BeginsAs, Ready, Steps, meant, round};
+ghost use Rattle.press_run.specs.Frames.{BeginsAs, MovesTo, Ready, meant, round};
 ghost use Rattle.press_run.specs.Outcome.{GivesText, around, job_meaning, state_of};
 ghost use Rattle.press_run.specs.Standing.{standing};
 
@@ -10,10 +10,11 @@ use super::Stage;
 use crate::callbacks::Callbacks;
 use crate::frame::{Frame, OpenFires};
 use crate::frames::Frames;
+use crate::held::Held;
 use crate::job::Job;
 use crate::link::SiteLink;
 use crate::run_fault::RunFault;
-use crate::step::{Begun, Kind, Step};
+use crate::step::{Begun, Kind, Moved, Step};
 use press_text::Text;
 use std::mem;
 
@@ -29,9 +30,9 @@ impl<L: SiteLink + Drop> Stage<L> {
     {
         match job {
             Job::Fires(fires) => {
-                let gives = Text::new(self.machine.allocator());
-                let fires = OpenFires::new(MOST_OPEN, fires, gives);
-                Ok(Begun::Opens(Frame::Fires(fires)))
+                let alloc = self.machine.allocator();
+                let fires = OpenFires::new(MOST_OPEN, fires, Text::new(alloc));
+                Ok(Begun::Opens(Frame::Fires(Held::new(alloc, fires)?)))
             }
             Job::Apply { hook, args } => {
                 let begun = self.begin(MOST_OPEN, Kind::Filter, &hook, args);
@@ -65,10 +66,14 @@ impl<L: SiteLink + Drop> Stage<L> {
         let mut waiting = Frames::new(self.machine.allocator());
         loop {
             match self.step(kit, &mut top)? {
-                Step::Goes => {}
-                Step::Opens(inner) => waiting.push(mem::replace(&mut top, inner))?,
-                Step::Takes(text) => top.take(text)?,
-                Step::Gives(text) => {
+                Moved::By(Step::Goes) => {}
+                Moved::By(Step::Opens(inner)) => waiting.push(mem::replace(&mut top, inner))?,
+                Moved::Calls(callback, inner) => {
+                    waiting.push(mem::replace(&mut top, inner))?;
+                    waiting.push(callback)?;
+                }
+                Moved::By(Step::Takes(text)) => top.take(text)?,
+                Moved::By(Step::Gives(text)) => {
                     let Some(frame) = waiting.pop() else {
                         return Ok(text);
                     };
@@ -80,16 +85,16 @@ impl<L: SiteLink + Drop> Stage<L> {
     }
 
     // The innermost frame goes on by one turn, entry, action or piece.
-    fn step<K: Callbacks>(&mut self, kit: &K, top: &mut Frame) -> Result<Step, RunFault>
+    fn step<K: Callbacks>(&mut self, kit: &K, top: &mut Frame) -> Result<Moved, RunFault>
         requires { Ready top.old (around (standing L.view L.fixed self.old)) }
-        ensures { Steps L.changes (K.scripts kit.now) top.old top.new
+        ensures { MovesTo L.changes (K.scripts kit.now) top.old top.new
             (standing L.view L.fixed self.old) (standing L.view L.fixed self.new) result }
     {
         match top {
-            Frame::Callback(callback) => self.turn(kit, callback),
+            Frame::Callback(callback) => Ok(Moved::By(callback.turn(self, kit)?)),
             Frame::Hook(run) => self.entry(kit, run),
-            Frame::Fires(fires) => self.fire(fires),
-            Frame::Scan(scan) => self.piece(kit, scan),
+            Frame::Fires(fires) => Ok(Moved::By(fires.fire(self)?)),
+            Frame::Scan(scan) => scan.piece(self, kit),
         }
     }
 }

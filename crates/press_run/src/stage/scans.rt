@@ -4,7 +4,7 @@ ghost use Rattle.std.specs.Prelude.{◌≡◌, ◌≤◌, false, length, IsErrOf
 ghost use Rattle.press_scan.specs.Shortcodes.{IsShortcode, cut};
 ghost use Rattle.press_scan.specs.Tags.{callback_of, names_of};
 ghost use Rattle.press_callbacks.specs.Kits.{Scripts};
-ghost use Rattle.press_run.specs.Frames.{BeginsAs, GoesOn, Steps};
+ghost use Rattle.press_run.specs.Frames.{BeginsAs, CallsAs, GoesOn, MovesTo};
 ghost use Rattle.press_run.specs.Run.{at_depth, is_short, scan, shortcode_call, tag_answer};
 ghost use Rattle.press_run.specs.Outcome.{state_of};
 ghost use Rattle.press_run.specs.Standing.{standing};
@@ -13,15 +13,17 @@ ghost use Rattle.press_run.specs.declared.frame.Frame.TheVariants as frame;
 use super::Stage;
 use crate::callbacks::Callbacks;
 use crate::frame::{Frame, OpenScan};
+use crate::held::Held;
 use crate::link::SiteLink;
 use crate::run_fault::RunFault;
-use crate::step::{Begun, Step};
+use crate::step::{Begun, Called, Moved, Step};
 use crate::{shortcodes, texts};
 use press_scan::{Scan, ScanStep, Shortcode, computes_first, ends_within};
 use press_text::Text;
 
 impl<L: SiteLink + Drop> Stage<L> {
     // What a text means, where so many callbacks may be open.
+    #[inline(never)]
     pub(super) fn begin_scan(&mut self, room: u32, text: Text) -> Result<Begun, RunFault>
         ensures long { is_short text ≡ false → IsErrOf result RunFault.Limit }
         ensures begins { (scripts : Scripts) → BeginsAs L.changes scripts
@@ -33,19 +35,21 @@ impl<L: SiteLink + Drop> Stage<L> {
             return Err(RunFault::Limit);
         }
         let inside = text.into_string()?;
-        let scan = Scan::new(self.machine.allocator(), inside);
-        Ok(Begun::Opens(Frame::Scan(OpenScan { room, scan })))
+        let alloc = self.machine.allocator();
+        let scan = Scan::new(alloc, inside);
+        let held = Held::new(alloc, OpenScan { room, scan })?;
+        Ok(Begun::Opens(Frame::Scan(held)))
     }
 
     // The next piece: text up to a shortcode, an escape, or a shortcode, whose callback is called.
-    pub(super) fn piece<K: Callbacks>(
+    pub(crate) fn piece<K: Callbacks>(
         &mut self,
         kit: &K,
         scan: &mut OpenScan,
-    ) -> Result<Step, RunFault>
+    ) -> Result<Moved, RunFault>
         requires { GoesOn scan.old.scan }
         ensures long { is_short scan.old.scan.output ≡ false → IsErrOf result RunFault.Limit }
-        ensures steps { Steps L.changes (K.scripts kit.now)
+        ensures steps { MovesTo L.changes (K.scripts kit.now)
             (frame.Scan scan.old) (frame.Scan scan.new)
             (standing L.view L.fixed self.old) (standing L.view L.fixed self.new) result }
     {
@@ -55,12 +59,15 @@ impl<L: SiteLink + Drop> Stage<L> {
             return Err(RunFault::Limit);
         }
         match scan.scan.step(&self.tables.tags)? {
-            ScanStep::Text => Ok(Step::Goes),
+            ScanStep::Text => Ok(Moved::By(Step::Goes)),
             ScanStep::Call(shortcode) => {
-                let begun = self.begin_shortcode(kit, scan.room, scan.scan.text(), shortcode)?;
-                Ok(begun.awaited())
+                let called = self.begin_shortcode(kit, scan.room, scan.scan.text(), shortcode)?;
+                Ok(called.awaited())
             }
-            ScanStep::End => Ok(Step::Gives(scan.finish(self.machine.allocator())?)),
+            ScanStep::End => {
+                let text = scan.finish(self.machine.allocator())?;
+                Ok(Moved::By(Step::Gives(text)))
+            }
         }
     }
 
@@ -71,11 +78,11 @@ impl<L: SiteLink + Drop> Stage<L> {
         room: u32,
         text: &str,
         shortcode: Shortcode,
-    ) -> Result<Begun, RunFault>
+    ) -> Result<Called, RunFault>
         requires stands { IsShortcode text.now (names_of self.old.tables.tags)
             shortcode.start shortcode }
         requires short { length text.now ≤ 1048576 }
-        ensures { BeginsAs L.changes (K.scripts kit.now)
+        ensures { CallsAs L.changes (K.scripts kit.now)
             (tag_answer (at_depth L.changes room (K.scripts kit.now))
             (callback_of (cut text.now shortcode.tag) self.old.tables.tags)
             (shortcode_call text.now shortcode) (state_of (standing L.view L.fixed self.old)))
@@ -84,7 +91,7 @@ impl<L: SiteLink + Drop> Stage<L> {
         let alloc = self.machine.allocator();
         let call = shortcodes::shortcode_call(alloc, text, &self.tables.tags, shortcode)?;
         match self.tables.tags.get(call.tag.as_str()) {
-            None => Ok(Begun::Gives(Text::new(alloc))),
+            None => Ok(Called::Begun(Begun::Gives(Text::new(alloc)))),
             Some(id) => self.open(kit, room, id, call),
         }
     }

@@ -1,7 +1,8 @@
 //! What the turns of a callback ask for.
 
+ghost use Rattle.std.specs.Prelude.{◌≤◌};
 ghost use Rattle.press_callbacks.specs.Kits.{Scripts};
-ghost use Rattle.press_run.specs.Frames.{IsFew, Turns};
+ghost use Rattle.press_run.specs.Frames.{IsFew, Turns, group};
 ghost use Rattle.press_run.specs.Standing.{standing};
 
 use super::Stage;
@@ -26,10 +27,76 @@ impl<L: SiteLink + Drop> Stage<L> {
         ensures { (scripts : Scripts) → Turns L.changes scripts callback.old turn callback.new
             (standing L.view L.fixed self.old) (standing L.view L.fixed self.new) result }
     {
-        let alloc = self.machine.allocator();
-        let room = callback.room;
         match turn {
             Turn::Go(value) => Ok(callback.with_value(value)),
+            Turn::Skip(n) => {
+                drop(turn);
+                Ok(callback.further(n))
+            }
+            Turn::Echo(text) => {
+                let pushed = self.out.push(text.as_str());
+                drop(text);
+                pushed?;
+                Ok(callback.further(0))
+            }
+            Turn::Return(text) => Ok(Step::Gives(text)),
+            _ => self.begun(callback, turn),
+        }
+    }
+
+    // A turn that begins something, for which the callback waits.
+    #[inline(never)]
+    fn begun(&mut self, callback: &mut OpenCallback, turn: Turn) -> Result<Step, RunFault>
+        requires few { IsFew 1 callback.old }
+        requires begins { 1 ≤ group turn }
+        ensures { (scripts : Scripts) → Turns L.changes scripts callback.old turn callback.new
+            (standing L.view L.fixed self.old) (standing L.view L.fixed self.new) result }
+    {
+        let room = callback.room;
+        match turn {
+            Turn::Apply { hook, texts } => {
+                let begun = self.begin(room, Kind::Filter, &hook, texts);
+                drop(hook);
+                Ok(begun?.awaited())
+            }
+            Turn::Do { hook, texts } => {
+                let begun = self.begin_action(room, &hook, texts);
+                drop(hook);
+                Ok(begun?.awaited())
+            }
+            Turn::Shortcodes(text) => Ok(self.begin_scan(room, text)?.awaited()),
+            Turn::SetOption { name, value } => {
+                let effect = Some(Effect::SetOption { name, value });
+                Ok(self.begin_change(room, effect)?.awaited())
+            }
+            Turn::Schedule {
+                after,
+                every,
+                hook,
+                arg,
+            } => {
+                let effect = links::schedules(after, every, hook, arg, self.site.site().now());
+                Ok(self.begin_change(room, effect)?.awaited())
+            }
+            Turn::Publish(id) => {
+                let effect = links::publishes(&id, self.site.site().now());
+                drop(id);
+                Ok(self.begin_change(room, effect)?.awaited())
+            }
+            _ => self.edited(callback, turn),
+        }
+    }
+
+    // A turn that edits the tables or asks a question.
+    #[inline(never)]
+    fn edited(&mut self, callback: &mut OpenCallback, turn: Turn) -> Result<Step, RunFault>
+        requires few { IsFew 1 callback.old }
+        requires edits { 2 ≤ group turn }
+        ensures { (scripts : Scripts) → Turns L.changes scripts callback.old turn callback.new
+            (standing L.view L.fixed self.old) (standing L.view L.fixed self.new) result }
+    {
+        let alloc = self.machine.allocator();
+        match turn {
             Turn::AddHook {
                 hook,
                 callback: id,
@@ -64,51 +131,12 @@ impl<L: SiteLink + Drop> Stage<L> {
                 drop(tag);
                 Ok(callback.with_last(one_if(alloc, stood)?))
             }
-            Turn::Skip(n) => {
-                drop(turn);
-                Ok(callback.further(n))
-            }
-            Turn::Apply { hook, texts } => {
-                let begun = self.begin(room, Kind::Filter, &hook, texts);
-                drop(hook);
-                Ok(begun?.awaited())
-            }
-            Turn::Do { hook, texts } => {
-                let begun = self.begin_action(room, &hook, texts);
-                drop(hook);
-                Ok(begun?.awaited())
-            }
-            Turn::Shortcodes(text) => Ok(self.begin_scan(room, text)?.awaited()),
             Turn::Ask(ask) => {
                 let last = self.machine.answer(&self.tables, self.site.site(), &ask);
                 drop(ask);
                 Ok(callback.with_last(last?))
             }
-            Turn::SetOption { name, value } => {
-                let effect = Some(Effect::SetOption { name, value });
-                Ok(self.begin_change(room, effect)?.awaited())
-            }
-            Turn::Schedule {
-                after,
-                every,
-                hook,
-                arg,
-            } => {
-                let effect = links::schedules(after, every, hook, arg, self.site.site().now());
-                Ok(self.begin_change(room, effect)?.awaited())
-            }
-            Turn::Publish(id) => {
-                let effect = links::publishes(&id, self.site.site().now());
-                drop(id);
-                Ok(self.begin_change(room, effect)?.awaited())
-            }
-            Turn::Echo(text) => {
-                let pushed = self.out.push(text.as_str());
-                drop(text);
-                pushed?;
-                Ok(callback.further(0))
-            }
-            Turn::Return(text) => Ok(Step::Gives(text)),
+            _ => unreachable!(),
         }
     }
 }

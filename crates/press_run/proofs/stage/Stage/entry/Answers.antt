@@ -15,17 +15,17 @@ returns-in_default g c =
     entry_ends g.L.SiteLink.changes (g.K.Callbacks.scripts c.args.kit.now) c.args.run.now (standing g.L.SiteLink.view g.L.SiteLink.fixed c.args.self.now) c.next.new.self more c.requires c.in_ok-entry.ensures.advanced
     c.end.new.self c.leave.new.self c.in_ok-text.text none c.end.ensures c.leave.ensures c.in_ok-text.ensures
 
-pub returns-in_err-begun : goal.returns-in_err-begun
-returns-in_err-begun g c =
-    let p = err_from_is_err_and c.from_residual-in_err-begun.result c.from_residual-in_err-begun.ensures.1 in
+pub returns-in_err-called : goal.returns-in_err-called
+returns-in_err-called g c =
+    let p = err_from_is_err_and c.from_residual-in_err-called.result c.from_residual-in_err-called.ensures.1 in
     let more : 0 < c.args.run.now.left = omega arith in
     let some : Some c.in-Some.entry ≡ entry_next c.args.self.now.tables.hooks.rows c.args.self.now.tables.hooks.open_runs = sym c.in-Some.is ∙ c.in_ok-entry.ensures.given in
     rw (p.1, p.2) (entry_stops g.L.SiteLink.changes (g.K.Callbacks.scripts c.args.kit.now) c.args.run.now (standing g.L.SiteLink.view g.L.SiteLink.fixed c.args.self.now) c.next.new.self more c.requires c.in_ok-entry.ensures.advanced
-    c.in-Some.entry c.in_ok-call.call some c.in_ok-call.ensures c.in_err-begun.field-0.0 c.in_err-begun.ensures.begins)
+    c.in-Some.entry c.in_ok-call.call some c.in_ok-call.ensures c.in_err-called.field-0.0 c.in_err-called.ensures.begins)
 
 pub returns : goal.returns
 returns g c =
     let more : 0 < c.args.run.now.left = omega arith in
     let some : Some c.in-Some.entry ≡ entry_next c.args.self.now.tables.hooks.rows c.args.self.now.tables.hooks.open_runs = sym c.in-Some.is ∙ c.in_ok-entry.ensures.given in
     rw c.awaited.ensures (entry_calls g.L.SiteLink.changes (g.K.Callbacks.scripts c.args.kit.now) c.args.run.now (standing g.L.SiteLink.view g.L.SiteLink.fixed c.args.self.now) c.next.new.self more c.requires c.in_ok-entry.ensures.advanced
-    c.in-Some.entry c.in_ok-call.call some c.in_ok-call.ensures (standing g.L.SiteLink.view g.L.SiteLink.fixed c.open.new.self) c.in_ok-begun.begun c.in_ok-begun.ensures.begins)
+    c.in-Some.entry c.in_ok-call.call some c.in_ok-call.ensures (standing g.L.SiteLink.view g.L.SiteLink.fixed c.open.new.self) c.in_ok-called.called c.in_ok-called.ensures.begins)

@@ -3,7 +3,7 @@ use Rattle.std.proofs.lemmas.Result.{err_from_is_err_and}
 use Rattle.press_run.specs.Frames.{meant, round}
 use Rattle.press_run.specs.Outcome.{around, state_of}
 use Rattle.press_run.specs.Standing.{standing}
-use Rattle.press_run.proofs.Resumed.{begins, ends, gives, gives_less, opens, opens_less, pops, stops}
+use Rattle.press_run.proofs.Resumed.{begins, ends, gives, gives_less, nests, nests_less, opens, opens_less, pops, stops}
 use Rattle.press_run.proofs.stage.Stage.play.Goals as goal
 
 pub loop-waiting-init : goal.loop-waiting-init
@@ -14,32 +14,42 @@ returns-in_err-step g c =
     let p = err_from_is_err_and c.from_residual.result c.from_residual.ensures.1 in
     rw (p.1, p.2) (stops g.L.SiteLink.changes (g.K.Callbacks.scripts c.args.kit.now) (meant g.L.SiteLink.changes (g.K.Callbacks.scripts c.args.kit.now) c.args.top (around (standing g.L.SiteLink.view g.L.SiteLink.fixed c.args.self.now)) (state_of (standing g.L.SiteLink.view g.L.SiteLink.fixed c.args.self.now))) (round c.args.top (around (standing g.L.SiteLink.view g.L.SiteLink.fixed c.args.self.now))) c.loop-waiting.waiting c.loop-waiting.top (standing g.L.SiteLink.view g.L.SiteLink.fixed c.loop-waiting.self) c.loop-waiting.invariant c.in_err-step.field-0.0 c.in_err-step.ensures)
 
-pub loop-waiting-smaller-in-Continue-branch-3 : goal.loop-waiting-smaller-in-Continue-branch-3
-loop-waiting-smaller-in-Continue-branch-3 g c =
+pub loop-waiting-smaller-in-Continue-branch-4 : goal.loop-waiting-smaller-in-Continue-branch-4
+loop-waiting-smaller-in-Continue-branch-4 g c =
     opens_less g.L.SiteLink.changes (g.K.Callbacks.scripts c.args.kit.now) (meant g.L.SiteLink.changes (g.K.Callbacks.scripts c.args.kit.now) c.args.top (around (standing g.L.SiteLink.view g.L.SiteLink.fixed c.args.self.now)) (state_of (standing g.L.SiteLink.view g.L.SiteLink.fixed c.args.self.now))) (round c.args.top (around (standing g.L.SiteLink.view g.L.SiteLink.fixed c.args.self.now))) c.loop-waiting.waiting c.loop-waiting.top (standing g.L.SiteLink.view g.L.SiteLink.fixed c.loop-waiting.self) c.loop-waiting.invariant
-    c.step.new.top c.in-Opens.inner c.replace.new.dest c.push.new.self (standing g.L.SiteLink.view g.L.SiteLink.fixed c.step.new.self) c.replace.ensures.after (c.in_ok-push-in-Opens.ensures ∙ ap (λ f. f ∷ c.loop-waiting.waiting) c.replace.ensures.value) (rw c.in-Opens.is at c.in_ok-step.ensures)
+    c.step.new.top c.in-By-Opens.inner c.replace.new.dest c.push.new.self (standing g.L.SiteLink.view g.L.SiteLink.fixed c.step.new.self) c.replace.ensures.after (c.in_ok-push-in-By-Opens.ensures ∙ ap (λ f. f ∷ c.loop-waiting.waiting) c.replace.ensures.value) (rw (c.in-By-Opens.is, c.in-By-Opens.field-0-is) at c.in_ok-step.ensures)
 
-pub loop-waiting-preserved-in-Continue-branch-3 : goal.loop-waiting-preserved-in-Continue-branch-3
-loop-waiting-preserved-in-Continue-branch-3 g c =
+pub loop-waiting-preserved-in-Continue-branch-4 : goal.loop-waiting-preserved-in-Continue-branch-4
+loop-waiting-preserved-in-Continue-branch-4 g c =
     opens g.L.SiteLink.changes (g.K.Callbacks.scripts c.args.kit.now) (meant g.L.SiteLink.changes (g.K.Callbacks.scripts c.args.kit.now) c.args.top (around (standing g.L.SiteLink.view g.L.SiteLink.fixed c.args.self.now)) (state_of (standing g.L.SiteLink.view g.L.SiteLink.fixed c.args.self.now))) (round c.args.top (around (standing g.L.SiteLink.view g.L.SiteLink.fixed c.args.self.now))) c.loop-waiting.waiting c.loop-waiting.top (standing g.L.SiteLink.view g.L.SiteLink.fixed c.loop-waiting.self) c.loop-waiting.invariant
-    c.step.new.top c.in-Opens.inner c.replace.new.dest c.push.new.self (standing g.L.SiteLink.view g.L.SiteLink.fixed c.step.new.self) c.replace.ensures.after (c.in_ok-push-in-Opens.ensures ∙ ap (λ f. f ∷ c.loop-waiting.waiting) c.replace.ensures.value) (rw c.in-Opens.is at c.in_ok-step.ensures)
+    c.step.new.top c.in-By-Opens.inner c.replace.new.dest c.push.new.self (standing g.L.SiteLink.view g.L.SiteLink.fixed c.step.new.self) c.replace.ensures.after (c.in_ok-push-in-By-Opens.ensures ∙ ap (λ f. f ∷ c.loop-waiting.waiting) c.replace.ensures.value) (rw (c.in-By-Opens.is, c.in-By-Opens.field-0-is) at c.in_ok-step.ensures)
 
 pub returns-in_default : goal.returns-in_default
 returns-in_default g c =
     ends g.L.SiteLink.changes (g.K.Callbacks.scripts c.args.kit.now) (meant g.L.SiteLink.changes (g.K.Callbacks.scripts c.args.kit.now) c.args.top (around (standing g.L.SiteLink.view g.L.SiteLink.fixed c.args.self.now)) (state_of (standing g.L.SiteLink.view g.L.SiteLink.fixed c.args.self.now))) (round c.args.top (around (standing g.L.SiteLink.view g.L.SiteLink.fixed c.args.self.now))) c.loop-waiting.waiting c.loop-waiting.top (standing g.L.SiteLink.view g.L.SiteLink.fixed c.loop-waiting.self) c.loop-waiting.invariant
-    c.in-Gives.text (standing g.L.SiteLink.view g.L.SiteLink.fixed c.step.new.self) (rw c.in-Gives.is at c.in_ok-step.ensures) c.in_default.ensures.0
+    c.in-By-Gives.text (standing g.L.SiteLink.view g.L.SiteLink.fixed c.step.new.self) (rw (c.in-By-Gives.is, c.in-By-Gives.field-0-is) at c.in_ok-step.ensures) c.in_default.ensures.0
 
-pub take-requires-in-Gives : goal.take-requires-in-Gives
-take-requires-in-Gives g c =
+pub take-requires-in-By-Gives : goal.take-requires-in-By-Gives
+take-requires-in-By-Gives g c =
     pops g.L.SiteLink.changes (g.K.Callbacks.scripts c.args.kit.now) (meant g.L.SiteLink.changes (g.K.Callbacks.scripts c.args.kit.now) c.args.top (around (standing g.L.SiteLink.view g.L.SiteLink.fixed c.args.self.now)) (state_of (standing g.L.SiteLink.view g.L.SiteLink.fixed c.args.self.now))) (round c.args.top (around (standing g.L.SiteLink.view g.L.SiteLink.fixed c.args.self.now))) c.loop-waiting.waiting c.loop-waiting.top (standing g.L.SiteLink.view g.L.SiteLink.fixed c.loop-waiting.self) c.loop-waiting.invariant
-    c.in-Gives.text (standing g.L.SiteLink.view g.L.SiteLink.fixed c.step.new.self) (rw c.in-Gives.is at c.in_ok-step.ensures) c.in-Some.frame c.in-Some.frame c.pop.new.self c.in-Some.ensures
+    c.in-By-Gives.text (standing g.L.SiteLink.view g.L.SiteLink.fixed c.step.new.self) (rw (c.in-By-Gives.is, c.in-By-Gives.field-0-is) at c.in_ok-step.ensures) c.in-Some.frame c.in-Some.frame c.pop.new.self c.in-Some.ensures
+
+pub loop-waiting-smaller-in-Continue-branch-6 : goal.loop-waiting-smaller-in-Continue-branch-6
+loop-waiting-smaller-in-Continue-branch-6 g c =
+    gives_less g.L.SiteLink.changes (g.K.Callbacks.scripts c.args.kit.now) (meant g.L.SiteLink.changes (g.K.Callbacks.scripts c.args.kit.now) c.args.top (around (standing g.L.SiteLink.view g.L.SiteLink.fixed c.args.self.now)) (state_of (standing g.L.SiteLink.view g.L.SiteLink.fixed c.args.self.now))) (round c.args.top (around (standing g.L.SiteLink.view g.L.SiteLink.fixed c.args.self.now))) c.loop-waiting.waiting c.loop-waiting.top (standing g.L.SiteLink.view g.L.SiteLink.fixed c.loop-waiting.self) c.loop-waiting.invariant
+    c.in-By-Gives.text (standing g.L.SiteLink.view g.L.SiteLink.fixed c.step.new.self) (rw (c.in-By-Gives.is, c.in-By-Gives.field-0-is) at c.in_ok-step.ensures) c.in-Some.frame c.take-in-By-Gives.new.self c.pop.new.self c.in-Some.ensures c.in_ok-take-in-By-Gives.ensures
+
+pub loop-waiting-preserved-in-Continue-branch-6 : goal.loop-waiting-preserved-in-Continue-branch-6
+loop-waiting-preserved-in-Continue-branch-6 g c =
+    gives g.L.SiteLink.changes (g.K.Callbacks.scripts c.args.kit.now) (meant g.L.SiteLink.changes (g.K.Callbacks.scripts c.args.kit.now) c.args.top (around (standing g.L.SiteLink.view g.L.SiteLink.fixed c.args.self.now)) (state_of (standing g.L.SiteLink.view g.L.SiteLink.fixed c.args.self.now))) (round c.args.top (around (standing g.L.SiteLink.view g.L.SiteLink.fixed c.args.self.now))) c.loop-waiting.waiting c.loop-waiting.top (standing g.L.SiteLink.view g.L.SiteLink.fixed c.loop-waiting.self) c.loop-waiting.invariant
+    c.in-By-Gives.text (standing g.L.SiteLink.view g.L.SiteLink.fixed c.step.new.self) (rw (c.in-By-Gives.is, c.in-By-Gives.field-0-is) at c.in_ok-step.ensures) c.in-Some.frame c.take-in-By-Gives.new.self c.pop.new.self c.in-Some.ensures c.in_ok-take-in-By-Gives.ensures
 
 pub loop-waiting-smaller : goal.loop-waiting-smaller
 loop-waiting-smaller g c =
-    gives_less g.L.SiteLink.changes (g.K.Callbacks.scripts c.args.kit.now) (meant g.L.SiteLink.changes (g.K.Callbacks.scripts c.args.kit.now) c.args.top (around (standing g.L.SiteLink.view g.L.SiteLink.fixed c.args.self.now)) (state_of (standing g.L.SiteLink.view g.L.SiteLink.fixed c.args.self.now))) (round c.args.top (around (standing g.L.SiteLink.view g.L.SiteLink.fixed c.args.self.now))) c.loop-waiting.waiting c.loop-waiting.top (standing g.L.SiteLink.view g.L.SiteLink.fixed c.loop-waiting.self) c.loop-waiting.invariant
-    c.in-Gives.text (standing g.L.SiteLink.view g.L.SiteLink.fixed c.step.new.self) (rw c.in-Gives.is at c.in_ok-step.ensures) c.in-Some.frame c.take-in-Gives.new.self c.pop.new.self c.in-Some.ensures c.in_ok-take-in-Gives.ensures
+    nests_less g.L.SiteLink.changes (g.K.Callbacks.scripts c.args.kit.now) (meant g.L.SiteLink.changes (g.K.Callbacks.scripts c.args.kit.now) c.args.top (around (standing g.L.SiteLink.view g.L.SiteLink.fixed c.args.self.now)) (state_of (standing g.L.SiteLink.view g.L.SiteLink.fixed c.args.self.now))) (round c.args.top (around (standing g.L.SiteLink.view g.L.SiteLink.fixed c.args.self.now))) c.loop-waiting.waiting c.loop-waiting.top (standing g.L.SiteLink.view g.L.SiteLink.fixed c.loop-waiting.self) c.loop-waiting.invariant
+    c.step.new.top c.in-Calls.callback c.in-Calls.inner c.replace-in-Calls.new.dest c.push-in-Calls.new.self c.push-in-Calls-2.new.self (standing g.L.SiteLink.view g.L.SiteLink.fixed c.step.new.self) c.replace-in-Calls.ensures.after (c.in_ok-push-in-Calls.ensures ∙ ap (λ f. f ∷ c.loop-waiting.waiting) c.replace-in-Calls.ensures.value) c.in_ok-push-in-Calls-2.ensures (rw c.in-Calls.is at c.in_ok-step.ensures)
 
 pub loop-waiting-preserved : goal.loop-waiting-preserved
 loop-waiting-preserved g c =
-    gives g.L.SiteLink.changes (g.K.Callbacks.scripts c.args.kit.now) (meant g.L.SiteLink.changes (g.K.Callbacks.scripts c.args.kit.now) c.args.top (around (standing g.L.SiteLink.view g.L.SiteLink.fixed c.args.self.now)) (state_of (standing g.L.SiteLink.view g.L.SiteLink.fixed c.args.self.now))) (round c.args.top (around (standing g.L.SiteLink.view g.L.SiteLink.fixed c.args.self.now))) c.loop-waiting.waiting c.loop-waiting.top (standing g.L.SiteLink.view g.L.SiteLink.fixed c.loop-waiting.self) c.loop-waiting.invariant
-    c.in-Gives.text (standing g.L.SiteLink.view g.L.SiteLink.fixed c.step.new.self) (rw c.in-Gives.is at c.in_ok-step.ensures) c.in-Some.frame c.take-in-Gives.new.self c.pop.new.self c.in-Some.ensures c.in_ok-take-in-Gives.ensures
+    nests g.L.SiteLink.changes (g.K.Callbacks.scripts c.args.kit.now) (meant g.L.SiteLink.changes (g.K.Callbacks.scripts c.args.kit.now) c.args.top (around (standing g.L.SiteLink.view g.L.SiteLink.fixed c.args.self.now)) (state_of (standing g.L.SiteLink.view g.L.SiteLink.fixed c.args.self.now))) (round c.args.top (around (standing g.L.SiteLink.view g.L.SiteLink.fixed c.args.self.now))) c.loop-waiting.waiting c.loop-waiting.top (standing g.L.SiteLink.view g.L.SiteLink.fixed c.loop-waiting.self) c.loop-waiting.invariant
+    c.step.new.top c.in-Calls.callback c.in-Calls.inner c.replace-in-Calls.new.dest c.push-in-Calls.new.self c.push-in-Calls-2.new.self (standing g.L.SiteLink.view g.L.SiteLink.fixed c.step.new.self) c.replace-in-Calls.ensures.after (c.in_ok-push-in-Calls.ensures ∙ ap (λ f. f ∷ c.loop-waiting.waiting) c.replace-in-Calls.ensures.value) c.in_ok-push-in-Calls-2.ensures (rw c.in-Calls.is at c.in_ok-step.ensures)

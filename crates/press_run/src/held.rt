@@ -1,0 +1,110 @@
+//! What frames hold in a box, so that they are moved as a few words.
+
+ghost use Rattle.std.specs.Prelude.{◌≡◌, ◌<◌, ◌^◌, IfOk, IsSome, OnOk};
+ghost use Rattle.press_callbacks.specs.Kits.{Scripts};
+ghost use Rattle.press_run.specs.Run.{next_call};
+ghost use Rattle.press_run.specs.Frames.{GoesOn, IsFew, MovesTo, Steps, put};
+ghost use Rattle.press_run.specs.Standing.{standing};
+ghost use Rattle.press_run.specs.declared.frame.Frame.TheVariants as frame;
+
+use crate::callbacks::Callbacks;
+use crate::frame::{OpenCallback, OpenFires, OpenScan};
+use crate::link::SiteLink;
+use crate::run_fault::RunFault;
+use crate::stage::Stage;
+use crate::step::{Moved, Step};
+use press_text::Text;
+use std::alloc::{AllocError, Global};
+use std::marker::Model;
+
+/// A value in a box, which contracts see as that value.
+pub struct Held<T> {
+    inside: Box<T>,
+}
+
+impl<T: Drop> Drop for Held<T> {
+    fn drop(self) {
+        let Held { inside: _ } = self;
+    }
+}
+
+impl<T> Model for Held<T> {
+    ghost use Rattle.std.specs.Prelude.{◌≡◌};
+
+    ghost Value = { T };
+
+    ghost view = { λ h. h.inside.value };
+}
+
+impl<T: Drop> Held<T> {
+    pub fn new(alloc: Global, value: T) -> Result<Held<T>, AllocError>
+        ensures { IfOk result (λ h. h ≡ value) }
+    {
+        match Box::new(alloc, value) {
+            Ok(inside) => Ok(Held { inside }),
+            Err(_) => Err(AllocError),
+        }
+    }
+}
+
+impl Held<OpenCallback> {
+    /// Its next turn.
+    pub fn turn<L: SiteLink + Drop, K: Callbacks>(
+        &mut self,
+        stage: &mut Stage<L>,
+        kit: &K,
+    ) -> Result<Step, RunFault>
+        requires { IsFew 0 self.old }
+        ensures { Steps L.changes (K.scripts kit.now)
+            (frame.Callback self.old) (frame.Callback self.new)
+            (standing L.view L.fixed stage.old) (standing L.view L.fixed stage.new) result }
+    {
+        stage.turn(kit, &mut self.inside)
+    }
+
+    pub fn with_last(&mut self, last: Text) -> Step
+        requires { self.old.call.turn < 2 ^ 40 }
+        ensures next { self.new ≡ record self.old {
+          call = next_call self.old.call self.old.call.value last 0;
+        } }
+    {
+        self.inside.with_last(last)
+    }
+}
+
+impl Held<OpenFires> {
+    /// Its next action.
+    pub fn fire<L: SiteLink + Drop>(&mut self, stage: &mut Stage<L>) -> Result<Step, RunFault>
+        ensures { (scripts : Scripts) → Steps L.changes scripts
+            (frame.Fires self.old) (frame.Fires self.new)
+            (standing L.view L.fixed stage.old) (standing L.view L.fixed stage.new) result }
+    {
+        stage.fire(&mut self.inside)
+    }
+}
+
+impl Held<OpenScan> {
+    /// Its next piece.
+    pub fn piece<L: SiteLink + Drop, K: Callbacks>(
+        &mut self,
+        stage: &mut Stage<L>,
+        kit: &K,
+    ) -> Result<Moved, RunFault>
+        requires { GoesOn self.old.scan }
+        ensures { MovesTo L.changes (K.scripts kit.now)
+            (frame.Scan self.old) (frame.Scan self.new)
+            (standing L.view L.fixed stage.old) (standing L.view L.fixed stage.new) result }
+    {
+        stage.piece(kit, &mut self.inside)
+    }
+
+    // The answer to the shortcode that the scan waits for.
+    pub fn take(&mut self, text: Text) -> Result<(), AllocError>
+        requires { IsSome self.old.scan.waiting }
+        ensures { OnOk result (self.new ≡ record self.old {
+          scan = put self.old.scan.waiting self.old.scan text;
+        }) }
+    {
+        self.inside.take(text)
+    }
+}
