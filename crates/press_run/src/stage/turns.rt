@@ -1,5 +1,6 @@
 //! What the turns of a callback ask for.
 
+ghost use Rattle.std.specs.Prelude.{◌≡◌};
 ghost use Rattle.press_callbacks.specs.Kits.{Scripts};
 ghost use Rattle.press_run.specs.Frames.{IsFew, Turns};
 ghost use Rattle.press_run.specs.Standing.{standing};
@@ -23,8 +24,9 @@ impl<L: SiteLink + Drop> Stage<L> {
         turn: Turn,
     ) -> Result<Step, RunFault>
         requires { IsFew 1 callback.old }
-        ensures { (scripts : Scripts) → Turns L.changes scripts callback.old turn callback.new
+        ensures steps { (scripts : Scripts) → Turns L.changes scripts callback.old turn callback.new
             (standing L.view L.fixed self.old) (standing L.view L.fixed self.new) result }
+        ensures fixed { L.fixed self.new.site ≡ L.fixed self.old.site }
     {
         let alloc = self.machine.allocator();
         let room = callback.room;

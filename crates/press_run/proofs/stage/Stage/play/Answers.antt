@@ -9,37 +9,37 @@ use Rattle.press_run.proofs.stage.Stage.play.Goals as goal
 pub loop-waiting-init : goal.loop-waiting-init
 loop-waiting-init g c = rw c.new-waiting.ensures (begins g.L.SiteLink.changes (g.K.Callbacks.scripts c.args.kit.now) c.args.top (standing g.L.SiteLink.view g.L.SiteLink.fixed c.args.self.now) c.requires)
 
-pub returns-in_err-step : goal.returns-in_err-step
-returns-in_err-step g c =
+pub returns-in_err-step-clause-gives : goal.returns-in_err-step-clause-gives
+returns-in_err-step-clause-gives g c =
     let p = err_from_is_err_and c.from_residual.result c.from_residual.ensures.1 in
-    rw (p.1, p.2) (stops g.L.SiteLink.changes (g.K.Callbacks.scripts c.args.kit.now) (meant g.L.SiteLink.changes (g.K.Callbacks.scripts c.args.kit.now) c.args.top (around (standing g.L.SiteLink.view g.L.SiteLink.fixed c.args.self.now)) (state_of (standing g.L.SiteLink.view g.L.SiteLink.fixed c.args.self.now))) (round c.args.top (around (standing g.L.SiteLink.view g.L.SiteLink.fixed c.args.self.now))) c.loop-waiting.waiting c.loop-waiting.top (standing g.L.SiteLink.view g.L.SiteLink.fixed c.loop-waiting.self) c.loop-waiting.invariant c.in_err-step.field-0.0 c.in_err-step.ensures)
+    rw (p.1, p.2) (stops g.L.SiteLink.changes (g.K.Callbacks.scripts c.args.kit.now) (meant g.L.SiteLink.changes (g.K.Callbacks.scripts c.args.kit.now) c.args.top (around (standing g.L.SiteLink.view g.L.SiteLink.fixed c.args.self.now)) (state_of (standing g.L.SiteLink.view g.L.SiteLink.fixed c.args.self.now))) (round c.args.top (around (standing g.L.SiteLink.view g.L.SiteLink.fixed c.args.self.now))) c.loop-waiting.waiting c.loop-waiting.top (standing g.L.SiteLink.view g.L.SiteLink.fixed c.loop-waiting.self) c.loop-waiting.invariant c.in_err-step.field-0.0 c.in_err-step.ensures.steps)
 
 pub loop-waiting-smaller-in-Continue-branch-3 : goal.loop-waiting-smaller-in-Continue-branch-3
 loop-waiting-smaller-in-Continue-branch-3 g c =
     opens_less g.L.SiteLink.changes (g.K.Callbacks.scripts c.args.kit.now) (meant g.L.SiteLink.changes (g.K.Callbacks.scripts c.args.kit.now) c.args.top (around (standing g.L.SiteLink.view g.L.SiteLink.fixed c.args.self.now)) (state_of (standing g.L.SiteLink.view g.L.SiteLink.fixed c.args.self.now))) (round c.args.top (around (standing g.L.SiteLink.view g.L.SiteLink.fixed c.args.self.now))) c.loop-waiting.waiting c.loop-waiting.top (standing g.L.SiteLink.view g.L.SiteLink.fixed c.loop-waiting.self) c.loop-waiting.invariant
-    c.step.new.top c.in-Opens.inner c.replace.new.dest c.push.new.self (standing g.L.SiteLink.view g.L.SiteLink.fixed c.step.new.self) c.replace.ensures.after (c.in_ok-push-in-Opens.ensures ∙ ap (λ f. f ∷ c.loop-waiting.waiting) c.replace.ensures.value) (rw c.in-Opens.is at c.in_ok-step.ensures)
+    c.step.new.top c.in-Opens.inner c.replace.new.dest c.push.new.self (standing g.L.SiteLink.view g.L.SiteLink.fixed c.step.new.self) c.replace.ensures.after (c.in_ok-push-in-Opens.ensures ∙ ap (λ f. f ∷ c.loop-waiting.waiting) c.replace.ensures.value) (rw c.in-Opens.is at c.in_ok-step.ensures.steps)
 
 pub loop-waiting-preserved-in-Continue-branch-3 : goal.loop-waiting-preserved-in-Continue-branch-3
 loop-waiting-preserved-in-Continue-branch-3 g c =
     opens g.L.SiteLink.changes (g.K.Callbacks.scripts c.args.kit.now) (meant g.L.SiteLink.changes (g.K.Callbacks.scripts c.args.kit.now) c.args.top (around (standing g.L.SiteLink.view g.L.SiteLink.fixed c.args.self.now)) (state_of (standing g.L.SiteLink.view g.L.SiteLink.fixed c.args.self.now))) (round c.args.top (around (standing g.L.SiteLink.view g.L.SiteLink.fixed c.args.self.now))) c.loop-waiting.waiting c.loop-waiting.top (standing g.L.SiteLink.view g.L.SiteLink.fixed c.loop-waiting.self) c.loop-waiting.invariant
-    c.step.new.top c.in-Opens.inner c.replace.new.dest c.push.new.self (standing g.L.SiteLink.view g.L.SiteLink.fixed c.step.new.self) c.replace.ensures.after (c.in_ok-push-in-Opens.ensures ∙ ap (λ f. f ∷ c.loop-waiting.waiting) c.replace.ensures.value) (rw c.in-Opens.is at c.in_ok-step.ensures)
+    c.step.new.top c.in-Opens.inner c.replace.new.dest c.push.new.self (standing g.L.SiteLink.view g.L.SiteLink.fixed c.step.new.self) c.replace.ensures.after (c.in_ok-push-in-Opens.ensures ∙ ap (λ f. f ∷ c.loop-waiting.waiting) c.replace.ensures.value) (rw c.in-Opens.is at c.in_ok-step.ensures.steps)
 
-pub returns-in_default : goal.returns-in_default
-returns-in_default g c =
+pub returns-in_default-clause-gives : goal.returns-in_default-clause-gives
+returns-in_default-clause-gives g c =
     ends g.L.SiteLink.changes (g.K.Callbacks.scripts c.args.kit.now) (meant g.L.SiteLink.changes (g.K.Callbacks.scripts c.args.kit.now) c.args.top (around (standing g.L.SiteLink.view g.L.SiteLink.fixed c.args.self.now)) (state_of (standing g.L.SiteLink.view g.L.SiteLink.fixed c.args.self.now))) (round c.args.top (around (standing g.L.SiteLink.view g.L.SiteLink.fixed c.args.self.now))) c.loop-waiting.waiting c.loop-waiting.top (standing g.L.SiteLink.view g.L.SiteLink.fixed c.loop-waiting.self) c.loop-waiting.invariant
-    c.in-Gives.text (standing g.L.SiteLink.view g.L.SiteLink.fixed c.step.new.self) (rw c.in-Gives.is at c.in_ok-step.ensures) c.in_default.ensures.0
+    c.in-Gives.text (standing g.L.SiteLink.view g.L.SiteLink.fixed c.step.new.self) (rw c.in-Gives.is at c.in_ok-step.ensures.steps) c.in_default.ensures.0
 
 pub take-requires-in-Gives : goal.take-requires-in-Gives
 take-requires-in-Gives g c =
     pops g.L.SiteLink.changes (g.K.Callbacks.scripts c.args.kit.now) (meant g.L.SiteLink.changes (g.K.Callbacks.scripts c.args.kit.now) c.args.top (around (standing g.L.SiteLink.view g.L.SiteLink.fixed c.args.self.now)) (state_of (standing g.L.SiteLink.view g.L.SiteLink.fixed c.args.self.now))) (round c.args.top (around (standing g.L.SiteLink.view g.L.SiteLink.fixed c.args.self.now))) c.loop-waiting.waiting c.loop-waiting.top (standing g.L.SiteLink.view g.L.SiteLink.fixed c.loop-waiting.self) c.loop-waiting.invariant
-    c.in-Gives.text (standing g.L.SiteLink.view g.L.SiteLink.fixed c.step.new.self) (rw c.in-Gives.is at c.in_ok-step.ensures) c.in-Some.frame c.in-Some.frame c.pop.new.self c.in-Some.ensures
+    c.in-Gives.text (standing g.L.SiteLink.view g.L.SiteLink.fixed c.step.new.self) (rw c.in-Gives.is at c.in_ok-step.ensures.steps) c.in-Some.frame c.in-Some.frame c.pop.new.self c.in-Some.ensures
 
 pub loop-waiting-smaller : goal.loop-waiting-smaller
 loop-waiting-smaller g c =
     gives_less g.L.SiteLink.changes (g.K.Callbacks.scripts c.args.kit.now) (meant g.L.SiteLink.changes (g.K.Callbacks.scripts c.args.kit.now) c.args.top (around (standing g.L.SiteLink.view g.L.SiteLink.fixed c.args.self.now)) (state_of (standing g.L.SiteLink.view g.L.SiteLink.fixed c.args.self.now))) (round c.args.top (around (standing g.L.SiteLink.view g.L.SiteLink.fixed c.args.self.now))) c.loop-waiting.waiting c.loop-waiting.top (standing g.L.SiteLink.view g.L.SiteLink.fixed c.loop-waiting.self) c.loop-waiting.invariant
-    c.in-Gives.text (standing g.L.SiteLink.view g.L.SiteLink.fixed c.step.new.self) (rw c.in-Gives.is at c.in_ok-step.ensures) c.in-Some.frame c.take-in-Gives.new.self c.pop.new.self c.in-Some.ensures c.in_ok-take-in-Gives.ensures
+    c.in-Gives.text (standing g.L.SiteLink.view g.L.SiteLink.fixed c.step.new.self) (rw c.in-Gives.is at c.in_ok-step.ensures.steps) c.in-Some.frame c.take-in-Gives.new.self c.pop.new.self c.in-Some.ensures c.in_ok-take-in-Gives.ensures
 
 pub loop-waiting-preserved : goal.loop-waiting-preserved
 loop-waiting-preserved g c =
     gives g.L.SiteLink.changes (g.K.Callbacks.scripts c.args.kit.now) (meant g.L.SiteLink.changes (g.K.Callbacks.scripts c.args.kit.now) c.args.top (around (standing g.L.SiteLink.view g.L.SiteLink.fixed c.args.self.now)) (state_of (standing g.L.SiteLink.view g.L.SiteLink.fixed c.args.self.now))) (round c.args.top (around (standing g.L.SiteLink.view g.L.SiteLink.fixed c.args.self.now))) c.loop-waiting.waiting c.loop-waiting.top (standing g.L.SiteLink.view g.L.SiteLink.fixed c.loop-waiting.self) c.loop-waiting.invariant
-    c.in-Gives.text (standing g.L.SiteLink.view g.L.SiteLink.fixed c.step.new.self) (rw c.in-Gives.is at c.in_ok-step.ensures) c.in-Some.frame c.take-in-Gives.new.self c.pop.new.self c.in-Some.ensures c.in_ok-take-in-Gives.ensures
+    c.in-Gives.text (standing g.L.SiteLink.view g.L.SiteLink.fixed c.step.new.self) (rw c.in-Gives.is at c.in_ok-step.ensures.steps) c.in-Some.frame c.take-in-Gives.new.self c.pop.new.self c.in-Some.ensures c.in_ok-take-in-Gives.ensures
