@@ -3,7 +3,7 @@ use Rattle.std.proofs.lemmas.Result.{err_from_is_err_and}
 use Rattle.press_run.specs.Frames.{meant, round}
 use Rattle.press_run.specs.Outcome.{around, state_of}
 use Rattle.press_run.specs.Standing.{standing}
-use Rattle.press_run.proofs.Resumed.{begins, ends, gives, gives_less, opens, opens_less, pops, stops}
+use Rattle.press_run.proofs.Resumed.{begins, ends, gives, gives_less, opens, opens_less, plays_fixed, pops, stops}
 use Rattle.press_run.proofs.stage.Stage.play.Goals as goal
 
 pub loop-waiting-init : goal.loop-waiting-init
@@ -43,3 +43,18 @@ pub loop-waiting-preserved : goal.loop-waiting-preserved
 loop-waiting-preserved g c =
     gives g.L.SiteLink.changes (g.K.Callbacks.scripts c.args.kit.now) (meant g.L.SiteLink.changes (g.K.Callbacks.scripts c.args.kit.now) c.args.top (around (standing g.L.SiteLink.view g.L.SiteLink.fixed c.args.self.now)) (state_of (standing g.L.SiteLink.view g.L.SiteLink.fixed c.args.self.now))) (round c.args.top (around (standing g.L.SiteLink.view g.L.SiteLink.fixed c.args.self.now))) c.loop-waiting.waiting c.loop-waiting.top (standing g.L.SiteLink.view g.L.SiteLink.fixed c.loop-waiting.self) c.loop-waiting.invariant
     c.in-Gives.text (standing g.L.SiteLink.view g.L.SiteLink.fixed c.step.new.self) (rw c.in-Gives.is at c.in_ok-step.ensures.steps) c.in-Some.frame c.take-in-Gives.new.self c.pop.new.self c.in-Some.ensures c.in_ok-take-in-Gives.ensures
+
+pub returns-in_err-step-clause-fixed : goal.returns-in_err-step-clause-fixed
+returns-in_err-step-clause-fixed g c = c.in_err-step.ensures.fixed ∙ plays_fixed g.L.SiteLink.changes (g.K.Callbacks.scripts c.args.kit.now) (meant g.L.SiteLink.changes (g.K.Callbacks.scripts c.args.kit.now) c.args.top (around (standing g.L.SiteLink.view g.L.SiteLink.fixed c.args.self.now)) (state_of (standing g.L.SiteLink.view g.L.SiteLink.fixed c.args.self.now))) c.loop-waiting.waiting c.loop-waiting.top c.args.top (standing g.L.SiteLink.view g.L.SiteLink.fixed c.loop-waiting.self) (standing g.L.SiteLink.view g.L.SiteLink.fixed c.args.self.now) c.loop-waiting.invariant
+
+pub returns-in_err-push-in-Opens-clause-fixed : goal.returns-in_err-push-in-Opens-clause-fixed
+returns-in_err-push-in-Opens-clause-fixed g c = c.in_ok-step.ensures.fixed ∙ plays_fixed g.L.SiteLink.changes (g.K.Callbacks.scripts c.args.kit.now) (meant g.L.SiteLink.changes (g.K.Callbacks.scripts c.args.kit.now) c.args.top (around (standing g.L.SiteLink.view g.L.SiteLink.fixed c.args.self.now)) (state_of (standing g.L.SiteLink.view g.L.SiteLink.fixed c.args.self.now))) c.loop-waiting.waiting c.loop-waiting.top c.args.top (standing g.L.SiteLink.view g.L.SiteLink.fixed c.loop-waiting.self) (standing g.L.SiteLink.view g.L.SiteLink.fixed c.args.self.now) c.loop-waiting.invariant
+
+pub returns-in_err-take-in-Takes-clause-fixed : goal.returns-in_err-take-in-Takes-clause-fixed
+returns-in_err-take-in-Takes-clause-fixed g c = c.in_ok-step.ensures.fixed ∙ plays_fixed g.L.SiteLink.changes (g.K.Callbacks.scripts c.args.kit.now) (meant g.L.SiteLink.changes (g.K.Callbacks.scripts c.args.kit.now) c.args.top (around (standing g.L.SiteLink.view g.L.SiteLink.fixed c.args.self.now)) (state_of (standing g.L.SiteLink.view g.L.SiteLink.fixed c.args.self.now))) c.loop-waiting.waiting c.loop-waiting.top c.args.top (standing g.L.SiteLink.view g.L.SiteLink.fixed c.loop-waiting.self) (standing g.L.SiteLink.view g.L.SiteLink.fixed c.args.self.now) c.loop-waiting.invariant
+
+pub returns-in_default-clause-fixed : goal.returns-in_default-clause-fixed
+returns-in_default-clause-fixed g c = c.in_ok-step.ensures.fixed ∙ plays_fixed g.L.SiteLink.changes (g.K.Callbacks.scripts c.args.kit.now) (meant g.L.SiteLink.changes (g.K.Callbacks.scripts c.args.kit.now) c.args.top (around (standing g.L.SiteLink.view g.L.SiteLink.fixed c.args.self.now)) (state_of (standing g.L.SiteLink.view g.L.SiteLink.fixed c.args.self.now))) c.loop-waiting.waiting c.loop-waiting.top c.args.top (standing g.L.SiteLink.view g.L.SiteLink.fixed c.loop-waiting.self) (standing g.L.SiteLink.view g.L.SiteLink.fixed c.args.self.now) c.loop-waiting.invariant
+
+pub returns-in_err-take-in-Gives-clause-fixed : goal.returns-in_err-take-in-Gives-clause-fixed
+returns-in_err-take-in-Gives-clause-fixed g c = c.in_ok-step.ensures.fixed ∙ plays_fixed g.L.SiteLink.changes (g.K.Callbacks.scripts c.args.kit.now) (meant g.L.SiteLink.changes (g.K.Callbacks.scripts c.args.kit.now) c.args.top (around (standing g.L.SiteLink.view g.L.SiteLink.fixed c.args.self.now)) (state_of (standing g.L.SiteLink.view g.L.SiteLink.fixed c.args.self.now))) c.loop-waiting.waiting c.loop-waiting.top c.args.top (standing g.L.SiteLink.view g.L.SiteLink.fixed c.loop-waiting.self) (standing g.L.SiteLink.view g.L.SiteLink.fixed c.args.self.now) c.loop-waiting.invariant
