@@ -2,5 +2,6 @@ pub mod Checked
 pub mod Equal
 pub mod Lookups
 pub mod Refusals
+pub mod Settled
 pub mod Ticks
 pub mod Tokens

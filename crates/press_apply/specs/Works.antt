@@ -1,15 +1,15 @@
--- What the steps of a command's work answer: an Ok is the meaning, with the state after it; a refusal stands exactly where the meaning has it; and no step
--- touches the site's moment or its outcomes.
+-- What the steps of a command's work answer: an Ok is the meaning, with the state after it; a refusal stands exactly where the meaning has it; and after each
+-- of them the site can go back to what it was begun as.
 use Rattle.std.specs.Prelude.{◌≡◌, ℕ, Some, IfSome, Result, Ok, Err, MatchResult}
 use Rattle.std.specs.declared.alloc.AllocError.{AllocError}
 use Rattle.press_callbacks.specs.Kits.{kit_view}
 use Rattle.press_callbacks.specs.declared.kit.Kit.{Kit}
-use Rattle.press_run.specs.Links.{kept}
 use Rattle.press_run.specs.Outcome.{state_of}
 use Rattle.press_run.specs.Run.{Meaning, State}
 use Rattle.press_run.specs.Standing.{standing}
 use Rattle.press_site.specs.declared.token.Outcome.{Outcome}
 use Rattle.press_site.specs.declared.token.Outcome.TheVariants.{Done}
+use Rattle.press_site.specs.Open.{Open, begun_of}
 use Rattle.press_site.specs.Outcomes.{outcome_of}
 use Rattle.press_site.specs.SiteView.{SiteView}
 use Rattle.press_apply.specs.Apply.{callbacks_on, inserts, updates}
@@ -23,7 +23,7 @@ use Rattle.press_apply.specs.declared.work.Work.{Work}
 
 -- what a command's work stands at
 abbrev pub state_in : Work → State
-state_in w = state_of (standing (λ s. s) (λ s. Some (kept s)) w.stage)
+state_in w = state_of (standing (λ o. o.site) (λ o. Some (begun_of o)) w.stage)
 
 -- what a kit's callbacks come to
 abbrev pub meaning_in : {t : _} {F : _} {g : _} → Kit t F g → Meaning
@@ -42,16 +42,21 @@ Refuses Limit meant = meant ≡ Err Limit
 Refuses NoSuchPlugin meant = meant ≡ Err NoSuchPlugin
 Refuses (Site fault) meant = meant ≡ Err (Site fault)
 
-abbrev pub Boots : Result State ApplyFault → SiteView → Result Work ApplyFault → Type 0
-Boots meant site result = MatchResult result (λ work. (meant ≡ Ok (state_in work)) × (kept work.stage.site ≡ kept site)) (λ fault. Refuses fault meant)
+-- a boot on an open site, which a refusal hands back
+abbrev pub Boots : Result State ApplyFault → Open → Result Work (Open × ApplyFault) → Type 0
+Boots meant old result = MatchResult result (λ work. (meant ≡ Ok (state_in work)) × (begun_of work.stage.site ≡ begun_of old)) (λ stopped. Refuses stopped.1 meant × (begun_of stopped.0 ≡ begun_of old))
 
 -- what a step shows of the state after it and of its answer
-abbrev pub Steps : {A M : Type 0} → (State → A → M) → Result M ApplyFault → Work → Work → Result A ApplyFault → Type 0
-Steps shows meant old new result = MatchResult result (λ x. (meant ≡ Ok (shows (state_in new) x)) × (kept new.stage.site ≡ kept old.stage.site)) (λ fault. Refuses fault meant)
+abbrev pub Steps : {A M : Type 0} → (State → A → M) → Result M ApplyFault → Work → Result A ApplyFault → Type 0
+Steps shows meant new result = MatchResult result (λ x. meant ≡ Ok (shows (state_in new) x)) (λ fault. Refuses fault meant)
+
+-- what it leaves of the site
+abbrev pub GoesBack : Work → Work → Type 0
+GoesBack old new = begun_of new.stage.site ≡ begun_of old.stage.site
 
 -- the site after the whole work, and the id of the post that it is about, or 0
-abbrev pub Works : Result (SiteView × ℕ) ApplyFault → SiteView → Result (SiteView × ℕ) ApplyFault → Type 0
-Works meant old result = MatchResult result (λ done. (meant ≡ Ok done) × (kept done.0 ≡ kept old)) (λ fault. Refuses fault meant)
+abbrev pub Works : Result (SiteView × ℕ) ApplyFault → Open → Open × Result ℕ ApplyFault → Type 0
+Works meant old result = MatchResult result.1 (λ id. meant ≡ Ok (result.0.site, id)) (λ fault. Refuses fault meant) × (begun_of result.0 ≡ begun_of old)
 
 -- a noop and a known token take no memory
 abbrev pub TakesNone : Value → SiteView → Result Outcome AllocError → Type 0

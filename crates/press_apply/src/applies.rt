@@ -1,13 +1,14 @@
 //! One value applied to a site.
 
-ghost use Rattle.std.specs.Prelude.{◌≡◌, None, Ok, max, IfOk, IfSome, OnErr, OnOk, is_some};
+ghost use Rattle.std.specs.Prelude.{◌≡◌, None, Ok, MatchResult, max, IfOk, IfSome, OnErr, OnOk, is_some};
 ghost use Rattle.press_callbacks.specs.Kits.{kit_view, plugin_of, plugins_in};
 ghost use Rattle.press_site.specs.Effects.{effect_on};
+ghost use Rattle.press_site.specs.Open.{begun_of};
 ghost use Rattle.press_site.specs.Outcomes.{outcome_of};
 ghost use Rattle.press_apply.specs.Apply.{alone, applied, applied_where, at_moment, booted};
 ghost use Rattle.press_apply.specs.Apply.{deletes, does, ticks, trashes, untrashes, with_kept, work_of};
 ghost use Rattle.press_apply.specs.Faults.{apply_fault_number};
-ghost use Rattle.press_apply.specs.Works.{TakesNone, Works, inserts_draft, meaning_in, updates_by};
+ghost use Rattle.press_apply.specs.Works.{Refuses, TakesNone, Works, inserts_draft, meaning_in, updates_by};
 
 use crate::command::{Command, Stamped};
 use crate::draft::{Draft, Edit, Setting};
@@ -15,13 +16,14 @@ use crate::fault::ApplyFault;
 use crate::value::Value;
 use crate::work::Work;
 use press_callbacks::Kit;
-use press_site::{Effect, Outcome, Site, Token};
+use press_site::{Effect, OpenSite, Outcome, Site, Token};
 use press_text::{Copied, Moment, Name};
 use std::alloc::{AllocError, Global};
+use std::mem;
 
 /// Applies a value: its outcome, which the site keeps under the command's token. A known token answers the outcome that it has and moves
 /// the moment alone, without memory. A refused command leaves nothing else behind; after want of memory the site is as it was.
-/// The command works on a copy of the site, which costs a step for each post, event, option and outcome.
+/// The command works on the site itself, which goes back: it costs what it changes.
 pub fn apply(
     alloc: Global,
     site: &mut Site,
@@ -76,7 +78,7 @@ fn answered_again(site: &mut Site, at: Moment, outcome: Outcome) -> Outcome
     outcome
 }
 
-// A command whose token isn't known.
+// A command whose token isn't known. Its moment is set first, and taken back for want of memory.
 fn apply_new(
     alloc: Global,
     site: &mut Site,
@@ -88,58 +90,100 @@ fn apply_new(
         ≡ applied_where (kit_view kit.now) (at_moment stamped.now.at site.old) stamped.now None) }
     ensures err { OnErr result (site.new ≡ site.old) }
 {
-    let mut before = site.copy()?;
-    before.set_now(later(site.now(), stamped.at));
-    match work(alloc, kit, before, &stamped.command) {
-        Ok(worked) => done(alloc, site, worked, &stamped.token),
-        Err(ApplyFault::NoMemory) => Err(AllocError),
-        Err(fault) => refused(alloc, site, stamped, fault),
+    let before = site.now();
+    site.set_now(later(before, stamped.at));
+    let own = mem::replace(site, Site::new(alloc));
+    let (after, outcome) = tried(alloc, kit, own, stamped);
+    *site = after;
+    match outcome {
+        Ok(outcome) => Ok(outcome),
+        Err(fault) => {
+            site.set_now(before);
+            Err(fault)
+        }
     }
 }
 
-// The site after a command's work takes the place of the one before it.
-fn done(
+// The command on a site at its moment; after want of memory this is as it was.
+fn tried(
     alloc: Global,
-    site: &mut Site,
-    worked: (Site, u64),
-    token: &Token,
-) -> Result<Outcome, AllocError>
-    requires { outcome_of token.now worked.0.outcomes ≡ None }
-    ensures outcome { IfOk result (λ outcome. outcome ≡ Outcome.Done worked.1) }
-    ensures site { OnOk result
-        (site.new ≡ with_kept token.now (Outcome.Done worked.1) worked.0 worked.0) }
-    ensures err { OnErr result (site.new ≡ site.old) }
+    kit: &Kit,
+    site: Site,
+    stamped: &Stamped,
+) -> (Site, Result<Outcome, AllocError>)
+    requires { outcome_of stamped.now.token site.outcomes ≡ None }
+    ensures applied { IfOk result.1 (λ outcome. (result.0, outcome)
+        ≡ applied_where (kit_view kit.now) site stamped.now None) }
+    ensures err { OnErr result.1 (result.0 ≡ site) }
 {
-    let (mut after, id) = worked;
-    let outcome = Outcome::Done(id);
-    after.keep(token.copied(alloc)?, outcome)?;
-    *site = after;
-    Ok(outcome)
+    let (site, worked) = work(alloc, kit, site.begin(), &stamped.command);
+    match worked {
+        Ok(id) => done(alloc, site, &stamped.token, id),
+        Err(ApplyFault::NoMemory) => (site.back(), Err(AllocError)),
+        Err(fault) => refused(alloc, site.back(), &stamped.token, fault),
+    }
 }
 
-// A refused command leaves the site as it was before its work, but for the moment and the outcome under its token.
+// A command that is done leaves the site as it stands after its work.
+fn done(
+    alloc: Global,
+    site: OpenSite,
+    token: &Token,
+    id: u64,
+) -> (Site, Result<Outcome, AllocError>)
+    requires { outcome_of token.now site.site.outcomes ≡ None }
+    ensures outcome { IfOk result.1 (λ outcome. outcome ≡ Outcome.Done id) }
+    ensures site { OnOk result.1
+        (result.0 ≡ with_kept token.now (Outcome.Done id) site.site site.site) }
+    ensures err { OnErr result.1 (result.0 ≡ begun_of site) }
+{
+    let outcome = Outcome::Done(id);
+    let Ok(own) = token.copied(alloc) else {
+        return (site.back(), Err(AllocError));
+    };
+    match site.settle_with(own, outcome) {
+        Ok(site) => (site, Ok(outcome)),
+        Err(site) => (site, Err(AllocError)),
+    }
+}
+
+// A refused command leaves the site as it was before its work, but for the outcome under its token.
 fn refused(
     alloc: Global,
-    site: &mut Site,
-    stamped: &Stamped,
+    mut site: Site,
+    token: &Token,
     fault: ApplyFault,
-) -> Result<Outcome, AllocError>
-    requires { outcome_of stamped.now.token site.old.outcomes ≡ None }
-    ensures outcome { IfOk result (λ outcome.
+) -> (Site, Result<Outcome, AllocError>)
+    requires { outcome_of token.now site.outcomes ≡ None }
+    ensures outcome { IfOk result.1 (λ outcome.
         outcome ≡ Outcome.Refused (apply_fault_number fault)) }
-    ensures site { OnOk result (site.new ≡ with_kept stamped.now.token
-        (Outcome.Refused (apply_fault_number fault)) site.old (at_moment stamped.now.at site.old)) }
-    ensures err { OnErr result (site.new ≡ site.old) }
+    ensures site { OnOk result.1 (result.0
+        ≡ with_kept token.now (Outcome.Refused (apply_fault_number fault)) site site) }
+    ensures err { OnErr result.1 (result.0 ≡ site) }
 {
     let outcome = Outcome::Refused(fault.number());
-    site.keep(stamped.token.copied(alloc)?, outcome)?;
-    site.set_now(later(site.now(), stamped.at));
+    let kept = keep(alloc, &mut site, token, outcome);
+    (site, kept)
+}
+
+fn keep(
+    alloc: Global,
+    site: &mut Site,
+    token: &Token,
+    outcome: Outcome,
+) -> Result<Outcome, AllocError>
+    requires { outcome_of token.now site.old.outcomes ≡ None }
+    ensures outcome { IfOk result (λ o. o ≡ outcome) }
+    ensures site { OnOk result (site.new ≡ with_kept token.now outcome site.old site.old) }
+    ensures err { OnErr result (site.new ≡ site.old) }
+{
+    site.keep(token.copied(alloc)?, outcome)?;
     Ok(outcome)
 }
 
 // The work of a command: the site after it, and the id of the post that it is about, or 0.
-fn work(alloc: Global, kit: &Kit, site: Site, command: &Command) -> Result<(Site, u64), ApplyFault>
-    ensures { Works (work_of (kit_view kit.now) site command.now) site result }
+fn work(alloc: Global, kit: &Kit, site: OpenSite, command: &Command) -> (OpenSite, Result<u64, ApplyFault>)
+    ensures { Works (work_of (kit_view kit.now) site.site command.now) site result }
 {
     match command {
         Command::Insert {
@@ -183,103 +227,140 @@ fn work(alloc: Global, kit: &Kit, site: Site, command: &Command) -> Result<(Site
             &Setting { name, value },
         ),
         Command::Activate { plugin } => activate(alloc, kit, site, plugin),
-        Command::Deactivate { plugin } => {
-            let plugin = plugin.copy(alloc)?;
-            alone(site, Effect::Deactivate { plugin })
-        }
+        Command::Deactivate { plugin } => deactivate(alloc, site, plugin),
         Command::Tick => tick(alloc, kit, site),
     }
 }
 
-#[tactic(auto, using(crate::proofs::Refusals::boot_refused, crate::proofs::Refusals::work_ended))]
+#[tactic(auto, using(crate::proofs::Refusals::boot_stopped, crate::proofs::Refusals::work_ended))]
 fn insert(
     alloc: Global,
     kit: &Kit,
-    site: Site,
+    site: OpenSite,
     draft: &Draft<'_>,
-) -> Result<(Site, u64), ApplyFault>
-    ensures { Works (booted (kit_view kit.now) site (inserts_draft (meaning_in kit.now) draft.now))
+) -> (OpenSite, Result<u64, ApplyFault>)
+    ensures { Works (booted (kit_view kit.now) site.site (inserts_draft (meaning_in kit.now) draft.now))
         site result }
 {
-    let mut work = Work::booted(alloc, kit, site)?;
-    let id = work.insert(kit, draft);
-    work.ended(id)
+    match Work::booted(alloc, kit, site) {
+        Ok(mut work) => {
+            let id = work.insert(kit, draft);
+            work.ended(id)
+        }
+        Err((site, fault)) => (site, Err(fault)),
+    }
 }
 
-#[tactic(auto, using(crate::proofs::Refusals::boot_refused, crate::proofs::Refusals::work_ended))]
-fn update(alloc: Global, kit: &Kit, site: Site, edit: &Edit<'_>) -> Result<(Site, u64), ApplyFault>
-    ensures { Works (booted (kit_view kit.now) site (updates_by (meaning_in kit.now) edit.now))
+#[tactic(auto, using(crate::proofs::Refusals::boot_stopped, crate::proofs::Refusals::work_ended))]
+fn update(alloc: Global, kit: &Kit, site: OpenSite, edit: &Edit<'_>) -> (OpenSite, Result<u64, ApplyFault>)
+    ensures { Works (booted (kit_view kit.now) site.site (updates_by (meaning_in kit.now) edit.now))
         site result }
 {
-    let mut work = Work::booted(alloc, kit, site)?;
-    let id = work.update(kit, edit);
-    work.ended(id)
+    match Work::booted(alloc, kit, site) {
+        Ok(mut work) => {
+            let id = work.update(kit, edit);
+            work.ended(id)
+        }
+        Err((site, fault)) => (site, Err(fault)),
+    }
 }
 
-#[tactic(auto, using(crate::proofs::Refusals::boot_refused, crate::proofs::Refusals::work_ended))]
-fn trash(alloc: Global, kit: &Kit, site: Site, id: u64) -> Result<(Site, u64), ApplyFault>
-    ensures { Works (booted (kit_view kit.now) site (trashes (meaning_in kit.now) id)) site result }
+#[tactic(auto, using(crate::proofs::Refusals::boot_stopped, crate::proofs::Refusals::work_ended))]
+fn trash(alloc: Global, kit: &Kit, site: OpenSite, id: u64) -> (OpenSite, Result<u64, ApplyFault>)
+    ensures { Works (booted (kit_view kit.now) site.site (trashes (meaning_in kit.now) id)) site result }
 {
-    let mut work = Work::booted(alloc, kit, site)?;
-    let id = work.trash(kit, id);
-    work.ended(id)
+    match Work::booted(alloc, kit, site) {
+        Ok(mut work) => {
+            let id = work.trash(kit, id);
+            work.ended(id)
+        }
+        Err((site, fault)) => (site, Err(fault)),
+    }
 }
 
-#[tactic(auto, using(crate::proofs::Refusals::boot_refused, crate::proofs::Refusals::work_ended))]
-fn untrash(alloc: Global, kit: &Kit, site: Site, id: u64) -> Result<(Site, u64), ApplyFault>
-    ensures { Works (booted (kit_view kit.now) site (untrashes (meaning_in kit.now) id))
+#[tactic(auto, using(crate::proofs::Refusals::boot_stopped, crate::proofs::Refusals::work_ended))]
+fn untrash(alloc: Global, kit: &Kit, site: OpenSite, id: u64) -> (OpenSite, Result<u64, ApplyFault>)
+    ensures { Works (booted (kit_view kit.now) site.site (untrashes (meaning_in kit.now) id))
         site result }
 {
-    let mut work = Work::booted(alloc, kit, site)?;
-    let id = work.untrash(kit, id);
-    work.ended(id)
+    match Work::booted(alloc, kit, site) {
+        Ok(mut work) => {
+            let id = work.untrash(kit, id);
+            work.ended(id)
+        }
+        Err((site, fault)) => (site, Err(fault)),
+    }
 }
 
-#[tactic(auto, using(crate::proofs::Refusals::boot_refused, crate::proofs::Refusals::work_ended))]
-fn delete(alloc: Global, kit: &Kit, site: Site, id: u64) -> Result<(Site, u64), ApplyFault>
-    ensures { Works (booted (kit_view kit.now) site (deletes (meaning_in kit.now) id)) site result }
+#[tactic(auto, using(crate::proofs::Refusals::boot_stopped, crate::proofs::Refusals::work_ended))]
+fn delete(alloc: Global, kit: &Kit, site: OpenSite, id: u64) -> (OpenSite, Result<u64, ApplyFault>)
+    ensures { Works (booted (kit_view kit.now) site.site (deletes (meaning_in kit.now) id)) site result }
 {
-    let mut work = Work::booted(alloc, kit, site)?;
-    let id = work.delete(kit, id);
-    work.ended(id)
+    match Work::booted(alloc, kit, site) {
+        Ok(mut work) => {
+            let id = work.delete(kit, id);
+            work.ended(id)
+        }
+        Err((site, fault)) => (site, Err(fault)),
+    }
 }
 
-#[tactic(auto, using(crate::proofs::Refusals::boot_refused, crate::proofs::Refusals::work_ended))]
+#[tactic(auto, using(crate::proofs::Refusals::boot_stopped, crate::proofs::Refusals::work_ended))]
 fn set_option(
     alloc: Global,
     kit: &Kit,
-    site: Site,
+    site: OpenSite,
     setting: &Setting<'_>,
-) -> Result<(Site, u64), ApplyFault>
+) -> (OpenSite, Result<u64, ApplyFault>)
     ensures { Works (booted (kit_view kit.now) site
         (does (meaning_in kit.now)
         (Effect.SetOption setting.now.name.now setting.now.value.now))) site result }
 {
-    let mut work = Work::booted(alloc, kit, site)?;
-    let id = work.set_option(kit, setting.name, setting.value);
-    work.ended(id)
+    match Work::booted(alloc, kit, site) {
+        Ok(mut work) => {
+            let id = work.set_option(kit, setting.name, setting.value);
+            work.ended(id)
+        }
+        Err((site, fault)) => (site, Err(fault)),
+    }
 }
 
-// What is due is listed after the boot.
-#[tactic(auto, using(crate::proofs::Refusals::boot_refused, crate::proofs::Refusals::work_ended))]
-fn tick(alloc: Global, kit: &Kit, site: Site) -> Result<(Site, u64), ApplyFault>
-    ensures { Works (booted (kit_view kit.now) site (ticks (meaning_in kit.now))) site result }
+#[tactic(auto, using(crate::proofs::Refusals::boot_stopped, crate::proofs::Refusals::work_ended))]
+fn tick(alloc: Global, kit: &Kit, site: OpenSite) -> (OpenSite, Result<u64, ApplyFault>)
+    ensures { Works (booted (kit_view kit.now) site.site (ticks (meaning_in kit.now))) site result }
 {
-    let mut loaded = Work::booted(alloc, kit, site)?;
-    let due = loaded.stage.site.due()?;
-    let id = loaded.tick(kit, due.as_slice());
-    loaded.ended(id)
+    match Work::booted(alloc, kit, site) {
+        Ok(mut work) => {
+            let id = work.tick(kit);
+            work.ended(id)
+        }
+        Err((site, fault)) => (site, Err(fault)),
+    }
 }
 
-fn activate(alloc: Global, kit: &Kit, site: Site, plugin: &Name) -> Result<(Site, u64), ApplyFault>
-    ensures { Works (work_of (kit_view kit.now) site (Command.Activate plugin.now)) site result }
+fn activate(alloc: Global, kit: &Kit, site: OpenSite, plugin: &Name) -> (OpenSite, Result<u64, ApplyFault>)
+    ensures { Works (work_of (kit_view kit.now) site.site (Command.Activate plugin.now)) site result }
 {
     if !has_plugin(kit, plugin) {
-        drop(site);
-        return Err(ApplyFault::NoSuchPlugin);
+        return (site, Err(ApplyFault::NoSuchPlugin));
     }
-    let plugin = plugin.copy(alloc)?;
-    alone(site, Effect::Activate { plugin })
+    match plugin.copy(alloc) {
+        Ok(plugin) => alone(site, Effect::Activate { plugin }),
+        Err(_) => (site, Err(ApplyFault::NoMemory)),
+    }
+}
+
+fn deactivate(
+    alloc: Global,
+    site: OpenSite,
+    plugin: &Name,
+) -> (OpenSite, Result<u64, ApplyFault>)
+    ensures { Works (alone (effect_on site.site (Effect.Deactivate plugin.now))) site result }
+{
+    match plugin.copy(alloc) {
+        Ok(plugin) => alone(site, Effect::Deactivate { plugin }),
+        Err(_) => (site, Err(ApplyFault::NoMemory)),
+    }
 }
 
 fn has_plugin(kit: &Kit, plugin: &Name) -> bool
@@ -289,10 +370,20 @@ fn has_plugin(kit: &Kit, plugin: &Name) -> bool
 }
 
 // A change that boots nothing and runs no hook.
-#[tactic(auto, using(crate::proofs::Refusals::alone_refused, crate::proofs::Refusals::site_keeps))]
-fn alone(mut site: Site, effect: Effect) -> Result<(Site, u64), ApplyFault>
-    ensures { Works (alone (effect_on site effect)) site result }
+fn alone(mut site: OpenSite, effect: Effect) -> (OpenSite, Result<u64, ApplyFault>)
+    ensures { Works (alone (effect_on site.site effect)) site result }
+{
+    let id = changed(&mut site, effect);
+    (site, id)
+}
+
+#[tactic(auto, using(crate::proofs::Refusals::alone_refused))]
+fn changed(site: &mut OpenSite, effect: Effect) -> Result<u64, ApplyFault>
+    ensures does { MatchResult result
+        (λ id. alone (effect_on site.old.site effect) ≡ Ok (site.new.site, id))
+        (λ fault. Refuses fault (alone (effect_on site.old.site effect))) }
+    ensures back { begun_of site.new ≡ begun_of site.old }
 {
     let changed = site.effect(effect)?;
-    Ok((site, changed.id))
+    Ok(changed.id)
 }

@@ -1,14 +1,13 @@
 //! The work of a command, after a boot of its own.
 
-ghost use Rattle.std.specs.Prelude.{◌≡◌, None, Some, Ok, Err, IfOk, MatchResult, codes};
+ghost use Rattle.std.specs.Prelude.{◌≡◌, None, Ok, codes};
 ghost use Rattle.press_text.specs.Names.{name_fault};
 ghost use Rattle.press_callbacks.specs.Kits.{kit_view, plugins_in};
 ghost use Rattle.press_events.specs.DueEvents.{due};
-ghost use Rattle.press_run.specs.Boot.{booted_with};
-ghost use Rattle.press_run.specs.Outcome.{started};
+ghost use Rattle.press_run.specs.Boot.{boot_actions};
 ghost use Rattle.press_apply.specs.Apply.{between, boots, changes, deletes, does, filtered, fires};
 ghost use Rattle.press_apply.specs.Apply.{passes, saves, takes, takes_all, ticks, trashes, untrashes};
-ghost use Rattle.press_apply.specs.Works.{Boots, Steps, inserts_draft, meaning_in, state_in};
+ghost use Rattle.press_apply.specs.Works.{Boots, GoesBack, Steps, inserts_draft, meaning_in, state_in};
 ghost use Rattle.press_apply.specs.Works.{updates_by};
 
 use crate::actions::{about, event_fires};
@@ -18,16 +17,16 @@ use crate::fault::ApplyFault;
 use press_callbacks::Kit;
 use press_events::Event;
 use press_posts::{Fire, Move};
-use press_run::{Job, RunFault, Stage, boot_actions};
-use press_site::{Changed, Effect, Site, SiteFault};
+use press_run::{Job, RunFault, Stage, boot, boot_actions};
+use press_site::{Changed, Effect, OpenSite, SiteFault};
 use press_text::{Copied, HookName, Items, OptName, Text, Texts};
 use std::alloc::{AllocError, Global};
 
-/// A command at work on a site of its own.
+/// A command at work on an open site.
 #[derive(Debug)]
 pub struct Work {
     alloc: Global,
-    pub stage: Stage<Site>,
+    pub stage: Stage<OpenSite>,
 }
 
 impl Drop for Work {
@@ -53,27 +52,43 @@ fn passes(fault: Option<SiteFault>) -> Result<(), ApplyFault>
 }
 
 impl Work {
-    fn new(alloc: Global, kit: &Kit, site: Site) -> Result<Work, AllocError>
-        ensures { IfOk result (λ w.
-            (state_in w ≡ started (booted_with (plugins_in kit.now) site.active) site)
-            × (w.stage.site ≡ site)) }
+    /// After a boot of the site and its three actions; a refusal hands the site back.
+    pub fn booted(alloc: Global, kit: &Kit, site: OpenSite) -> Result<Work, (OpenSite, ApplyFault)>
+        ensures { Boots (boots (meaning_in kit.now) (kit_view kit.now) site.site) site result }
     {
-        let stage = Stage::new(alloc, kit, site)?;
-        Ok(Work { alloc, stage })
+        let tables = match boot(alloc, kit, site.site()) {
+            Ok(tables) => tables,
+            Err(_) => return Err((site, ApplyFault::NoMemory)),
+        };
+        let stage = Stage::over(alloc, tables, site);
+        let mut work = Work { alloc, stage };
+        match work.boot(kit) {
+            Ok(()) => Ok(work),
+            Err(fault) => Err((work.into_site(), fault)),
+        }
     }
 
-    /// After a boot of the site and its three actions.
-    pub fn booted(alloc: Global, kit: &Kit, site: Site) -> Result<Work, ApplyFault>
-        ensures { Boots (boots (meaning_in kit.now) (kit_view kit.now) site) site result }
+    fn boot(&mut self, kit: &Kit) -> Result<(), ApplyFault>
+        ensures steps { Steps (λ s _. s) (fires (meaning_in kit.now) boot_actions
+            (state_in self.old)) self.new result }
+        ensures back { GoesBack self.old self.new }
     {
-        let mut work = Work::new(alloc, kit, site)?;
-        work.fires(kit, boot_actions(alloc)?)?;
-        Ok(work)
+        let actions = boot_actions(self.alloc)?;
+        self.fires(kit, actions)
+    }
+
+    fn into_site(self) -> OpenSite
+        ensures { result ≡ self.stage.site }
+    {
+        let Work { alloc: _, stage } = self;
+        let (site, _) = stage.into_parts();
+        site
     }
 
     fn fires(&mut self, kit: &Kit, actions: Items<Fire>) -> Result<(), ApplyFault>
-        ensures { Steps (λ s _. s) (fires (meaning_in kit.now) actions (state_in self.old))
-            self.old self.new result }
+        ensures steps { Steps (λ s _. s) (fires (meaning_in kit.now) actions (state_in self.old))
+            self.new result }
+        ensures back { GoesBack self.old self.new }
     {
         match self.stage.run(kit, Job::Fires(actions)) {
             Ok(_) => Ok(()),
@@ -85,9 +100,10 @@ impl Work {
     // What a filter gives for a text.
     fn filtered(&mut self, kit: &Kit, hook: &str, text: &Text) -> Result<Text, ApplyFault>
         requires { name_fault 64 hook.now ≡ None }
-        ensures { Steps (λ s text. record { text = text; state = s })
+        ensures steps { Steps (λ s text. record { text = text; state = s })
             (filtered (meaning_in kit.now) hook.now text.now (state_in self.old))
-            self.old self.new result }
+            self.new result }
+        ensures back { GoesBack self.old self.new }
     {
         let hook = HookName::from_valid(self.alloc, hook)?;
         let text = text.copy(self.alloc)?;
@@ -99,10 +115,11 @@ impl Work {
         }
     }
 
-    #[tactic(auto, using(crate::proofs::Refusals::site_refused, crate::proofs::Refusals::site_keeps))]
+    #[tactic(auto, using(crate::proofs::Refusals::site_refused))]
     fn change(&mut self, effect: Effect) -> Result<Changed, ApplyFault>
-        ensures { Steps (λ s changed. (s, changed)) (changes effect (state_in self.old))
-            self.old self.new result }
+        ensures steps { Steps (λ s changed. (s, changed)) (changes effect (state_in self.old))
+            self.new result }
+        ensures back { GoesBack self.old self.new }
     {
         Ok(self.stage.site.effect(effect)?)
     }
@@ -110,8 +127,9 @@ impl Work {
     /// A change, and what it fires; the id of the post that it is about, or 0.
     #[tactic(auto, unfolding(crate::specs::Apply::does), using(crate::proofs::Refusals::handed_on))]
     pub fn does(&mut self, kit: &Kit, effect: Effect) -> Result<u64, ApplyFault>
-        ensures { Steps (λ s id. (s, id)) (does (meaning_in kit.now) effect (state_in self.old))
-            self.old self.new result }
+        ensures steps { Steps (λ s id. (s, id)) (does (meaning_in kit.now) effect (state_in self.old))
+            self.new result }
+        ensures back { GoesBack self.old self.new }
     {
         let Changed { id, fires, .. } = self.change(effect)?;
         self.fires(kit, fires)?;
@@ -121,9 +139,10 @@ impl Work {
     /// A new post, whose title is filtered before its content.
     #[tactic(auto, unfolding(crate::specs::Apply::inserts), using(crate::proofs::Refusals::handed_on))]
     pub fn insert(&mut self, kit: &Kit, draft: &Draft<'_>) -> Result<u64, ApplyFault>
-        ensures { Steps (λ s id. (s, id))
+        ensures steps { Steps (λ s id. (s, id))
             (inserts_draft (meaning_in kit.now) draft.now (state_in self.old))
-            self.old self.new result }
+            self.new result }
+        ensures back { GoesBack self.old self.new }
     {
         passes(wanted_fault(draft.status))?;
         self.insert_filtered(kit, draft)
@@ -131,10 +150,11 @@ impl Work {
 
     #[tactic(auto, unfolding(crate::specs::Apply::saves), using(crate::proofs::Refusals::handed_on))]
     fn insert_filtered(&mut self, kit: &Kit, draft: &Draft<'_>) -> Result<u64, ApplyFault>
-        ensures { Steps (λ s id. (s, id))
+        ensures steps { Steps (λ s id. (s, id))
             (saves (meaning_in kit.now) (λ t c. Effect.Insert t c draft.now.status draft.now.date)
             draft.now.title.now draft.now.content.now (state_in self.old))
-            self.old self.new result }
+            self.new result }
+        ensures back { GoesBack self.old self.new }
     {
         let title = self.filtered(kit, "title_save_pre", draft.title)?;
         let content = self.filtered(kit, "content_save_pre", draft.content)?;
@@ -150,12 +170,13 @@ impl Work {
     /// Another title, content, status and date for a post, filtered likewise.
     #[tactic(auto, unfolding(crate::specs::Apply::updates, crate::specs::Apply::saves), using(crate::proofs::Refusals::handed_on))]
     pub fn update(&mut self, kit: &Kit, edit: &Edit<'_>) -> Result<u64, ApplyFault>
-        ensures { Steps (λ s id. (s, id))
+        ensures steps { Steps (λ s id. (s, id))
             (updates_by (meaning_in kit.now) edit.now (state_in self.old))
-            self.old self.new result }
+            self.new result }
+        ensures back { GoesBack self.old self.new }
     {
         let draft = &edit.draft;
-        passes(update_fault(draft.status, self.stage.site.post(edit.id)))?;
+        passes(update_fault(draft.status, self.stage.site.site().post(edit.id)))?;
         let title = self.filtered(kit, "title_save_pre", draft.title)?;
         let content = self.filtered(kit, "content_save_pre", draft.content)?;
         let effect = Effect::Edit {
@@ -179,10 +200,11 @@ impl Work {
     ) -> Result<u64, ApplyFault>
         requires begins { name_fault 64 hooks.now.before.now ≡ None }
         requires ends { name_fault 64 hooks.now.after.now ≡ None }
-        ensures { Steps (λ s id. (s, id))
+        ensures steps { Steps (λ s id. (s, id))
             (between (meaning_in kit.now) hooks.now.before.now effect hooks.now.after.now id
             (state_in self.old))
-            self.old self.new result }
+            self.new result }
+        ensures back { GoesBack self.old self.new }
     {
         self.fires(kit, about(self.alloc, hooks.before, id)?)?;
         let done = self.does(kit, effect)?;
@@ -192,10 +214,11 @@ impl Work {
 
     #[tactic(auto, unfolding(crate::specs::Apply::trashes), using(crate::proofs::Refusals::handed_on))]
     pub fn trash(&mut self, kit: &Kit, id: u64) -> Result<u64, ApplyFault>
-        ensures { Steps (λ s id. (s, id)) (trashes (meaning_in kit.now) id (state_in self.old))
-            self.old self.new result }
+        ensures steps { Steps (λ s id. (s, id)) (trashes (meaning_in kit.now) id (state_in self.old))
+            self.new result }
+        ensures back { GoesBack self.old self.new }
     {
-        passes(move_fault(Move::Trash, self.stage.site.post(id)))?;
+        passes(move_fault(Move::Trash, self.stage.site.site().post(id)))?;
         let (before, after) = ("wp_trash_post", "trashed_post");
         let effect = Effect::Move {
             id,
@@ -206,10 +229,11 @@ impl Work {
 
     #[tactic(auto, unfolding(crate::specs::Apply::untrashes), using(crate::proofs::Refusals::handed_on))]
     pub fn untrash(&mut self, kit: &Kit, id: u64) -> Result<u64, ApplyFault>
-        ensures { Steps (λ s id. (s, id)) (untrashes (meaning_in kit.now) id (state_in self.old))
-            self.old self.new result }
+        ensures steps { Steps (λ s id. (s, id)) (untrashes (meaning_in kit.now) id (state_in self.old))
+            self.new result }
+        ensures back { GoesBack self.old self.new }
     {
-        passes(move_fault(Move::Untrash, self.stage.site.post(id)))?;
+        passes(move_fault(Move::Untrash, self.stage.site.site().post(id)))?;
         let (before, after) = ("untrash_post", "untrashed_post");
         let effect = Effect::Move {
             id,
@@ -220,19 +244,21 @@ impl Work {
 
     #[tactic(auto, unfolding(crate::specs::Apply::deletes), using(crate::proofs::Refusals::handed_on))]
     pub fn delete(&mut self, kit: &Kit, id: u64) -> Result<u64, ApplyFault>
-        ensures { Steps (λ s id. (s, id)) (deletes (meaning_in kit.now) id (state_in self.old))
-            self.old self.new result }
+        ensures steps { Steps (λ s id. (s, id)) (deletes (meaning_in kit.now) id (state_in self.old))
+            self.new result }
+        ensures back { GoesBack self.old self.new }
     {
-        passes(delete_fault(self.stage.site.post(id)))?;
+        passes(delete_fault(self.stage.site.site().post(id)))?;
         let (before, after) = ("before_delete_post", "deleted_post");
         let effect = Effect::Delete { id };
         Ok(self.between(kit, &Hooks { before, after }, effect, id)?)
     }
 
     fn taken(&mut self, event: &Event) -> Result<Changed, ApplyFault>
-        ensures { Steps (λ s changed. (s, changed))
+        ensures steps { Steps (λ s changed. (s, changed))
             (changes (Effect.Take event.now) (state_in self.old))
-            self.old self.new result }
+            self.new result }
+        ensures back { GoesBack self.old self.new }
     {
         let own = event.copied(self.alloc)?;
         Ok(self.change(Effect::Take(own))?)
@@ -241,8 +267,9 @@ impl Work {
     // Takes an event and does it; one that was cancelled since isn't done.
     #[tactic(auto, unfolding(crate::specs::Apply::takes), using(crate::proofs::Refusals::handed_on))]
     fn take(&mut self, kit: &Kit, event: &Event) -> Result<(), ApplyFault>
-        ensures { Steps (λ s _. s) (takes (meaning_in kit.now) event.now (state_in self.old))
-            self.old self.new result }
+        ensures steps { Steps (λ s _. s) (takes (meaning_in kit.now) event.now (state_in self.old))
+            self.new result }
+        ensures back { GoesBack self.old self.new }
     {
         let taken = self.taken(event)?;
         let actions = event_fires(self.alloc, taken.did, event)?;
@@ -251,8 +278,9 @@ impl Work {
     }
 
     fn take_all(&mut self, kit: &Kit, events: &[Event]) -> Result<(), ApplyFault>
-        ensures { Steps (λ s _. s) (takes_all (meaning_in kit.now) events.now (state_in self.old))
-            self.old self.new result }
+        ensures steps { Steps (λ s _. s) (takes_all (meaning_in kit.now) events.now (state_in self.old))
+            self.new result }
+        ensures back { GoesBack self.old self.new }
     {
         for event in events {
             self.take(kit, event)?;
@@ -261,31 +289,39 @@ impl Work {
     }
 
     pub fn set_option(&mut self, kit: &Kit, name: &OptName, value: &Text) -> Result<u64, ApplyFault>
-        ensures { Steps (λ s id. (s, id))
+        ensures steps { Steps (λ s id. (s, id))
             (does (meaning_in kit.now) (Effect.SetOption name.now value.now) (state_in self.old))
-            self.old self.new result }
+            self.new result }
+        ensures back { GoesBack self.old self.new }
     {
         let (name, value) = (name.copy(self.alloc)?, value.copy(self.alloc)?);
         Ok(self.does(kit, Effect::SetOption { name, value })?)
     }
 
-    /// The site after the work, with the id that it gave.
-    pub fn ended(self, id: Result<u64, ApplyFault>) -> Result<(Site, u64), ApplyFault>
-        ensures { MatchResult id
-            (λ n. result ≡ Ok (self.stage.site, n)) (λ fault. result ≡ Err fault) }
+    /// The site after the work, with what this answered.
+    pub fn ended(self, id: Result<u64, ApplyFault>) -> (OpenSite, Result<u64, ApplyFault>)
+        ensures { result ≡ (self.stage.site, id) }
     {
-        let id = id?;
-        let Work { alloc: _, stage } = self;
-        let (site, _) = stage.into_parts();
-        Ok((site, id))
+        (self.into_site(), id)
     }
 
-    /// Takes what is due.
+    /// Takes what is due, which is listed once.
+    pub fn tick(&mut self, kit: &Kit) -> Result<u64, ApplyFault>
+        ensures steps { Steps (λ s id. (s, id)) (ticks (meaning_in kit.now) (state_in self.old))
+            self.new result }
+        ensures back { GoesBack self.old self.new }
+    {
+        let due = self.stage.site.site().due()?;
+        self.take_due(kit, due.as_slice())
+    }
+
     #[tactic(auto, unfolding(crate::specs::Apply::ticks), using(crate::proofs::Refusals::no_id_refused))]
-    pub fn tick(&mut self, kit: &Kit, events: &[Event]) -> Result<u64, ApplyFault>
-        requires { events.now ≡ due self.old.stage.site.moment self.old.stage.site.events }
-        ensures { Steps (λ s id. (s, id)) (ticks (meaning_in kit.now) (state_in self.old))
-            self.old self.new result }
+    fn take_due(&mut self, kit: &Kit, events: &[Event]) -> Result<u64, ApplyFault>
+        requires { events.now ≡ due self.old.stage.site.site.moment
+            self.old.stage.site.site.events }
+        ensures steps { Steps (λ s id. (s, id)) (ticks (meaning_in kit.now) (state_in self.old))
+            self.new result }
+        ensures back { GoesBack self.old self.new }
     {
         self.take_all(kit, events)?;
         Ok(0)

@@ -2,7 +2,7 @@
 
 ghost use Rattle.std.specs.Prelude.{◌≡◌, [], ◌<◌, ◌≤◌, length, true, false, IfOk, IfSome, is_some, vec_len, vec_capacity};
 ghost use Rattle.std.specs.List.Sorted.{IsPartitionPoint};
-ghost use Rattle.press_events.specs.DueEvents.{is_earlier, is_later, place_of, stands, place_in, IsByTime, Adds, add_event, cancelled, cancels, is_full_without, due, take_event, put_again};
+ghost use Rattle.press_events.specs.DueEvents.{is_earlier, is_later, place_of, stands, place_in, IsByTime, Adds, add_event, cancelled, cancels, is_full_without, fault_of, due, take_event, put_again};
 
 use crate::event::Event;
 use crate::fault::EventFault;
@@ -69,6 +69,29 @@ impl Events {
         let place = place_in(&self.events, event.time);
         self.events.insert(place, event)?;
         Ok(true)
+    }
+
+    /// Why an event is refused, where it is.
+    pub fn add_fault(&self, event: &Event) -> Option<EventFault>
+        ensures { result ≡ fault_of (add_event event.now self.now) }
+    {
+        if event.arg.len() > MOST_ARG {
+            return Some(EventFault::TooLong);
+        }
+        if stands(&self.events, event) {
+            return None;
+        }
+        if self.events.len() >= MOST_EVENTS {
+            return Some(EventFault::TooManyEvents);
+        }
+        None
+    }
+
+    /// Whether an event of that hook and argument stands.
+    pub fn has(&self, hook: &str, arg: &str) -> bool
+        ensures { result ≡ cancels hook.now arg.now self.now }
+    {
+        self.events.iter().any(|e| e.is_of(hook, arg))
     }
 
     /// Takes out every event of that hook and argument; whether one stood (`wp_clear_scheduled_hook`).

@@ -1,10 +1,12 @@
 -- What is kept beside the posts stays so where a place is emptied or filled, comes or goes.
-use Rattle.std.proofs.Common.{◌≡◌, refl, sym, ◌∙◌, ap, ℕ, zero, suc, ◌+◌, ◌-◌, ◌<◌, ◌≤◌, List, [], ◌∷◌, ◌++◌, length, get_or, set, Option, Some, None, arith, length-append, length-set, map, take, take_all, reverse}
+use Rattle.std.proofs.Common.{◌≡◌, refl, sym, ◌∙◌, ap, ap₂, ℕ, zero, suc, ◌+◌, ◌-◌, ◌<◌, ◌≤◌, List, [], ◌∷◌, ◌++◌, length, get_or, set, Bool, true, false, nat_eq, set-set, get_or-set_same, Option, Some, None, arith, length-append, length-set, map, take, take_all, reverse}
+use Rattle.std.specs.Prelude.{◌&&◌}
+use Rattle.std.proofs.lemmas.Bool.Decides.{nat_tests}
 use Rattle.std.proofs.lemmas.List.{set_at, take-map, reverse-reverse, length-map, length-reverse}
 use Rattle.press_posts.specs.declared.post.Post.{Post}
 use Rattle.press_posts.specs.declared.posts.Dated.{Dated}
-use Rattle.press_posts.specs.Kept.{oldest_first, put_in, taken_out, IsAmong, IsKept}
-use Rattle.press_posts.specs.PostChange.{post_at, standing}
+use Rattle.press_posts.specs.Kept.{oldest_first, put_in, taken_out, keeps_order, IsAmong, IsKept}
+use Rattle.press_posts.specs.PostChange.{post_at, is_publish, standing}
 use Rattle.press_posts.specs.Published.{dated_of, newest_first, published, IsOldestFirst}
 use Rattle.press_posts.specs.Restored.{IsGiven}
 use Rattle.press_posts.proofs.Order.{put_with, oldest_none, order}
@@ -18,6 +20,22 @@ any_default : (posts : List (Option Post)) (i : ℕ) (d : Option Post) → i < l
 any_default [] i d h = absurd (omega arith)
 any_default (p ∷ ps) zero d h = refl
 any_default (p ∷ ps) (suc i) d h = any_default ps i d (omega arith)
+
+both : (a b : Bool) → (a && b) ≡ true → (a ≡ true) × (b ≡ true)
+both true b e = (refl, e)
+both false b e = absurd (cc)
+
+equals : (m n : ℕ) → nat_eq m n ≡ true → m ≡ n
+equals m n e = grind (arith, nat_tests)
+
+same_dated : (old new : Post) → keeps_order (Some old) new ≡ true → dated_of (Some old) ≡ dated_of (Some new)
+same_dated old new e =
+    let was = both (is_publish old.status) (is_publish new.status && (nat_eq old.date new.date && nat_eq old.id new.id)) e in
+    let is = both (is_publish new.status) (nat_eq old.date new.date && nat_eq old.id new.id) was.1 in
+    let alike = both (nat_eq old.date new.date) (nat_eq old.id new.id) is.1 in
+    let date : old.date ≡ new.date = equals old.date new.date alike.0 in
+    let id : old.id ≡ new.id = equals old.id new.id alike.1 in
+    rw (was.0, is.0) (ap₂ (λ (d i : ℕ). let o : Option Dated = Some (record { date = d; id = i }) in o) date id)
 
 module _ (posts : List (Option Post)) (count : ℕ) (ds : List Dated) (room : ℕ) where
   pub in_order : IsKept posts count ds room → IsOldestFirst ds
@@ -77,6 +95,28 @@ module _ (posts : List (Option Post)) (count : ℕ) (ds : List Dated) (room : �
       ordered = taken ∙ ap (taken_out (dated_of (Some p))) (was q k g at is) ∙ out_with (dated_of (Some p)) (oldest_first (set posts (id - 1) None));
       roomy = omega (arith, length-set posts (id - 1) None, k.roomy);
     }
+
+    -- a post in place of another, the order as it is
+
+    replaces : (o : Option Post) → post_at posts id ≡ o → keeps_order o p ≡ true → IsKept posts count ds room → IsGiven id posts → IsKept (set posts (id - 1) (Some p)) count ds room
+    replaces None e same k g = absurd (cc)
+    replaces (Some old) e same k g =
+        let lt : id - 1 < length posts = omega (arith, g.0, g.1) in
+        let stood : get_or posts (id - 1) None ≡ Some old = sym (at_place posts id g.0) ∙ e in
+        let n = counted posts (id - 1) (Some p) lt in
+        let empty : get_or (set posts (id - 1) None) (id - 1) None ≡ None = get_or-set_same posts (id - 1) None None lt in
+        let lt' : id - 1 < length (set posts (id - 1) None) = omega (arith, length-set posts (id - 1) None) in
+        record {
+          counted = omega (arith, rw stood at n, k.counted);
+          ordered =
+              k.ordered ∙ emptied posts (id - 1) ∙ ap (λ (o : Option Post). put_with (dated_of o) (oldest_first (set posts (id - 1) None))) stood
+              ∙ ap (λ (o : Option Dated). put_with o (oldest_first (set posts (id - 1) None))) (same_dated old p same)
+              ∙ sym (ap oldest_first (sym (set-set posts (id - 1) None (Some p))) ∙ filled (set posts (id - 1) None) (id - 1) (Some p) lt' empty);
+          roomy = omega (arith, length-set posts (id - 1) (Some p), k.roomy);
+        }
+
+    pub replaced : keeps_order (post_at posts id) p ≡ true → IsKept posts count ds room → IsGiven id posts → IsKept (set posts (id - 1) (Some p)) count ds room
+    replaced same k g = replaces (post_at posts id) refl same k g
 
   -- the last place, which is empty
 

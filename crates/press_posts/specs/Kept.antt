@@ -1,9 +1,9 @@
 -- What is kept beside the posts, so that a change looks at no others: how many stand, and the published ones in their order, the oldest first.
-use Rattle.std.specs.Prelude.{◌≡◌, ℕ, ◌<◌, ◌≤◌, List, length, insert, remove, reverse, Option, Some, None}
+use Rattle.std.specs.Prelude.{◌≡◌, ℕ, ◌<◌, ◌≤◌, List, length, insert, remove, reverse, Bool, false, ◌&&◌, nat_eq, Option, Some, None}
 use Rattle.std.specs.List.{prefix_len}
 use Rattle.press_posts.specs.declared.post.Post.{Post}
 use Rattle.press_posts.specs.declared.posts.Dated.{Dated}
-use Rattle.press_posts.specs.PostChange.{standing}
+use Rattle.press_posts.specs.PostChange.{is_publish, standing}
 use Rattle.press_posts.specs.Published.{is_older, newest_first}
 
 unfoldable pub oldest_first : List (Option Post) → List Dated
@@ -25,6 +25,11 @@ taken_out (Some d) ds = remove ds (place_among d ds)
 abbrev pub IsAmong : Option Dated → List Dated → Type 0
 IsAmong None ds = Unit {0}
 IsAmong (Some d) ds = place_among d ds < length ds
+
+-- where both are published, with one date and one id
+abbrev pub keeps_order : Option Post → Post → Bool
+keeps_order None new = false
+keeps_order (Some old) new = is_publish old.status && (is_publish new.status && (nat_eq old.date new.date && nat_eq old.id new.id))
 
 -- room for as many published posts as there are places, so that a post at a place that was given out takes no memory
 pub record IsKept (posts : List (Option Post)) (count : ℕ) (order : List Dated) (room : ℕ) : Type 0 where

@@ -1,4 +1,5 @@
 ghost use Rattle.std.specs.Prelude.{◌≡◌, Some};
+ghost use Rattle.press_posts.specs.Kept.{keeps_order};
 ghost use Rattle.press_posts.specs.PostChange.{is_due, is_too_long, edit_fault, status_moved};
 ghost use Rattle.press_posts.specs.Published.{dated_of};
 
@@ -53,6 +54,16 @@ impl Post {
             date: self.date,
             id: self.id,
         })
+    }
+
+    // Whether another in place of it stands among the published posts where it does.
+    pub(crate) fn keeps_order(&self, other: &Post) -> bool
+        ensures { result ≡ keeps_order (Some self.now) other.now }
+    {
+        self.status.is_publish()
+            && other.status.is_publish()
+            && self.date.seconds() == other.date.seconds()
+            && self.id == other.id
     }
 
     /// Whether it is to be published at that moment.

@@ -1,6 +1,7 @@
 //! The posts of a site, each at the place of its id.
 
 ghost use Rattle.std.specs.Prelude.{◌≡◌, ℕ, [], ◌∷◌, ◌++◌, ◌+◌, ◌-◌, ◌≤◌, length, map, option_map, IfOk, OnOk, OnErr, is_some, take, true, false, Some, None};
+ghost use Rattle.press_posts.specs.Kept.{keeps_order};
 ghost use Rattle.press_posts.specs.PostChange.{Changes, post_change, post_at, put_at, with_status, is_full, insert_fault};
 ghost use Rattle.press_posts.specs.Transitions.{transition};
 ghost use Rattle.press_posts.specs.PostChange.Change.{Insert, Edit, Moves, Delete};
@@ -285,8 +286,22 @@ impl Posts {
         requires { IsGiven id self.old }
         ensures { self.new ≡ put_at self.old id (Some post) }
     {
+        if self.keeps_order(id, &post) {
+            self.places[(id - 1) as usize] = Some(post);
+            return;
+        }
         drop(self.empty(id));
         self.fill(id, post);
+    }
+
+    // Whether a post in place of that one leaves the published ones in their order.
+    fn keeps_order(&self, id: u64, post: &Post) -> bool
+        ensures { result ≡ keeps_order (post_at self.now id) post.now }
+    {
+        match self.get(id) {
+            Some(old) => old.keeps_order(post),
+            None => false,
+        }
     }
 
     // A place more, which is empty.

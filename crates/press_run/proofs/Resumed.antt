@@ -130,6 +130,22 @@ takes_answer (frame.Hook h) a i = tt
 takes_answer (frame.Fires s) a h = tt
 takes_answer (frame.Scan s) a h = rw h.waiting refl
 
+-- a site that is only read is so round any frame
+
+round_fixed : (f : Frame) (a : Around) → (round f a).fixed ≡ a.fixed
+round_fixed (frame.Callback c) a = refl
+round_fixed (frame.Hook h) a = refl
+round_fixed (frame.Fires s) a = refl
+round_fixed (frame.Scan s) a = refl
+
+stand_fixed : (fs : List Frame) (a base : Around) → Stand fs a base → a.fixed ≡ base.fixed
+stand_fixed [] a base h = ap (λ (x : Around). x.fixed) (none_stood a base h)
+stand_fixed (f ∷ fs) a base h = sym (round_fixed f a) ∙ stand_fixed fs (round f a) base (more_stood f fs a base h).1
+
+pub plays_fixed : (changes : Changes) (scripts : Scripts) (whole : Option Answer) (waiting : List Frame) (top first : Frame) (w start : Stage) → Playing changes scripts whole (round first (around start)) waiting top w → w.fixed ≡ start.fixed
+plays_fixed changes scripts whole waiting top first w start p =
+    sym (round_fixed top (around w)) ∙ stand_fixed waiting (round top (around w)) (round first (around start)) p.stands ∙ round_fixed first (around start)
+
 module _ (changes : Changes) (scripts : Scripts) where
   -- a run at its start
   pub begins : (top : Frame) (w : Stage) → Ready top (around w) → Playing changes scripts (meant changes scripts top (around w) (state_of w)) (round top (around w)) [] top w

@@ -265,6 +265,19 @@ pub slashes : meant show_atts with_t (codes "[t//]") ≡ Some (codes ",/")
 unfolding run_entries play at_depth scan_from shortcode_from attributes_of
 slashes = refl
 
+-- ---- plugin-escaped: a tag that shows an attribute as it is, and escaped
+
+abbrev show_escaped : Scripts
+show_escaped = (codes "say_t", op.Return (Raw (Att (key.Name (codes "x"))) ∷ Lit (codes "|") ∷ Escaped (Att (key.Name (codes "x"))) ∷ []) ∷ []) ∷ []
+
+pub escaped_markup : meant show_escaped with_t (codes "[t x=\"<a b='&'>\"]") ≡ Some (codes "<a b='&'>|&lt;a b=&#039;&amp;&#039;&gt;")
+unfolding run_entries play at_depth scan_from shortcode_from attributes_of
+escaped_markup = refl
+
+pub escaped_quote : meant show_escaped with_t (codes "[t x='\"']") ≡ Some (codes "\"|&quot;")
+unfolding run_entries play at_depth scan_from shortcode_from attributes_of
+escaped_quote = refl
+
 -- ---- nested-tags: box has the shortcodes of its content answered, greet names its attribute
 
 abbrev boxes : Scripts

@@ -55,9 +55,10 @@ impl Held<OpenCallback> {
         kit: &K,
     ) -> Result<Step, RunFault>
         requires { IsFew 0 self.old }
-        ensures { Steps L.changes (K.scripts kit.now)
+        ensures steps { Steps L.changes (K.scripts kit.now)
             (frame.Callback self.old) (frame.Callback self.new)
             (standing L.view L.fixed stage.old) (standing L.view L.fixed stage.new) result }
+        ensures fixed { L.fixed stage.new.site ≡ L.fixed stage.old.site }
     {
         stage.turn(kit, &mut self.inside)
     }
@@ -75,9 +76,10 @@ impl Held<OpenCallback> {
 impl Held<OpenFires> {
     /// Its next action.
     pub fn fire<L: SiteLink + Drop>(&mut self, stage: &mut Stage<L>) -> Result<Step, RunFault>
-        ensures { (scripts : Scripts) → Steps L.changes scripts
+        ensures steps { (scripts : Scripts) → Steps L.changes scripts
             (frame.Fires self.old) (frame.Fires self.new)
             (standing L.view L.fixed stage.old) (standing L.view L.fixed stage.new) result }
+        ensures fixed { L.fixed stage.new.site ≡ L.fixed stage.old.site }
     {
         stage.fire(&mut self.inside)
     }
@@ -91,9 +93,10 @@ impl Held<OpenScan> {
         kit: &K,
     ) -> Result<Moved, RunFault>
         requires { GoesOn self.old.scan }
-        ensures { MovesTo L.changes (K.scripts kit.now)
+        ensures steps { MovesTo L.changes (K.scripts kit.now)
             (frame.Scan self.old) (frame.Scan self.new)
             (standing L.view L.fixed stage.old) (standing L.view L.fixed stage.new) result }
+        ensures fixed { L.fixed stage.new.site ≡ L.fixed stage.old.site }
     {
         stage.piece(kit, &mut self.inside)
     }

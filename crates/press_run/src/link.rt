@@ -1,7 +1,7 @@
 ghost use Rattle.std.specs.Prelude.{◌≡◌};
 ghost use Rattle.press_site.specs.Becomes.{Becomes};
 
-use press_site::{Changed, Effect, Site, SiteFault};
+use press_site::{Changed, Effect, OpenSite, Site, SiteFault};
 use press_text::Items;
 use std::alloc::Global;
 
@@ -15,7 +15,7 @@ pub trait SiteLink {
 
     ghost view: { Self → SiteView };
 
-    /// What no change touches: of a site its moment and its outcomes, and all of one that is only read.
+    /// What no change touches: of a site its moment and its outcomes, of an open one how it was begun, and all of one that is only read.
     ghost fixed: { Self → Option SiteView };
 
     fn site(&self) -> &Site
@@ -44,6 +44,26 @@ impl SiteLink for Site {
     }
 
     #[tactic(auto, using(crate::proofs::Kept::becomes_kept))]
+    fn change(&mut self, _alloc: Global, effect: Effect) -> Result<Changed, SiteFault> {
+        self.effect(effect)
+    }
+}
+
+impl SiteLink for OpenSite {
+    ghost use Rattle.std.specs.Prelude.{Some};
+    ghost use Rattle.press_site.specs.Effects.{effect_on};
+    ghost use Rattle.press_site.specs.Open.{begun_of};
+
+    ghost changes = { effect_on };
+
+    ghost view = { λ o. o.site };
+
+    ghost fixed = { λ o. Some (begun_of o) };
+
+    fn site(&self) -> &Site {
+        self.site()
+    }
+
     fn change(&mut self, _alloc: Global, effect: Effect) -> Result<Changed, SiteFault> {
         self.effect(effect)
     }

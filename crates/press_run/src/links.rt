@@ -1,6 +1,6 @@
 //! The changes of a site that a callback asks for.
 
-ghost use Rattle.std.specs.Prelude.{◌≡◌, IfOk, OnOk};
+ghost use Rattle.std.specs.Prelude.{◌≡◌, IfOk};
 ghost use Rattle.press_run.specs.Links.{or_no_change, publishes, schedules};
 
 use crate::link::SiteLink;
@@ -18,7 +18,7 @@ pub fn change<L: SiteLink>(
 ) -> Result<Changed, AllocError>
     ensures changed { IfOk result (λ c. (L.view link.new, c)
         ≡ or_no_change (L.view link.old) (L.changes (L.view link.old) effect)) }
-    ensures fixed { OnOk result (L.fixed link.new ≡ L.fixed link.old) }
+    ensures fixed { L.fixed link.new ≡ L.fixed link.old }
 {
     match link.change(alloc, effect) {
         Ok(changed) => Ok(changed),

@@ -11,7 +11,7 @@ ghost use Rattle.std.specs.Prelude.{◌≡◌, IfOk, Some};
 ghost use Rattle.press_callbacks.specs.Kits.{plugins_in, scripts_in};
 ghost use Rattle.press_run.specs.Boot.{booted_with};
 ghost use Rattle.press_run.specs.Links.{kept};
-ghost use Rattle.press_run.specs.Outcome.{GivesJob, around, job_meaning, started, state_of};
+ghost use Rattle.press_run.specs.Outcome.{GivesJob, around, job_meaning, loaded_in, started, state_of};
 ghost use Rattle.press_run.specs.Standing.{standing};
 
 use crate::boots::boot;
@@ -52,24 +52,34 @@ impl<L: SiteLink + Drop> Stage<L> {
         ensures site { IfOk result (λ s. s.site ≡ site) }
     {
         let tables = boot(alloc, kit, site.site())?;
+        Ok(Stage::over(alloc, tables, site))
+    }
+
+    /// The same over tables that were made before; takes no memory.
+    pub fn over(alloc: Global, tables: Tables, site: L) -> Stage<L>
+        ensures started { state_of (standing L.view L.fixed result)
+            ≡ started (loaded_in tables) (L.view site) }
+        ensures site { result.site ≡ site }
+    {
         let (machine, out) = (Machine::new(alloc), Out::new(alloc));
-        Ok(Stage {
+        Stage {
             tables,
             machine,
             site,
             out,
-        })
+        }
     }
 
     /// Runs a job: actions one after the other, which answer the empty text, or one filter, which answers what its last callback gave.
     ///
     /// Callbacks may edit the tables, change the site, and write to the output. What a change of the site fires is done within the run.
     /// Limit stands where a 33rd callback would be open at once, a 10,001st turn would be played, or a text would pass 1,048,576 bytes.
-    /// After a fault the stage is in no stated state: drop it.
+    /// After a fault the stage is in no stated state, but for what no change of the site touches.
     pub fn run(&mut self, kit: &Kit, job: Job) -> Result<String, RunFault>
-        ensures { GivesJob
+        ensures gives { GivesJob
             (job_meaning L.changes (scripts_in kit.now) job (state_of (standing L.view L.fixed self.old)))
             (around (standing L.view L.fixed self.old)) (standing L.view L.fixed self.new) result }
+        ensures fixed { L.fixed self.new.site ≡ L.fixed self.old.site }
     {
         let text = self.answer(kit, job)?;
         Ok(text.into_string()?)

@@ -1,5 +1,5 @@
 -- The events beside a post: once those of its id are out, its own is put in wherever there is room.
-use Rattle.std.proofs.Common.{◌≡◌, refl, sym, ◌∙◌, ap, ℕ, ◌<◌, ◌≤◌, ◌^◌, Bool, true, false, not, cond, List, [], ◌∷◌, length, Some, arith}
+use Rattle.std.proofs.Common.{◌≡◌, refl, sym, ◌∙◌, ap, ℕ, ◌<◌, ◌≤◌, ◌^◌, Bool, true, false, not, cond, List, [], ◌∷◌, length, Some, arith, codes}
 use Rattle.std.specs.Prelude.{nat_eq, nat_lt, nat_le, if◌then◌else◌, decimal, Result, Ok, Err}
 use Rattle.std.proofs.lemmas.Bool.{and_right, le-ltb}
 use Rattle.std.proofs.lemmas.Fmt.{length-decimal-le}
@@ -7,10 +7,11 @@ use Rattle.press_events.specs.declared.event.Event.{Event}
 use Rattle.press_events.specs.declared.fault.EventFault.{EventFault}
 use Rattle.press_events.specs.declared.fault.EventFault.TheVariants as event
 use Rattle.press_events.specs.DueEvents as events
-use Rattle.press_events.specs.DueEvents.{is_of, is_same, stands, cancelled, add_event, scheduled}
+use Rattle.press_events.specs.DueEvents.{is_of, is_same, stands, cancelled, cancels, add_event, scheduled}
 use Rattle.press_site.specs.declared.fault.SiteFault.TheVariants.{TooManyEvents}
 use Rattle.press_site.specs.Becomes.{Refuses}
 use Rattle.press_site.specs.Contents.{publish_event, events_without, events_of}
+use Rattle.std.specs.Prelude.{◌||◌}
 use Rattle.press_site.specs.Faults.{of_events}
 
 kept : (e event : Event) (rest : List Event) (b : Bool) → is_of event.hook event.arg e ≡ b → stands event rest ≡ false → stands event (cond (not b) (e ∷ rest) rest) ≡ false
@@ -61,3 +62,16 @@ refused_of event.TooManyEvents false new e h = cc
 pub refused : (id date : ℕ) (es : List Event) (f : EventFault) → id < 2 ^ 64 → nat_le 4096 (length (events_without id es)) ≡ false → events.Refuses f (add_event (publish_event id date) (events_without id es)) → Refuses (of_events f) (events_of (Some date) id es)
 refused id date es f small room h =
     refused_of f (nat_le 4096 (length (events_without id es))) (scheduled (publish_event id date) (events_without id es)) room (rw (sym (added id date es small)) h)
+
+-- ---- where none is for the post
+
+stays : (hook arg : List ℕ) (e : Event) (es : List Event) (b : Bool) → is_of hook arg e ≡ b → (b || cancels hook arg es) ≡ false → (cancels hook arg es ≡ false → cancelled hook arg es ≡ es) → cond (not b) (e ∷ cancelled hook arg es) (cancelled hook arg es) ≡ e ∷ es
+stays hook arg e es true h n rest = absurd (cc)
+stays hook arg e es false h n rest = ap (λ (xs : List Event). e ∷ xs) (rest n)
+
+none_cancelled : (hook arg : List ℕ) (es : List Event) → cancels hook arg es ≡ false → cancelled hook arg es ≡ es
+none_cancelled hook arg [] n = refl
+none_cancelled hook arg (e ∷ es) n = stays hook arg e es (is_of hook arg e) refl n (none_cancelled hook arg es)
+
+pub none_out : (id : ℕ) (es : List Event) → cancels (codes "publish_future_post") (decimal id) es ≡ false → es ≡ events_without id es
+none_out id es n = sym (none_cancelled (codes "publish_future_post") (decimal id) es n)

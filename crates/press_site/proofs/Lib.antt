@@ -1,3 +1,4 @@
+mod Back
 mod Beside
 mod Bytes
 mod Copies
@@ -5,4 +6,6 @@ mod Halves
 mod Hooks
 mod Joined
 mod Lifted
+mod Noted
+mod Undoing
 mod Vectors

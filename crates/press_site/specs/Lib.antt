@@ -1,10 +1,14 @@
+pub mod Back
 pub mod Becomes
 pub mod ContentView
 pub mod Contents
 pub mod Effects
 pub mod Faults
 pub mod InOrder
+pub mod Log
+pub mod Open
 pub mod Options
 pub mod Outcomes
 pub mod Plugins
+pub mod Sets
 pub mod SiteView

@@ -1,22 +1,26 @@
 //! Posts and events as one: each change of a post takes its event of `publish_future_post` along.
 
-ghost use Rattle.std.specs.Prelude.{◌≡◌, ℕ, [], IfOk, None, Some, Ok, false, length, nat_le, codes, decimal, option_map, take};
-ghost use Rattle.press_events.specs.DueEvents.{due};
+ghost use Rattle.std.specs.Prelude.{◌≡◌, ℕ, Bool, [], IfOk, None, Some, Ok, true, false, length, nat_le, if◌then◌else◌, codes, decimal, option_map, take, unwrap_or};
+ghost use Rattle.press_events.specs.DueEvents.{due, cancels};
 ghost use Rattle.press_posts.specs.PostChange.{comes, post_at};
 ghost use Rattle.press_posts.specs.PostChange.Change.{Insert, Edit, Moves, Delete};
 ghost use Rattle.press_posts.specs.Published.{published};
-ghost use Rattle.press_site.specs.Becomes.{Becomes, Refuses};
+ghost use Rattle.press_posts.specs.Restored.{restored, IsRestorable};
+ghost use Rattle.press_site.specs.Back.{ContentGoesBack, Does};
+ghost use Rattle.press_site.specs.Becomes.{Refuses};
 ghost use Rattle.press_text.specs.Gives.{Gives};
 ghost use Rattle.press_site.specs.Contents.{beside_move, events_of, events_without, post_effect, publish_event, scheduling, taking};
 
 use crate::changed::Changed;
 use crate::fault::SiteFault;
+use crate::stood::{Done, Stood, Undone};
 use itoa::Buffer;
 use press_events::{Event, Events};
-use press_posts::{Move, Post, Posts, Status};
-use press_text::{Every, HookName, Items, Moment, Text};
+use press_posts::{Fire, Move, Post, Posts, Status, changes_are_taken_back};
+use press_text::{Copied, Every, HookName, Items, Moment, Text};
 use std::alloc::{AllocError, Global};
 use std::marker::Model;
+use std::mem;
 
 // The hook that is done when a post's moment comes.
 const PUBLISH_HOOK: &str = "publish_future_post";
@@ -93,9 +97,10 @@ impl Content {
         status: Status,
         date: Moment,
         now: Moment,
-    ) -> Result<Changed, SiteFault>
-        ensures { Becomes result (post_effect self.old (Insert title content status date) now)
+    ) -> Result<Done, SiteFault>
+        ensures does { Does result (post_effect self.old (Insert title content status date) now)
             self.old self.new }
+        ensures back { IfOk result (λ d. ContentGoesBack true d.undone self.new self.old) }
     {
         if let Some(fault) = self
             .posts
@@ -104,11 +109,11 @@ impl Content {
             return Err(SiteFault::from(fault));
         }
         let id = self.posts.next_id();
-        let events = self.events_beside(id, status.settled(date, now), date)?;
+        let beside = self.beside(id, status.settled(date, now), date)?;
         let (id, fires) = self.posts.insert(title, content, status, date, now)?;
-        self.events = events;
-        let did = true;
-        Ok(Changed { id, did, fires })
+        changes_are_taken_back();
+        let stood = Stood { id, post: None };
+        Ok(self.done(id, fires, stood, beside))
     }
 
     pub fn edit(
@@ -119,9 +124,10 @@ impl Content {
         status: Status,
         date: Moment,
         now: Moment,
-    ) -> Result<Changed, SiteFault>
-        ensures { Becomes result (post_effect self.old (Edit id title content status date) now)
+    ) -> Result<Done, SiteFault>
+        ensures does { Does result (post_effect self.old (Edit id title content status date) now)
             self.old self.new }
+        ensures back { IfOk result (λ d. ContentGoesBack true d.undone self.new self.old) }
     {
         let Some(post) = self.posts.get(id) else {
             return Err(SiteFault::NoSuchPost);
@@ -129,27 +135,29 @@ impl Content {
         if let Some(fault) = post.edit_fault(title.as_str(), content.as_str(), status) {
             return Err(SiteFault::from(fault));
         }
-        let events = self.events_beside(id, status.settled(date, now), date)?;
+        let beside = self.beside(id, status.settled(date, now), date)?;
+        let stood = self.stood(id)?;
         let fires = self.posts.edit(id, title, content, status, date, now)?;
-        self.events = events;
-        let did = true;
-        Ok(Changed { id, did, fires })
+        changes_are_taken_back();
+        Ok(self.done(id, fires, stood, beside))
     }
 
-    pub fn set_status(&mut self, id: u64, to: Move) -> Result<Changed, SiteFault>
-        ensures { (now : ℕ) → Becomes result (post_effect self.old (Moves id to) now) self.old
+    pub fn set_status(&mut self, id: u64, to: Move) -> Result<Done, SiteFault>
+        ensures does { (now : ℕ) → Does result (post_effect self.old (Moves id to) now) self.old
             self.new }
+        ensures back { IfOk result (λ d. ContentGoesBack true d.undone self.new self.old) }
     {
         let wanted = to;
-        let Some(events) = self.beside_move(id, wanted)? else {
-            return Ok(unchanged(self.alloc, id));
+        let Some(beside) = self.beside_move(id, wanted)? else {
+            return Ok(untouched(self.alloc, id));
         };
-        self.turn(id, to, events)
+        self.turn(id, to, beside)
     }
 
-    pub fn delete(&mut self, id: u64) -> Result<Changed, SiteFault>
-        ensures { (now : ℕ) → Becomes result (post_effect self.old (Delete id) now) self.old
+    pub fn delete(&mut self, id: u64) -> Result<Done, SiteFault>
+        ensures does { (now : ℕ) → Does result (post_effect self.old (Delete id) now) self.old
             self.new }
+        ensures back { IfOk result (λ d. ContentGoesBack true d.undone self.new self.old) }
     {
         let Some(post) = self.posts.get(id) else {
             return Err(SiteFault::NoSuchPost);
@@ -157,28 +165,52 @@ impl Content {
         if !post.status.is_trash() {
             return Err(SiteFault::NotTrashed);
         }
-        let events = self.events_without(id)?;
+        let beside = self.beside_none(id)?;
+        let stood = self.stood(id)?;
         self.posts.delete(id)?;
-        self.events = events;
-        let (did, fires) = (true, Items::new(self.alloc));
-        Ok(Changed { id, did, fires })
+        changes_are_taken_back();
+        let fires = Items::new(self.alloc);
+        Ok(self.done(id, fires, stood, beside))
     }
 
-    pub fn schedule(&mut self, event: Event) -> Result<Changed, SiteFault>
-        ensures { Becomes result (scheduling self.old event) self.old self.new }
+    /// Schedules an event. The events that stood are told where they are wanted.
+    pub fn schedule(&mut self, event: Event, wants: bool) -> Result<Done, SiteFault>
+        ensures does { Does result (scheduling self.old event) self.old self.new }
+        ensures back { IfOk result (λ d. ContentGoesBack wants d.undone self.new self.old) }
     {
+        if let Some(fault) = self.events.add_fault(&event) {
+            return Err(SiteFault::from(fault));
+        }
+        let events = self.events_if(wants)?;
         let did = self.events.add(event)?;
-        let (id, fires) = (0, Items::new(self.alloc));
-        Ok(Changed { id, did, fires })
+        Ok(done_alone(self.alloc, did, events))
     }
 
-    /// Takes no memory.
-    pub fn take(&mut self, event: &Event, now: Moment) -> Changed
-        ensures { (self.new, result) ≡ taking self.old event.now now }
+    /// Takes an event. The events that stood are told where they are wanted, and nothing else takes memory.
+    pub fn take(&mut self, event: &Event, now: Moment, wants: bool) -> Result<Done, SiteFault>
+        ensures does { Does result (Ok (taking self.old event.now now)) self.old self.new }
+        ensures back { IfOk result (λ d. ContentGoesBack wants d.undone self.new self.old) }
     {
+        let events = self.events_if(wants)?;
         let did = self.events.take(event, now);
-        let (id, fires) = (0, Items::new(self.alloc));
-        Changed { id, did, fires }
+        Ok(done_alone(self.alloc, did, events))
+    }
+
+    /// Puts what stood at a post's place there again.
+    pub fn restore(&mut self, stood: Stood)
+        requires { IsRestorable stood.id stood.post self.old.posts }
+        ensures { self.new ≡ record self.old
+            { posts = restored stood.id stood.post self.old.posts } }
+    {
+        let (id, post) = stood.parts();
+        self.posts.restore(id, post);
+    }
+
+    /// Puts other events in place of those that stand.
+    pub fn set_events(&mut self, events: Events)
+        ensures { self.new ≡ record self.old { events = events } }
+    {
+        self.events = events;
     }
 
     /// The same posts and events once more.
@@ -192,22 +224,73 @@ impl Content {
         })
     }
 
-    fn turn(&mut self, id: u64, to: Move, events: Events) -> Result<Changed, SiteFault>
+    fn turn(&mut self, id: u64, to: Move, beside: Beside) -> Result<Done, SiteFault>
         requires { beside_move (post_at self.old.posts id) to id self.old.events
-            ≡ Ok (Some events) }
-        ensures { (now : ℕ) → Becomes result (post_effect self.old (Moves id to) now) self.old
+            ≡ Ok (Some (unwrap_or beside.events self.old.events)) }
+        ensures does { (now : ℕ) → Does result (post_effect self.old (Moves id to) now) self.old
             self.new }
+        ensures back { IfOk result (λ d. ContentGoesBack true d.undone self.new self.old) }
     {
+        let stood = self.stood(id)?;
         let fires = self.posts.set_status(id, to)?;
-        self.events = events;
+        changes_are_taken_back();
+        Ok(self.done(id, fires, stood, beside))
+    }
+
+    // A change that is done to a post, with the events beside it.
+    fn done(&mut self, id: u64, fires: Items<Fire>, stood: Stood, beside: Beside) -> Done
+        ensures new { self.new ≡ record self.old
+            { events = unwrap_or beside.events self.old.events } }
+        ensures changed { result.changed ≡ record { id = id; did = true; fires = fires } }
+        ensures stood { result.undone.stood ≡ Some stood }
+        ensures options { result.undone.options ≡ None }
+        ensures active { result.undone.active ≡ None }
+        ensures events { unwrap_or result.undone.events self.new.events ≡ self.old.events }
+    {
         let did = true;
-        Ok(Changed { id, did, fires })
+        let changed = Changed { id, did, fires };
+        let events = self.swap(beside);
+        let undone = Undone::of_post(stood, events);
+        Done { changed, undone }
+    }
+
+    // Puts the events in that come; those that stood, where they do.
+    fn swap(&mut self, beside: Beside) -> Option<Events>
+        ensures new { self.new ≡ record self.old
+            { events = unwrap_or beside.events self.old.events } }
+        ensures old { unwrap_or result self.new.events ≡ self.old.events }
+    {
+        match beside.events {
+            Some(events) => Some(mem::replace(&mut self.events, events)),
+            None => None,
+        }
+    }
+
+    // What stands at a post's place.
+    fn stood(&self, id: u64) -> Result<Stood, AllocError>
+        ensures { IfOk result (λ s. s ≡ record { id = id; post = post_at self.now.posts id }) }
+    {
+        let post = match self.posts.get(id) {
+            Some(post) => Some(post.copied(self.alloc)?),
+            None => None,
+        };
+        Ok(Stood { id, post })
+    }
+
+    fn events_if(&self, wants: bool) -> Result<Option<Events>, AllocError>
+        ensures { IfOk result (λ es. es ≡ (if wants then Some self.now.events else None)) }
+    {
+        if wants {
+            Ok(Some(self.events.copy()?))
+        } else {
+            Ok(None)
+        }
     }
 
     // The events beside a post that is moved; None where the move leaves the post as it is.
-    fn beside_move(&self, id: u64, to: Move) -> Result<Option<Events>, SiteFault>
-        ensures { Gives Refuses Ok result (beside_move (post_at self.now.posts id) to id
-            self.now.events) }
+    fn beside_move(&self, id: u64, to: Move) -> Result<Option<Beside>, SiteFault>
+        ensures { Gives Refuses (λ o. Ok (option_map (λ b. unwrap_or b.events self.now.events) o))
+            result (beside_move (post_at self.now.posts id) to id self.now.events) }
     {
         let Some(post) = self.posts.get(id) else {
             return Err(SiteFault::NoSuchPost);
@@ -215,18 +298,42 @@ impl Content {
         let Some(status) = post.moved(to)? else {
             return Ok(None);
         };
-        Ok(Some(self.events_beside(id, status, post.date)?))
+        Ok(Some(self.beside(id, status, post.date)?))
     }
 
     // The events beside a post that gets that status.
-    fn events_beside(&self, id: u64, status: Status, date: Moment) -> Result<Events, SiteFault>
-        ensures { Gives Refuses Ok result (events_of (comes status date) id self.now.events) }
+    fn beside(&self, id: u64, status: Status, date: Moment) -> Result<Beside, SiteFault>
+        ensures { Gives Refuses (λ b. Ok (unwrap_or b.events self.now.events)) result
+            (events_of (comes status date) id self.now.events) }
     {
         if status.is_future() {
-            self.events_with(id, date)
+            let events = Some(self.events_with(id, date)?);
+            Ok(Beside { events })
         } else {
-            Ok(self.events_without(id)?)
+            Ok(self.beside_none(id)?)
         }
+    }
+
+    // The events beside a post that none is for; they stay where none was.
+    #[tactic(auto, using(crate::proofs::Beside::none_out))]
+    fn beside_none(&self, id: u64) -> Result<Beside, AllocError>
+        ensures { IfOk result (λ b. unwrap_or b.events self.now.events
+            ≡ events_without id self.now.events) }
+    {
+        if self.has_event(id) {
+            let events = Some(self.events_without(id)?);
+            Ok(Beside { events })
+        } else {
+            Ok(Beside { events: None })
+        }
+    }
+
+    // Whether an event stands that publishes that post.
+    fn has_event(&self, id: u64) -> bool
+        ensures { result ≡ cancels (codes "publish_future_post") (decimal id) self.now.events }
+    {
+        let mut digits = Buffer::new();
+        self.events.has(PUBLISH_HOOK, digits.format(id))
     }
 
     fn events_with(&self, id: u64, date: Moment) -> Result<Events, SiteFault>
@@ -260,11 +367,36 @@ impl Content {
     }
 }
 
-fn unchanged(alloc: Global, id: u64) -> Changed
-    ensures { result ≡ record { id = id; did = false; fires = [] } }
+// The events that come in beside a post's change; None where those that stand stay.
+#[derive(Debug, Drop)]
+struct Beside {
+    events: Option<Events>,
+}
+
+// A post's change that changed nothing.
+fn untouched(alloc: Global, id: u64) -> Done
+    ensures { result ≡ record {
+      changed = record { id = id; did = false; fires = [] };
+      undone = record { stood = None; events = None; options = None; active = None };
+    } }
 {
     let (did, fires) = (false, Items::new(alloc));
-    Changed { id, did, fires }
+    let changed = Changed { id, did, fires };
+    let undone = Undone::of_events(None);
+    Done { changed, undone }
+}
+
+// A change of events alone.
+fn done_alone(alloc: Global, did: bool, events: Option<Events>) -> Done
+    ensures { result ≡ record {
+      changed = record { id = 0; did = did; fires = [] };
+      undone = record { stood = None; events = events; options = None; active = None };
+    } }
+{
+    let (id, fires) = (0, Items::new(alloc));
+    let changed = Changed { id, did, fires };
+    let undone = Undone::of_events(events);
+    Done { changed, undone }
 }
 
 fn publish_event(alloc: Global, id: u64, date: Moment) -> Result<Event, AllocError>

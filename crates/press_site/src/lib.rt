@@ -7,14 +7,18 @@ mod changed;
 mod content;
 mod effect;
 mod fault;
+mod open;
 mod options;
 mod outcomes;
 mod plugins;
 mod site;
+mod stood;
 mod token;
+mod undo;
 
 pub use changed::Changed;
 pub use effect::Effect;
 pub use fault::SiteFault;
+pub use open::OpenSite;
 pub use site::Site;
 pub use token::{Outcome, Token};

@@ -1,5 +1,5 @@
-ghost use Rattle.std.specs.Prelude.{◌≡◌, [], ◌<◌, ◌++◌, length, None, IfOk, OnOk, OnErr, option_map, codes, string_bytes};
-ghost use Rattle.press_site.specs.Becomes.{Becomes};
+ghost use Rattle.std.specs.Prelude.{◌≡◌, [], ◌∷◌, ◌<◌, ◌++◌, length, None, Some, Ok, true, if◌then◌else◌, unwrap_or, IfOk, OnOk, OnErr, option_map, codes, string_bytes};
+ghost use Rattle.press_site.specs.Sets.{Sets};
 ghost use Rattle.press_site.specs.Options.{option_of, put_option, set_option, set_over, added_fire, updated_fire, added_name, updated_name};
 
 use crate::fault::SiteFault;
@@ -38,6 +38,13 @@ impl Model for Options {
     ghost view = { λ o. by_bytes o.values.entries };
 }
 
+/// What the setting of an option fires, if it changes anything; and the options that stood.
+#[derive(Debug, Drop)]
+pub struct SetDone {
+    pub fires: Option<Items<Fire>>,
+    pub stood: Option<Options>,
+}
+
 impl Options {
     /// No options, which takes no memory.
     pub fn new(alloc: Global) -> Options
@@ -71,34 +78,36 @@ impl Options {
     }
 
     /// Gives an option a value; what that fires, and None where it has that value already. Refused by TooLong, then TooManyOptions.
-    pub fn set(&mut self, name: &OptName, value: Text) -> Result<Option<Items<Fire>>, SiteFault>
-        ensures { Becomes result (set_option name.now value self.old) self.old self.new }
+    /// The options that stood are told where they are wanted.
+    pub fn set(&mut self, name: &OptName, value: Text, wants: bool) -> Result<SetDone, SiteFault>
+        ensures does { Sets result (set_option name.now value self.old) self.old self.new }
+        ensures back { IfOk result
+            (λ s. wants ≡ true → unwrap_or s.stood self.new ≡ self.old) }
     {
         if value.len() > MOST_VALUE {
             return Err(SiteFault::TooLong);
         }
         let Some(old) = self.value(name.as_str()) else {
-            return self.add(name, value);
+            return self.add(name, value, wants);
         };
         if old.as_str() == value.as_str() {
-            return Ok(None);
+            let (fires, stood) = (None, None);
+            return Ok(SetDone { fires, stood });
         }
         let fire = updated_fire(self.alloc, name, old.as_str(), value.as_str())?;
-        let fires = Items::from_vec(vec![in self.alloc; fire]?);
-        self.put(name.as_str(), value)?;
-        Ok(Some(fires))
+        self.put(name.as_str(), value, fire, wants)
     }
 
-    fn add(&mut self, name: &OptName, value: Text) -> Result<Option<Items<Fire>>, SiteFault>
-        ensures { Becomes result (set_over None name.now value self.old) self.old self.new }
+    fn add(&mut self, name: &OptName, value: Text, wants: bool) -> Result<SetDone, SiteFault>
+        ensures does { Sets result (set_over None name.now value self.old) self.old self.new }
+        ensures back { IfOk result
+            (λ s. wants ≡ true → unwrap_or s.stood self.new ≡ self.old) }
     {
         if self.values.len() >= MOST_OPTIONS {
             return Err(SiteFault::TooManyOptions);
         }
         let fire = added_fire(self.alloc, name, value.as_str())?;
-        let fires = Items::from_vec(vec![in self.alloc; fire]?);
-        self.put(name.as_str(), value)?;
-        Ok(Some(fires))
+        self.put(name.as_str(), value, fire, wants)
     }
 
     fn value(&self, name: &str) -> Option<&Text>
@@ -107,7 +116,35 @@ impl Options {
         self.values.get(name)
     }
 
-    fn put(&mut self, name: &str, value: Text) -> Result<(), AllocError>
+    fn put(
+        &mut self,
+        name: &str,
+        value: Text,
+        fire: Fire,
+        wants: bool,
+    ) -> Result<SetDone, SiteFault>
+        ensures does { Sets result (Ok (put_option name.now value self.old, Some (fire ∷ [])))
+            self.old self.new }
+        ensures back { IfOk result
+            (λ s. wants ≡ true → unwrap_or s.stood self.new ≡ self.old) }
+    {
+        let fires = Some(Items::from_vec(vec![in self.alloc; fire]?));
+        let stood = self.copy_if(wants)?;
+        self.give(name, value)?;
+        Ok(SetDone { fires, stood })
+    }
+
+    fn copy_if(&self, wants: bool) -> Result<Option<Options>, AllocError>
+        ensures { IfOk result (λ o. o ≡ (if wants then Some self.now else None)) }
+    {
+        if wants {
+            Ok(Some(self.copy()?))
+        } else {
+            Ok(None)
+        }
+    }
+
+    fn give(&mut self, name: &str, value: Text) -> Result<(), AllocError>
         ensures ok { OnOk result (self.new ≡ put_option name.now value self.old) }
         ensures err { OnErr result (self.new ≡ self.old) }
     {

@@ -1,4 +1,4 @@
-ghost use Rattle.std.specs.Prelude.{◌≡◌, [], ◌≤◌, length, true, false, not, IfOk};
+ghost use Rattle.std.specs.Prelude.{◌≡◌, [], ◌≤◌, length, true, false, not, insert, IfOk, OnOk, OnErr};
 ghost use Rattle.std.specs.List.Sorted.{IsPartitionPoint};
 ghost use Rattle.press_site.specs.InOrder.{in_order};
 ghost use Rattle.press_site.specs.Becomes.{Turns};
@@ -9,6 +9,7 @@ use press_text::Name;
 use std::alloc::{AllocError, Global};
 use std::cmp::Ordering;
 use std::marker::Model;
+use std::mem;
 
 /// The active plugins, in the order of their names.
 #[derive(Debug)]
@@ -57,28 +58,46 @@ impl Plugins {
         self.names.as_slice()
     }
 
-    /// Puts a plugin among the active ones; refused by AlreadyActive.
-    pub fn activate(&mut self, plugin: Name) -> Result<(), SiteFault>
-        ensures { Turns result (activated plugin self.old) self.old self.new }
+    /// Puts a plugin among the active ones; those that were. Refused by AlreadyActive.
+    pub fn activate(&mut self, plugin: Name) -> Result<Plugins, SiteFault>
+        ensures does { Turns result (activated plugin self.old) self.old self.new }
+        ensures stood { IfOk result (λ names. names ≡ self.old) }
     {
         if has_name(self.names.as_slice(), &plugin) {
             return Err(SiteFault::AlreadyActive);
         }
+        let mut names = self.copy()?;
+        names.enter(plugin)?;
+        Ok(mem::replace(self, names))
+    }
+
+    /// Takes a plugin off the active ones; those that were. Refused by NotActive.
+    pub fn deactivate(&mut self, plugin: &Name) -> Result<Plugins, SiteFault>
+        ensures does { Turns result (deactivated plugin.now self.old) self.old self.new }
+        ensures stood { IfOk result (λ names. names ≡ self.old) }
+    {
+        if !has_name(self.names.as_slice(), plugin) {
+            return Err(SiteFault::NotActive);
+        }
+        let mut names = self.copy()?;
+        names.leave(plugin);
+        Ok(mem::replace(self, names))
+    }
+
+    fn enter(&mut self, plugin: Name) -> Result<(), AllocError>
+        ensures ok { OnOk result (self.new ≡ insert self.old (place_in plugin self.old) plugin) }
+        ensures err { OnErr result (self.new ≡ self.old) }
+    {
         let place = place_of(self.names.as_slice(), &plugin);
         self.names.insert(place, plugin)?;
         Ok(())
     }
 
-    /// Takes a plugin off the active ones, without memory; refused by NotActive.
     #[tactic(auto, using(crate::proofs::Halves::in_order_without))]
-    pub fn deactivate(&mut self, plugin: &Name) -> Result<(), SiteFault>
-        ensures { Turns result (deactivated plugin.now self.old) self.old self.new }
+    fn leave(&mut self, plugin: &Name)
+        ensures { self.new ≡ without plugin.now self.old }
     {
-        if !has_name(self.names.as_slice(), plugin) {
-            return Err(SiteFault::NotActive);
-        }
         take_out(&mut self.names, plugin);
-        Ok(())
     }
 }
 

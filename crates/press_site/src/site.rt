@@ -1,23 +1,29 @@
 //! The whole site as one value.
 
-ghost use Rattle.std.specs.Prelude.{◌≡◌, None, Ok, true, IfOk, OnOk, OnErr, option_map, take};
+ghost use Rattle.std.specs.Prelude.{Bool, ◌≡◌, None, Ok, true, IfOk, OnOk, OnErr, option_map, take};
 ghost use Rattle.press_posts.specs.PostChange.{post_at};
 ghost use Rattle.press_posts.specs.Published.{published};
 ghost use Rattle.press_events.specs.DueEvents.{due};
+ghost use Rattle.press_site.specs.Back.{Does, GoesBack, MayPostGoBack, MayPostsGoBack};
+ghost use Rattle.press_site.specs.Back.{log_back, site_back};
 ghost use Rattle.press_site.specs.Becomes.{Becomes};
 ghost use Rattle.press_site.specs.Contents.{no_post};
 ghost use Rattle.press_site.specs.Effects.{no_site, effect_on, fired};
 ghost use Rattle.press_site.specs.Options.{option_of};
+ghost use Rattle.press_site.specs.Open.{begun_of};
 ghost use Rattle.press_site.specs.Outcomes.{outcome_of, with_outcome};
 
 use crate::changed::Changed;
 use crate::content::Content;
 use crate::effect::Effect;
 use crate::fault::SiteFault;
-use crate::options::Options;
+use crate::open::OpenSite;
+use crate::options::{Options, SetDone};
 use crate::outcomes::Outcomes;
 use crate::plugins::Plugins;
+use crate::stood::{Done, Undone, Wants};
 use crate::token::{Outcome, Token};
+use crate::undo::Undo;
 use press_events::Event;
 use press_posts::{Fire, Move, Post, Status};
 use press_text::{Items, Moment, Name, OptName, Text};
@@ -167,9 +173,31 @@ impl Site {
         self.outcomes.keep(token, outcome)
     }
 
+    /// Opens the site: what changes from now on is taken back by `back`. Takes no memory.
+    pub fn begin(self) -> OpenSite
+        ensures site { result.site ≡ self }
+        ensures begun { begun_of result ≡ self }
+    {
+        OpenSite::of(self.alloc, self)
+    }
+
     /// Makes a change: what it did and what is to be fired. After a refusal the site is as it was.
     pub fn effect(&mut self, effect: Effect) -> Result<Changed, SiteFault>
         ensures { Becomes result (effect_on self.old effect) self.old self.new }
+    {
+        let wants = Wants {
+            events: false,
+            options: false,
+        };
+        let Done { changed, undone } = self.change(effect, wants)?;
+        drop(undone);
+        Ok(changed)
+    }
+
+    /// The same, with what takes it back.
+    pub(crate) fn change(&mut self, effect: Effect, wants: Wants) -> Result<Done, SiteFault>
+        ensures does { Does result (effect_on self.old effect) self.old self.new }
+        ensures back { IfOk result (λ d. GoesBack wants d.undone self.new self.old) }
     {
         match effect {
             Effect::Insert {
@@ -187,30 +215,65 @@ impl Site {
             } => self.edit(id, title, content, status, date),
             Effect::Move { id, to } => self.move_post(id, to),
             Effect::Delete { id } => self.delete(id),
-            Effect::SetOption { name, value } => self.set_option(&name, value),
-            Effect::Schedule(event) => self.schedule(event),
-            Effect::Take(event) => Ok(self.take(&event)),
+            Effect::SetOption { name, value } => self.set_option(&name, value, wants.options),
+            Effect::Schedule(event) => self.schedule(event, wants.events),
+            Effect::Take(event) => self.take(&event, wants.events),
             Effect::Activate { plugin } => self.activate(plugin),
             Effect::Deactivate { plugin } => self.deactivate(&plugin),
         }
     }
 
-    #[tactic(auto, using(crate::proofs::Lifted::content_refused))]
+    /// Takes the last change back.
+    pub(crate) fn take_back(&mut self, undone: Undone)
+        requires { MayPostGoBack undone.stood self.old.posts }
+        ensures { self.new ≡ site_back undone self.old }
+    {
+        let Undone {
+            stood,
+            events,
+            options,
+            active,
+        } = undone;
+        if let Some(stood) = stood {
+            self.content.restore(stood);
+        }
+        if let Some(events) = events {
+            self.content.set_events(events);
+        }
+        if let Some(options) = options {
+            self.options = options;
+        }
+        if let Some(active) = active {
+            self.plugins = active;
+        }
+    }
+
+    /// Takes all changes back that were noted.
+    pub(crate) fn go_back(&mut self, undo: &mut Undo)
+        requires { MayPostsGoBack undo.old.posts self.old.posts }
+        ensures { self.new ≡ log_back undo.old self.old }
+    {
+        undo.back_content(&mut self.content);
+        undo.back_options(&mut self.options);
+        undo.back_plugins(&mut self.plugins);
+    }
+
     fn insert(
         &mut self,
         title: Text,
         content: Text,
         status: Status,
         date: Moment,
-    ) -> Result<Changed, SiteFault>
-        ensures { Becomes result (effect_on self.old (Effect.Insert title content status date))
+    ) -> Result<Done, SiteFault>
+        ensures does { Does result (effect_on self.old (Effect.Insert title content status date))
             self.old self.new }
+        ensures back { (wants : Wants) → IfOk result
+            (λ d. GoesBack wants d.undone self.new self.old) }
     {
         let now = self.moment;
         self.content.insert(title, content, status, date, now)
     }
 
-    #[tactic(auto, using(crate::proofs::Lifted::content_refused))]
     fn edit(
         &mut self,
         id: u64,
@@ -218,64 +281,92 @@ impl Site {
         content: Text,
         status: Status,
         date: Moment,
-    ) -> Result<Changed, SiteFault>
-        ensures { Becomes result (effect_on self.old (Effect.Edit id title content status date))
+    ) -> Result<Done, SiteFault>
+        ensures does { Does result (effect_on self.old (Effect.Edit id title content status date))
             self.old self.new }
+        ensures back { (wants : Wants) → IfOk result
+            (λ d. GoesBack wants d.undone self.new self.old) }
     {
         let now = self.moment;
         self.content.edit(id, title, content, status, date, now)
     }
 
-    fn move_post(&mut self, id: u64, to: Move) -> Result<Changed, SiteFault>
-        ensures { Becomes result (effect_on self.old (Effect.Move id to)) self.old self.new }
+    fn move_post(&mut self, id: u64, to: Move) -> Result<Done, SiteFault>
+        ensures does { Does result (effect_on self.old (Effect.Move id to))
+            self.old self.new }
+        ensures back { (wants : Wants) → IfOk result
+            (λ d. GoesBack wants d.undone self.new self.old) }
     {
         self.content.set_status(id, to)
     }
 
-    fn delete(&mut self, id: u64) -> Result<Changed, SiteFault>
-        ensures { Becomes result (effect_on self.old (Effect.Delete id)) self.old self.new }
+    fn delete(&mut self, id: u64) -> Result<Done, SiteFault>
+        ensures does { Does result (effect_on self.old (Effect.Delete id))
+            self.old self.new }
+        ensures back { (wants : Wants) → IfOk result
+            (λ d. GoesBack wants d.undone self.new self.old) }
     {
         self.content.delete(id)
     }
 
-    #[tactic(auto, using(crate::proofs::Lifted::content_refused))]
-    fn schedule(&mut self, event: Event) -> Result<Changed, SiteFault>
-        ensures { Becomes result (effect_on self.old (Effect.Schedule event)) self.old self.new }
+    fn schedule(&mut self, event: Event, wants: bool) -> Result<Done, SiteFault>
+        ensures does { Does result (effect_on self.old (Effect.Schedule event))
+            self.old self.new }
+        ensures back { (options : Bool) → IfOk result (λ d. GoesBack
+            (record { events = wants; options = options }) d.undone self.new self.old) }
     {
-        self.content.schedule(event)
+        self.content.schedule(event, wants)
     }
 
-    fn take(&mut self, event: &Event) -> Changed
-        ensures { effect_on self.old (Effect.Take event.now) ≡ Ok (self.new, result) }
+    fn take(&mut self, event: &Event, wants: bool) -> Result<Done, SiteFault>
+        ensures does { Does result (effect_on self.old (Effect.Take event.now))
+            self.old self.new }
+        ensures back { (options : Bool) → IfOk result (λ d. GoesBack
+            (record { events = wants; options = options }) d.undone self.new self.old) }
     {
         let now = self.moment;
-        self.content.take(event, now)
+        self.content.take(event, now, wants)
     }
 
-    #[tactic(auto, using(crate::proofs::Lifted::options_refused))]
-    fn set_option(&mut self, name: &OptName, value: Text) -> Result<Changed, SiteFault>
-        ensures { Becomes result (effect_on self.old (Effect.SetOption name.now value)) self.old
-            self.new }
+    fn set_option(
+        &mut self,
+        name: &OptName,
+        value: Text,
+        wants: bool,
+    ) -> Result<Done, SiteFault>
+        ensures does { Does result (effect_on self.old (Effect.SetOption name.now value))
+            self.old self.new }
+        ensures back { (events : Bool) → IfOk result (λ d. GoesBack
+            (record { events = events; options = wants }) d.undone self.new self.old) }
     {
-        let fires = self.options.set(name, value)?;
-        Ok(fired(self.alloc, fires))
+        let SetDone { fires, stood } = self.options.set(name, value, wants)?;
+        let changed = fired(self.alloc, fires);
+        let undone = Undone::of_options(stood);
+        Ok(Done { changed, undone })
     }
 
-    #[tactic(auto, using(crate::proofs::Lifted::plugins_refused))]
-    fn activate(&mut self, plugin: Name) -> Result<Changed, SiteFault>
-        ensures { Becomes result (effect_on self.old (Effect.Activate plugin)) self.old self.new }
+    fn activate(&mut self, plugin: Name) -> Result<Done, SiteFault>
+        ensures does { Does result (effect_on self.old (Effect.Activate plugin))
+            self.old self.new }
+        ensures back { (wants : Wants) → IfOk result
+            (λ d. GoesBack wants d.undone self.new self.old) }
     {
-        self.plugins.activate(plugin)?;
-        Ok(no_post(self.alloc))
+        let stood = self.plugins.activate(plugin)?;
+        let changed = no_post(self.alloc);
+        let undone = Undone::of_active(stood);
+        Ok(Done { changed, undone })
     }
 
-    #[tactic(auto, using(crate::proofs::Lifted::plugins_refused))]
-    fn deactivate(&mut self, plugin: &Name) -> Result<Changed, SiteFault>
-        ensures { Becomes result (effect_on self.old (Effect.Deactivate plugin.now)) self.old
-            self.new }
+    fn deactivate(&mut self, plugin: &Name) -> Result<Done, SiteFault>
+        ensures does { Does result (effect_on self.old (Effect.Deactivate plugin.now))
+            self.old self.new }
+        ensures back { (wants : Wants) → IfOk result
+            (λ d. GoesBack wants d.undone self.new self.old) }
     {
-        self.plugins.deactivate(plugin)?;
-        Ok(no_post(self.alloc))
+        let stood = self.plugins.deactivate(plugin)?;
+        let changed = no_post(self.alloc);
+        let undone = Undone::of_active(stood);
+        Ok(Done { changed, undone })
     }
 }
 

@@ -34,6 +34,7 @@ impl<L: SiteLink + Drop> Stage<L> {
             (at_depth L.changes room (K.scripts kit.now) id call
             (state_of (standing L.view L.fixed self.old)))
             1 (standing L.view L.fixed self.old) (standing L.view L.fixed self.new) result }
+        ensures fixed { L.fixed self.new.site ≡ L.fixed self.old.site }
     {
         if room == 0 {
             drop(call);
@@ -60,11 +61,12 @@ impl<L: SiteLink + Drop> Stage<L> {
         mut callback: OpenCallback,
     ) -> Result<Called, RunFault>
         requires { IsFew 0 callback }
-        ensures { CallsAs L.changes (K.scripts kit.now)
+        ensures begins { CallsAs L.changes (K.scripts kit.now)
             (meant L.changes (K.scripts kit.now) (frame.Callback callback)
             (around (standing L.view L.fixed self.old))
             (state_of (standing L.view L.fixed self.old)))
             1 (standing L.view L.fixed self.old) (standing L.view L.fixed self.new) result }
+        ensures fixed { L.fixed self.new.site ≡ L.fixed self.old.site }
     {
         loop {
             match self.turn(kit, &mut callback)? {
@@ -90,6 +92,7 @@ impl<L: SiteLink + Drop> Stage<L> {
             (built_in L.changes (at_depth L.changes room scripts) id call.now
             (state_of (standing L.view L.fixed self.old)))
             1 (standing L.view L.fixed self.old) (standing L.view L.fixed self.new) result }
+        ensures fixed { L.fixed self.new.site ≡ L.fixed self.old.site }
     {
         if !self.machine.counts_turn() {
             return Err(RunFault::Limit);
@@ -109,9 +112,10 @@ impl<L: SiteLink + Drop> Stage<L> {
         callback: &mut OpenCallback,
     ) -> Result<Step, RunFault>
         requires { IsFew 0 callback.old }
-        ensures { Steps L.changes (K.scripts kit.now)
+        ensures steps { Steps L.changes (K.scripts kit.now)
             (frame.Callback callback.old) (frame.Callback callback.new)
             (standing L.view L.fixed self.old) (standing L.view L.fixed self.new) result }
+        ensures fixed { L.fixed self.new.site ≡ L.fixed self.old.site }
     {
         if callback.left == 0 {
             return Err(RunFault::Limit);
@@ -130,6 +134,7 @@ impl<L: SiteLink + Drop> Stage<L> {
         ensures steps { (scripts : Scripts) → CountsAs L.changes scripts
             callback.old turn callback.new
             (standing L.view L.fixed self.old) (standing L.view L.fixed self.new) result }
+        ensures fixed { L.fixed self.new.site ≡ L.fixed self.old.site }
     {
         if !self.machine.counts_turn() || !texts::fits(&turn) {
             drop(turn);

@@ -1,6 +1,6 @@
 //! Changes of the site, and the actions that they fire.
 
-ghost use Rattle.std.specs.Prelude.{◌^◌};
+ghost use Rattle.std.specs.Prelude.{◌≡◌, ◌^◌};
 ghost use Rattle.press_callbacks.specs.Kits.{Scripts};
 ghost use Rattle.press_run.specs.Frames.{BeginsAs, Steps};
 ghost use Rattle.press_run.specs.Run.{at_depth, change_site, publish};
@@ -29,10 +29,11 @@ impl<L: SiteLink + Drop> Stage<L> {
         room: u32,
         effect: Option<Effect>,
     ) -> Result<Begun, RunFault>
-        ensures { (scripts : Scripts) → BeginsAs L.changes scripts
+        ensures begins { (scripts : Scripts) → BeginsAs L.changes scripts
             (change_site L.changes (at_depth L.changes room scripts)
             (state_of (standing L.view L.fixed self.old)) effect)
             (2 ^ 66) (standing L.view L.fixed self.old) (standing L.view L.fixed self.new) result }
+        ensures fixed { L.fixed self.new.site ≡ L.fixed self.old.site }
     {
         let alloc = self.machine.allocator();
         let Some(effect) = effect else {
@@ -47,10 +48,11 @@ impl<L: SiteLink + Drop> Stage<L> {
     // Publishes the post with that id in decimal, if it is future and due; the id is the answer.
     #[inline(never)]
     pub(super) fn begin_publish(&mut self, room: u32, id: Text) -> Result<Begun, RunFault>
-        ensures { (scripts : Scripts) → BeginsAs L.changes scripts
+        ensures begins { (scripts : Scripts) → BeginsAs L.changes scripts
             (publish L.changes (at_depth L.changes room scripts) id
             (state_of (standing L.view L.fixed self.old)))
             (2 ^ 66) (standing L.view L.fixed self.old) (standing L.view L.fixed self.new) result }
+        ensures fixed { L.fixed self.new.site ≡ L.fixed self.old.site }
     {
         let effect = links::publishes(&id, self.site.site().now());
         let Some(effect) = effect else {
@@ -64,9 +66,10 @@ impl<L: SiteLink + Drop> Stage<L> {
 
     // The next action is begun; after the last one the answer is given.
     pub(crate) fn fire(&mut self, fires: &mut OpenFires) -> Result<Step, RunFault>
-        ensures { (scripts : Scripts) → Steps L.changes scripts
+        ensures steps { (scripts : Scripts) → Steps L.changes scripts
             (frame.Fires fires.old) (frame.Fires fires.new)
             (standing L.view L.fixed self.old) (standing L.view L.fixed self.new) result }
+        ensures fixed { L.fixed self.new.site ≡ L.fixed self.old.site }
     {
         let Some(fire) = fires.next() else {
             let empty = Text::new(self.machine.allocator());

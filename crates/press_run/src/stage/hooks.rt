@@ -1,6 +1,6 @@
 //! The callbacks of a hook, one after the other.
 
-ghost use Rattle.std.specs.Prelude.{IsTrue};
+ghost use Rattle.std.specs.Prelude.{◌≡◌, IsTrue};
 ghost use Rattle.press_hooks.specs.NextEntry.{is_innermost};
 ghost use Rattle.press_callbacks.specs.Kits.{Scripts};
 ghost use Rattle.press_run.specs.Frames.{BeginsAs, MovesTo, hooked};
@@ -28,10 +28,11 @@ impl<L: SiteLink + Drop> Stage<L> {
         hook: &HookName,
         args: Texts,
     ) -> Result<Begun, RunFault>
-        ensures { (scripts : Scripts) → BeginsAs L.changes scripts
+        ensures begins { (scripts : Scripts) → BeginsAs L.changes scripts
             (hooked (at_depth L.changes room scripts) kind hook.now args
             (state_of (standing L.view L.fixed self.old)))
             3 (standing L.view L.fixed self.old) (standing L.view L.fixed self.new) result }
+        ensures fixed { L.fixed self.new.site ≡ L.fixed self.old.site }
     {
         if !self.tables.hooks.has_any(hook) {
             let text = texts::shown(self.machine.allocator(), kind, &args)?;
@@ -56,10 +57,11 @@ impl<L: SiteLink + Drop> Stage<L> {
         hook: &HookName,
         args: Texts,
     ) -> Result<Begun, RunFault>
-        ensures { (scripts : Scripts) → BeginsAs L.changes scripts
+        ensures begins { (scripts : Scripts) → BeginsAs L.changes scripts
             (do_hook (at_depth L.changes room scripts) hook.now args
             (state_of (standing L.view L.fixed self.old)))
             3 (standing L.view L.fixed self.old) (standing L.view L.fixed self.new) result }
+        ensures fixed { L.fixed self.new.site ≡ L.fixed self.old.site }
     {
         self.machine.start(hook)?;
         let args = texts::or_one_empty(self.machine.allocator(), args)?;
@@ -73,8 +75,10 @@ impl<L: SiteLink + Drop> Stage<L> {
         run: &mut OpenHook,
     ) -> Result<Moved, RunFault>
         requires { IsTrue (is_innermost run.old.run self.old.tables.hooks.open_runs) }
-        ensures { MovesTo L.changes (K.scripts kit.now) (frame.Hook run.old) (frame.Hook run.new)
+        ensures steps { MovesTo L.changes (K.scripts kit.now)
+            (frame.Hook run.old) (frame.Hook run.new)
             (standing L.view L.fixed self.old) (standing L.view L.fixed self.new) result }
+        ensures fixed { L.fixed self.new.site ≡ L.fixed self.old.site }
     {
         if run.left == 0 {
             return Err(RunFault::Limit);

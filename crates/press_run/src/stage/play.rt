@@ -1,6 +1,6 @@
 //! A run: its frames, the innermost of which goes on until all have answered.
 
-ghost use Rattle.std.specs.Prelude.{◌^◌};
+ghost use Rattle.std.specs.Prelude.{◌≡◌, ◌^◌};
 ghost use Rattle.press_callbacks.specs.Kits.{Scripts};
 ghost use Rattle.press_run.specs.Frames.{BeginsAs, MovesTo, Ready, meant, round};
 ghost use Rattle.press_run.specs.Outcome.{GivesText, around, job_meaning, state_of};
@@ -24,9 +24,10 @@ const MOST_OPEN: u32 = 32;
 impl<L: SiteLink + Drop> Stage<L> {
     // What a job begins with.
     pub(super) fn begin_job(&mut self, job: Job) -> Result<Begun, RunFault>
-        ensures { (scripts : Scripts) → BeginsAs L.changes scripts
+        ensures begins { (scripts : Scripts) → BeginsAs L.changes scripts
             (job_meaning L.changes scripts job (state_of (standing L.view L.fixed self.old)))
             (2 ^ 66) (standing L.view L.fixed self.old) (standing L.view L.fixed self.new) result }
+        ensures fixed { L.fixed self.new.site ≡ L.fixed self.old.site }
     {
         match job {
             Job::Fires(fires) => {
@@ -44,9 +45,10 @@ impl<L: SiteLink + Drop> Stage<L> {
 
     // What a job comes to.
     pub(super) fn answer<K: Callbacks>(&mut self, kit: &K, job: Job) -> Result<Text, RunFault>
-        ensures { GivesText (job_meaning L.changes (K.scripts kit.now) job
+        ensures gives { GivesText (job_meaning L.changes (K.scripts kit.now) job
             (state_of (standing L.view L.fixed self.old)))
             (around (standing L.view L.fixed self.old)) (standing L.view L.fixed self.new) result }
+        ensures fixed { L.fixed self.new.site ≡ L.fixed self.old.site }
     {
         match self.begin_job(job)? {
             Begun::Opens(frame) => self.play(kit, frame),
@@ -57,11 +59,12 @@ impl<L: SiteLink + Drop> Stage<L> {
     // The outermost frame, and all that it opens, until it has answered.
     fn play<K: Callbacks>(&mut self, kit: &K, mut top: Frame) -> Result<Text, RunFault>
         requires { Ready top (around (standing L.view L.fixed self.old)) }
-        ensures { GivesText (meant L.changes (K.scripts kit.now) top
+        ensures gives { GivesText (meant L.changes (K.scripts kit.now) top
             (around (standing L.view L.fixed self.old))
             (state_of (standing L.view L.fixed self.old)))
             (round top (around (standing L.view L.fixed self.old)))
             (standing L.view L.fixed self.new) result }
+        ensures fixed { L.fixed self.new.site ≡ L.fixed self.old.site }
     {
         let mut waiting = Frames::new(self.machine.allocator());
         loop {
@@ -87,8 +90,9 @@ impl<L: SiteLink + Drop> Stage<L> {
     // The innermost frame goes on by one turn, entry, action or piece.
     fn step<K: Callbacks>(&mut self, kit: &K, top: &mut Frame) -> Result<Moved, RunFault>
         requires { Ready top.old (around (standing L.view L.fixed self.old)) }
-        ensures { MovesTo L.changes (K.scripts kit.now) top.old top.new
+        ensures steps { MovesTo L.changes (K.scripts kit.now) top.old top.new
             (standing L.view L.fixed self.old) (standing L.view L.fixed self.new) result }
+        ensures fixed { L.fixed self.new.site ≡ L.fixed self.old.site }
     {
         match top {
             Frame::Callback(callback) => Ok(Moved::By(callback.turn(self, kit)?)),

@@ -30,6 +30,7 @@ impl<L: SiteLink + Drop> Stage<L> {
             (scan (at_depth L.changes room scripts) text
             (state_of (standing L.view L.fixed self.old)))
             1048580 (standing L.view L.fixed self.old) (standing L.view L.fixed self.new) result }
+        ensures fixed { L.fixed self.new.site ≡ L.fixed self.old.site }
     {
         if !texts::is_short(&text) {
             return Err(RunFault::Limit);
@@ -52,6 +53,7 @@ impl<L: SiteLink + Drop> Stage<L> {
         ensures steps { MovesTo L.changes (K.scripts kit.now)
             (frame.Scan scan.old) (frame.Scan scan.new)
             (standing L.view L.fixed self.old) (standing L.view L.fixed self.new) result }
+        ensures fixed { L.fixed self.new.site ≡ L.fixed self.old.site }
     {
         computes_first();
         ends_within();
@@ -82,11 +84,12 @@ impl<L: SiteLink + Drop> Stage<L> {
         requires stands { IsShortcode text.now (names_of self.old.tables.tags)
             shortcode.start shortcode }
         requires short { length text.now ≤ 1048576 }
-        ensures { CallsAs L.changes (K.scripts kit.now)
+        ensures begins { CallsAs L.changes (K.scripts kit.now)
             (tag_answer (at_depth L.changes room (K.scripts kit.now))
             (callback_of (cut text.now shortcode.tag) self.old.tables.tags)
             (shortcode_call text.now shortcode) (state_of (standing L.view L.fixed self.old)))
             2 (standing L.view L.fixed self.old) (standing L.view L.fixed self.new) result }
+        ensures fixed { L.fixed self.new.site ≡ L.fixed self.old.site }
     {
         let alloc = self.machine.allocator();
         let call = shortcodes::shortcode_call(alloc, text, &self.tables.tags, shortcode)?;

@@ -1,6 +1,6 @@
 //! What the turns of a callback ask for.
 
-ghost use Rattle.std.specs.Prelude.{◌≤◌};
+ghost use Rattle.std.specs.Prelude.{◌≡◌, ◌≤◌};
 ghost use Rattle.press_callbacks.specs.Kits.{Scripts};
 ghost use Rattle.press_run.specs.Frames.{IsFew, Turns, group};
 ghost use Rattle.press_run.specs.Standing.{standing};
@@ -24,8 +24,9 @@ impl<L: SiteLink + Drop> Stage<L> {
         turn: Turn,
     ) -> Result<Step, RunFault>
         requires { IsFew 1 callback.old }
-        ensures { (scripts : Scripts) → Turns L.changes scripts callback.old turn callback.new
+        ensures steps { (scripts : Scripts) → Turns L.changes scripts callback.old turn callback.new
             (standing L.view L.fixed self.old) (standing L.view L.fixed self.new) result }
+        ensures fixed { L.fixed self.new.site ≡ L.fixed self.old.site }
     {
         match turn {
             Turn::Go(value) => Ok(callback.with_value(value)),
@@ -49,8 +50,9 @@ impl<L: SiteLink + Drop> Stage<L> {
     fn begun(&mut self, callback: &mut OpenCallback, turn: Turn) -> Result<Step, RunFault>
         requires few { IsFew 1 callback.old }
         requires begins { 1 ≤ group turn }
-        ensures { (scripts : Scripts) → Turns L.changes scripts callback.old turn callback.new
+        ensures steps { (scripts : Scripts) → Turns L.changes scripts callback.old turn callback.new
             (standing L.view L.fixed self.old) (standing L.view L.fixed self.new) result }
+        ensures fixed { L.fixed self.new.site ≡ L.fixed self.old.site }
     {
         let room = callback.room;
         match turn {
@@ -92,8 +94,9 @@ impl<L: SiteLink + Drop> Stage<L> {
     fn edited(&mut self, callback: &mut OpenCallback, turn: Turn) -> Result<Step, RunFault>
         requires few { IsFew 1 callback.old }
         requires edits { 2 ≤ group turn }
-        ensures { (scripts : Scripts) → Turns L.changes scripts callback.old turn callback.new
+        ensures steps { (scripts : Scripts) → Turns L.changes scripts callback.old turn callback.new
             (standing L.view L.fixed self.old) (standing L.view L.fixed self.new) result }
+        ensures fixed { L.fixed self.new.site ≡ L.fixed self.old.site }
     {
         let alloc = self.machine.allocator();
         match turn {

@@ -1,19 +1,21 @@
 use Rattle.std.proofs.Common.{◌∙◌, sym, ap}
 use Rattle.std.proofs.lemmas.Result.{err_from_is_err_and}
 use Rattle.press_posts.specs.declared.post.Move.TheVariants as move
+use Rattle.press_posts.specs.PostChange.{post_at}
+use Rattle.press_site.specs.SiteView.{SiteView}
 use Rattle.press_apply.specs.Apply.{move_fault, callbacks_on, passes}
 use Rattle.press_callbacks.specs.Kits.{kit_view}
 use Rattle.press_apply.specs.Works.{state_in}
 use Rattle.press_apply.proofs.Checked.{trash_is}
 use Rattle.press_apply.proofs.work.Work.trash.Goals as goal
 
-pub returns-in_err-between : goal.returns-in_err-between
-returns-in_err-between g c =
+pub returns-in_err-between-clause-steps : goal.returns-in_err-between-clause-steps
+returns-in_err-between-clause-steps g c =
     let p = err_from_is_err_and c.from_residual-in_err-between.result c.from_residual-in_err-between.ensures.1 in
-    let passed = ap passes (ap (move_fault move.Trash) (sym c.post.ensures) ∙ sym c.move_fault.ensures) ∙ c.in_ok-passes.ensures in
-    rw (p.1, p.2, trash_is (callbacks_on (kit_view c.args.kit.now)) c.args.id (state_in c.args.self.now) _ passed) c.in_err-between.ensures
+    let passed = ap passes (ap (move_fault move.Trash) (ap (λ (v : SiteView). post_at v.posts c.args.id) (sym c.site.ensures) ∙ sym c.post.ensures) ∙ sym c.move_fault.ensures) ∙ c.in_ok-passes.ensures in
+    rw (p.1, p.2, trash_is (callbacks_on (kit_view c.args.kit.now)) c.args.id (state_in c.args.self.now) _ passed) c.in_err-between.ensures.steps
 
-pub returns : goal.returns
-returns g c =
-    let passed = ap passes (ap (move_fault move.Trash) (sym c.post.ensures) ∙ sym c.move_fault.ensures) ∙ c.in_ok-passes.ensures in
-    (trash_is (callbacks_on (kit_view c.args.kit.now)) c.args.id (state_in c.args.self.now) _ passed ∙ c.in_ok-between.ensures.0, c.in_ok-between.ensures.1)
+pub returns-clause-steps : goal.returns-clause-steps
+returns-clause-steps g c =
+    let passed = ap passes (ap (move_fault move.Trash) (ap (λ (v : SiteView). post_at v.posts c.args.id) (sym c.site.ensures) ∙ sym c.post.ensures) ∙ sym c.move_fault.ensures) ∙ c.in_ok-passes.ensures in
+    trash_is (callbacks_on (kit_view c.args.kit.now)) c.args.id (state_in c.args.self.now) _ passed ∙ c.in_ok-between.ensures.steps

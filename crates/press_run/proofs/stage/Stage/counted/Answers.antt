@@ -16,4 +16,4 @@ returns-then-not-counts_turn-clause-steps g c = λ scripts.
 pub returns-clause-steps : goal.returns-clause-steps
 returns-clause-steps g c = λ scripts.
     turn_counts g.L.SiteLink.changes scripts c.args.callback.now c.asked.new.callback c.args.turn (standing g.L.SiteLink.view g.L.SiteLink.fixed c.args.self.now) (standing g.L.SiteLink.view g.L.SiteLink.fixed c.asked.new.self) c.counts_turn.new.self c.asked.result
-    c.if-not-counts_turn.ensures (sym c.fits.ensures ∙ c.if-not-fits.false) (c.asked.ensures scripts)
+    c.if-not-counts_turn.ensures (sym c.fits.ensures ∙ c.if-not-fits.false) (c.asked.ensures.steps scripts)

@@ -40,4 +40,4 @@ returns-clause-begins g c =
     let own : is_built_in c.args.id ≡ false = ap is_built_in (sym c.as_bytes.ensures.value) ∙ sym c.is_built_in.ensures ∙ c.if-is_built_in.false in
     let room : 0 < c.args.room = omega arith in
     let opens = opens_callback g.L.SiteLink.changes k c.args.room c.args.id c.place-place.result c.args.call old room own c.place-place.ensures c.requires in
-    subst (λ o. CallsAs g.L.SiteLink.changes k o 1 old (standing g.L.SiteLink.view g.L.SiteLink.fixed c.turns.new.self) c.turns.result) opens.same c.turns.ensures
+    subst (λ o. CallsAs g.L.SiteLink.changes k o 1 old (standing g.L.SiteLink.view g.L.SiteLink.fixed c.turns.new.self) c.turns.result) opens.same c.turns.ensures.begins

@@ -13,4 +13,4 @@ returns-then-is_do_shortcode-clause-begins g c = λ scripts.
 pub returns-else-is_do_shortcode-clause-begins : goal.returns-else-is_do_shortcode-clause-begins
 returns-else-is_do_shortcode-clause-begins g c = λ scripts.
     built_in_begins g.L.SiteLink.changes scripts c.args.room c.args.id c.args.call.now false c.in_ok-argument.argument (2 ^ 66) (standing g.L.SiteLink.view g.L.SiteLink.fixed c.args.self.now) (standing g.L.SiteLink.view g.L.SiteLink.fixed c.begin_publish.new.self) c.counts_turn.new.self c.begin_publish.result
-    c.if-not-counts_turn.ensures c.in_ok-argument.ensures (ap (λ x. bytes_eq x do_shortcode) (sym c.as_bytes.ensures.value) ∙ sym c.is_do_shortcode.ensures ∙ c.if-is_do_shortcode.false) (omega arith) (c.begin_publish.ensures scripts)
+    c.if-not-counts_turn.ensures c.in_ok-argument.ensures (ap (λ x. bytes_eq x do_shortcode) (sym c.as_bytes.ensures.value) ∙ sym c.is_do_shortcode.ensures ∙ c.if-is_do_shortcode.false) (omega arith) (c.begin_publish.ensures.begins scripts)

@@ -18,9 +18,9 @@ pub returns-in_err-called-in-Call-clause-steps : goal.returns-in_err-called-in-C
 returns-in_err-called-in-Call-clause-steps g c =
     let p = err_from_is_err_and c.from_residual-in_err-called-in-Call.result c.from_residual-in_err-called-in-Call.ensures.1 in
     rw (p.1, p.2) (call_stops c.computes_first.ensures.some c.computes_first.ensures.none c.ends_within.ensures g.L.SiteLink.changes (g.K.Callbacks.scripts c.args.kit.now) c.args.scan.now (standing g.L.SiteLink.view g.L.SiteLink.fixed c.args.self.now) (sym c.is_short.ensures ∙ c.if-not-is_short.false) c.requires c.step.new.self c.in-Call.shortcode (rw c.in-Call.is at c.in_ok-step.ensures) c.text.result.now c.text.ensures
-    c.in_err-called-in-Call.field-0.0 c.in_err-called-in-Call.ensures)
+    c.in_err-called-in-Call.field-0.0 c.in_err-called-in-Call.ensures.begins)
 
 pub returns-in_ok-called-in-Call-clause-steps : goal.returns-in_ok-called-in-Call-clause-steps
 returns-in_ok-called-in-Call-clause-steps g c =
     rw c.awaited.ensures (call_begins c.computes_first.ensures.some c.computes_first.ensures.none c.ends_within.ensures g.L.SiteLink.changes (g.K.Callbacks.scripts c.args.kit.now) c.args.scan.now (standing g.L.SiteLink.view g.L.SiteLink.fixed c.args.self.now) (sym c.is_short.ensures ∙ c.if-not-is_short.false) c.requires c.step.new.self c.in-Call.shortcode (rw c.in-Call.is at c.in_ok-step.ensures) c.text.result.now c.text.ensures
-    (standing g.L.SiteLink.view g.L.SiteLink.fixed c.begin_shortcode.new.self) c.in_ok-called-in-Call.called c.in_ok-called-in-Call.ensures)
+    (standing g.L.SiteLink.view g.L.SiteLink.fixed c.begin_shortcode.new.self) c.in_ok-called-in-Call.called c.in_ok-called-in-Call.ensures.begins)

@@ -1,7 +1,7 @@
 use Rattle.std.proofs.Common.{◌∙◌, ap}
 use Rattle.press_site.specs.Options.{by_bytes, put_option}
 use Rattle.press_site.proofs.Bytes.{put}
-use Rattle.press_site.proofs.options.Options.put.Goals as goal
+use Rattle.press_site.proofs.options.Options.give.Goals as goal
 
 pub returns-clause-ok : goal.returns-clause-ok
 returns-clause-ok c =

@@ -1,0 +1,16 @@
+use Rattle.std.proofs.Common.{◌≡◌, subst}
+use Rattle.std.specs.Prelude.{Result, Ok, IfOk}
+use Rattle.press_site.specs.Back.{Does, GoesBack}
+use Rattle.press_site.specs.Log.{wants}
+use Rattle.press_site.specs.declared.fault.SiteFault.{SiteFault}
+use Rattle.press_site.specs.declared.stood.Done.{Done}
+use Rattle.press_site.proofs.Noted.{done_well}
+use Rattle.press_site.proofs.open.noted.Goals as goal
+
+pub returns-in-Ok : goal.returns-in-Ok
+returns-in-Ok c = λ meant before d g.
+    let x : Done = c.in_ok-changed.field-0 in
+    let is : c.args.done ≡ Ok x = c.in_ok-changed.was in
+    done_well meant before c.args.site.now c.args.undo.now x c.note.new.self c.in-Ok.ensures.ok
+    (subst (λ (r : Result Done SiteFault). Does r meant before c.args.site.now) is d)
+    (subst (λ (r : Result Done SiteFault). IfOk r (λ d. GoesBack (wants c.args.undo.now) d.undone c.args.site.now before)) is g)

@@ -1,0 +1,20 @@
+use Rattle.std.proofs.Common.{subst}
+use Rattle.std.specs.Prelude.{IfOk}
+use Rattle.press_site.specs.Back.{Does, GoesBack}
+use Rattle.press_site.specs.Contents.{scheduling}
+use Rattle.press_site.specs.Effects.{content_of, with_content}
+use Rattle.press_site.specs.SiteView.{SiteView}
+use Rattle.press_site.proofs.Lifted.{back_lifted, does_lifted, with_new}
+use Rattle.press_site.proofs.site.Site.schedule.Goals as goal
+
+pub returns-clause-does : goal.returns-clause-does
+returns-clause-does c =
+    let s : SiteView = record { moment = c.self.inside.moment; posts = c.self.inside.content.posts; events = c.self.inside.content.events; options = c.self.inside.options; active = c.self.inside.plugins; outcomes = c.self.inside.outcomes } in
+    subst (λ (v : SiteView). Does c.schedule.result (with_content v (scheduling (content_of v) c.args.event)) v (with_new s c.schedule.new.self)) c.self.view_is
+    (does_lifted s c.schedule.result (scheduling (content_of s) c.args.event) c.schedule.new.self c.schedule.ensures.does)
+
+pub returns-clause-back : goal.returns-clause-back
+returns-clause-back c = λ options.
+    let s : SiteView = record { moment = c.self.inside.moment; posts = c.self.inside.content.posts; events = c.self.inside.content.events; options = c.self.inside.options; active = c.self.inside.plugins; outcomes = c.self.inside.outcomes } in
+    subst (λ (v : SiteView). IfOk c.schedule.result (λ d. GoesBack (record { events = c.args.wants; options = options }) d.undone (with_new s c.schedule.new.self) v)) c.self.view_is
+    (back_lifted s c.schedule.result c.args.wants options c.schedule.new.self c.schedule.ensures.back)

@@ -1,0 +1,20 @@
+use Rattle.std.proofs.Common.{subst}
+use Rattle.std.specs.Prelude.{IfOk, Ok}
+use Rattle.press_site.specs.Back.{Does, GoesBack}
+use Rattle.press_site.specs.Contents.{taking}
+use Rattle.press_site.specs.Effects.{content_of, with_content}
+use Rattle.press_site.specs.SiteView.{SiteView}
+use Rattle.press_site.proofs.Lifted.{back_lifted, does_lifted, with_new}
+use Rattle.press_site.proofs.site.Site.take.Goals as goal
+
+pub returns-clause-does : goal.returns-clause-does
+returns-clause-does c =
+    let s : SiteView = record { moment = c.self.inside.moment; posts = c.self.inside.content.posts; events = c.self.inside.content.events; options = c.self.inside.options; active = c.self.inside.plugins; outcomes = c.self.inside.outcomes } in
+    subst (λ (v : SiteView). Does c.take.result (with_content v (Ok (taking (content_of v) c.args.event.now v.moment))) v (with_new s c.take.new.self)) c.self.view_is
+    (does_lifted s c.take.result (Ok (taking (content_of s) c.args.event.now s.moment)) c.take.new.self c.take.ensures.does)
+
+pub returns-clause-back : goal.returns-clause-back
+returns-clause-back c = λ options.
+    let s : SiteView = record { moment = c.self.inside.moment; posts = c.self.inside.content.posts; events = c.self.inside.content.events; options = c.self.inside.options; active = c.self.inside.plugins; outcomes = c.self.inside.outcomes } in
+    subst (λ (v : SiteView). IfOk c.take.result (λ d. GoesBack (record { events = c.args.wants; options = options }) d.undone (with_new s c.take.new.self) v)) c.self.view_is
+    (back_lifted s c.take.result c.args.wants options c.take.new.self c.take.ensures.back)

@@ -1,0 +1,84 @@
+-- The way back: what was kept is put back, the last change first.
+use Rattle.std.specs.Prelude.{◌≡◌, List, [], ◌∷◌, Bool, true, ◌||◌, is_some, unwrap_or, Option, None, Some, Result, Ok, IfOk}
+use Rattle.press_posts.specs.declared.post.Post.{Post}
+use Rattle.press_posts.specs.Restored.{restored, IsRestorable}
+use Rattle.press_text.specs.Gives.{GivesOrStays}
+use Rattle.press_site.specs.declared.changed.Changed.{Changed}
+use Rattle.press_site.specs.declared.stood.Done.{Done}
+use Rattle.press_site.specs.declared.stood.Stood.{Stood}
+use Rattle.press_site.specs.declared.stood.Undone.{Undone}
+use Rattle.press_site.specs.declared.stood.Wants.{Wants}
+use Rattle.press_site.specs.declared.fault.SiteFault.{SiteFault}
+use Rattle.press_site.specs.Becomes.{Becomes, Refuses}
+use Rattle.press_site.specs.ContentView.{ContentView}
+use Rattle.press_site.specs.Log.{Log, wants}
+use Rattle.press_site.specs.SiteView.{SiteView}
+
+-- ---- one change
+
+abbrev pub post_back : Option Stood → List (Option Post) → List (Option Post)
+post_back None posts = posts
+post_back (Some w) posts = restored w.id w.post posts
+
+abbrev pub MayPostGoBack : Option Stood → List (Option Post) → Type 0
+MayPostGoBack None posts = Unit {0}
+MayPostGoBack (Some w) posts = IsRestorable w.id w.post posts
+
+abbrev pub site_back : Undone → SiteView → SiteView
+site_back u s = record s {
+  posts = post_back u.stood s.posts;
+  events = unwrap_or u.events s.events;
+  options = unwrap_or u.options s.options;
+  active = unwrap_or u.active s.active;
+}
+
+-- with what a change of posts and events answers it may be taken back; events alone are told only where they are wanted
+pub record ContentGoesBack (wants : Bool) (undone : Undone) (new old : ContentView) : Type 0 where
+  pub may : MayPostGoBack undone.stood new.posts
+  pub same_posts : post_back undone.stood new.posts ≡ old.posts
+  pub same_events : (wants || is_some undone.stood) ≡ true → unwrap_or undone.events new.events ≡ old.events
+  pub no_options : undone.options ≡ None
+  pub no_active : undone.active ≡ None
+
+-- with what any change answers; without a post, events and options are told only where they are wanted
+pub record GoesBack (wants : Wants) (undone : Undone) (new old : SiteView) : Type 0 where
+  pub may : MayPostGoBack undone.stood new.posts
+  pub same_posts : post_back undone.stood new.posts ≡ old.posts
+  pub same_events : (wants.events || is_some undone.stood) ≡ true → unwrap_or undone.events new.events ≡ old.events
+  pub same_options : (wants.options || is_some undone.stood) ≡ true → unwrap_or undone.options new.options ≡ old.options
+  pub same_active : unwrap_or undone.active new.active ≡ old.active
+  pub same_moment : new.moment ≡ old.moment
+  pub same_outcomes : new.outcomes ≡ old.outcomes
+
+abbrev pub Does : {S : Type 0} → Result Done SiteFault → Result (S × Changed) SiteFault → S → S → Type 0
+Does result meant old new = GivesOrStays Refuses (λ d. Ok (new, d.changed)) result meant old new
+
+-- ---- all changes since
+
+abbrev pub posts_back : List Stood → List (Option Post) → List (Option Post)
+posts_back [] posts = posts
+posts_back (w ∷ ws) posts = restored w.id w.post (posts_back ws posts)
+
+abbrev pub MayPostsGoBack : List Stood → List (Option Post) → Type 0
+MayPostsGoBack [] posts = Unit {0}
+MayPostsGoBack (w ∷ ws) posts = IsRestorable w.id w.post (posts_back ws posts) × MayPostsGoBack ws posts
+
+abbrev pub log_back : Log → SiteView → SiteView
+log_back log s = record s {
+  posts = posts_back log.posts s.posts;
+  events = unwrap_or log.events s.events;
+  options = unwrap_or log.options s.options;
+  active = unwrap_or log.active s.active;
+}
+
+-- ---- what a change leaves of it: what stood when the site was begun, and that it may go back
+
+pub record Keeps (old : Log) (before : SiteView) (new : Log) (after : SiteView) : Type 0 where
+  pub same : log_back new after ≡ log_back old before
+  pub may : MayPostsGoBack old.posts before.posts → MayPostsGoBack new.posts after.posts
+
+-- what becomes of a change that is done, where it is noted: it means what it meant before
+abbrev pub Notes : Result Done SiteFault → Result Changed SiteFault → SiteView → SiteView → Log → Log → Type 0
+Notes done result given site old new =
+    (meant : Result (SiteView × Changed) SiteFault) (before : SiteView) → Does done meant before given → IfOk done (λ d. GoesBack (wants old) d.undone given before) →
+    Becomes result meant before site × Keeps old before new site
