@@ -3,7 +3,7 @@ use Rattle.std.proofs.lemmas.Result.{err_from_is_err_and}
 use Rattle.press_run.specs.Frames.{meant, round}
 use Rattle.press_run.specs.Outcome.{around, state_of}
 use Rattle.press_run.specs.Standing.{standing}
-use Rattle.press_run.proofs.Resumed.{begins, ends, gives, gives_less, nests, nests_less, opens, opens_less, pops, stops}
+use Rattle.press_run.proofs.Resumed.{begins, ends, gives, gives_less, nests, nests_less, opens, opens_less, plays_fixed, pops, stops}
 use Rattle.press_run.proofs.stage.Stage.play.Goals as goal
 
 pub loop-waiting-init : goal.loop-waiting-init
@@ -53,3 +53,24 @@ pub loop-waiting-preserved : goal.loop-waiting-preserved
 loop-waiting-preserved g c =
     nests g.L.SiteLink.changes (g.K.Callbacks.scripts c.args.kit.now) (meant g.L.SiteLink.changes (g.K.Callbacks.scripts c.args.kit.now) c.args.top (around (standing g.L.SiteLink.view g.L.SiteLink.fixed c.args.self.now)) (state_of (standing g.L.SiteLink.view g.L.SiteLink.fixed c.args.self.now))) (round c.args.top (around (standing g.L.SiteLink.view g.L.SiteLink.fixed c.args.self.now))) c.loop-waiting.waiting c.loop-waiting.top (standing g.L.SiteLink.view g.L.SiteLink.fixed c.loop-waiting.self) c.loop-waiting.invariant
     c.step.new.top c.in-Calls.callback c.in-Calls.inner c.replace-in-Calls.new.dest c.push-in-Calls.new.self c.push-in-Calls-2.new.self (standing g.L.SiteLink.view g.L.SiteLink.fixed c.step.new.self) c.replace-in-Calls.ensures.after (c.in_ok-push-in-Calls.ensures ∙ ap (λ f. f ∷ c.loop-waiting.waiting) c.replace-in-Calls.ensures.value) c.in_ok-push-in-Calls-2.ensures (rw c.in-Calls.is at c.in_ok-step.ensures.steps)
+
+pub returns-in_err-step-clause-fixed : goal.returns-in_err-step-clause-fixed
+returns-in_err-step-clause-fixed g c = c.in_err-step.ensures.fixed ∙ plays_fixed g.L.SiteLink.changes (g.K.Callbacks.scripts c.args.kit.now) (meant g.L.SiteLink.changes (g.K.Callbacks.scripts c.args.kit.now) c.args.top (around (standing g.L.SiteLink.view g.L.SiteLink.fixed c.args.self.now)) (state_of (standing g.L.SiteLink.view g.L.SiteLink.fixed c.args.self.now))) c.loop-waiting.waiting c.loop-waiting.top c.args.top (standing g.L.SiteLink.view g.L.SiteLink.fixed c.loop-waiting.self) (standing g.L.SiteLink.view g.L.SiteLink.fixed c.args.self.now) c.loop-waiting.invariant
+
+pub returns-in_err-push-in-By-Opens-clause-fixed : goal.returns-in_err-push-in-By-Opens-clause-fixed
+returns-in_err-push-in-By-Opens-clause-fixed g c = c.in_ok-step.ensures.fixed ∙ plays_fixed g.L.SiteLink.changes (g.K.Callbacks.scripts c.args.kit.now) (meant g.L.SiteLink.changes (g.K.Callbacks.scripts c.args.kit.now) c.args.top (around (standing g.L.SiteLink.view g.L.SiteLink.fixed c.args.self.now)) (state_of (standing g.L.SiteLink.view g.L.SiteLink.fixed c.args.self.now))) c.loop-waiting.waiting c.loop-waiting.top c.args.top (standing g.L.SiteLink.view g.L.SiteLink.fixed c.loop-waiting.self) (standing g.L.SiteLink.view g.L.SiteLink.fixed c.args.self.now) c.loop-waiting.invariant
+
+pub returns-in_err-push-in-Calls-clause-fixed : goal.returns-in_err-push-in-Calls-clause-fixed
+returns-in_err-push-in-Calls-clause-fixed g c = c.in_ok-step.ensures.fixed ∙ plays_fixed g.L.SiteLink.changes (g.K.Callbacks.scripts c.args.kit.now) (meant g.L.SiteLink.changes (g.K.Callbacks.scripts c.args.kit.now) c.args.top (around (standing g.L.SiteLink.view g.L.SiteLink.fixed c.args.self.now)) (state_of (standing g.L.SiteLink.view g.L.SiteLink.fixed c.args.self.now))) c.loop-waiting.waiting c.loop-waiting.top c.args.top (standing g.L.SiteLink.view g.L.SiteLink.fixed c.loop-waiting.self) (standing g.L.SiteLink.view g.L.SiteLink.fixed c.args.self.now) c.loop-waiting.invariant
+
+pub returns-in_err-push-in-Calls-2-clause-fixed : goal.returns-in_err-push-in-Calls-2-clause-fixed
+returns-in_err-push-in-Calls-2-clause-fixed g c = c.in_ok-step.ensures.fixed ∙ plays_fixed g.L.SiteLink.changes (g.K.Callbacks.scripts c.args.kit.now) (meant g.L.SiteLink.changes (g.K.Callbacks.scripts c.args.kit.now) c.args.top (around (standing g.L.SiteLink.view g.L.SiteLink.fixed c.args.self.now)) (state_of (standing g.L.SiteLink.view g.L.SiteLink.fixed c.args.self.now))) c.loop-waiting.waiting c.loop-waiting.top c.args.top (standing g.L.SiteLink.view g.L.SiteLink.fixed c.loop-waiting.self) (standing g.L.SiteLink.view g.L.SiteLink.fixed c.args.self.now) c.loop-waiting.invariant
+
+pub returns-in_err-take-in-By-Takes-clause-fixed : goal.returns-in_err-take-in-By-Takes-clause-fixed
+returns-in_err-take-in-By-Takes-clause-fixed g c = c.in_ok-step.ensures.fixed ∙ plays_fixed g.L.SiteLink.changes (g.K.Callbacks.scripts c.args.kit.now) (meant g.L.SiteLink.changes (g.K.Callbacks.scripts c.args.kit.now) c.args.top (around (standing g.L.SiteLink.view g.L.SiteLink.fixed c.args.self.now)) (state_of (standing g.L.SiteLink.view g.L.SiteLink.fixed c.args.self.now))) c.loop-waiting.waiting c.loop-waiting.top c.args.top (standing g.L.SiteLink.view g.L.SiteLink.fixed c.loop-waiting.self) (standing g.L.SiteLink.view g.L.SiteLink.fixed c.args.self.now) c.loop-waiting.invariant
+
+pub returns-in_default-clause-fixed : goal.returns-in_default-clause-fixed
+returns-in_default-clause-fixed g c = c.in_ok-step.ensures.fixed ∙ plays_fixed g.L.SiteLink.changes (g.K.Callbacks.scripts c.args.kit.now) (meant g.L.SiteLink.changes (g.K.Callbacks.scripts c.args.kit.now) c.args.top (around (standing g.L.SiteLink.view g.L.SiteLink.fixed c.args.self.now)) (state_of (standing g.L.SiteLink.view g.L.SiteLink.fixed c.args.self.now))) c.loop-waiting.waiting c.loop-waiting.top c.args.top (standing g.L.SiteLink.view g.L.SiteLink.fixed c.loop-waiting.self) (standing g.L.SiteLink.view g.L.SiteLink.fixed c.args.self.now) c.loop-waiting.invariant
+
+pub returns-in_err-take-in-By-Gives-clause-fixed : goal.returns-in_err-take-in-By-Gives-clause-fixed
+returns-in_err-take-in-By-Gives-clause-fixed g c = c.in_ok-step.ensures.fixed ∙ plays_fixed g.L.SiteLink.changes (g.K.Callbacks.scripts c.args.kit.now) (meant g.L.SiteLink.changes (g.K.Callbacks.scripts c.args.kit.now) c.args.top (around (standing g.L.SiteLink.view g.L.SiteLink.fixed c.args.self.now)) (state_of (standing g.L.SiteLink.view g.L.SiteLink.fixed c.args.self.now))) c.loop-waiting.waiting c.loop-waiting.top c.args.top (standing g.L.SiteLink.view g.L.SiteLink.fixed c.loop-waiting.self) (standing g.L.SiteLink.view g.L.SiteLink.fixed c.args.self.now) c.loop-waiting.invariant
