@@ -251,7 +251,7 @@ PlaysAs changes scripts whole weighs c' old new result = MatchResult result
 abbrev pub CountsAs : Changes → Scripts → OpenCallback → Turn → OpenCallback → Stage → Stage → Result Step RunFault → Type 0
 CountsAs changes scripts c turn c' old new result = PlaysAs changes scripts (counted changes scripts c turn (state_of old)) 0 c' old new result
 
--- a turn that the callback goes on from or ends by, one that begins what it waits for, and one that edits the tables or asks
+-- a turn that the callback goes on from or ends by, one that begins what it waits for, one that edits the hooks, and one that edits the tags or asks
 abbrev pub group : Turn → ℕ
 group (turns.Go t) = 0
 group (turns.Skip n) = 0
@@ -266,9 +266,9 @@ group (turns.Publish t) = 1
 group (turns.AddHook h c p n) = 2
 group (turns.RemoveHook h c p) = 2
 group (turns.RemoveAll h p) = 2
-group (turns.AddTag t c) = 2
-group (turns.RemoveTag t) = 2
-group (turns.Ask a) = 2
+group (turns.AddTag t c) = 3
+group (turns.RemoveTag t) = 3
+group (turns.Ask a) = 3
 
 -- the turn is counted already
 abbrev pub Turns : Changes → Scripts → OpenCallback → Turn → OpenCallback → Stage → Stage → Result Step RunFault → Type 0

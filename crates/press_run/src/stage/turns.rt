@@ -89,7 +89,7 @@ impl<L: SiteLink + Drop> Stage<L> {
         }
     }
 
-    // A turn that edits the tables or asks a question.
+    // A turn that edits the hooks.
     #[inline(never)]
     fn edited(&mut self, callback: &mut OpenCallback, turn: Turn) -> Result<Step, RunFault>
         requires few { IsFew 1 callback.old }
@@ -124,6 +124,20 @@ impl<L: SiteLink + Drop> Stage<L> {
                 drop(hook);
                 Ok(callback.with_last(Text::from_str(alloc, "1")?))
             }
+            _ => self.told(callback, turn),
+        }
+    }
+
+    // A turn that edits the tags or asks a question.
+    #[inline(never)]
+    fn told(&mut self, callback: &mut OpenCallback, turn: Turn) -> Result<Step, RunFault>
+        requires few { IsFew 1 callback.old }
+        requires tells { 3 ≤ group turn }
+        ensures { (scripts : Scripts) → Turns L.changes scripts callback.old turn callback.new
+            (standing L.view L.fixed self.old) (standing L.view L.fixed self.new) result }
+    {
+        let alloc = self.machine.allocator();
+        match turn {
             Turn::AddTag { tag, callback: id } => {
                 let added = self.tables.tags.add(tag.as_str(), id);
                 drop(tag);
