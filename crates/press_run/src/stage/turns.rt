@@ -133,8 +133,9 @@ impl<L: SiteLink + Drop> Stage<L> {
     fn told(&mut self, callback: &mut OpenCallback, turn: Turn) -> Result<Step, RunFault>
         requires few { IsFew 1 callback.old }
         requires tells { 3 ≤ group turn }
-        ensures { (scripts : Scripts) → Turns L.changes scripts callback.old turn callback.new
+        ensures steps { (scripts : Scripts) → Turns L.changes scripts callback.old turn callback.new
             (standing L.view L.fixed self.old) (standing L.view L.fixed self.new) result }
+        ensures fixed { L.fixed self.new.site ≡ L.fixed self.old.site }
     {
         let alloc = self.machine.allocator();
         match turn {
