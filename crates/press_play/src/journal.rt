@@ -134,11 +134,17 @@ impl Journal {
     pub fn turn(&self, id: CallbackId, script: &Script, call: &CallIn) -> Result<Turn, AllocError>
         ensures { IfOk result (λ t. t ≡ turn_of script.now call.now) }
     {
-        let turn = script_turn(self.alloc, script, call)?;
-        if let Ok(mut plays) = self.plays.try_borrow_mut() {
-            plays.note(id, call, &turn);
+        let turned = script_turn(self.alloc, script, call);
+        if let Ok(turn) = &turned {
+            self.note(id, call, turn);
         }
-        Ok(turn)
+        turned
+    }
+
+    fn note(&self, id: CallbackId, call: &CallIn, turn: &Turn) {
+        if let Ok(mut plays) = self.plays.try_borrow_mut() {
+            plays.note(id, call, turn);
+        }
     }
 
     /// How many plays have ended.
