@@ -1,3 +1,4 @@
+pub mod Active
 pub mod Applied
 pub mod Onward
 pub mod Refused

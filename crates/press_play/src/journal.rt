@@ -1,4 +1,6 @@
 //! What the callbacks of plays do, as their closures note it: it is told on the errors, and nothing else rests on it.
+//!
+//! A play is watched where it asks to be traced. One that meets a limit is done a second time, and then watched.
 
 ghost use Rattle.std.specs.Prelude.{◌≡◌, IfOk};
 ghost use Rattle.press_callbacks.specs.Turns.{turn_of};
@@ -18,7 +20,7 @@ struct Plays {
     file: String,
     // How many have ended.
     ended: usize,
-    // The one that is watched; none while a play is done for its time alone, or where memory was wanting.
+    // The one that is watched; none while plays are done unwatched, or where memory was wanting.
     book: Option<Book>,
     // A line for each thing told.
     told: String,
@@ -128,21 +130,42 @@ impl Journal {
         })
     }
 
-    /// The turn of a callback's script on a call, which is noted.
+    /// The turn of a callback's script on a call, which is noted where the play is watched.
     pub fn turn(&self, id: CallbackId, script: &Script, call: &CallIn) -> Result<Turn, AllocError>
         ensures { IfOk result (λ t. t ≡ turn_of script.now call.now) }
     {
-        let turn = script_turn(self.alloc, script, call)?;
-        if let Ok(mut plays) = self.plays.try_borrow_mut() {
-            plays.note(id, call, &turn);
+        let turned = script_turn(self.alloc, script, call);
+        if let Ok(turn) = &turned {
+            self.note(id, call, turn);
         }
-        Ok(turn)
+        turned
     }
 
-    /// A play begins.
+    fn note(&self, id: CallbackId, call: &CallIn, turn: &Turn) {
+        if let Ok(mut plays) = self.plays.try_borrow_mut() {
+            plays.note(id, call, turn);
+        }
+    }
+
+    /// How many plays have ended.
+    pub fn ended(&self) -> usize {
+        match self.plays.try_borrow() {
+            Ok(plays) => plays.ended,
+            Err(_) => 0,
+        }
+    }
+
+    /// A play begins that is to be watched.
     pub fn begin(&self, play: &Play) {
         if let Ok(mut plays) = self.plays.try_borrow_mut() {
             plays.begin(play);
+        }
+    }
+
+    /// The plays that follow are not watched.
+    pub fn rest(&self) {
+        if let Ok(mut plays) = self.plays.try_borrow_mut() {
+            plays.book = None;
         }
     }
 

@@ -13,6 +13,7 @@ mod notes;
 mod pages;
 mod played;
 mod plays;
+mod retold;
 mod sites;
 
 use crate::answered::{play_input, write_fault};

@@ -9,14 +9,14 @@ ghost use Rattle.press_play.specs.Lines.{Plays, job_of, lines, state_in};
 
 use crate::journal::Journal;
 use crate::line::{answer_line, limit_line};
+use crate::retold::Again;
 use press_callbacks::Kit;
 use press_kit::{Play, PlayKind};
 use press_posts::Fire;
-use press_run::{Job, Machine, RunFault, Stage};
+use press_run::{Job, RunFault, Stage};
 use press_site::Site;
-use press_text::{HookName, Items, Texts};
+use press_text::Items;
 use std::alloc::{AllocError, Global};
-use std::mem;
 
 /// The stage as the plays so far left it, and their lines.
 struct Playing {
@@ -35,17 +35,6 @@ impl Drop for Playing {
             journal: _,
         } = self;
     }
-}
-
-// Whether a machine that met a limit has no step left: it is asked for one more, on a boot without plugins, where `the_content` has a built-in callback alone.
-// No clause says what a limit leaves of a machine, and nothing but a note rests on it.
-fn is_spent(alloc: Global, kit: &Kit, machine: &mut Machine) -> Result<bool, AllocError> {
-    let hook = HookName::from_valid(alloc, "the_content")?;
-    let args = Texts::new(alloc);
-    let mut bare = Stage::new(alloc, kit, Site::new(alloc))?;
-    mem::swap(&mut bare.machine, machine);
-    let asked = bare.run(kit, Job::Apply { hook, args });
-    Ok(matches!(asked, Err(RunFault::Limit)))
 }
 
 impl Playing {
@@ -85,7 +74,9 @@ impl Playing {
             (state_in self.new.stage)
             (string_bytes self.old.lines) (string_bytes self.new.lines) result }
     {
-        self.journal.begin(play);
+        if play.trace {
+            self.journal.begin(play);
+        }
         match self.stage.run(kit, job(self.alloc, play)?) {
             Ok(text) => {
                 self.journal.end(play);
@@ -96,9 +87,6 @@ impl Playing {
             Err(RunFault::Limit) => {
                 let line = limit_line(self.alloc)?;
                 self.lines.push_str(line.as_str())?;
-                let is_spent = is_spent(self.alloc, kit, &mut self.stage.machine)?;
-                self.journal.limit(is_spent);
-                self.journal.end(play);
                 Ok(false)
             }
             Err(RunFault::NoMemory) => Err(AllocError),
@@ -118,7 +106,8 @@ impl Playing {
     }
 }
 
-fn job(alloc: Global, play: &Play) -> Result<Job, AllocError>
+/// What the stage is asked for by a play.
+pub fn job(alloc: Global, play: &Play) -> Result<Job, AllocError>
     ensures { IfOk result (λ j. j ≡ job_of play.now) }
 {
     let hook = play.hook.copy(alloc)?;
@@ -143,9 +132,11 @@ pub fn lines_of(
         (started (booted_with (plugins_in kit.now) site.active) site)) }
 {
     let mut playing = Playing::new(journal, kit, site)?;
+    let again = Again::new(journal, &playing.stage)?;
     for play in plays {
         playing.rehearse(kit, play)?;
         if !playing.play(kit, play)? {
+            let _ = again.tell(kit, plays);
             return Ok(playing.into_lines());
         }
     }
