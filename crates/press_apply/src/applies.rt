@@ -312,7 +312,7 @@ fn set_option(
     site: OpenSite,
     setting: &Setting<'_>,
 ) -> (OpenSite, Result<u64, ApplyFault>)
-    ensures { Works (booted (kit_view kit.now) site
+    ensures { Works (booted (kit_view kit.now) site.site
         (does (meaning_in kit.now)
         (Effect.SetOption setting.now.name.now setting.now.value.now))) site result }
 {

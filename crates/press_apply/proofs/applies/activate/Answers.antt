@@ -1,5 +1,5 @@
 use Rattle.std.proofs.Common.{◌∙◌, sym}
 use Rattle.press_apply.proofs.applies.activate.Goals as goal
 
-pub returns : goal.returns
-returns g c = rw (sym c.has_plugin.ensures ∙ c.if-not-has_plugin.false, ← c.in_ok-plugin.ensures) c.alone.ensures
+pub returns-in-Ok : goal.returns-in-Ok
+returns-in-Ok g c = rw (sym c.has_plugin.ensures ∙ c.if-not-has_plugin.false, ← c.in-Ok.ensures) c.alone.ensures
