@@ -3,6 +3,7 @@ pub mod Faults
 pub mod Forms
 pub mod Heads
 pub mod Meanings
+pub mod Paths
 pub mod Reads
 pub mod Replies
 pub mod Requests
