@@ -1,6 +1,6 @@
 //! The scheduled events.
 
-ghost use Rattle.std.specs.Prelude.{◌≡◌, [], ◌<◌, ◌≤◌, length, true, false, IfOk, IfSome, is_some, vec_len, vec_capacity};
+ghost use Rattle.std.specs.Prelude.{◌≡◌, [], ◌<◌, ◌≤◌, length, take, true, false, IfOk, OnErr, IfSome, is_some, vec_len, vec_capacity};
 ghost use Rattle.std.specs.List.Sorted.{IsPartitionPoint};
 ghost use Rattle.press_events.specs.DueEvents.{is_earlier, is_later, place_of, stands, place_in, IsByTime, Adds, add_event, cancelled, cancels, is_full_without, fault_of, due, take_event, put_again};
 
@@ -111,10 +111,11 @@ impl Events {
         self.events.len() >= MOST_EVENTS && others(&self.events, hook, arg) >= MOST_EVENTS
     }
 
-    /// The events whose time has come.
+    /// The events whose time has come. Where there is none, this takes no memory.
     pub fn due(&self, now: Moment) -> Result<Items<Event>, AllocError>
         ensures events { IfOk result (λ es. es ≡ due now self.now) }
         ensures order { IfOk result (λ es. IsByTime es) }
+        ensures memory { OnErr result (0 < length (due now self.now)) }
     {
         due(self.alloc, self.events.as_slice(), now)
     }
@@ -136,10 +137,14 @@ impl Events {
         true
     }
 
-    /// The same events once more.
+    /// The same events once more. Without an event this takes no memory.
     pub fn copy(&self) -> Result<Events, AllocError>
-        ensures { IfOk result (λ e. e ≡ self.now) }
+        ensures same { IfOk result (λ e. e ≡ self.now) }
+        ensures memory { OnErr result (0 < length self.now) }
     {
+        if self.events.is_empty() {
+            return Ok(Events::new(self.alloc));
+        }
         Ok(Events {
             alloc: self.alloc,
             events: copied_all(self.alloc, self.events.as_slice())?,
@@ -222,11 +227,23 @@ fn put_again(events: &mut Vec<Event>, event: Event)
     };
 }
 
-// They are the first ones: found by halves.
+// How many are due. They are the first ones: found by halves.
+fn due_end(events: &[Event], now: Moment) -> usize
+    requires { IsByTime events.now }
+    ensures front { take result events.now ≡ due now events.now }
+    ensures within { result ≤ length events.now }
+{
+    events.partition_point(|e| e.is_due(now))
+}
+
 fn due(alloc: Global, events: &[Event], now: Moment) -> Result<Items<Event>, AllocError>
     requires { IsByTime events.now }
-    ensures { IfOk result (λ es. es ≡ due now events.now) }
+    ensures events { IfOk result (λ es. es ≡ due now events.now) }
+    ensures memory { OnErr result (0 < length (due now events.now)) }
 {
-    let end = events.partition_point(|e| e.is_due(now));
+    let end = due_end(events, now);
+    if end == 0 {
+        return Ok(Items::new(alloc));
+    }
     Ok(Items::from_vec(copied_all(alloc, &events[..end])?))
 }

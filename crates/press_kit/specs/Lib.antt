@@ -1,5 +1,6 @@
 pub mod Fields
 pub mod KitFile
+pub mod Memory
 pub mod Ops
 pub mod Places
 pub mod PlayFile

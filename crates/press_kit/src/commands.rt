@@ -1,10 +1,12 @@
 //! The fields of a command.
 
-ghost use Rattle.std.specs.Prelude.{◌≡◌, option_and_then, codes};
+ghost use Rattle.std.specs.Prelude.{◌≡◌, ◌≢◌, Err, option_and_then, codes};
 ghost use Rattle.serde_json.specs.Find.{get, as_str};
 ghost use Rattle.serde_json.specs.View.{view};
 ghost use Rattle.press_apply.specs.Kinds.{kind_named};
 ghost use Rattle.press_text.specs.Gives.{Gives};
+ghost use Rattle.press_kit.specs.Fields.{name_at, text_at};
+ghost use Rattle.press_kit.specs.Memory.{GrowsBehind, editor_at, first_of, title_behind_id};
 ghost use Rattle.press_kit.specs.Refusals.{Refuses};
 ghost use Rattle.press_kit.specs.SiteFile as spec;
 
@@ -49,7 +51,9 @@ fn moment(value: &Value) -> Option<Moment>
 impl<'v> Fields<'v> {
     // Draft, where none is given.
     fn status(&self) -> Result<Status, KitFileFault>
-        ensures { Gives Refuses Ok result (spec.status_at self.now.at (view self.now.value.now)) }
+        ensures gives { Gives Refuses Ok result
+            (spec.status_at self.now.at (view self.now.value.now)) }
+        ensures memory { result ≢ Err KitFileFault.NoMemory }
     {
         match self.value.get("status") {
             None => Ok(Status::Draft),
@@ -58,8 +62,9 @@ impl<'v> Fields<'v> {
     }
 
     fn moment(&self, key: &str) -> Result<Moment, KitFileFault>
-        ensures { Gives Refuses Ok result (spec.moment_at self.now.at key.now
+        ensures gives { Gives Refuses Ok result (spec.moment_at self.now.at key.now
             (view self.now.value.now)) }
+        ensures memory { result ≢ Err KitFileFault.NoMemory }
     {
         let told = self.value.get(key).ok_or(self.at)?;
         Ok(moment(told).ok_or(self.at)?)
@@ -67,7 +72,9 @@ impl<'v> Fields<'v> {
 
     // The command's own moment, where none is given.
     fn date(&self, now: Moment) -> Result<Moment, KitFileFault>
-        ensures { Gives Refuses Ok result (spec.date_at now self.now.at (view self.now.value.now)) }
+        ensures gives { Gives Refuses Ok result
+            (spec.date_at now self.now.at (view self.now.value.now)) }
+        ensures memory { result ≢ Err KitFileFault.NoMemory }
     {
         match self.value.get("date") {
             None => Ok(now),
@@ -77,7 +84,10 @@ impl<'v> Fields<'v> {
 
     #[tactic(auto, unfolding(crate::specs::SiteFile::written))]
     fn written(&self, now: Moment) -> Result<Written, KitFileFault>
-        ensures { Gives Refuses Ok result (spec.written now self.now.at (view self.now.value.now)) }
+        ensures gives { Gives Refuses Ok result
+            (spec.written now self.now.at (view self.now.value.now)) }
+        ensures memory { GrowsBehind result
+            (text_at self.now.at (codes "title") (view self.now.value.now)) }
     {
         Ok(Written {
             title: self.text("title")?,
@@ -87,9 +97,12 @@ impl<'v> Fields<'v> {
         })
     }
 
-    #[tactic(auto, unfolding(crate::specs::SiteFile::updated))]
+    #[tactic(auto, unfolding(crate::specs::SiteFile::updated, crate::specs::Memory::title_behind_id))]
     fn update(&self, now: Moment) -> Result<Command, KitFileFault>
-        ensures { Gives Refuses Ok result (spec.updated now self.now.at (view self.now.value.now)) }
+        ensures gives { Gives Refuses Ok result
+            (spec.updated now self.now.at (view self.now.value.now)) }
+        ensures memory { GrowsBehind result
+            (title_behind_id self.now.at (view self.now.value.now)) }
     {
         let id = self.number("id")?;
         let Written {
@@ -109,7 +122,10 @@ impl<'v> Fields<'v> {
 
     #[tactic(auto, unfolding(crate::specs::SiteFile::option_set))]
     fn option_command(&self) -> Result<Command, KitFileFault>
-        ensures { Gives Refuses Ok result (spec.option_set self.now.at (view self.now.value.now)) }
+        ensures gives { Gives Refuses Ok result
+            (spec.option_set self.now.at (view self.now.value.now)) }
+        ensures memory { GrowsBehind result
+            (name_at 32 self.now.at (codes "name") (view self.now.value.now)) }
     {
         Ok(Command::SetOption {
             name: self.option("name")?,
@@ -117,10 +133,11 @@ impl<'v> Fields<'v> {
         })
     }
 
-    #[tactic(auto, unfolding(crate::specs::SiteFile::command_by))]
+    #[tactic(auto, unfolding(crate::specs::SiteFile::command_by, crate::specs::Memory::first_of))]
     fn command(&self, kind: CommandKind, now: Moment) -> Result<Command, KitFileFault>
-        ensures { Gives Refuses Ok result (spec.command_by kind now self.now.at
+        ensures gives { Gives Refuses Ok result (spec.command_by kind now self.now.at
             (view self.now.value.now)) }
+        ensures memory { GrowsBehind result (first_of kind self.now.at (view self.now.value.now)) }
     {
         match kind {
             CommandKind::Insert => {
@@ -160,11 +177,31 @@ impl<'v> Fields<'v> {
 
     #[tactic(auto, unfolding(crate::specs::SiteFile::token_of))]
     fn token(&self) -> Result<Token, KitFileFault>
-        ensures { Gives Refuses Ok result (spec.token_of self.now.at (view self.now.value.now)) }
+        ensures gives { Gives Refuses Ok result
+            (spec.token_of self.now.at (view self.now.value.now)) }
+        ensures memory { GrowsBehind result (editor_at self.now.at (view self.now.value.now)) }
     {
         Ok(Token {
             editor: self.name("editor")?,
             seq: self.number("seq")?,
+        })
+    }
+
+    #[tactic(auto, unfolding(crate::specs::SiteFile::command_of))]
+    fn stamped(&self) -> Result<Stamped, KitFileFault>
+        ensures gives { Gives Refuses Ok result (spec.command_of self.now.at
+            (view self.now.value.now)) }
+        ensures memory { GrowsBehind result (editor_at self.now.at
+            (view self.now.value.now)) }
+    {
+        let token = self.token()?;
+        let now = self.moment("at")?;
+        let kind = self.command_kind().ok_or(self.at)?;
+        let command = self.command(kind, now)?;
+        Ok(Stamped {
+            token,
+            at: now,
+            command,
         })
     }
 
@@ -182,17 +219,7 @@ impl<'v> Fields<'v> {
 impl Listed for Stamped {
     ghost read = { spec.command_of };
 
-    #[tactic(auto, unfolding(crate::specs::SiteFile::command_of))]
     fn read(alloc: Global, at: Place, value: &Value) -> Result<Stamped, KitFileFault> {
-        let fields = Fields { alloc, at, value };
-        let token = fields.token()?;
-        let now = fields.moment("at")?;
-        let kind = fields.command_kind().ok_or(at)?;
-        let command = fields.command(kind, now)?;
-        Ok(Stamped {
-            token,
-            at: now,
-            command,
-        })
+        Fields { alloc, at, value }.stamped()
     }
 }

@@ -1,10 +1,11 @@
 //! The fields of an object.
 
-ghost use Rattle.std.specs.Prelude.{◌≡◌, ◌^◌, ℕ, Option, option_map, option_and_then, map};
+ghost use Rattle.std.specs.Prelude.{◌≡◌, ◌≢◌, ◌^◌, ℕ, Err, Option, option_map, option_and_then, map};
 ghost use Rattle.std.specs.List.{list_all};
 ghost use Rattle.serde_json.specs.Find.{get, as_str};
 ghost use Rattle.serde_json.specs.View.{view, members_view};
 ghost use Rattle.press_text.specs.Gives.{Gives};
+ghost use Rattle.press_kit.specs.Memory.{GrowsBehind};
 ghost use Rattle.press_kit.specs.Refusals.{Refuses};
 ghost use Rattle.press_kit.specs.Fields as spec;
 
@@ -49,8 +50,9 @@ pub struct Fields<'v> {
 impl<'v> Fields<'v> {
     /// Bad where there are other keys than these.
     pub fn has_only(&self, keys: &[&str]) -> Result<(), KitFileFault>
-        ensures { Gives Refuses (λ _. Ok (view self.now.value.now)) result
+        ensures gives { Gives Refuses (λ _. Ok (view self.now.value.now)) result
             (spec.only self.now.at (map (λ k. k.now) keys.now) (view self.now.value.now)) }
+        ensures memory { result ≢ Err KitFileFault.NoMemory }
     {
         if has_only(self.value, keys) {
             Ok(())
@@ -67,8 +69,10 @@ impl<'v> Fields<'v> {
     }
 
     pub fn text(&self, key: &str) -> Result<Text, KitFileFault>
-        ensures { Gives Refuses Ok result (spec.text_at self.now.at key.now
+        ensures gives { Gives Refuses Ok result (spec.text_at self.now.at key.now
             (view self.now.value.now)) }
+        ensures memory { GrowsBehind result
+            (spec.text_at self.now.at key.now (view self.now.value.now)) }
     {
         let text = self.str(key).ok_or(self.at)?;
         Ok(Text::from_str(self.alloc, text)?)
@@ -76,8 +80,10 @@ impl<'v> Fields<'v> {
 
     /// The name of a hook.
     pub fn hook(&self, key: &str) -> Result<HookName, KitFileFault>
-        ensures { Gives Refuses Ok result (spec.name_at 64 self.now.at key.now
+        ensures gives { Gives Refuses Ok result (spec.name_at 64 self.now.at key.now
             (view self.now.value.now)) }
+        ensures memory { GrowsBehind result
+            (spec.name_at 64 self.now.at key.now (view self.now.value.now)) }
     {
         let text = self.str(key).ok_or(self.at)?;
         match HookName::new(self.alloc, text) {
@@ -89,8 +95,9 @@ impl<'v> Fields<'v> {
 
     /// The name of a callback.
     pub fn callback(&self, key: &str) -> Result<CallbackId, KitFileFault>
-        ensures { Gives Refuses Ok result (spec.name_at 32 self.now.at key.now
+        ensures gives { Gives Refuses Ok result (spec.name_at 32 self.now.at key.now
             (view self.now.value.now)) }
+        ensures memory { result ≢ Err KitFileFault.NoMemory }
     {
         let text = self.str(key).ok_or(self.at)?;
         match CallbackId::new(text) {
@@ -101,8 +108,10 @@ impl<'v> Fields<'v> {
 
     /// The name of a plugin.
     pub fn name(&self, key: &str) -> Result<Name, KitFileFault>
-        ensures { Gives Refuses Ok result (spec.name_at 32 self.now.at key.now
+        ensures gives { Gives Refuses Ok result (spec.name_at 32 self.now.at key.now
             (view self.now.value.now)) }
+        ensures memory { GrowsBehind result
+            (spec.name_at 32 self.now.at key.now (view self.now.value.now)) }
     {
         let text = self.str(key).ok_or(self.at)?;
         match Name::new(self.alloc, text) {
@@ -114,8 +123,10 @@ impl<'v> Fields<'v> {
 
     /// The name of an option.
     pub fn option(&self, key: &str) -> Result<OptName, KitFileFault>
-        ensures { Gives Refuses Ok result (spec.name_at 32 self.now.at key.now
+        ensures gives { Gives Refuses Ok result (spec.name_at 32 self.now.at key.now
             (view self.now.value.now)) }
+        ensures memory { GrowsBehind result
+            (spec.name_at 32 self.now.at key.now (view self.now.value.now)) }
     {
         let text = self.str(key).ok_or(self.at)?;
         match OptName::new(self.alloc, text) {
@@ -126,8 +137,9 @@ impl<'v> Fields<'v> {
     }
 
     pub fn number(&self, key: &str) -> Result<u64, KitFileFault>
-        ensures { Gives Refuses Ok result (spec.number_at self.now.at key.now
+        ensures gives { Gives Refuses Ok result (spec.number_at self.now.at key.now
             (view self.now.value.now)) }
+        ensures memory { result ≢ Err KitFileFault.NoMemory }
     {
         let told = self.value.get(key).and_then(Value::as_u64);
         Ok(told.ok_or(self.at)?)
@@ -135,8 +147,10 @@ impl<'v> Fields<'v> {
 
     /// The name of a shortcode.
     pub fn tag(&self, key: &str) -> Result<Tag, KitFileFault>
-        ensures { Gives Refuses Ok result (spec.name_at 32 self.now.at key.now
+        ensures gives { Gives Refuses Ok result (spec.name_at 32 self.now.at key.now
             (view self.now.value.now)) }
+        ensures memory { GrowsBehind result
+            (spec.name_at 32 self.now.at key.now (view self.now.value.now)) }
     {
         let text = self.str(key).ok_or(self.at)?;
         match Tag::new(self.alloc, text) {
@@ -148,7 +162,9 @@ impl<'v> Fields<'v> {
 
     /// The priority; 10, as in WordPress, where none is given.
     pub fn priority(&self) -> Result<i64, KitFileFault>
-        ensures { Gives Refuses Ok result (spec.priority_at self.now.at (view self.now.value.now)) }
+        ensures gives { Gives Refuses Ok result
+            (spec.priority_at self.now.at (view self.now.value.now)) }
+        ensures memory { result ≢ Err KitFileFault.NoMemory }
     {
         match self.value.get("priority") {
             None => Ok(10),
@@ -158,7 +174,9 @@ impl<'v> Fields<'v> {
 
     /// How many arguments are accepted; 1, as in WordPress, where none is given.
     pub fn accepted(&self) -> Result<u32, KitFileFault>
-        ensures { Gives Refuses Ok result (spec.accepted_at self.now.at (view self.now.value.now)) }
+        ensures gives { Gives Refuses Ok result
+            (spec.accepted_at self.now.at (view self.now.value.now)) }
+        ensures memory { result ≢ Err KitFileFault.NoMemory }
     {
         match self.value.get("accepted") {
             None => Ok(1),
@@ -168,8 +186,9 @@ impl<'v> Fields<'v> {
 
     /// The values of a list.
     pub fn list(&self, key: &str) -> Result<&'v [Value], KitFileFault>
-        ensures { Gives Refuses (λ vs. Ok (map view vs.now)) result
+        ensures gives { Gives Refuses (λ vs. Ok (map view vs.now)) result
             (spec.list_at self.now.at key.now (view self.now.value.now)) }
+        ensures memory { result ≢ Err KitFileFault.NoMemory }
     {
         Ok(self.value.get(key).and_then(list).ok_or(self.at)?)
     }

@@ -3,6 +3,7 @@
 ghost use Rattle.std.specs.Prelude.{◌≡◌, map};
 ghost use Rattle.serde_json.specs.View.{view};
 ghost use Rattle.press_text.specs.Gives.{Gives};
+ghost use Rattle.press_kit.specs.Memory.{GrowsBehind, hook_of_load, tag_of_load};
 ghost use Rattle.press_kit.specs.Refusals.{Refuses};
 ghost use Rattle.press_kit.specs.KitFile as spec;
 
@@ -16,9 +17,11 @@ use serde_json::Value;
 use std::alloc::Global;
 
 impl<'v> Fields<'v> {
-    #[tactic(auto, unfolding(crate::specs::KitFile::hook_loaded))]
+    #[tactic(auto, unfolding(crate::specs::KitFile::hook_loaded, crate::specs::Memory::hook_of_load))]
     fn hook_load(&self) -> Result<Load, KitFileFault>
-        ensures { Gives Refuses Ok result (spec.hook_loaded self.now.at (view self.now.value.now)) }
+        ensures gives { Gives Refuses Ok result
+            (spec.hook_loaded self.now.at (view self.now.value.now)) }
+        ensures memory { GrowsBehind result (hook_of_load self.now.at (view self.now.value.now)) }
     {
         self.has_only(&["hook", "callback", "priority", "accepted"])?;
         let hook = self.hook("hook")?;
@@ -31,9 +34,11 @@ impl<'v> Fields<'v> {
         })
     }
 
-    #[tactic(auto, unfolding(crate::specs::KitFile::tag_loaded))]
+    #[tactic(auto, unfolding(crate::specs::KitFile::tag_loaded, crate::specs::Memory::tag_of_load))]
     fn tag_load(&self) -> Result<Load, KitFileFault>
-        ensures { Gives Refuses Ok result (spec.tag_loaded self.now.at (view self.now.value.now)) }
+        ensures gives { Gives Refuses Ok result
+            (spec.tag_loaded self.now.at (view self.now.value.now)) }
+        ensures memory { GrowsBehind result (tag_of_load self.now.at (view self.now.value.now)) }
     {
         self.has_only(&["tag", "callback"])?;
         Ok(Load::Tag {

@@ -1,6 +1,6 @@
 //! The steps of scripts.
 
-ghost use Rattle.std.specs.Prelude.{◌≡◌, option_map, option_and_then, codes, map};
+ghost use Rattle.std.specs.Prelude.{◌≡◌, ◌≢◌, Err, option_map, option_and_then, codes, map};
 ghost use Rattle.serde_json.specs.Find.{get, as_str};
 ghost use Rattle.serde_json.specs.View.{view};
 ghost use Rattle.press_text.specs.Gives.{Gives};
@@ -48,8 +48,9 @@ fn every(value: &Value) -> Option<Every>
 impl<'v> Fields<'v> {
     // The priority that is given, or all of them.
     fn any_priority(&self) -> Result<Option<i64>, KitFileFault>
-        ensures { Gives Refuses Ok result (spec.any_priority_at self.now.at
+        ensures gives { Gives Refuses Ok result (spec.any_priority_at self.now.at
             (view self.now.value.now)) }
+        ensures memory { result ≢ Err KitFileFault.NoMemory }
     {
         match self.value.get("priority") {
             None => Ok(None),
@@ -59,7 +60,9 @@ impl<'v> Fields<'v> {
 
     // How many steps are passed over.
     fn skip(&self) -> Result<u16, KitFileFault>
-        ensures { Gives Refuses Ok result (spec.skip_at self.now.at (view self.now.value.now)) }
+        ensures gives { Gives Refuses Ok result
+            (spec.skip_at self.now.at (view self.now.value.now)) }
+        ensures memory { result ≢ Err KitFileFault.NoMemory }
     {
         let told = self
             .value
@@ -74,7 +77,9 @@ impl<'v> Fields<'v> {
 
     // Once, where none is given.
     fn every(&self) -> Result<Every, KitFileFault>
-        ensures { Gives Refuses Ok result (spec.every_at self.now.at (view self.now.value.now)) }
+        ensures gives { Gives Refuses Ok result
+            (spec.every_at self.now.at (view self.now.value.now)) }
+        ensures memory { result ≢ Err KitFileFault.NoMemory }
     {
         match self.value.get("every") {
             None => Ok(Every::Once),
@@ -231,8 +236,9 @@ impl<'v> Fields<'v> {
     }
 
     fn has_keys_of(&self, kind: OpKind) -> Result<(), KitFileFault>
-        ensures { Gives Refuses (λ _. Ok (view self.now.value.now)) result
+        ensures gives { Gives Refuses (λ _. Ok (view self.now.value.now)) result
             (only self.now.at (keys_of kind) (view self.now.value.now)) }
+        ensures memory { result ≢ Err KitFileFault.NoMemory }
     {
         match kind {
             OpKind::AddHook => {

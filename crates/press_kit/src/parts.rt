@@ -1,6 +1,6 @@
 //! Texts as lists of parts.
 
-ghost use Rattle.std.specs.Prelude.{◌≡◌, option_map, option_and_then, codes};
+ghost use Rattle.std.specs.Prelude.{◌≡◌, Err, IsSome, option_map, option_and_then, codes};
 ghost use Rattle.serde_json.specs.Find.{get};
 ghost use Rattle.serde_json.specs.View.{view};
 ghost use Rattle.press_text.specs.Gives.{Gives};
@@ -54,7 +54,9 @@ fn arg_in(value: &Value) -> Option<Source>
 }
 
 fn att_key(alloc: Global, at: Place, value: &Value) -> Result<AttKey, KitFileFault>
-    ensures { Gives Refuses Ok result (or_bad at (spec.att_key_of (view value.now))) }
+    ensures gives { Gives Refuses Ok result (or_bad at (spec.att_key_of (view value.now))) }
+    ensures memory { result ≡ Err KitFileFault.NoMemory
+        → IsSome (spec.att_key_of (view value.now)) }
 {
     match value.as_str() {
         Some(name) => Ok(AttKey::Name(Text::from_str(alloc, name)?)),
@@ -63,7 +65,8 @@ fn att_key(alloc: Global, at: Place, value: &Value) -> Result<AttKey, KitFileFau
 }
 
 fn att_in(alloc: Global, at: Place, value: &Value) -> Result<Source, KitFileFault>
-    ensures { Gives Refuses Ok result (or_bad at (spec.att_in (view value.now))) }
+    ensures gives { Gives Refuses Ok result (or_bad at (spec.att_in (view value.now))) }
+    ensures memory { result ≡ Err KitFileFault.NoMemory → IsSome (spec.att_in (view value.now)) }
 {
     let key = value.get("att").ok_or(at)?;
     Ok(Source::Att(att_key(alloc, at, key)?))
@@ -72,7 +75,9 @@ fn att_in(alloc: Global, at: Place, value: &Value) -> Result<Source, KitFileFaul
 // The source of an object with one key.
 #[tactic(auto, unfolding(crate::specs::KitFile::source_in))]
 fn source_in(alloc: Global, at: Place, value: &Value) -> Result<Source, KitFileFault>
-    ensures { Gives Refuses Ok result (or_bad at (spec.source_in (view value.now))) }
+    ensures gives { Gives Refuses Ok result (or_bad at (spec.source_in (view value.now))) }
+    ensures memory { result ≡ Err KitFileFault.NoMemory
+        → IsSome (spec.source_in (view value.now)) }
 {
     if has_only(value, &["arg"]) {
         Ok(arg_in(value).ok_or(at)?)
@@ -86,13 +91,16 @@ fn source_in(alloc: Global, at: Place, value: &Value) -> Result<Source, KitFileF
 }
 
 fn raw_in(alloc: Global, at: Place, value: &Value) -> Result<Part, KitFileFault>
-    ensures { Gives Refuses Ok result (or_bad at (spec.raw_in (view value.now))) }
+    ensures gives { Gives Refuses Ok result (or_bad at (spec.raw_in (view value.now))) }
+    ensures memory { result ≡ Err KitFileFault.NoMemory → IsSome (spec.raw_in (view value.now)) }
 {
     Ok(Part::Raw(source_in(alloc, at, value)?))
 }
 
 fn escaped_in(alloc: Global, at: Place, value: &Value) -> Result<Part, KitFileFault>
-    ensures { Gives Refuses Ok result (or_bad at (spec.escaped_in (view value.now))) }
+    ensures gives { Gives Refuses Ok result (or_bad at (spec.escaped_in (view value.now))) }
+    ensures memory { result ≡ Err KitFileFault.NoMemory
+        → IsSome (spec.escaped_in (view value.now)) }
 {
     let source = value.get("escaped").ok_or(at)?;
     Ok(Part::Escaped(source_in(alloc, at, source)?))
@@ -100,7 +108,9 @@ fn escaped_in(alloc: Global, at: Place, value: &Value) -> Result<Part, KitFileFa
 
 // A part that is read of the call.
 fn keyed_part(alloc: Global, at: Place, value: &Value) -> Result<Part, KitFileFault>
-    ensures { Gives Refuses Ok result (or_bad at (spec.keyed_part (view value.now))) }
+    ensures gives { Gives Refuses Ok result (or_bad at (spec.keyed_part (view value.now))) }
+    ensures memory { result ≡ Err KitFileFault.NoMemory
+        → IsSome (spec.keyed_part (view value.now)) }
 {
     if has_only(value, &["escaped"]) {
         escaped_in(alloc, at, value)

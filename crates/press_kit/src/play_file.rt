@@ -1,10 +1,11 @@
-ghost use Rattle.std.specs.Prelude.{◌≡◌, ◌<◌, length, option_and_then, codes, map, IsErrOf};
+ghost use Rattle.std.specs.Prelude.{◌≡◌, ◌≢◌, ◌<◌, Err, length, option_and_then, codes, map, IsErrOf};
 ghost use Rattle.serde_json.specs.View.{view};
 ghost use Rattle.press_text.specs.Gives.{Gives};
 ghost use Rattle.press_kit.specs.Refusals.{Refuses};
 ghost use Rattle.press_kit.specs.KitFile.{file_limit};
 ghost use Rattle.press_kit.specs.declared.place.Place.TheVariants as place;
 ghost use Rattle.press_kit.specs.Fields.{only, number_in};
+ghost use Rattle.press_kit.specs.Memory.{GrowsBehind, few_at, hook_of_play};
 ghost use Rattle.press_kit.specs.PlayFile as spec;
 
 use crate::fault::KitFileFault;
@@ -106,7 +107,9 @@ impl<'v> Fields<'v> {
     }
 
     fn times(&self) -> Result<u32, KitFileFault>
-        ensures { Gives Refuses Ok result (spec.times_at self.now.at (view self.now.value.now)) }
+        ensures gives { Gives Refuses Ok result
+            (spec.times_at self.now.at (view self.now.value.now)) }
+        ensures memory { result ≢ Err KitFileFault.NoMemory }
     {
         match self.value.get("times") {
             None => Ok(1),
@@ -115,7 +118,9 @@ impl<'v> Fields<'v> {
     }
 
     fn trace(&self) -> Result<bool, KitFileFault>
-        ensures { Gives Refuses Ok result (spec.trace_at self.now.at (view self.now.value.now)) }
+        ensures gives { Gives Refuses Ok result
+            (spec.trace_at self.now.at (view self.now.value.now)) }
+        ensures memory { result ≢ Err KitFileFault.NoMemory }
     {
         match self.value.get("trace") {
             None => Ok(false),
@@ -124,8 +129,9 @@ impl<'v> Fields<'v> {
     }
 
     fn has_play_keys(&self, kind: PlayKind) -> Result<(), KitFileFault>
-        ensures { Gives Refuses (λ _. Ok (view self.now.value.now)) result
+        ensures gives { Gives Refuses (λ _. Ok (view self.now.value.now)) result
             (only self.now.at (spec.keys_of kind) (view self.now.value.now)) }
+        ensures memory { result ≢ Err KitFileFault.NoMemory }
     {
         match kind {
             PlayKind::Apply => self.has_only(&["apply", "args", "times", "trace"]),
@@ -133,10 +139,12 @@ impl<'v> Fields<'v> {
         }
     }
 
-    #[tactic(auto, unfolding(crate::specs::PlayFile::play_by))]
+    #[tactic(auto, unfolding(crate::specs::PlayFile::play_by, crate::specs::Memory::hook_of_play))]
     fn play(&self, kind: PlayKind) -> Result<Play, KitFileFault>
-        ensures { Gives Refuses Ok result (spec.play_by kind self.now.at
+        ensures gives { Gives Refuses Ok result (spec.play_by kind self.now.at
             (view self.now.value.now)) }
+        ensures memory { GrowsBehind result
+            (hook_of_play kind self.now.at (view self.now.value.now)) }
     {
         self.has_play_keys(kind)?;
         let hook = self.hook(kind.key())?;
@@ -184,8 +192,9 @@ fn has_commands(value: &Value) -> bool
 }
 
 fn has_file_keys(fields: &Fields<'_>, commanded: bool) -> Result<(), KitFileFault>
-    ensures { Gives Refuses (λ _. Ok (view fields.now.value.now)) result
+    ensures gives { Gives Refuses (λ _. Ok (view fields.now.value.now)) result
         (only fields.now.at (spec.file_keys commanded) (view fields.now.value.now)) }
+    ensures memory { result ≢ Err KitFileFault.NoMemory }
 {
     if commanded {
         fields.has_only(&["kit", "commands", "pages", "plays", "shows"])
@@ -210,7 +219,8 @@ fn commands_if(
     value: &Value,
     commanded: bool,
 ) -> Result<Items<Stamped>, KitFileFault>
-    ensures { Gives Refuses Ok result (spec.commands_where commanded (view value.now)) }
+    ensures gives { Gives Refuses Ok result (spec.commands_where commanded (view value.now)) }
+    ensures memory { GrowsBehind result (few_at (view value.now)) }
 {
     if commanded {
         commands(alloc, value)

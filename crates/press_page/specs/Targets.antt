@@ -33,3 +33,11 @@ abbrev pub target_in : List ℕ → Option Target
 target_in text =
     if bytes_eq text (codes "front") then Some Front
     else option_and_then (λ p. target_by p.0 p.1) (parted 58 text)
+
+-- what is asked for is the outcome of an editor's command
+abbrev pub HasEditor : Option Target → Type 0
+HasEditor None = ⊥
+HasEditor (Some Front) = ⊥
+HasEditor (Some (Post id)) = ⊥
+HasEditor (Some (Json id)) = ⊥
+HasEditor (Some (Result token)) = Unit {0}

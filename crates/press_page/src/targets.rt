@@ -1,6 +1,6 @@
 //! What a text asks of a site.
 
-ghost use Rattle.std.specs.Prelude.{◌≡◌, ◌<◌, None, Ok, IfOk, option_map};
+ghost use Rattle.std.specs.Prelude.{◌≡◌, ◌<◌, None, Ok, IfOk, OnErr, IsSome, option_map};
 ghost use Rattle.press_page.specs.Targets as spec;
 
 use crate::reply::Target;
@@ -19,6 +19,7 @@ fn parted(text: &str, at: char) -> Option<(&str, &str)>
 fn token_by(alloc: Global, editor: &str, seq: u64) -> Result<Option<Token>, AllocError>
     ensures gives { IfOk result (λ t. t ≡ spec.token_by editor.now seq) }
     ensures none { spec.token_by editor.now seq ≡ None → result ≡ Ok None }
+    ensures memory { OnErr result (IsSome (spec.token_by editor.now seq)) }
 {
     match Name::new(alloc, editor) {
         Ok(editor) => Ok(Some(Token { editor, seq })),
@@ -30,6 +31,7 @@ fn token_by(alloc: Global, editor: &str, seq: u64) -> Result<Option<Token>, Allo
 fn token(alloc: Global, text: &str) -> Result<Option<Token>, AllocError>
     ensures gives { IfOk result (λ t. t ≡ spec.token_in text.now) }
     ensures none { spec.token_in text.now ≡ None → result ≡ Ok None }
+    ensures memory { OnErr result (IsSome (spec.token_in text.now)) }
 {
     let Some((editor, seq)) = parted(text, '/') else {
         return Ok(None);
@@ -43,6 +45,7 @@ fn token(alloc: Global, text: &str) -> Result<Option<Token>, AllocError>
 fn result(alloc: Global, text: &str) -> Result<Option<Target>, AllocError>
     ensures gives { IfOk result (λ t. t ≡ option_map Target.Result (spec.token_in text.now)) }
     ensures none { spec.token_in text.now ≡ None → result ≡ Ok None }
+    ensures memory { OnErr result (IsSome (spec.token_in text.now)) }
 {
     Ok(token(alloc, text)?.map(Target::Result))
 }
@@ -50,6 +53,7 @@ fn result(alloc: Global, text: &str) -> Result<Option<Target>, AllocError>
 fn target_by(alloc: Global, kind: &str, rest: &str) -> Result<Option<Target>, AllocError>
     ensures gives { IfOk result (λ t. t ≡ spec.target_by kind.now rest.now) }
     ensures none { spec.target_by kind.now rest.now ≡ None → result ≡ Ok None }
+    ensures memory { OnErr result (spec.HasEditor (spec.target_by kind.now rest.now)) }
 {
     if kind == "post" {
         Ok(dec_u64(rest).map(Target::Post))
@@ -68,6 +72,8 @@ impl Target {
     pub fn from_text(alloc: Global, text: &str) -> Result<Option<Target>, AllocError>
         ensures gives { IfOk result (λ t. t ≡ spec.target_in text.now) }
         ensures none { spec.target_in text.now ≡ None → result ≡ Ok None }
+        // Out of memory comes only where an outcome is asked for.
+        ensures memory { OnErr result (spec.HasEditor (spec.target_in text.now)) }
     {
         if text == "front" {
             return Ok(Some(Target::Front));

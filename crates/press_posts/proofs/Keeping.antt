@@ -1,5 +1,5 @@
 -- What is kept beside the posts stays so where a place is emptied or filled, comes or goes.
-use Rattle.std.proofs.Common.{◌≡◌, refl, sym, ◌∙◌, ap, ap₂, ℕ, zero, suc, ◌+◌, ◌-◌, ◌<◌, ◌≤◌, List, [], ◌∷◌, ◌++◌, length, get_or, set, Bool, true, false, nat_eq, set-set, get_or-set_same, Option, Some, None, arith, length-append, length-set, map, take, take_all, reverse}
+use Rattle.std.proofs.Common.{◌≡◌, refl, sym, ◌∙◌, ap, ap₂, ℕ, zero, suc, ◌+◌, ◌-◌, ◌<◌, ◌≤◌, List, [], ◌∷◌, ◌++◌, length, get_or, set, Bool, true, false, nat_eq, set-set, get_or-set_same, Option, Some, None, arith, length-append, length-set, map, take, take_all, reverse, Result, Ok, Err, OnErr}
 use Rattle.std.specs.Prelude.{◌&&◌}
 use Rattle.std.proofs.lemmas.Bool.Decides.{nat_tests}
 use Rattle.std.proofs.lemmas.List.{set_at, take-map, reverse-reverse, length-map, length-reverse}
@@ -157,3 +157,7 @@ all_published posts = take_all (length posts) (published posts) (few_of posts)
   where
     few_of : (posts : List (Option Post)) → length (published posts) ≤ length posts
     few_of posts = omega (arith, length-map (newest_first posts) (λ (d : Dated). d.id), few_newest posts, few_stand posts)
+
+pub on_err : {T E P : Type 0} (r : Result T E) → P → OnErr r P
+on_err (Ok x) p = tt
+on_err (Err e) p = p

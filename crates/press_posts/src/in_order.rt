@@ -1,6 +1,6 @@
 //! Published posts in their order, oldest first: a post's position is found by binary search.
 
-ghost use Rattle.std.specs.Prelude.{◌≡◌, ◌<◌, ◌≤◌, length, map, take, reverse, vec_len, vec_capacity, IfOk, OnOk};
+ghost use Rattle.std.specs.Prelude.{◌≡◌, ◌<◌, ◌≤◌, length, map, take, reverse, vec_len, vec_capacity, IfOk, OnErr, OnOk};
 ghost use Rattle.press_posts.specs.Kept.{place_among, put_in, taken_out, IsAmong};
 ghost use Rattle.press_posts.specs.Published.{is_older, IsOldestFirst};
 
@@ -48,8 +48,12 @@ pub fn take_out(order: &mut Vec<Dated>, dated: Option<Dated>)
 
 /// The ids of the first `most`, newest first.
 pub fn newest(alloc: Global, order: &[Dated], most: usize) -> Result<Vec<u64>, AllocError>
-    ensures { IfOk result (λ ids. ids.items ≡ map (λ d. d.id) (take most (reverse order.now))) }
+    ensures ids { IfOk result (λ ids. ids.items ≡ map (λ d. d.id) (take most (reverse order.now))) }
+    ensures memory { OnErr result (0 < length (map (λ d. d.id) (take most (reverse order.now)))) }
 {
+    if most == 0 || order.is_empty() {
+        return Ok(Vec::new(alloc));
+    }
     order.iter().rev().take(most).map(|d| d.id).collect(alloc)
 }
 

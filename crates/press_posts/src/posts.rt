@@ -1,6 +1,6 @@
 //! The posts of a site, each at the place of its id.
 
-ghost use Rattle.std.specs.Prelude.{◌≡◌, ℕ, [], ◌∷◌, ◌++◌, ◌+◌, ◌-◌, ◌≤◌, length, map, option_map, IfOk, OnOk, OnErr, is_some, take, true, false, Some, None};
+ghost use Rattle.std.specs.Prelude.{◌≡◌, ℕ, [], ◌∷◌, ◌++◌, ◌+◌, ◌-◌, ◌≤◌, length, map, option_map, IfOk, OnOk, OnErr, is_some, take, true, false, Some, None, ◌<◌};
 ghost use Rattle.press_posts.specs.Kept.{keeps_order};
 ghost use Rattle.press_posts.specs.PostChange.{Changes, post_change, post_at, put_at, with_status, is_full, insert_fault};
 ghost use Rattle.press_posts.specs.Transitions.{transition};
@@ -192,25 +192,31 @@ impl Posts {
         }
     }
 
-    /// The published posts, newest date first, then greatest id.
+    /// The published posts, newest date first, then greatest id. Where there is none, this takes no memory.
     pub fn published(&self) -> Result<Items<u64>, AllocError>
-        ensures { IfOk result (λ ids. ids ≡ published self.now) }
+        ensures ids { IfOk result (λ ids. ids ≡ published self.now) }
+        ensures memory { OnErr result (0 < length (published self.now)) }
     {
         self.newest(self.places.len())
     }
 
-    /// The first so many of the published posts. It looks at no others.
+    /// The first so many of the published posts. It looks at no others. Where there is none, this takes no memory.
     pub fn newest(&self, most: usize) -> Result<Items<u64>, AllocError>
-        ensures { IfOk result (λ ids. ids ≡ take most (published self.now)) }
+        ensures ids { IfOk result (λ ids. ids ≡ take most (published self.now)) }
+        ensures memory { OnErr result (0 < length (take most (published self.now))) }
     {
         let ids = newest(self.alloc, &self.order, most)?;
         Ok(Items::from_vec(ids))
     }
 
-    /// The same posts once more.
+    /// The same posts once more. Without a place this takes no memory.
     pub fn copy(&self) -> Result<Posts, AllocError>
-        ensures { IfOk result (λ p. p ≡ self.now) }
+        ensures same { IfOk result (λ p. p ≡ self.now) }
+        ensures memory { OnErr result (0 < length self.now) }
     {
+        if self.places.is_empty() {
+            return Ok(Posts::new(self.alloc));
+        }
         let mut order = Vec::with_capacity(self.alloc, self.places.len())?;
         order.extend_from_slice(&self.order)?;
         Ok(Posts {

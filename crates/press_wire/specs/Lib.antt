@@ -4,6 +4,7 @@ pub mod Fields
 pub mod Held
 pub mod Kinds
 pub mod Measures
+pub mod Memory
 pub mod Ranges
 pub mod Reading
 pub mod Refusals

@@ -1,7 +1,9 @@
 //! Commands, read from the beginning of bytes.
 
-ghost use Rattle.std.specs.Prelude.{◌≡◌, ◌<◌, length, IsErrOf};
+ghost use Rattle.std.specs.Prelude.{◌≡◌, ◌<◌, length, Err, IsOk, IsErrOf};
 ghost use Rattle.press_text.specs.Gives.{Gives};
+ghost use Rattle.press_wire.specs.Fields.{name_at, text_at};
+ghost use Rattle.press_wire.specs.Memory.{behind_id, first_at, editor_at, editor_behind};
 ghost use Rattle.press_wire.specs.Refusals.{Refuses};
 ghost use Rattle.press_wire.specs.Spelling.{longest};
 ghost use Rattle.press_wire.specs.Reading.{post_at, insert_at, update_at, option_at, fields_at, stamped_at, behind_kind, command_at, read_value, read_command};
@@ -18,7 +20,8 @@ use std::alloc::Global;
 impl<'a> Reader<'a> {
     #[tactic(auto, unfolding(crate::specs::Reading::post_at))]
     fn post(&mut self, alloc: Global) -> Result<PostFields, WireFault>
-        ensures { Gives Refuses (λ x. Ok (x, self.new)) result (post_at self.old) }
+        ensures read { Gives Refuses (λ x. Ok (x, self.new)) result (post_at self.old) }
+        ensures memory { result ≡ Err WireFault.NoMemory → IsOk (text_at self.old) }
     {
         let title = self.text(alloc)?;
         let content = self.text(alloc)?;
@@ -34,7 +37,8 @@ impl<'a> Reader<'a> {
 
     #[tactic(auto, unfolding(crate::specs::Reading::insert_at))]
     fn insert(&mut self, alloc: Global) -> Result<Command, WireFault>
-        ensures { Gives Refuses (λ x. Ok (x, self.new)) result (insert_at self.old) }
+        ensures read { Gives Refuses (λ x. Ok (x, self.new)) result (insert_at self.old) }
+        ensures memory { result ≡ Err WireFault.NoMemory → IsOk (text_at self.old) }
     {
         let post = self.post(alloc)?;
         Ok(Command::Insert {
@@ -47,7 +51,8 @@ impl<'a> Reader<'a> {
 
     #[tactic(auto, unfolding(crate::specs::Reading::update_at))]
     fn update(&mut self, alloc: Global) -> Result<Command, WireFault>
-        ensures { Gives Refuses (λ x. Ok (x, self.new)) result (update_at self.old) }
+        ensures read { Gives Refuses (λ x. Ok (x, self.new)) result (update_at self.old) }
+        ensures memory { result ≡ Err WireFault.NoMemory → IsOk (behind_id self.old) }
     {
         let id = self.number8()?;
         let post = self.post(alloc)?;
@@ -62,16 +67,18 @@ impl<'a> Reader<'a> {
 
     #[tactic(auto, unfolding(crate::specs::Reading::option_at))]
     fn option(&mut self, alloc: Global) -> Result<Command, WireFault>
-        ensures { Gives Refuses (λ x. Ok (x, self.new)) result (option_at self.old) }
+        ensures read { Gives Refuses (λ x. Ok (x, self.new)) result (option_at self.old) }
+        ensures memory { result ≡ Err WireFault.NoMemory → IsOk (name_at self.old) }
     {
         let name = self.option_name(alloc)?;
         let value = self.text(alloc)?;
         Ok(Command::SetOption { name, value })
     }
 
-    #[tactic(auto, unfolding(crate::specs::Reading::fields_at))]
+    #[tactic(auto, unfolding(crate::specs::Reading::fields_at, crate::specs::Memory::first_at))]
     fn fields(&mut self, alloc: Global, kind: CommandKind) -> Result<Command, WireFault>
-        ensures { Gives Refuses (λ x. Ok (x, self.new)) result (fields_at kind self.old) }
+        ensures read { Gives Refuses (λ x. Ok (x, self.new)) result (fields_at kind self.old) }
+        ensures memory { result ≡ Err WireFault.NoMemory → IsOk (first_at kind self.old) }
     {
         match kind {
             CommandKind::Insert => self.insert(alloc),
@@ -98,7 +105,8 @@ impl<'a> Reader<'a> {
 
     #[tactic(auto, unfolding(crate::specs::Reading::stamped_at))]
     fn stamped(&mut self, alloc: Global, kind: CommandKind) -> Result<Stamped, WireFault>
-        ensures { Gives Refuses (λ x. Ok (x, self.new)) result (stamped_at kind self.old) }
+        ensures read { Gives Refuses (λ x. Ok (x, self.new)) result (stamped_at kind self.old) }
+        ensures memory { result ≡ Err WireFault.NoMemory → IsOk (name_at self.old) }
     {
         let editor = self.name(alloc)?;
         let seq = self.number8()?;
@@ -111,9 +119,10 @@ impl<'a> Reader<'a> {
         })
     }
 
-    #[tactic(auto, unfolding(crate::specs::Reading::behind_kind))]
+    #[tactic(auto, unfolding(crate::specs::Reading::behind_kind, crate::specs::Memory::editor_behind))]
     fn behind_kind(&mut self, alloc: Global, kind: ValueKind) -> Result<Value, WireFault>
-        ensures { Gives Refuses (λ x. Ok (x, self.new)) result (behind_kind kind self.old) }
+        ensures read { Gives Refuses (λ x. Ok (x, self.new)) result (behind_kind kind self.old) }
+        ensures memory { result ≡ Err WireFault.NoMemory → IsOk (editor_behind kind self.old) }
     {
         match kind {
             ValueKind::Noop => Ok(Value::Noop { at: self.moment()? }),
@@ -121,9 +130,10 @@ impl<'a> Reader<'a> {
         }
     }
 
-    #[tactic(auto, unfolding(crate::specs::Reading::command_at))]
+    #[tactic(auto, unfolding(crate::specs::Reading::command_at, crate::specs::Memory::editor_at))]
     fn command(&mut self, alloc: Global) -> Result<Value, WireFault>
-        ensures { Gives Refuses (λ x. Ok (x, self.new)) result (command_at self.old) }
+        ensures read { Gives Refuses (λ x. Ok (x, self.new)) result (command_at self.old) }
+        ensures memory { result ≡ Err WireFault.NoMemory → IsOk (editor_at self.old) }
     {
         match ValueKind::from_number(self.byte()?) {
             Some(kind) => self.behind_kind(alloc, kind),
@@ -133,9 +143,10 @@ impl<'a> Reader<'a> {
 }
 
 /// The value that all of the bytes are.
-#[tactic(auto, unfolding(crate::specs::Reading::read_value))]
+#[tactic(auto, unfolding(crate::specs::Reading::read_value, crate::specs::Memory::editor_at))]
 pub fn whole_value(alloc: Global, bytes: &[u8]) -> Result<Value, WireFault>
-    ensures { Gives Refuses Ok result (read_value bytes.now) }
+    ensures read { Gives Refuses Ok result (read_value bytes.now) }
+    ensures memory { result ≡ Err WireFault.NoMemory → IsOk (editor_at bytes.now) }
 {
     let mut reader = Reader::new(bytes);
     let value = reader.command(alloc)?;
@@ -150,6 +161,7 @@ pub fn whole_value(alloc: Global, bytes: &[u8]) -> Result<Value, WireFault>
 pub fn short_value(alloc: Global, bytes: &[u8]) -> Result<Value, WireFault>
     ensures read { Gives Refuses Ok result (read_command bytes.now) }
     ensures long { longest < length bytes.now → IsErrOf result WireFault.TooLong }
+    ensures memory { result ≡ Err WireFault.NoMemory → IsOk (editor_at bytes.now) }
 {
     if bytes.len() > LONGEST {
         return Err(WireFault::TooLong);

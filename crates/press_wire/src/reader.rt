@@ -1,6 +1,6 @@
 //! Numbers, names and texts, each read from the beginning of bytes. Both decoders use it.
 
-ghost use Rattle.std.specs.Prelude.{◌≡◌, ◌==◌, length, option_map};
+ghost use Rattle.std.specs.Prelude.{◌≡◌, ◌≢◌, ◌==◌, length, option_map, Err, IsOk};
 ghost use Rattle.std.specs.Str.{is_utf8};
 ghost use Rattle.press_text.specs.Gives.{Gives};
 ghost use Rattle.press_wire.specs.Refusals.{Refuses};
@@ -51,7 +51,8 @@ impl<'a> Reader<'a> {
     }
 
     pub fn byte(&mut self) -> Result<u8, WireFault>
-        ensures { Gives Refuses (λ x. Ok (x, self.new)) result (byte_at self.old) }
+        ensures read { Gives Refuses (λ x. Ok (x, self.new)) result (byte_at self.old) }
+        ensures memory { result ≢ Err WireFault.NoMemory }
     {
         match self.rest {
             [] => Err(WireFault::Short),
@@ -63,7 +64,9 @@ impl<'a> Reader<'a> {
     }
 
     pub fn cut(&mut self, len: usize) -> Result<&'a [u8], WireFault>
-        ensures { Gives Refuses (λ front. Ok (front.now, self.new)) result (bytes_at len self.old) }
+        ensures read { Gives Refuses (λ front. Ok (front.now, self.new)) result
+            (bytes_at len self.old) }
+        ensures memory { result ≢ Err WireFault.NoMemory }
     {
         if self.rest.len() < len {
             return Err(WireFault::Short);
@@ -75,7 +78,8 @@ impl<'a> Reader<'a> {
 
     #[tactic(auto, unfolding(crate::specs::Fields::number4_at))]
     pub fn number4(&mut self) -> Result<u32, WireFault>
-        ensures { Gives Refuses (λ x. Ok (x, self.new)) result (number4_at self.old) }
+        ensures read { Gives Refuses (λ x. Ok (x, self.new)) result (number4_at self.old) }
+        ensures memory { result ≢ Err WireFault.NoMemory }
     {
         let front = self.cut(4)?;
         Ok(u32::from_be_bytes([front[0], front[1], front[2], front[3]]))
@@ -83,7 +87,8 @@ impl<'a> Reader<'a> {
 
     #[tactic(auto, unfolding(crate::specs::Fields::number8_at))]
     pub fn number8(&mut self) -> Result<u64, WireFault>
-        ensures { Gives Refuses (λ x. Ok (x, self.new)) result (number8_at self.old) }
+        ensures read { Gives Refuses (λ x. Ok (x, self.new)) result (number8_at self.old) }
+        ensures memory { result ≢ Err WireFault.NoMemory }
     {
         let front = self.cut(8)?;
         Ok(u64::from_be_bytes([
@@ -94,7 +99,9 @@ impl<'a> Reader<'a> {
     // A length, and that many bytes of a name.
     #[tactic(auto, unfolding(crate::specs::Fields::short_at))]
     fn short(&mut self) -> Result<&'a [u8], WireFault>
-        ensures { Gives Refuses (λ front. Ok (front.now, self.new)) result (short_at self.old) }
+        ensures read { Gives Refuses (λ front. Ok (front.now, self.new)) result
+            (short_at self.old) }
+        ensures memory { result ≢ Err WireFault.NoMemory }
     {
         let len = self.byte()?;
         if len < 1 || MOST_NAME < len {
@@ -105,7 +112,8 @@ impl<'a> Reader<'a> {
 
     #[tactic(auto, using(crate::proofs::Names::is_named, crate::proofs::Names::has_no_name, crate::proofs::Names::names_are_texts), unfolding(crate::specs::Fields::name_at))]
     pub fn name(&mut self, alloc: Global) -> Result<Name, WireFault>
-        ensures { Gives Refuses (λ x. Ok (x, self.new)) result (name_at self.old) }
+        ensures read { Gives Refuses (λ x. Ok (x, self.new)) result (name_at self.old) }
+        ensures memory { result ≡ Err WireFault.NoMemory → IsOk (name_at self.old) }
     {
         let Some(text) = as_text(self.short()?) else {
             return Err(WireFault::BadField);
@@ -119,7 +127,8 @@ impl<'a> Reader<'a> {
 
     #[tactic(auto, using(crate::proofs::Names::is_named, crate::proofs::Names::has_no_name, crate::proofs::Names::names_are_texts), unfolding(crate::specs::Fields::name_at))]
     pub fn option_name(&mut self, alloc: Global) -> Result<OptName, WireFault>
-        ensures { Gives Refuses (λ x. Ok (x, self.new)) result (name_at self.old) }
+        ensures read { Gives Refuses (λ x. Ok (x, self.new)) result (name_at self.old) }
+        ensures memory { result ≡ Err WireFault.NoMemory → IsOk (name_at self.old) }
     {
         let Some(text) = as_text(self.short()?) else {
             return Err(WireFault::BadField);
@@ -133,7 +142,8 @@ impl<'a> Reader<'a> {
 
     #[tactic(auto, unfolding(crate::specs::Fields::text_at))]
     pub fn text(&mut self, alloc: Global) -> Result<Text, WireFault>
-        ensures { Gives Refuses (λ x. Ok (x, self.new)) result (text_at self.old) }
+        ensures read { Gives Refuses (λ x. Ok (x, self.new)) result (text_at self.old) }
+        ensures memory { result ≡ Err WireFault.NoMemory → IsOk (text_at self.old) }
     {
         let len = self.number4()?;
         if len > MOST_TEXT {
@@ -147,7 +157,8 @@ impl<'a> Reader<'a> {
 
     #[tactic(auto, unfolding(crate::specs::Fields::moment_at))]
     pub fn moment(&mut self) -> Result<Moment, WireFault>
-        ensures { Gives Refuses (λ x. Ok (x, self.new)) result (moment_at self.old) }
+        ensures read { Gives Refuses (λ x. Ok (x, self.new)) result (moment_at self.old) }
+        ensures memory { result ≢ Err WireFault.NoMemory }
     {
         match Moment::new(self.number8()?) {
             Some(moment) => Ok(moment),
@@ -157,7 +168,8 @@ impl<'a> Reader<'a> {
 
     #[tactic(auto, unfolding(crate::specs::Fields::status_at))]
     pub fn status(&mut self) -> Result<Status, WireFault>
-        ensures { Gives Refuses (λ x. Ok (x, self.new)) result (status_at self.old) }
+        ensures read { Gives Refuses (λ x. Ok (x, self.new)) result (status_at self.old) }
+        ensures memory { result ≢ Err WireFault.NoMemory }
     {
         match status_from_number(self.byte()?) {
             Some(status) => Ok(status),
@@ -167,7 +179,8 @@ impl<'a> Reader<'a> {
 
     #[tactic(auto, unfolding(crate::specs::Fields::node_at))]
     pub fn node(&mut self) -> Result<Node, WireFault>
-        ensures { Gives Refuses (λ x. Ok (x, self.new)) result (node_at self.old) }
+        ensures read { Gives Refuses (λ x. Ok (x, self.new)) result (node_at self.old) }
+        ensures memory { result ≢ Err WireFault.NoMemory }
     {
         match Node::new(self.byte()?) {
             Some(node) => Ok(node),
@@ -177,7 +190,8 @@ impl<'a> Reader<'a> {
 
     #[tactic(auto, unfolding(crate::specs::Fields::slot_at))]
     pub fn slot(&mut self) -> Result<Slot, WireFault>
-        ensures { Gives Refuses (λ x. Ok (x, self.new)) result (slot_at self.old) }
+        ensures read { Gives Refuses (λ x. Ok (x, self.new)) result (slot_at self.old) }
+        ensures memory { result ≢ Err WireFault.NoMemory }
     {
         match Slot::new(self.number4()?) {
             Some(slot) => Ok(slot),
@@ -187,7 +201,8 @@ impl<'a> Reader<'a> {
 
     #[tactic(auto, unfolding(crate::specs::Fields::round_at))]
     pub fn round(&mut self) -> Result<Round, WireFault>
-        ensures { Gives Refuses (λ x. Ok (x, self.new)) result (round_at self.old) }
+        ensures read { Gives Refuses (λ x. Ok (x, self.new)) result (round_at self.old) }
+        ensures memory { result ≢ Err WireFault.NoMemory }
     {
         match Round::new(self.number8()?) {
             Some(round) => Ok(round),
@@ -197,7 +212,8 @@ impl<'a> Reader<'a> {
 
     #[tactic(auto, unfolding(crate::specs::Fields::ballot_at))]
     pub fn ballot(&mut self) -> Result<Ballot, WireFault>
-        ensures { Gives Refuses (λ x. Ok (x, self.new)) result (ballot_at self.old) }
+        ensures read { Gives Refuses (λ x. Ok (x, self.new)) result (ballot_at self.old) }
+        ensures memory { result ≢ Err WireFault.NoMemory }
     {
         let round = self.round()?;
         let node = self.node()?;
