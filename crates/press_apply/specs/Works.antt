@@ -1,4 +1,4 @@
--- What the steps of a command's work answer: an Ok is the meaning, with the state after it; a refusal stands exactly where the meaning has it; and after each
+-- What the steps of a command's work answer: an Ok is the meaning, with the state after it; a refusal is returned exactly where the meaning has it; and after each
 -- of them the site can go back to what it was begun as.
 use Rattle.std.specs.Prelude.{◌≡◌, ℕ, Some, IfSome, Result, Ok, Err, MatchResult}
 use Rattle.std.specs.declared.alloc.AllocError.{AllocError}
@@ -21,7 +21,7 @@ use Rattle.press_apply.specs.declared.value.Value.{Value}
 use Rattle.press_apply.specs.declared.value.Value.TheVariants.{Noop, Cmd}
 use Rattle.press_apply.specs.declared.work.Work.{Work}
 
--- what a command's work stands at
+-- what a command's work is at
 abbrev pub state_in : Work → State
 state_in w = state_of (standing (λ o. o.site) (λ o. Some (begun_of o)) w.stage)
 
@@ -35,7 +35,7 @@ inserts_draft callback d s = inserts callback d.title.now d.content.now d.status
 abbrev pub updates_by : Meaning → Edit → State → Result (State × ℕ) ApplyFault
 updates_by callback e s = updates callback e.id e.draft.title.now e.draft.content.now e.draft.status e.draft.date s
 
--- a refusal is the meaning's own; want of memory says nothing
+-- a refusal is the meaning's own; out of memory says nothing
 abbrev pub Refuses : {A : Type 0} → ApplyFault → Result A ApplyFault → Type 0
 Refuses NoMemory meant = Unit {0}
 Refuses Limit meant = meant ≡ Err Limit

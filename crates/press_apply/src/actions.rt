@@ -9,7 +9,7 @@ use press_posts::Fire;
 use press_text::{HookName, Items, Text, Texts};
 use std::alloc::{AllocError, Global};
 
-// An action with a post's id.
+/// An action with a post's id.
 pub fn about(alloc: Global, hook: &str, id: u64) -> Result<Items<Fire>, AllocError>
     requires { name_fault 64 hook.now ≡ None }
     ensures { IfOk result (λ fs. fs ≡ about hook.now id) }
@@ -22,7 +22,7 @@ pub fn about(alloc: Global, hook: &str, id: u64) -> Result<Items<Fire>, AllocErr
     Ok(Items::from_vec(vec![in alloc; fire]?))
 }
 
-// An event that was taken is done with its argument.
+/// An event that was taken is done with its argument.
 pub fn event_fires(alloc: Global, taken: bool, event: &Event) -> Result<Items<Fire>, AllocError>
     ensures { IfOk result (λ fs. fs ≡ event_fires taken event.now) }
 {

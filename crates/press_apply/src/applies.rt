@@ -22,7 +22,7 @@ use std::alloc::{AllocError, Global};
 use std::mem;
 
 /// Applies a value: its outcome, which the site keeps under the command's token. A known token answers the outcome that it has and moves
-/// the moment alone, without memory. A refused command leaves nothing else behind; after want of memory the site is as it was.
+/// the moment alone, without memory. A refused command leaves nothing else behind; after running out of memory the site is as it was.
 /// The command works on the site itself, which goes back: it costs what it changes.
 pub fn apply(
     alloc: Global,
@@ -182,7 +182,12 @@ fn keep(
 }
 
 // The work of a command: the site after it, and the id of the post that it is about, or 0.
-fn work(alloc: Global, kit: &Kit, site: OpenSite, command: &Command) -> (OpenSite, Result<u64, ApplyFault>)
+fn work(
+    alloc: Global,
+    kit: &Kit,
+    site: OpenSite,
+    command: &Command,
+) -> (OpenSite, Result<u64, ApplyFault>)
     ensures { Works (work_of (kit_view kit.now) site.site command.now) site result }
 {
     match command {
@@ -252,7 +257,12 @@ fn insert(
 }
 
 #[tactic(auto, using(crate::proofs::Refusals::boot_stopped, crate::proofs::Refusals::work_ended))]
-fn update(alloc: Global, kit: &Kit, site: OpenSite, edit: &Edit<'_>) -> (OpenSite, Result<u64, ApplyFault>)
+fn update(
+    alloc: Global,
+    kit: &Kit,
+    site: OpenSite,
+    edit: &Edit<'_>,
+) -> (OpenSite, Result<u64, ApplyFault>)
     ensures { Works (booted (kit_view kit.now) site.site (updates_by (meaning_in kit.now) edit.now))
         site result }
 {
@@ -338,7 +348,12 @@ fn tick(alloc: Global, kit: &Kit, site: OpenSite) -> (OpenSite, Result<u64, Appl
     }
 }
 
-fn activate(alloc: Global, kit: &Kit, site: OpenSite, plugin: &Name) -> (OpenSite, Result<u64, ApplyFault>)
+fn activate(
+    alloc: Global,
+    kit: &Kit,
+    site: OpenSite,
+    plugin: &Name,
+) -> (OpenSite, Result<u64, ApplyFault>)
     ensures { Works (work_of (kit_view kit.now) site.site (Command.Activate plugin.now)) site result }
 {
     if !has_plugin(kit, plugin) {
@@ -350,11 +365,7 @@ fn activate(alloc: Global, kit: &Kit, site: OpenSite, plugin: &Name) -> (OpenSit
     }
 }
 
-fn deactivate(
-    alloc: Global,
-    site: OpenSite,
-    plugin: &Name,
-) -> (OpenSite, Result<u64, ApplyFault>)
+fn deactivate(alloc: Global, site: OpenSite, plugin: &Name) -> (OpenSite, Result<u64, ApplyFault>)
     ensures { Works (alone (effect_on site.site (Effect.Deactivate plugin.now))) site result }
 {
     match plugin.copy(alloc) {

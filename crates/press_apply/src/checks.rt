@@ -6,7 +6,7 @@ ghost use Rattle.press_apply.specs.Apply.{wanted_fault, update_fault, move_fault
 use press_posts::{Move, Post, Status};
 use press_site::SiteFault;
 
-// Nothing is put into the trash by an insert.
+/// Nothing is put into the trash by an insert.
 pub fn wanted_fault(status: Status) -> Option<SiteFault>
     ensures { result ≡ wanted_fault status }
 {

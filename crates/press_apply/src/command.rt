@@ -65,7 +65,7 @@ impl Drop for Stamped {
 }
 
 impl Command {
-    /// The same command once more.
+    /// A copy of the command.
     pub fn copy(&self, alloc: Global) -> Result<Command, AllocError>
         ensures { IfOk result (λ c. c ≡ self.now) }
     {
@@ -113,7 +113,7 @@ impl Command {
 }
 
 impl Stamped {
-    /// The same command once more, with the same token and moment.
+    /// A copy of the command, with its token and moment.
     pub fn copy(&self, alloc: Global) -> Result<Stamped, AllocError>
         ensures { IfOk result (λ s. s ≡ self.now) }
     {

@@ -21,7 +21,7 @@ pub enum ApplyFault {
 }
 
 impl ApplyFault {
-    /// The number that tells the fault.
+    /// Its number in the table of faults.
     pub fn number(self) -> u8
         ensures { result ≡ apply_fault_number self }
     {

@@ -14,7 +14,7 @@ pub enum Value {
 }
 
 impl Value {
-    /// The same value once more.
+    /// A copy of the value.
     pub fn copy(&self, alloc: Global) -> Result<Value, AllocError>
         ensures { IfOk result (λ v. v ≡ self.now) }
     {

@@ -23,7 +23,7 @@ found f id xs i x h e t = sym (script_step f id xs i x h e ∙ ap (λ b. cond b 
 pub passed : {A : Type 0} (f : A → List ℕ × List Op) (id : List ℕ) (xs : List A) (i : ℕ) (x : A) → i < length xs → x ≡ get_or xs i x → bytes_eq (f x).0 id ≡ false → script_of id (drop (i + 1) (map f xs)) ≡ script_of id (drop i (map f xs))
 passed f id xs i x h e t = sym (script_step f id xs i x h e ∙ ap (λ b. cond b (Some (f x).1) (script_of id (drop (i + 1) (map f xs)))) t)
 
--- what stands at a place
+-- what is at a place
 pub placed : {A : Type 0} (f : A → List ℕ × List Op) (xs : List A) (i : ℕ) (x : A) → i < length xs → x ≡ get_or xs i x → script_at (Some i) (map f xs) ≡ Some (f x).1
 placed f [] i x h e = absurd (omega arith)
 placed f (y ∷ ys) zero x h e = ap (λ z. Some (f z).1) (sym e)

@@ -1,4 +1,4 @@
--- Names in their order: an insert keeps it, and a search by halves finds the first of a name.
+-- Names in their order: an insert keeps it, and a binary search finds the first of a name.
 use Rattle.std.proofs.Common.{◌≡◌, refl, sym, ◌∙◌, ap, ℕ, zero, suc, ◌+◌, ◌<◌, ◌≤◌, Bool, true, false, not, cond, bytes_eq, List, [], ◌∷◌, length, get_or, Some, None, arith}
 use Rattle.std.specs.Prelude.{◌&&◌, option_map, insert, unwrap_or, nat_lt}
 use Rattle.std.specs.List.{list_all, prefix_len, AllWithin}
@@ -111,7 +111,7 @@ in_order_by_name name [] = refl
 in_order_by_name name (x ∷ xs) =
     rw (place_is name x (by_name name xs)) (in_order_insert name x (by_name name xs) (in_order_by_name name xs))
 
--- ---- a search by halves
+-- ---- a binary search
 
 pub all_at : {A : Type 0} (p : A → Bool) (xs : List A) (i : ℕ) (d : A) → list_all p xs ≡ true → i < length xs → p (get_or xs i d) ≡ true
 all_at p [] i d e h = absurd (omega arith)

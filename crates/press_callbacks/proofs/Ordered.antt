@@ -33,7 +33,7 @@ in_order_sorted {A} name (x ∷ xs) up =
     (λ j d lt. ap not (sorted_far (λ (y z : A). is_before (name y) (name z)) (order_of name) (x ∷ xs) up 0 (suc j) d (omega arith) (omega arith))))
     (in_order_sorted name xs (sorted_behind name x xs up))
 
--- ---- found by halves
+-- ---- found by binary search
 
 some_where : (b : Bool) (place : Option ℕ) (named : Bool) → is_some place ≡ named → is_some (cond b (Some 0) (option_map suc place)) ≡ (b || named)
 some_where true place named e = refl

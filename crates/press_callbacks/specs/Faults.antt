@@ -1,4 +1,4 @@
--- The number that tells each fault of a kit (own).
+-- The number of each fault of a kit (own).
 use Rattle.std.specs.Prelude.{ℕ}
 use Rattle.press_callbacks.specs.declared.kit_fault.KitFault.{KitFault}
 use Rattle.press_callbacks.specs.declared.kit_fault.KitFault.TheVariants.{NoMemory, TwoNames, UnknownCallback, BadLoad}

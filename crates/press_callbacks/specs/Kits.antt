@@ -62,7 +62,7 @@ callbacks_in kit = kit.callbacks.items
 abbrev pub kit_view : {t : _} {F : _} {g : _} → Kit t F g → KitView
 kit_view kit = record { scripts = scripts_in kit; plugins = plugins_in kit }
 
--- the names and scripts of callbacks, as they stand
+-- the names and scripts of callbacks, as they are
 abbrev pub scripts_given : {t : _} {F : _} {g : _} → List (Stored t F g) → Scripts
 scripts_given callbacks = map (λ c. (c.id, c.script)) callbacks
 
@@ -159,7 +159,7 @@ kit_fault_by id script callbacks plugins =
 abbrev pub kit_fault : Scripts → List Plugin → Option KitFault
 kit_fault scripts plugins = kit_fault_by (λ c. c.0) (λ c. c.1) scripts plugins
 
--- what a fault says of the first one: it is that, and want of memory stands only where there is none
+-- what a fault says of the first one: it is that, and out of memory comes only where there is none
 abbrev pub Refuses : KitFault → Option KitFault → Type 0
 Refuses NoMemory first = first ≡ None
 Refuses TwoNames first = first ≡ Some TwoNames

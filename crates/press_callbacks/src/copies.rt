@@ -1,4 +1,4 @@
-//! Scripts once more: one for the kit, one for the closure that plays it.
+//! Copies of scripts: one for the kit, one for the closure that plays it.
 
 ghost use Rattle.std.specs.Prelude.{◌≡◌, IfOk};
 ghost use Rattle.press_callbacks.specs.declared.script.Op.{Op};

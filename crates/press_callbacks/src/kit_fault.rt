@@ -19,7 +19,7 @@ pub enum KitFault {
 }
 
 impl KitFault {
-    /// The number that tells the fault.
+    /// Its number in the table of faults.
     pub fn number(self) -> u8
         ensures { result ≡ kit_fault_number self }
     {

@@ -48,7 +48,7 @@ impl Kit {
         }
     }
 
-    /// The place of the callback of that name, which serves for many turns; found by halves.
+    /// The place of the callback of that name, which serves for many turns, by binary search.
     pub fn place(&self, id: CallbackId) -> Option<usize>
         ensures script { script_at result (scripts_in self.now)
             ≡ script_of id (scripts_in self.now) }
@@ -66,7 +66,7 @@ impl Kit {
         self.callbacks.as_slice().get(place)
     }
 
-    /// The plugin of that name, found by halves.
+    /// The plugin of that name, by binary search.
     pub fn plugin(&self, name: &Name) -> Option<&Plugin>
         ensures { option_map (λ p. p.now) result ≡ plugin_of name.now (plugins_in self.now) }
     {

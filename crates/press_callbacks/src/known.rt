@@ -38,7 +38,7 @@ impl Scripted for Stored {
     }
 }
 
-/// The first reason why these, which stand in the order of their names, make no kit.
+/// The first reason why these, in the order of their names, make no kit.
 pub fn fault_of<T: Scripted>(callbacks: &[T], plugins: &[Plugin]) -> Option<KitFault>
     requires callbacks { in_order T.name callbacks.now ≡ true }
     requires plugins { in_order (λ (p : OnePlugin). p.name) plugins.now ≡ true }

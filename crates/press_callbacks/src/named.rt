@@ -63,7 +63,7 @@ fn compare<T: Named>(a: &T, b: &T) -> Ordering
     a.name_bytes().cmp(b.name_bytes())
 }
 
-/// Where the first of that name stands among these in the order of their names, found by halves.
+/// Where the first of that name is among these in the order of their names, by binary search.
 pub fn place_of<T: Named>(sorted: &[T], name: &[u8]) -> Option<usize>
     requires { in_order T.name sorted.now ≡ true }
     ensures { result ≡ place_of T.name name.now sorted.now }
@@ -78,7 +78,7 @@ pub fn place_of<T: Named>(sorted: &[T], name: &[u8]) -> Option<usize>
     None
 }
 
-// Where the names that stand before a name end.
+// Where the names before a name end.
 fn first_not_before<T: Named>(sorted: &[T], name: &[u8]) -> usize
     requires { in_order T.name sorted.now ≡ true }
     ensures parts { IsPartitionPoint (λ y. is_before (T.name y) name.now ≡ true)

@@ -8,7 +8,7 @@ pub enum Source {
     Arg(usize),
     /// The attribute of that key.
     Att(AttKey),
-    /// What stands between the shortcode and its closing tag.
+    /// The text between the shortcode and its closing tag.
     Content,
     /// The name of the shortcode.
     Tag,
@@ -43,7 +43,7 @@ pub enum Ask {
     Has(HookName, CallbackId),
     /// The option's value, or empty (`get_option`).
     Option(OptName),
-    /// `1` where the tag stands, else empty (`shortcode_exists`).
+    /// `1` where the tag is registered, else empty (`shortcode_exists`).
     Tag(Text),
 }
 
@@ -105,7 +105,7 @@ pub enum Op {
         name: OptName,
         value: Parts,
     },
-    /// Schedules an event so many seconds from now (`wp_schedule_single_event`, `wp_schedule_event`).
+    /// Schedules an event that many seconds from now (`wp_schedule_single_event`, `wp_schedule_event`).
     Schedule {
         after: u64,
         every: Every,

@@ -9,7 +9,7 @@ use std::alloc::AllocError;
 /// A closure in a box that gives a callback's turns.
 pub type BoxedTurns = Box<dyn Fn(&CallIn) -> Result<Turn, AllocError>>;
 
-/// A callback whose closure stands in a box: it may be called on every input, and what it gives is its script's turn.
+/// A callback whose closure is boxed: it may be called on every input, and what it gives is its script's turn.
 pub struct Stored {
     id: CallbackId,
     script: Script,

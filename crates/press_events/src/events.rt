@@ -71,7 +71,7 @@ impl Events {
         Ok(true)
     }
 
-    /// Why an event is refused, where it is.
+    /// Why an event is refused, if it is.
     pub fn add_fault(&self, event: &Event) -> Option<EventFault>
         ensures { result ≡ fault_of (add_event event.now self.now) }
     {
@@ -87,14 +87,14 @@ impl Events {
         None
     }
 
-    /// Whether an event of that hook and argument stands.
+    /// Whether an event of that hook and argument is scheduled.
     pub fn has(&self, hook: &str, arg: &str) -> bool
         ensures { result ≡ cancels hook.now arg.now self.now }
     {
         self.events.iter().any(|e| e.is_of(hook, arg))
     }
 
-    /// Takes out every event of that hook and argument; whether one stood (`wp_clear_scheduled_hook`).
+    /// Removes every event of that hook and argument; returns whether there was one (`wp_clear_scheduled_hook`).
     pub fn cancel(&mut self, hook: &HookName, arg: &str) -> bool
         ensures answer { result ≡ cancels hook.now arg.now self.old }
         ensures after { self.new ≡ cancelled hook.now arg.now self.old }
@@ -137,7 +137,7 @@ impl Events {
         true
     }
 
-    /// The same events once more. Without an event this takes no memory.
+    /// A copy of the events. Without an event this takes no memory.
     pub fn copy(&self) -> Result<Events, AllocError>
         ensures same { IfOk result (λ e. e ≡ self.now) }
         ensures memory { OnErr result (0 < length self.now) }
@@ -227,7 +227,7 @@ fn put_again(events: &mut Vec<Event>, event: Event)
     };
 }
 
-// How many are due. They are the first ones: found by halves.
+// How many are due. They are the first ones, and are found by binary search.
 fn due_end(events: &[Event], now: Moment) -> usize
     requires { IsByTime events.now }
     ensures front { take result events.now ≡ due now events.now }

@@ -14,7 +14,7 @@ use Rattle.press_text.specs.Gives.{Gives}
 use Rattle.press_play.specs.Played.{Refuses, played_in}
 use Rattle.press_play.specs.Answers.{fault_data, answered, bytes_in, or_no_memory, Answers, Tells, Writes}
 
--- the line of want of memory, which is written without taking any
+-- the line of out of memory, which is written without taking any
 pub no_memory_line : line (fault_data NoMemory) ≡ codes "{\"fault\":0}\n"
 unfolding serde_json_on_literals
 no_memory_line =

@@ -26,7 +26,7 @@ abbrev pub answered : Result (List ℕ) PlayFault → Answered
 answered (Ok lines) = record { fault = None; text = lines }
 answered (Err fault) = record { fault = Some fault; text = line (fault_data fault) }
 
--- where the answer can't be made for want of memory, that is told
+-- where the answer can't be made for lack of memory, that is reported
 abbrev pub or_no_memory : Result Answered AllocError → Answered
 or_no_memory (Ok a) = a
 or_no_memory (Err e) = answered (Err NoMemory)
@@ -36,15 +36,15 @@ abbrev pub bytes_in : {A : Type 0} → Result (String A) PlayFault → Result (L
 bytes_in (Ok text) = Ok (string_bytes text)
 bytes_in (Err fault) = Err fault
 
--- want of memory and a failed read come from outside, and may come at any file
+-- out of memory and a failed read come from outside, and may come at any file
 abbrev pub Answers : List ℕ → Answered → Type 0
 Answers input a = (a ≡ answered (played_in input)) ⊎ ((a ≡ answered (Err NoMemory)) ⊎ (a ≡ answered (Err ReadFault)))
 
--- what is told of a fault met before a file's text: it, or want of memory
+-- the message about a fault met before a file's text: it, or out of memory
 abbrev pub Tells : PlayFault → Answered → Type 0
 Tells fault a = (a ≡ answered (Err fault)) ⊎ (a ≡ answered (Err NoMemory))
 
--- the text went out whole, or a front of it where the write failed
+-- the text went out whole, or a prefix of it where the write failed
 abbrev pub Writes : Answered → Option (List ℕ) → Option (List ℕ) → Result (Option PlayFault) WriteFault → Type 0
 Writes a out out' (Ok fault) = (fault ≡ a.fault) × Appends out out' a.text
 Writes a out out' (Err f) = AppendsFront out out' a.text

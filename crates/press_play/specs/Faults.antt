@@ -1,4 +1,4 @@
--- The number that tells each fault of a play, and its place where it has one (own).
+-- The number of each fault of a play, and its place where it has one (own).
 use Rattle.std.specs.Prelude.{ℕ, Option, Some, None}
 use Rattle.press_callbacks.specs.declared.kit_fault.KitFault.{KitFault}
 use Rattle.press_callbacks.specs.declared.kit_fault.KitFault.TheVariants as kit

@@ -61,7 +61,7 @@ pub record Stops (meaning : Option Answer) (old new : List ℕ) : Type 0 where
   pub comes : meaning ≡ None
   pub written : new ≡ old ++ line limit_data
 
--- whether the plays go on; want of memory says nothing
+-- whether the plays go on; out of memory says nothing
 abbrev pub Plays : Option Answer → State → List ℕ → List ℕ → Result Bool AllocError → Type 0
 Plays meaning after old new (Ok true) = Shows meaning after old new
 Plays meaning after old new (Ok false) = Stops meaning old new

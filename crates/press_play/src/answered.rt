@@ -48,7 +48,7 @@ fn outcome(alloc: Global, lines: Result<String, PlayFault>) -> Result<Answered, 
     }
 }
 
-// What is written where even the fault can't be told for want of memory.
+// What is written where there is no memory even for the fault's line.
 const NO_MEMORY: &[u8] = b"{\"fault\":0}\n";
 
 fn write_said<W: Write>(
@@ -70,7 +70,8 @@ fn write_said<W: Write>(
     }
 }
 
-/// Plays the file that a reader has left, and writes its lines, or a line that tells its fault; answers the fault. What its author is told beside them goes to the notes.
+/// Plays the file that a reader has left, and writes its lines, or the line of its fault; returns the fault. Messages
+/// to its author go to the notes.
 pub fn play_input<R: Read, W: Write>(
     alloc: Global,
     reader: &mut R,
@@ -85,7 +86,7 @@ pub fn play_input<R: Read, W: Write>(
     write_said(writer, &said)
 }
 
-/// Writes the line of a fault, and answers it, or want of memory in its place.
+/// Writes the line of a fault, and returns it, or out of memory in its place.
 pub fn write_fault<W: Write>(
     alloc: Global,
     fault: PlayFault,

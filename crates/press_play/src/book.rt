@@ -1,4 +1,4 @@
-//! What the callbacks of a play asked, one turn after the other, and what is told of it.
+//! What the callbacks of a play asked, one turn after the other, and the lines about it.
 
 use press_callbacks::{CallIn, Turn};
 use press_text::{CallbackId, Text};
@@ -8,7 +8,7 @@ use std::str;
 // How many bytes a text may have.
 const MOST_BYTES: usize = 1_048_576;
 
-// Where 32 callbacks are open, more than so many are callbacks of scripts: few built-in ones stand one within the other.
+// Where 32 callbacks are open, more than this many are callbacks of scripts: few built-in ones are nested.
 const FEW_OPEN: usize = 8;
 
 // A callback that was called.
@@ -26,7 +26,7 @@ struct Called {
 // What the machine was asked last.
 #[derive(Drop)]
 struct Asked {
-    // The bytes of the longest text that was handed over.
+    // The bytes of the longest text that was passed on.
     longest: usize,
     echoes: bool,
     returns: bool,
@@ -125,7 +125,7 @@ impl Bound {
 }
 
 impl Book {
-    /// Nothing yet, of a play with arguments of so many bytes.
+    /// An empty book of a play whose arguments have that many bytes.
     pub fn new(alloc: Global, bytes: usize) -> Book {
         Book {
             alloc,
@@ -216,7 +216,7 @@ impl Book {
         }
     }
 
-    /// A line for each callback that was called, behind a front, the inner ones further to the right.
+    /// A line for each callback that was called, after a prefix, the inner ones further to the right.
     pub fn trace(&self, front: &str) -> Result<String, AllocError> {
         let alloc = self.alloc;
         let mut lines = String::new(alloc);

@@ -28,7 +28,7 @@ pub enum PlayFault {
 }
 
 impl PlayFault {
-    /// The number that tells the fault.
+    /// Its number in the table of faults.
     pub fn number(self) -> u8
         ensures { result ≡ fault_number self }
     {

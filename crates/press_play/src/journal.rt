@@ -1,4 +1,4 @@
-//! What the callbacks of plays do, as their closures note it: it is told on the errors, and nothing else rests on it.
+//! What the callbacks of plays do, as their closures note it: it is printed on standard error, and nothing else depends on it.
 //!
 //! A play is watched where it asks to be traced. One that meets a limit is done a second time, and then watched.
 
@@ -22,7 +22,7 @@ struct Plays {
     ended: usize,
     // The one that is watched; none while plays are done unwatched, or where memory was wanting.
     book: Option<Book>,
-    // A line for each thing told.
+    // The lines.
     told: String,
 }
 
@@ -57,7 +57,7 @@ impl Plays {
         }
     }
 
-    // The front of a line on the play.
+    // The beginning of a line on the play.
     fn front(&self, what: &str) -> Result<String, AllocError> {
         let (file, n) = (self.file.as_str(), self.ended);
         format!(in self.alloc; "press_play: {what} in {file}: plays[{n}]: ")
@@ -90,7 +90,7 @@ impl Plays {
     }
 }
 
-/// Where the closures of a kit note what they ask. What can't be told for want of memory is left out.
+/// Where the closures of a kit note what they ask. What can't be noted for lack of memory is left out.
 pub struct Journal {
     alloc: Global,
     plays: Rc<RefCell<Plays>>,
@@ -176,7 +176,7 @@ impl Journal {
         }
     }
 
-    /// The play is done: it is told, where it asks for it.
+    /// The play is done: it is traced, if it asks for that.
     pub fn end(&self, play: &Play) {
         if let Ok(mut plays) = self.plays.try_borrow_mut() {
             if play.trace {
@@ -186,7 +186,7 @@ impl Journal {
         }
     }
 
-    /// The lines told so far, which are then told no more.
+    /// Takes the lines so far.
     pub fn take_told(&self, alloc: Global) -> String {
         match self.plays.try_borrow_mut() {
             Ok(mut plays) => mem::replace(&mut plays.told, String::new(alloc)),

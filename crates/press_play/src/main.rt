@@ -1,6 +1,8 @@
-//! Plays kit files: `press_play [FILE ..]` plays the files in turn, or standard input, and prints a line of JSON for each command, page and play.
+//! Plays kit files: `press_play [FILE ..]` plays the files in turn, or standard input, and prints a line of JSON for
+//! each command, page and play.
 //!
-//! A file with a fault gets a line that tells it, on the errors as well, there with what is wrong and where, and the program then ends with status 2. What in a file is surely a slip is told on the errors alone.
+//! A file with a fault gets a line with it, and one on standard error, there with what is wrong and where, and the
+//! program then ends with status 2. What in a file is surely a slip is printed on standard error alone.
 #![tactic(auto)]
 
 mod answered;
@@ -24,7 +26,7 @@ use std::io::Read;
 use std::process::ExitCode;
 use std::{env, fs, io};
 
-// Where a line can't be written there is nobody to tell.
+// A line that can't be written is dropped.
 fn tell(rt: &HostRuntime, name: &str, fault: PlayFault, why: &str) {
     let number = fault.number();
     let _ = if why.is_empty() {

@@ -1,14 +1,14 @@
-//! What the author of a file is told beside its lines.
+//! Messages to the author of a file, beside its lines.
 
 use crate::journal::Journal;
 use press_kit::{Place, PlayFile, file};
 use press_lint::{active_slips, bad_line, mistake_in, no_json, slips};
 use std::alloc::{AllocError, Global};
 
-/// What is told of a file on the errors.
+/// Messages about a file, on standard error.
 #[derive(Drop)]
 pub struct Notes {
-    // In front of each slip.
+    // The beginning of the line of each slip.
     front: String,
     /// What is wrong with the file, where it is found wrong.
     pub why: String,
@@ -18,7 +18,7 @@ pub struct Notes {
     pub journal: Journal,
 }
 
-// What is told of a file that is bad at a place.
+// The message about a file that is bad at a place.
 fn bad(alloc: Global, bytes: &[u8], at: Place) -> Result<String, AllocError> {
     let Ok(value) = file(alloc, bytes) else {
         return no_json(alloc, bytes);

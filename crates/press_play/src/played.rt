@@ -87,7 +87,7 @@ impl Asked {
     }
 }
 
-// The lines of a play file. The kit's closures, which note what they ask, are boxed here: a box may not be handed out.
+// The lines of a play file. The kit's closures, which note what they ask, are boxed here: a function can't return a box.
 fn lines(journal: &Journal, file: PlayFile) -> Result<String, PlayFault>
     ensures { Gives Refuses (λ t. Ok (string_bytes t)) result (played file) }
 {
@@ -122,7 +122,7 @@ fn lines(journal: &Journal, file: PlayFile) -> Result<String, PlayFault>
     Ok(lines)
 }
 
-/// The lines of the play file that a reader has left. What its author is told beside them goes to the notes.
+/// The lines of the play file that a reader has left. Messages to its author go to the notes.
 #[tactic(auto, using(crate::proofs::Refused::file_played))]
 pub fn read_lines<R: Read>(
     alloc: Global,

@@ -18,7 +18,7 @@ use press_site::Site;
 use press_text::Items;
 use std::alloc::{AllocError, Global};
 
-/// The stage as the plays so far left it, and their lines.
+// The stage as the plays so far left it, and their lines.
 struct Playing {
     alloc: Global,
     stage: Stage<Site>,
@@ -121,7 +121,7 @@ pub fn job(alloc: Global, play: &Play) -> Result<Job, AllocError>
     }
 }
 
-/// The lines of the plays on a fresh boot of the site; what is told of them beside goes to the journal.
+/// The lines of the plays on a fresh boot of the site; messages about them go to the journal.
 pub fn lines_of(
     journal: &Journal,
     kit: &Kit,

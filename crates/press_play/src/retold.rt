@@ -27,8 +27,9 @@ impl Drop for Again {
     }
 }
 
-// Whether a machine that met a limit has no step left: it is asked for one more, on a boot without plugins, where `the_content` has a built-in callback alone.
-// No clause says what a limit leaves of a machine, and nothing but a note rests on it.
+// Whether a machine that met a limit has no step left: it is asked for one more, on a boot without plugins, where
+// `the_content` has a built-in callback alone. No clause says what a limit leaves of a machine, and nothing but a note
+// rests on it.
 fn is_spent(alloc: Global, kit: &Kit, machine: &mut Machine) -> Result<bool, AllocError> {
     let hook = HookName::from_valid(alloc, "the_content")?;
     let args = Texts::new(alloc);

@@ -1,4 +1,4 @@
-//! The site that plays stand on.
+//! The site of the plays.
 
 ghost use Rattle.std.specs.Prelude.{◌≡◌, IfOk, OnOk};
 ghost use Rattle.std.specs.List.Sorted.{IsPermutation};

@@ -1,4 +1,4 @@
--- What is kept beside the posts, so that a change looks at no others: how many stand, and the published ones in their order, the oldest first.
+-- What is kept beside the posts, so that a change looks at no others: how many there are, and the published ones in their order, the oldest first.
 use Rattle.std.specs.Prelude.{◌≡◌, ℕ, ◌<◌, ◌≤◌, List, length, insert, remove, reverse, Bool, false, ◌&&◌, nat_eq, Option, Some, None}
 use Rattle.std.specs.List.{prefix_len}
 use Rattle.press_posts.specs.declared.post.Post.{Post}
@@ -31,7 +31,7 @@ abbrev pub keeps_order : Option Post → Post → Bool
 keeps_order None new = false
 keeps_order (Some old) new = is_publish old.status && (is_publish new.status && (nat_eq old.date new.date && nat_eq old.id new.id))
 
--- room for as many published posts as there are places, so that a post at a place that was given out takes no memory
+-- room for as many published posts as there are places, so that a post at a place that was assigned takes no memory
 pub record IsKept (posts : List (Option Post)) (count : ℕ) (order : List Dated) (room : ℕ) : Type 0 where
   pub counted : count ≡ standing posts
   pub ordered : order ≡ oldest_first posts

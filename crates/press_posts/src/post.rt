@@ -56,7 +56,7 @@ impl Post {
         })
     }
 
-    // Whether another in place of it stands among the published posts where it does.
+    /// Whether another in place of it stands among the published posts where it does.
     pub(crate) fn keeps_order(&self, other: &Post) -> bool
         ensures { result ≡ keeps_order (Some self.now) other.now }
     {

@@ -200,7 +200,7 @@ impl Posts {
         self.newest(self.places.len())
     }
 
-    /// The first so many of the published posts. It looks at no others. Where there is none, this takes no memory.
+    /// The first `most` published posts. It looks at no others. Where there is none, this takes no memory.
     pub fn newest(&self, most: usize) -> Result<Items<u64>, AllocError>
         ensures ids { IfOk result (λ ids. ids ≡ take most (published self.now)) }
         ensures memory { OnErr result (0 < length (take most (published self.now))) }
@@ -209,7 +209,7 @@ impl Posts {
         Ok(Items::from_vec(ids))
     }
 
-    /// The same posts once more. Without a place this takes no memory.
+    /// A copy of the posts. Without a place this takes no memory.
     pub fn copy(&self) -> Result<Posts, AllocError>
         ensures same { IfOk result (λ p. p ≡ self.now) }
         ensures memory { OnErr result (0 < length self.now) }
@@ -310,7 +310,7 @@ impl Posts {
         }
     }
 
-    // A place more, which is empty.
+    // Adds an empty place.
     fn add_place(&mut self) -> Result<(), AllocError>
         requires { is_full self.old ≡ false }
         ensures ok { OnOk result (self.new ≡ self.old ++ None ∷ []) }

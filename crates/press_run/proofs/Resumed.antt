@@ -159,7 +159,7 @@ module _ (changes : Changes) (scripts : Scripts) where
     abbrev pub bound : ℕ
     bound = turns_left old.counts.turns + weight top
 
-    -- what stands before a step may be told by what stands after it
+    -- what is before a step may be told by what is after it
     same_as : (o : Option Answer) (a : Around) → o ≡ meant changes scripts top (around old) (state_of old) → a ≡ round top (around old) → resumed changes scripts waiting a o ≡ whole
     same_as o a e r = ap (λ x. resumed changes scripts waiting x o) r ∙ ap (resumed changes scripts waiting (round top (around old))) e ∙ p.same
 

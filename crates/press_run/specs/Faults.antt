@@ -1,4 +1,4 @@
--- The number that tells each fault of a run (own).
+-- The number of each fault of a run (own).
 use Rattle.std.specs.Prelude.{ℕ}
 use Rattle.press_run.specs.declared.run_fault.RunFault.{RunFault}
 use Rattle.press_run.specs.declared.run_fault.RunFault.TheVariants.{Limit, NoMemory}

@@ -11,7 +11,7 @@ use std::alloc::{AllocError, Global};
 pub trait Callbacks {
     ghost scripts: { Self → Scripts };
 
-    /// Where the callback of that name stands, if it is there.
+    /// The place of the callback of that name, if it exists.
     fn place(&self, id: CallbackId) -> Option<usize>
         ensures { script_at result (scripts self.now) ≡ script_of id (scripts self.now) };
 

@@ -62,7 +62,7 @@ impl Drop for OpenHook {
     }
 }
 
-/// Actions, of which so many are done, and the answer when all are.
+/// Actions, how many of them are done, and the answer when all are.
 pub struct OpenFires {
     /// How many more callbacks may be open within it.
     pub room: u32,
@@ -105,7 +105,7 @@ pub enum Frame {
 }
 
 impl OpenCallback {
-    // On to the next turn with the value and the last answer that stand, so many ops further.
+    /// Goes on to the next turn with its value and its last answer, `skipped` ops further.
     pub fn further(&mut self, skipped: u16) -> Step
         requires { self.old.call.turn < 2 ^ 40 }
         ensures step { result ≡ Step.Goes }
@@ -176,7 +176,7 @@ impl OpenFires {
 }
 
 impl OpenScan {
-    // The answer to the shortcode that the scan waits for.
+    /// The answer to the shortcode that the scan waits for.
     pub fn take(&mut self, text: Text) -> Result<(), AllocError>
         requires { IsSome self.old.scan.waiting }
         ensures { OnOk result (self.new ≡ record self.old {

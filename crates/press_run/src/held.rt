@@ -101,7 +101,7 @@ impl Held<OpenScan> {
         stage.piece(kit, &mut self.inside)
     }
 
-    // The answer to the shortcode that the scan waits for.
+    /// The answer to the shortcode that the scan waits for.
     pub fn take(&mut self, text: Text) -> Result<(), AllocError>
         requires { IsSome self.old.scan.waiting }
         ensures { OnOk result (self.new ≡ record self.old {

@@ -6,6 +6,6 @@ use press_text::{HookName, Items, Texts};
 pub enum Job {
     /// The actions, one after the other.
     Fires(Items<Fire>),
-    /// A filter over its first argument; the others are handed on as they are.
+    /// A filter over its first argument; the others are passed on as they are.
     Apply { hook: HookName, args: Texts },
 }

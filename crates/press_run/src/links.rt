@@ -10,7 +10,7 @@ use press_site::{Changed, Effect, SiteFault};
 use press_text::{Every, HookName, Items, Moment, Text, dec_u64};
 use std::alloc::{AllocError, Global};
 
-// A change through the link; a refused one changes nothing.
+/// A change through the link; a refused one changes nothing.
 pub fn change<L: SiteLink>(
     alloc: Global,
     link: &mut L,
@@ -30,7 +30,7 @@ pub fn change<L: SiteLink>(
     }
 }
 
-// The change that publishes the post with that id in decimal, if it is future and due at that moment.
+/// The change that publishes the post with that id in decimal, if it is future and due at that moment.
 pub fn publishes(id: &Text, now: Moment) -> Option<Effect>
     ensures { result ≡ publishes id.now now }
 {
@@ -43,7 +43,7 @@ pub fn publishes(id: &Text, now: Moment) -> Option<Effect>
     }
 }
 
-// The change that schedules an event so many seconds after that moment, where that is a moment.
+/// The change that schedules an event that many seconds after a moment, if that is a moment.
 pub fn schedules(after: u64, every: Every, hook: HookName, arg: Text, now: Moment) -> Option<Effect>
     ensures { result ≡ schedules after every hook arg now }
 {

@@ -10,7 +10,7 @@ use press_text::{HookName, Text, copied_all};
 use std::alloc::{AllocError, Global};
 use std::marker::Model;
 
-/// How many turns one page or command may play.
+// How many turns one page or command may play.
 const MOST_TURNS: u32 = 10_000;
 
 /// What one boot counts: the starts of actions, the hooks that are running, and the turns played.
@@ -54,7 +54,7 @@ impl Machine {
         }
     }
 
-    /// The same counts once more.
+    /// A copy of the counts.
     pub fn copy(&self) -> Result<Machine, AllocError>
         ensures { IfOk result (λ m. m ≡ self.now) }
     {

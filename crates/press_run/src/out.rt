@@ -40,7 +40,7 @@ impl Out {
         }
     }
 
-    /// The same output once more.
+    /// A copy of the output.
     pub fn copy(&self, alloc: Global) -> Result<Out, AllocError>
         ensures { IfOk result (λ o. o ≡ self.now) }
     {

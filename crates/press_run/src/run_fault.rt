@@ -15,7 +15,7 @@ pub enum RunFault {
 }
 
 impl RunFault {
-    /// The number that tells the fault.
+    /// Its number in the table of faults.
     pub fn number(self) -> u8
         ensures { result ≡ run_fault_number self }
     {

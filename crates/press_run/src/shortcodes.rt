@@ -16,7 +16,7 @@ use press_scan::{
 use press_text::{Text, Texts};
 use std::alloc::{AllocError, Global};
 
-// The call of the callback of a shortcode's tag.
+/// The call of the callback of a shortcode's tag.
 pub fn shortcode_call(
     alloc: Global,
     text: &str,
@@ -39,7 +39,7 @@ pub fn shortcode_call(
     })
 }
 
-// Whether the output of a scan is within the bytes.
+/// Whether the output of a scan is within the bytes.
 pub fn is_short(scan: &Scan) -> bool
     ensures { result ≡ is_short scan.now.output }
 {

@@ -70,11 +70,13 @@ impl<L: SiteLink + Drop> Stage<L> {
         }
     }
 
-    /// Runs a job: actions one after the other, which answer the empty text, or one filter, which answers what its last callback gave.
+    /// Runs a job: actions one after the other, which answer the empty text, or one filter, which answers what its last
+    /// callback gave.
     ///
-    /// Callbacks may edit the tables, change the site, and write to the output. What a change of the site fires is done within the run.
-    /// Limit stands where a 33rd callback would be open at once, a 10,001st turn would be played, or a text would pass 1,048,576 bytes.
-    /// After a fault the stage is in no stated state, but for what no change of the site touches.
+    /// Callbacks may edit the tables, change the site, and write to the output. What a change of the site fires is done
+    /// within the run. Limit is returned where a 33rd callback would be open at once, a 10,001st turn would be played,
+    /// or a text would pass 1,048,576 bytes. After a fault the stage is in no stated state, but for what no change of
+    /// the site touches.
     pub fn run(&mut self, kit: &Kit, job: Job) -> Result<String, RunFault>
         ensures gives { GivesJob
             (job_meaning L.changes (scripts_in kit.now) job (state_of (standing L.view L.fixed self.old)))

@@ -12,7 +12,7 @@ use press_scan::Atts;
 use press_text::{Text, Texts, copied_all};
 use std::alloc::{AllocError, Global};
 
-// The first text, or the empty one.
+/// The first text, or the empty one.
 pub fn first_text(alloc: Global, texts: &Texts) -> Result<Text, AllocError>
     ensures { IfOk result (λ t. t ≡ first_text texts.now) }
 {
@@ -22,7 +22,7 @@ pub fn first_text(alloc: Global, texts: &Texts) -> Result<Text, AllocError>
     }
 }
 
-// What a hook answers with these arguments: an action the empty text.
+/// What a hook returns with these arguments: an action the empty text.
 pub fn shown(alloc: Global, kind: Kind, args: &Texts) -> Result<Text, AllocError>
     ensures { IfOk result (λ t. t ≡ shown kind (first_text args.now)) }
 {
@@ -32,7 +32,7 @@ pub fn shown(alloc: Global, kind: Kind, args: &Texts) -> Result<Text, AllocError
     }
 }
 
-// The arguments of the next callback, after one has answered.
+/// The arguments of the next callback, after one has returned.
 pub fn hand_on(kind: Kind, args: &mut Texts, answer: Text) -> Result<(), AllocError>
     ensures { OnOk result (args.new ≡ handed_on kind answer args.old) }
 {
@@ -42,7 +42,7 @@ pub fn hand_on(kind: Kind, args: &mut Texts, answer: Text) -> Result<(), AllocEr
     }
 }
 
-// An action without arguments hands over one empty text.
+/// An action without arguments passes one empty text.
 pub fn or_one_empty(alloc: Global, args: Texts) -> Result<Texts, AllocError>
     ensures { IfOk result (λ ts. ts ≡ or_one_empty args) }
 {
@@ -53,7 +53,7 @@ pub fn or_one_empty(alloc: Global, args: Texts) -> Result<Texts, AllocError>
     Texts::from_vec(vec![in alloc; empty]?)
 }
 
-// The call of a hook's callback that accepts so many arguments.
+/// The call of a hook's callback, with as many arguments as it accepts.
 pub fn hook_call(alloc: Global, texts: &Texts, accepted: u32) -> Result<CallIn, AllocError>
     ensures { IfOk result (λ c. c ≡ hook_call (take accepted texts.now)) }
 {
@@ -87,7 +87,7 @@ pub fn is_short(text: &Text) -> bool
     text.len() <= MOST_BYTES
 }
 
-// Whether the texts of a turn are within the bytes.
+/// Whether the texts of a turn are within the bytes.
 pub fn fits(turn: &Turn) -> bool
     ensures { result ≡ fits turn.now }
 {

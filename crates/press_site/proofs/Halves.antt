@@ -1,4 +1,4 @@
--- Active names in their order: a search by halves finds where a name belongs, and whether it is there; a change keeps the order.
+-- Active names in their order: a binary search finds where a name belongs, and whether it is there; a change keeps the order.
 use Rattle.std.proofs.Common.{◌≡◌, refl, sym, ◌∙◌, ap, ℕ, zero, suc, ◌+◌, ◌-◌, ◌<◌, ◌≤◌, Bool, true, false, not, cond, bytes_eq, List, [], ◌∷◌, length, get_or, Some, None, arith}
 use Rattle.std.specs.Prelude.{◌&&◌, ◌||◌, insert, filter, unwrap_or, nat_lt}
 use Rattle.std.specs.List.{list_all, prefix_len, AllWithin}

@@ -43,7 +43,7 @@ passed TooManyOptions x r h = ap (beside x) h
 pub events_refused : (f : SiteFault) (meant : Result post.Changed PostFault) (x : post.Changed) (old : List Event) → meant ≡ Ok x → Refuses f (events_where x.goes x.comes x.id old) → Refuses f (with_events meant old)
 events_refused f meant x old m h = rw m (passed f x (events_where x.goes x.comes x.id old) h)
 
--- want of memory once the events are found
+-- out of memory once the events are found
 pub posts_refused : (f : PostFault) (meant : Result post.Changed PostFault) (x : post.Changed) (old es : List Event) → meant ≡ Ok x → events_where x.goes x.comes x.id old ≡ Ok es → post.Refuses f meant → Refuses (of_posts f) (with_events meant old)
 posts_refused fault.NoMemory meant x old es m e h = rw (joined meant x old es m e) tt
 posts_refused fault.TooLong meant x old es m e h = ap (λ r. with_events r old) h

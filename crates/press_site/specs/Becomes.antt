@@ -1,5 +1,5 @@
 -- What a change answers: the state after it, or its refusal, which leaves the state as it was (own).
--- Every refusal is found before anything grows: want of memory stands only where the change isn't refused.
+-- Every refusal is found before anything grows: out of memory comes only where the change isn't refused.
 use Rattle.press_text.specs.Gives.{GivesOrStays}
 use Rattle.std.specs.Prelude.{◌≡◌, ⊤, Result, Ok, Err}
 use Rattle.press_site.specs.declared.fault.SiteFault.{SiteFault}

@@ -1,4 +1,4 @@
--- The number that tells each fault of a change of a site, and which of them each fault of posts and events is (own).
+-- The number of each fault of a change of a site, and which of them each fault of posts and events is (own).
 use Rattle.std.specs.Prelude.{ℕ}
 use Rattle.press_events.specs.declared.fault.EventFault.{EventFault}
 use Rattle.press_events.specs.declared.fault.EventFault.TheVariants as event

@@ -76,7 +76,7 @@ impl Content {
         self.posts.published()
     }
 
-    /// The first so many of them.
+    /// The first `most` of them.
     pub fn newest(&self, most: usize) -> Result<Items<u64>, AllocError>
         ensures { IfOk result (λ ids. ids ≡ take most (published self.now.posts)) }
     {
@@ -213,7 +213,7 @@ impl Content {
         self.events = events;
     }
 
-    /// The same posts and events once more.
+    /// A copy of the posts and events.
     pub fn copy(&self) -> Result<Content, AllocError>
         ensures { IfOk result (λ c. c ≡ self.now) }
     {

@@ -30,7 +30,7 @@ pub enum Effect {
         value: Text,
     },
     Schedule(Event),
-    /// Takes the event off where it stands as once, and else moves it to its first time after the site's moment.
+    /// Removes the event if it is scheduled once, and else moves it to its first time after the site's moment.
     Take(Event),
     Activate {
         plugin: Name,

@@ -33,7 +33,7 @@ pub enum SiteFault {
 }
 
 impl SiteFault {
-    /// The number that tells the fault.
+    /// Its number in the table of faults.
     pub fn number(self) -> u8
         ensures { result ≡ site_fault_number self }
     {

@@ -56,7 +56,7 @@ impl Options {
         }
     }
 
-    /// The same options once more.
+    /// A copy of the options.
     pub fn copy(&self) -> Result<Options, AllocError>
         ensures { IfOk result (λ o. o ≡ self.now) }
     {

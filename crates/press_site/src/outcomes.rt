@@ -38,7 +38,7 @@ impl Outcomes {
         }
     }
 
-    /// The same outcomes once more.
+    /// A copy of the outcomes.
     pub fn copy(&self) -> Result<Outcomes, AllocError>
         ensures { IfOk result (λ o. o ≡ self.now) }
     {

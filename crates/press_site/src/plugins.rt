@@ -44,7 +44,7 @@ impl Plugins {
         }
     }
 
-    /// The same plugins once more.
+    /// A copy of the plugins.
     pub fn copy(&self) -> Result<Plugins, AllocError>
         ensures { IfOk result (λ p. p ≡ self.now) }
     {
@@ -107,7 +107,7 @@ fn take_out(names: &mut Vec<Name>, name: &Name)
     names.retain(|n| !n.is(name));
 }
 
-// Whether a name is among names in their order: it would stand last of those that don't stand behind it.
+// Whether a name is among names in their order: it would be the last of those that aren't after it.
 fn has_name(names: &[Name], name: &Name) -> bool
     requires { in_order names.now ≡ true }
     ensures { result ≡ is_active name.now names.now }
@@ -119,7 +119,7 @@ fn has_name(names: &[Name], name: &Name) -> bool
     names[place - 1].is(name)
 }
 
-// Where a name belongs among names in their order, found by halves.
+// Where a name belongs among names in their order, by binary search.
 fn place_of(names: &[Name], name: &Name) -> usize
     requires { in_order names.now ≡ true }
     ensures place { result ≡ place_in name.now names.now }

@@ -79,7 +79,8 @@ impl Site {
         }
     }
 
-    /// The same site once more. What it takes grows with posts, events, options, plugins and outcomes, and hardly with their texts, which are shared.
+    /// A copy of the site. What it takes grows with posts, events, options, plugins and outcomes, and hardly with their
+    /// texts, which are shared.
     pub fn copy(&self) -> Result<Site, AllocError>
         ensures { IfOk result (λ s. s ≡ self.now) }
     {
@@ -135,7 +136,7 @@ impl Site {
         self.content.published()
     }
 
-    /// The first so many of the published posts. It looks at each post once, and keeps no more than it gives.
+    /// The first `most` published posts. It looks at each post once, and keeps no more than it gives.
     pub fn newest(&self, most: usize) -> Result<Items<u64>, AllocError>
         ensures { IfOk result (λ ids. ids ≡ take most (published self.now.posts)) }
     {
@@ -328,12 +329,7 @@ impl Site {
         self.content.take(event, now, wants)
     }
 
-    fn set_option(
-        &mut self,
-        name: &OptName,
-        value: Text,
-        wants: bool,
-    ) -> Result<Done, SiteFault>
+    fn set_option(&mut self, name: &OptName, value: Text, wants: bool) -> Result<Done, SiteFault>
         ensures does { Does result (effect_on self.old (Effect.SetOption name.now value))
             self.old self.new }
         ensures back { (events : Bool) → IfOk result (λ d. GoesBack

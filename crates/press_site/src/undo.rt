@@ -96,9 +96,10 @@ impl Undo {
     /// Puts posts and events back.
     pub fn back_content(&mut self, content: &mut Content)
         requires { MayPostsGoBack self.old.posts content.old.posts }
-        ensures back { content.new ≡ record
-            { posts = posts_back self.old.posts content.old.posts;
-            events = unwrap_or self.old.events content.old.events } }
+        ensures back { content.new ≡ record {
+          posts = posts_back self.old.posts content.old.posts;
+          events = unwrap_or self.old.events content.old.events;
+        } }
         ensures left { self.new ≡ record self.old { posts = []; events = None } }
     {
         put_back(&mut self.posts, content);

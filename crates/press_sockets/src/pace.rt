@@ -110,7 +110,8 @@ impl Pace {
     // The time of this node's turn, counted from now.
     fn turn_after(&self, wait: u64) -> u64 {
         let turn = STEP.saturating_mul(self.rank());
-        self.now.saturating_add(self.patient(wait.saturating_add(turn)))
+        self.now
+            .saturating_add(self.patient(wait.saturating_add(turn)))
     }
 
     fn wake_by(&mut self, time: u64) {

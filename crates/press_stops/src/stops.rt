@@ -64,7 +64,6 @@ fn files_of(store: Stored) -> Files<Stopped> {
     store.into_connection().into_store().close()
 }
 
-
 fn save_all<S: PromiseStore>(store: &mut S, told: &mut u32) -> Result<(), StoreFault> {
     if let (Some(slot), Some(round), Some(first), Some(second)) = (
         Slot::new(1),
@@ -93,7 +92,6 @@ fn saves_in(round: u64, row: &Row) -> Option<u32> {
     }
 }
 
-
 // How many saves come before this many events are done: a round with the wake, a promise with the first delivery, a vote with the third.
 fn saves_before(events: u32) -> u32 {
     match events {
@@ -114,7 +112,6 @@ fn saves_of_command_in(round: u64, row: &Row) -> Option<u32> {
         _ => None,
     }
 }
-
 
 // Does the work over files of which one stops; returns the files, and how many saves were reported as done.
 fn played(alloc: Global, work: Work, files: Files<Stopped>) -> (Files<Stopped>, u32) {

@@ -19,7 +19,6 @@ use sqlite::types::ValueRef;
 use sqlite::{Alter, Connection, Error, ErrorCode, Row as Shown};
 use std::alloc::Global;
 
-
 fn hold_ballot(ballot: Option<Ballot>)
     ensures { IsPerhapsBallot ballot }
 {
@@ -129,7 +128,6 @@ pub fn put_row<S: Alter>(
         &params,
     )
 }
-
 
 fn find_row<S: Alter>(conn: &mut Connection<S>, slot: Slot) -> Result<Vec<Shown>, Error>
     ensures looks { Looks S.Store conn.old conn.new }

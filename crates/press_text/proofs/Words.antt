@@ -79,7 +79,7 @@ all_dropped zero xs s = s
 all_dropped (suc n) [] s = tt
 all_dropped (suc n) (x ∷ xs) s = all_dropped n xs s.1
 
--- whatever stands at a place of bytes is a byte
+-- whatever is at a place of bytes is a byte
 byte_at : (xs : List ℕ) (i : ℕ) → AreBytes xs → slice_index xs i < 256
 byte_at [] i s = omega arith
 byte_at (x ∷ xs) zero s = s.0

@@ -1,4 +1,4 @@
--- The number that tells each fault of a name (own).
+-- The number of each fault of a name (own).
 use Rattle.std.specs.Prelude.{ℕ}
 use Rattle.press_text.specs.declared.name_fault.NameFault.{NameFault}
 use Rattle.press_text.specs.declared.name_fault.NameFault.TheVariants.{NoMemory, BadName, TooLong}

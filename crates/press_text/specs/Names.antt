@@ -22,7 +22,7 @@ name_fault most bytes =
     (if nat_lt most (length bytes) then Some TooLong else
     (if list_all is_name_byte bytes then None else Some BadName))
 
--- what a fault says of the first one: it is that, and want of memory stands only where there is none
+-- what a fault says of the first one: it is that, and out of memory comes only where there is none
 abbrev pub Refuses : NameFault → Option NameFault → Type 0
 Refuses NoMemory first = first ≡ None
 Refuses BadName first = first ≡ Some BadName

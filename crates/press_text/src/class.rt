@@ -19,7 +19,7 @@ fn all_name_bytes(bytes: &[u8]) -> bool
     bytes.iter().all(|b| is_name_byte(*b))
 }
 
-// The fault of a text that is to be a name of at most so many bytes.
+/// The fault of a text that is to be a name of at most `most` bytes.
 pub fn fault_of(most: usize, bytes: &[u8]) -> Option<NameFault>
     ensures fault { result ≡ name_fault most bytes.now }
     ensures own { IfSome result (λ f. f ≢ NoMemory) }

@@ -5,9 +5,9 @@ use crate::items::Items;
 use crate::text::Text;
 use std::alloc::{AllocError, Global};
 
-/// A value that can be had once more.
+/// A value that can be copied.
 pub trait Copied {
-    /// The same value once more.
+    /// A copy of the value.
     fn copied(&self, alloc: Global) -> Result<Self, AllocError>
     where
         Self: Sized,
@@ -26,7 +26,7 @@ impl Copied for HookName {
     }
 }
 
-/// Each of these once more.
+/// A copy of each of these.
 pub fn copied_all<T: Copied + Drop>(alloc: Global, items: &[T]) -> Result<Vec<T>, AllocError>
     ensures { IfOk result (λ v. v.items ≡ items.now) }
 {

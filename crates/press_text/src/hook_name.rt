@@ -42,7 +42,7 @@ impl HookName {
         Ok(HookName { inside })
     }
 
-    /// A name that is known to be in its class, as one that stands in the program.
+    /// A name that is known to be in its class, as one in the program's text.
     pub fn from_valid(alloc: Global, text: &str) -> Result<HookName, AllocError>
         requires { name_fault 64 text.now ≡ None }
         ensures { IfOk result (λ n. n ≡ text.now) }
@@ -59,7 +59,7 @@ impl HookName {
         self.inside.as_str()
     }
 
-    /// The same name once more; takes no memory.
+    /// A copy of the name, which takes no memory.
     pub fn copy(&self, alloc: Global) -> Result<HookName, AllocError>
         ensures { IfOk result (λ n. n ≡ self.now) }
     {

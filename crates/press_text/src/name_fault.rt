@@ -17,7 +17,7 @@ pub enum NameFault {
 }
 
 impl NameFault {
-    /// The number that tells the fault.
+    /// Its number in the table of faults.
     pub fn number(self) -> u8
         ensures { result ≡ name_fault_number self }
     {

@@ -57,7 +57,7 @@ impl Short {
         self.len = end as u8;
     }
 
-    /// The same text once more.
+    /// A copy of the text.
     pub fn copy(&self) -> Short
         ensures { result ≡ self.now }
     {

@@ -67,7 +67,7 @@ fn read_some<R: Read>(
 
 /// All that a reader has left, if that is at most `limit` bytes, and else `TooLong`.
 ///
-/// One byte past the limit is enough to tell. The first read that fails ends it, with `ReadFault`.
+/// One byte past the limit is read to see that there is more. The first read that fails ends it, with `ReadFault`.
 pub fn read_limited<R: Read>(
     alloc: Global,
     reader: &mut R,

@@ -49,7 +49,7 @@ impl Tag {
         self.inside.as_str()
     }
 
-    /// The same name once more.
+    /// A copy of the name.
     pub fn copy(&self, alloc: Global) -> Result<Tag, AllocError>
         ensures { IfOk result (λ n. n ≡ self.now) }
     {

@@ -131,7 +131,7 @@ impl Text {
         self.len() == 0
     }
 
-    /// Appends; where memory is wanting the text stays as it was.
+    /// Appends; if memory runs out the text stays as it was.
     pub fn push_str(&mut self, more: &str) -> Result<(), AllocError>
         ensures ok { OnOk result (self.new ≡ self.old ++ more.now) }
         ensures err { OnErr result (self.new ≡ self.old) }
@@ -157,7 +157,7 @@ impl Text {
         Ok(())
     }
 
-    /// Appends; an empty text then shares what the other holds. Where memory is wanting the text stays as it was.
+    /// Appends; an empty text then shares what the other holds. If memory runs out the text stays as it was.
     pub fn push(&mut self, more: &Text) -> Result<(), AllocError>
         ensures ok { OnOk result (self.new ≡ self.old ++ more.now) }
         ensures err { OnErr result (self.new ≡ self.old) }
@@ -169,7 +169,7 @@ impl Text {
         Ok(())
     }
 
-    /// The same text once more; takes no memory.
+    /// A copy of the text, which takes no memory.
     pub fn copy(&self, alloc: Global) -> Result<Text, AllocError>
         ensures { IfOk result (λ t. t ≡ self.now) }
     {

@@ -66,7 +66,7 @@ impl Texts {
         }
     }
 
-    /// The same list once more; takes no memory.
+    /// A copy of the list, which takes no memory.
     pub fn copy(&self) -> Result<Texts, AllocError>
         ensures { IfOk result (λ t. t ≡ self.now) }
     {

@@ -20,7 +20,7 @@ use press_callbacks::{CallIn, Turn, is_built_in, is_do_shortcode};
 use press_text::CallbackId;
 
 impl<L: SiteLink + Drop> Stage<L> {
-    // A callback on its call, where so many may be open from it on.
+    /// A callback on its call, where a number may be open from it on.
     pub(super) fn open<K: Callbacks>(
         &mut self,
         kit: &K,
@@ -105,7 +105,7 @@ impl<L: SiteLink + Drop> Stage<L> {
         }
     }
 
-    // The next turn.
+    /// The next turn.
     pub(crate) fn turn<K: Callbacks>(
         &mut self,
         kit: &K,

@@ -21,8 +21,8 @@ use press_text::Text;
 use std::mem;
 
 impl<L: SiteLink + Drop> Stage<L> {
-    // A change of the site, and the actions that it fires: `1` where something changed.
-    // A refused change changes nothing.
+    /// A change of the site, and the actions that it fires: `1` where something changed.
+    /// A refused change changes nothing.
     #[inline(never)]
     pub(super) fn begin_change(
         &mut self,
@@ -45,7 +45,7 @@ impl<L: SiteLink + Drop> Stage<L> {
         Ok(Begun::Opens(Frame::Fires(Held::new(alloc, fires)?)))
     }
 
-    // Publishes the post with that id in decimal, if it is future and due; the id is the answer.
+    /// Publishes the post with that id in decimal, if it is future and due; the id is the answer.
     #[inline(never)]
     pub(super) fn begin_publish(&mut self, room: u32, id: Text) -> Result<Begun, RunFault>
         ensures begins { (scripts : Scripts) → BeginsAs L.changes scripts
@@ -64,7 +64,7 @@ impl<L: SiteLink + Drop> Stage<L> {
         Ok(Begun::Opens(Frame::Fires(Held::new(alloc, fires)?)))
     }
 
-    // The next action is begun; after the last one the answer is given.
+    /// The next action is begun; after the last one the answer is given.
     pub(crate) fn fire(&mut self, fires: &mut OpenFires) -> Result<Step, RunFault>
         ensures steps { (scripts : Scripts) → Steps L.changes scripts
             (frame.Fires fires.old) (frame.Fires fires.new)

@@ -19,7 +19,7 @@ use crate::texts;
 use press_text::{HookName, Texts};
 
 impl<L: SiteLink + Drop> Stage<L> {
-    // The callbacks of a hook, where so many may be open; without one the hook answers at once.
+    /// The callbacks of a hook, where `room` may be open; without one the hook returns at once.
     #[inline(never)]
     pub(super) fn begin(
         &mut self,
@@ -49,7 +49,7 @@ impl<L: SiteLink + Drop> Stage<L> {
         })))
     }
 
-    // An action: its start is counted, and its answers are ignored.
+    /// An action: its start is counted, and its answers are ignored.
     #[inline(never)]
     pub(super) fn begin_action(
         &mut self,
@@ -68,7 +68,7 @@ impl<L: SiteLink + Drop> Stage<L> {
         self.begin(room, Kind::Action, hook, args)
     }
 
-    // The next entry is called; without one the run ends.
+    /// The next entry is called; without one the run ends.
     pub(super) fn entry<K: Callbacks>(
         &mut self,
         kit: &K,

@@ -18,11 +18,11 @@ use crate::step::{Begun, Kind, Moved, Step};
 use press_text::Text;
 use std::mem;
 
-/// How many callbacks may be open at once.
+// How many callbacks may be open at once.
 const MOST_OPEN: u32 = 32;
 
 impl<L: SiteLink + Drop> Stage<L> {
-    // What a job begins with.
+    /// What a job begins with.
     pub(super) fn begin_job(&mut self, job: Job) -> Result<Begun, RunFault>
         ensures begins { (scripts : Scripts) → BeginsAs L.changes scripts
             (job_meaning L.changes scripts job (state_of (standing L.view L.fixed self.old)))
@@ -43,7 +43,7 @@ impl<L: SiteLink + Drop> Stage<L> {
         }
     }
 
-    // What a job comes to.
+    /// The answer of a job.
     pub(super) fn answer<K: Callbacks>(&mut self, kit: &K, job: Job) -> Result<Text, RunFault>
         ensures gives { GivesText (job_meaning L.changes (K.scripts kit.now) job
             (state_of (standing L.view L.fixed self.old)))

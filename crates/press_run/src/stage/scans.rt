@@ -22,7 +22,7 @@ use press_scan::{Scan, ScanStep, Shortcode, computes_first, ends_within};
 use press_text::Text;
 
 impl<L: SiteLink + Drop> Stage<L> {
-    // What a text means, where so many callbacks may be open.
+    /// What a text means, where a number of callbacks may be open.
     #[inline(never)]
     pub(super) fn begin_scan(&mut self, room: u32, text: Text) -> Result<Begun, RunFault>
         ensures long { is_short text ≡ false → IsErrOf result RunFault.Limit }
@@ -42,7 +42,7 @@ impl<L: SiteLink + Drop> Stage<L> {
         Ok(Begun::Opens(Frame::Scan(held)))
     }
 
-    // The next piece: text up to a shortcode, an escape, or a shortcode, whose callback is called.
+    /// The next piece: text up to a shortcode, an escape, or a shortcode, whose callback is called.
     pub(crate) fn piece<K: Callbacks>(
         &mut self,
         kit: &K,

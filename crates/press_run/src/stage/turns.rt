@@ -17,7 +17,7 @@ use press_site::Effect;
 use press_text::Text;
 
 impl<L: SiteLink + Drop> Stage<L> {
-    // What a turn asks for, which is counted already.
+    /// What a turn asks for, which is counted already.
     pub(super) fn asked(
         &mut self,
         callback: &mut OpenCallback,

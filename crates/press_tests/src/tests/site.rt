@@ -96,7 +96,9 @@ fn changes(alloc: Global) -> Result<Vec<Effect>, Fail> {
         Effect::Schedule(event(alloc, "i")?),
         Effect::Take(event(alloc, "h")?),
         activation(alloc, "b")?,
-        Effect::Deactivate { plugin: Name::new(alloc, "a")? },
+        Effect::Deactivate {
+            plugin: Name::new(alloc, "a")?
+        },
     ]?)
 }
 
