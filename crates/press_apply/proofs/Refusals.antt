@@ -1,6 +1,5 @@
 -- A step's refusal is that of all the work.
-use Rattle.std.proofs.Common.{◌≡◌, refl, sym, ap, ◌∙◌, subst, ℕ, Option, Some, None, Result, Ok, Err}
-use Rattle.std.specs.Prelude.{MatchResult}
+use Rattle.std.proofs.Common.{◌≡◌, refl, sym, ap, ◌∙◌, subst, ℕ, Result, Ok, Err}
 use Rattle.press_run.specs.Run.{State}
 use Rattle.press_site.specs.Becomes as change
 use Rattle.press_site.specs.declared.changed.Changed.{Changed}

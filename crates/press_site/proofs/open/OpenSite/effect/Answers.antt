@@ -1,9 +1,8 @@
 use Rattle.std.proofs.Common.{◌≡◌, subst}
 use Rattle.std.specs.Prelude.{IfOk}
-use Rattle.press_site.specs.Back.{GoesBack, Keeps, log_back}
+use Rattle.press_site.specs.Back.{GoesBack, log_back}
 use Rattle.press_site.specs.Becomes.{Becomes}
 use Rattle.press_site.specs.Effects.{effect_on}
-use Rattle.press_site.specs.Log.{wants}
 use Rattle.press_site.specs.Open.{Open, begun_of}
 use Rattle.press_site.specs.declared.stood.Wants.{Wants}
 use Rattle.press_site.proofs.Noted.{may_of}
