@@ -1,6 +1,6 @@
 //! The fields of a command.
 
-ghost use Rattle.std.specs.Prelude.{◌≡◌, ◌≢◌, Err, option_and_then, codes};
+ghost use Rattle.std.specs.Prelude.{◌≡◌, ◌≢◌, Err, IsOk, OnOk, option_and_then, codes};
 ghost use Rattle.serde_json.specs.Find.{get, as_str};
 ghost use Rattle.serde_json.specs.View.{view};
 ghost use Rattle.press_apply.specs.Kinds.{kind_named};
@@ -180,6 +180,7 @@ impl<'v> Fields<'v> {
         ensures gives { Gives Refuses Ok result
             (spec.token_of self.now.at (view self.now.value.now)) }
         ensures memory { GrowsBehind result (editor_at self.now.at (view self.now.value.now)) }
+        ensures editor { OnOk result (IsOk (editor_at self.now.at (view self.now.value.now))) }
     {
         Ok(Token {
             editor: self.name("editor")?,
