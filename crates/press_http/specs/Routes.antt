@@ -1,6 +1,6 @@
 -- Route: what a request asks for, by its path, then its method, then what it carries (paths and their parameters: the kit's `matchit`;
 -- path and query: RFC 3986, 3.3 and 3.4; methods: RFC 9110, 9; `GET /wp-json/wp/v2/posts/{id}`: REST API Handbook, Posts; the other paths are own).
-use Rattle.std.specs.Prelude.{ℕ, zero, suc, List, [], ◌==◌, bytes_eq, Option, Some, None, Result, Ok, Err, codes, if◌then◌else◌}
+use Rattle.std.specs.Prelude.{ℕ, zero, suc, List, [], ◌==◌, bytes_eq, Option, Some, None, Result, Ok, Err, IsOk, codes, if◌then◌else◌}
 use Rattle.std.specs.List.{before_first, after_first}
 use Rattle.matchit.specs.Rows.{RowsOf}
 use Rattle.matchit.specs.Seek.{first}
@@ -14,6 +14,7 @@ use Rattle.press_page.specs.declared.reply.Target.{Target}
 use Rattle.press_page.specs.declared.reply.Target.TheVariants as target
 use Rattle.press_wire.specs.declared.message.Message.{Message}
 use Rattle.press_wire.specs.declared.fault.WireFault.{WireFault}
+use Rattle.press_wire.specs.Memory.{editor_of_message}
 use Rattle.press_wire.specs.Reading.{read_message}
 use Rattle.press_http.specs.declared.fault.HttpFault.{HttpFault}
 use Rattle.press_http.specs.declared.fault.HttpFault.TheVariants.{NotFound, NotAllowed, BadPeer}
@@ -21,7 +22,7 @@ use Rattle.press_http.specs.declared.asked.Asked.{Asked}
 use Rattle.press_http.specs.declared.asked.Asked.TheVariants.{Page, Command, Peer}
 use Rattle.press_http.specs.declared.place.Place.{Place}
 use Rattle.press_http.specs.declared.place.Place.TheVariants as place
-use Rattle.press_http.specs.Forms.{first_named, name_in, command_in}
+use Rattle.press_http.specs.Forms.{first_named, name_in, command_in, LacksPlainly}
 use Rattle.press_http.specs.Meanings.{◌>>=◌, or_fault, made}
 
 -- ---- the target
@@ -94,10 +95,14 @@ post_of path = made target.Json (or_missing (decimal_in (behind 5 path)))
 abbrev pub editor_in : List ℕ → Result (List ℕ) HttpFault
 editor_in text = or_missing (name_in text)
 
+-- the editor, up to a slash
+abbrev pub first_in : List ℕ → Result (List ℕ) HttpFault
+first_in text = editor_in (before_first (λ b. b == 47) text)
+
 -- an editor and a number with a slash between them
 unfoldable pub token_in : List ℕ → Result Token HttpFault
 token_in text = do
-  editor ← editor_in (before_first (λ b. b == 47) text)
+  editor ← first_in text
   seq ← or_missing (decimal_in (after_first (λ b. b == 47) text))
   Ok (record { editor = editor; seq = seq })
 
@@ -128,3 +133,13 @@ asked method t body = do
   found ← place_at (path_of t)
   served ← allowed method found
   asked_at served t body
+
+-- ---- memory
+
+-- what has to be there before what a request carries takes memory: a field that may be the one that is looked for, or an editor's name
+abbrev pub TakesMemory : Place → List ℕ → List ℕ → Type 0
+TakesMemory place.Front t body = LacksPlainly (codes "p") (query_of t) → ⊥
+TakesMemory place.Post t body = ⊥
+TakesMemory place.Outcome t body = IsOk (first_in (behind 2 (path_of t)))
+TakesMemory place.Commands t body = LacksPlainly (codes "editor") body → ⊥
+TakesMemory place.Peers t body = IsOk (editor_of_message body)

@@ -1,9 +1,10 @@
 //! The paths that are served, and what each is for.
 
 ghost use Rattle.std.specs.Prelude.{◌≡◌, [], IfOk, IfErr, OnOk};
+ghost use Rattle.matchit.specs.Seek.{first};
 ghost use Rattle.press_text.specs.Gives.{Gives};
 ghost use Rattle.press_http.specs.Meanings.{Refuses};
-ghost use Rattle.press_http.specs.Routes.{method_at, pages, place_at, table, with_route};
+ghost use Rattle.press_http.specs.Routes.{method_at, pages, place_at, place_in, table, with_route};
 
 use crate::fault::HttpFault;
 use matchit::Router;
@@ -26,10 +27,7 @@ impl Place {
         ensures { Gives Refuses Ok result (place_at path.now) }
     {
         let routes = routes(alloc)?;
-        match routes.at(path) {
-            Ok(found) => Ok(*found.value),
-            Err(_) => Err(HttpFault::NotFound),
-        }
+        found(&routes, path)
     }
 
     /// The one method that is served there.
@@ -40,6 +38,16 @@ impl Place {
             Place::Front | Place::Post | Place::Outcome => "GET",
             Place::Commands | Place::Peers => "POST",
         }
+    }
+}
+
+// What the table has at that path. No memory is taken.
+fn found(routes: &Router<Place>, path: &str) -> Result<Place, HttpFault>
+    ensures { result ≡ place_in (first routes.now path.now) }
+{
+    match routes.at(path) {
+        Ok(found) => Ok(*found.value),
+        Err(_) => Err(HttpFault::NotFound),
     }
 }
 

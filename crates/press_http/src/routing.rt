@@ -1,10 +1,12 @@
 //! What a request asks for.
 
-ghost use Rattle.std.specs.Prelude.{◌≡◌, ◌==◌};
+ghost use Rattle.std.specs.Prelude.{◌≡◌, ◌≢◌, ◌==◌, Ok, Err, IsOk, codes};
 ghost use Rattle.std.specs.List.{before_first, after_first};
 ghost use Rattle.press_text.specs.Gives.{Gives};
 ghost use Rattle.press_http.specs.Meanings.{Refuses};
+ghost use Rattle.press_http.specs.Forms.{LacksPlainly};
 ghost use Rattle.press_http.specs.Routes as spec;
+ghost use Rattle.press_wire.specs.Memory.{editor_of_message};
 
 use crate::asked::Asked;
 use crate::command::form_command;
@@ -67,7 +69,8 @@ fn behind(path: &str, slashes: usize) -> &str
 }
 
 fn front(alloc: Global, query: &str) -> Result<Target, HttpFault>
-    ensures { Gives Refuses Ok result (spec.front_of query.now) }
+    ensures target { Gives Refuses Ok result (spec.front_of query.now) }
+    ensures memory { LacksPlainly (codes "p") query.now → result ≡ Ok Target.Front }
 {
     let form = Form {
         alloc,
@@ -83,7 +86,8 @@ fn front(alloc: Global, query: &str) -> Result<Target, HttpFault>
 }
 
 fn post(path: &str) -> Result<Target, HttpFault>
-    ensures { Gives Refuses Ok result (spec.post_of path.now) }
+    ensures target { Gives Refuses Ok result (spec.post_of path.now) }
+    ensures memory { result ≢ Err HttpFault.NoMemory }
 {
     match dec_u64(behind(path, 5)) {
         Some(id) => Ok(Target::Json(id)),
@@ -92,7 +96,8 @@ fn post(path: &str) -> Result<Target, HttpFault>
 }
 
 fn editor(alloc: Global, text: &str) -> Result<Name, HttpFault>
-    ensures { Gives Refuses Ok result (spec.editor_in text.now) }
+    ensures name { Gives Refuses Ok result (spec.editor_in text.now) }
+    ensures memory { result ≡ Err HttpFault.NoMemory → IsOk (spec.editor_in text.now) }
 {
     match Name::new(alloc, text) {
         Ok(name) => Ok(name),
@@ -103,7 +108,8 @@ fn editor(alloc: Global, text: &str) -> Result<Name, HttpFault>
 
 #[tactic(auto, unfolding(crate::specs::Routes::token_in))]
 fn token(alloc: Global, text: &str) -> Result<Token, HttpFault>
-    ensures { Gives Refuses Ok result (spec.token_in text.now) }
+    ensures token { Gives Refuses Ok result (spec.token_in text.now) }
+    ensures memory { result ≡ Err HttpFault.NoMemory → IsOk (spec.first_in text.now) }
 {
     let editor = editor(alloc, before_slash(text))?;
     match dec_u64(after_slash(text)) {
@@ -113,14 +119,17 @@ fn token(alloc: Global, text: &str) -> Result<Token, HttpFault>
 }
 
 fn outcome(alloc: Global, path: &str) -> Result<Target, HttpFault>
-    ensures { Gives Refuses Ok result (spec.outcome_of path.now) }
+    ensures target { Gives Refuses Ok result (spec.outcome_of path.now) }
+    ensures memory { result ≡ Err HttpFault.NoMemory
+        → IsOk (spec.first_in (spec.behind 2 path.now)) }
 {
     let token = token(alloc, behind(path, 2))?;
     Ok(Target::Result(token))
 }
 
 fn message(alloc: Global, body: &[u8]) -> Result<Message, HttpFault>
-    ensures { Gives Refuses Ok result (spec.message_in body.now) }
+    ensures message { Gives Refuses Ok result (spec.message_in body.now) }
+    ensures memory { result ≡ Err HttpFault.NoMemory → IsOk (editor_of_message body.now) }
 {
     match decode_msg(alloc, body) {
         Ok(message) => Ok(message),
@@ -131,7 +140,8 @@ fn message(alloc: Global, body: &[u8]) -> Result<Message, HttpFault>
 
 #[tactic(auto, unfolding(crate::specs::Routes::asked_at))]
 fn asked_at(alloc: Global, place: Place, target: &str, body: &[u8]) -> Result<Asked, HttpFault>
-    ensures { Gives Refuses Ok result (spec.asked_at place target.now body.now) }
+    ensures asked { Gives Refuses Ok result (spec.asked_at place target.now body.now) }
+    ensures memory { result ≡ Err HttpFault.NoMemory → spec.TakesMemory place target.now body.now }
 {
     match place {
         Place::Front => Ok(Asked::Page(front(alloc, query(target))?)),
@@ -143,7 +153,8 @@ fn asked_at(alloc: Global, place: Place, target: &str, body: &[u8]) -> Result<As
 }
 
 fn allowed(method: &str, place: Place) -> Result<Place, HttpFault>
-    ensures { Gives Refuses Ok result (spec.allowed method.now place) }
+    ensures place { Gives Refuses Ok result (spec.allowed method.now place) }
+    ensures memory { result ≢ Err HttpFault.NoMemory }
 {
     if method == place.method() {
         Ok(place)
