@@ -6,7 +6,7 @@ use Rattle.press_callbacks.specs.declared.script.Op.{Op}
 use Rattle.press_callbacks.specs.declared.script.Op.TheVariants as op
 use Rattle.press_callbacks.specs.declared.script.Ask.TheVariants as ask
 use Rattle.press_callbacks.specs.declared.script.Source.TheVariants.{Att, Content, Value, Last}
-use Rattle.press_callbacks.specs.declared.script.Part.TheVariants.{Lit, Raw}
+use Rattle.press_callbacks.specs.declared.script.Part.TheVariants.{Lit, Raw, Escaped}
 use Rattle.press_callbacks.specs.Kits.{Scripts}
 use Rattle.press_scan.specs.declared.tag_row.TagRow.{TagRow}
 use Rattle.press_scan.specs.declared.att_key.AttKey.TheVariants as key
