@@ -244,8 +244,8 @@ fn insert(
     site: OpenSite,
     draft: &Draft<'_>,
 ) -> (OpenSite, Result<u64, ApplyFault>)
-    ensures { Works (booted (kit_view kit.now) site.site (inserts_draft (meaning_in kit.now) draft.now))
-        site result }
+    ensures { Works (booted (kit_view kit.now) site.site
+        (inserts_draft (meaning_in kit.now) draft.now)) site result }
 {
     match Work::booted(alloc, kit, site) {
         Ok(mut work) => {
@@ -277,7 +277,8 @@ fn update(
 
 #[tactic(auto, using(crate::proofs::Refusals::boot_stopped, crate::proofs::Refusals::work_ended))]
 fn trash(alloc: Global, kit: &Kit, site: OpenSite, id: u64) -> (OpenSite, Result<u64, ApplyFault>)
-    ensures { Works (booted (kit_view kit.now) site.site (trashes (meaning_in kit.now) id)) site result }
+    ensures { Works (booted (kit_view kit.now) site.site (trashes (meaning_in kit.now) id))
+        site result }
 {
     match Work::booted(alloc, kit, site) {
         Ok(mut work) => {
@@ -304,7 +305,8 @@ fn untrash(alloc: Global, kit: &Kit, site: OpenSite, id: u64) -> (OpenSite, Resu
 
 #[tactic(auto, using(crate::proofs::Refusals::boot_stopped, crate::proofs::Refusals::work_ended))]
 fn delete(alloc: Global, kit: &Kit, site: OpenSite, id: u64) -> (OpenSite, Result<u64, ApplyFault>)
-    ensures { Works (booted (kit_view kit.now) site.site (deletes (meaning_in kit.now) id)) site result }
+    ensures { Works (booted (kit_view kit.now) site.site (deletes (meaning_in kit.now) id))
+        site result }
 {
     match Work::booted(alloc, kit, site) {
         Ok(mut work) => {
@@ -354,7 +356,8 @@ fn activate(
     site: OpenSite,
     plugin: &Name,
 ) -> (OpenSite, Result<u64, ApplyFault>)
-    ensures { Works (work_of (kit_view kit.now) site.site (Command.Activate plugin.now)) site result }
+    ensures { Works (work_of (kit_view kit.now) site.site (Command.Activate plugin.now))
+        site result }
 {
     if !has_plugin(kit, plugin) {
         return (site, Err(ApplyFault::NoSuchPlugin));

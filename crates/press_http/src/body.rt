@@ -17,9 +17,13 @@ pub fn read_body<R: Pieces>(
     rest: Items<u8>,
     count: usize,
 ) -> Result<Items<u8>, HttpFault>
-    ensures { (reads : List (Option (List ℕ))) × Reads R.gives (WantsBody count rest) reads reader.old reader.new
-        × Consumes (R.left reader.old) (R.left reader.new) (seen_by reads) × (length (seen_by reads) ≤ count)
-        × MatchResult result (λ body. (count ≤ length rest + length (seen_by reads)) × (body ≡ take count (rest ++ seen_by reads)))
+    ensures { (reads : List (Option (List ℕ)))
+        × Reads R.gives (WantsBody count rest) reads reader.old reader.new
+        × Consumes (R.left reader.old) (R.left reader.new) (seen_by reads)
+        × (length (seen_by reads) ≤ count)
+        × MatchResult result
+        (λ body. (count ≤ length rest + length (seen_by reads))
+        × (body ≡ take count (rest ++ seen_by reads)))
         (λ e. RefusesBody e count rest (seen_by reads) (R.left reader.new) × EndsBy e reads) }
 {
     let mut body = rest.into_vec();

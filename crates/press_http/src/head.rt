@@ -40,9 +40,13 @@ pub fn read_head<R: Pieces>(
     headers: &mut [HeaderSpan],
 ) -> Result<(Vec<u8>, RequestSpans), HttpFault>
     requires { length headers.old ≡ most_fields }
-    ensures { (reads : List (Option (List ℕ))) × Reads R.gives WantsHead reads reader.old reader.new
-        × Consumes (R.left reader.old) (R.left reader.new) (seen_by reads) × (length (seen_by reads) ≤ longest_head)
-        × MatchResult result (λ x. (x.0.items ≡ seen_by reads) × IsHead (seen_by reads) headers.new x.1 × MayGoOn reads)
+    ensures { (reads : List (Option (List ℕ)))
+        × Reads R.gives WantsHead reads reader.old reader.new
+        × Consumes (R.left reader.old) (R.left reader.new) (seen_by reads)
+        × (length (seen_by reads) ≤ longest_head)
+        × MatchResult result
+        (λ x. (x.0.items ≡ seen_by reads) × IsHead (seen_by reads) headers.new x.1
+        × MayGoOn reads)
         (λ e. RefusesHead e (seen_by reads) (R.left reader.new) × EndsBy e reads) }
 {
     let mut buf = Vec::new(alloc);

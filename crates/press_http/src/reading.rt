@@ -16,8 +16,10 @@ use std::io::Read;
 /// Reads a request as `read_request` does, and says which reads it makes: each one where what was seen before it is no
 /// whole request, and has no fault that more bytes leave; none after one that failed, or that found the end.
 pub fn read_pieces<R: Pieces>(alloc: Global, reader: &mut R) -> Result<Request, HttpFault>
-    ensures { (reads : List (Option (List ℕ))) × Reads R.gives WantsMore reads reader.old reader.new
-        × Consumes (R.left reader.old) (R.left reader.new) (seen_by reads) × (length (seen_by reads) ≤ longest_request)
+    ensures { (reads : List (Option (List ℕ)))
+        × Reads R.gives WantsMore reads reader.old reader.new
+        × Consumes (R.left reader.old) (R.left reader.new) (seen_by reads)
+        × (length (seen_by reads) ≤ longest_request)
         × MatchResult result (IsRequest (seen_by reads))
         (λ e. Refuses e (seen_by reads) (R.left reader.new) × EndsBy e reads) }
 {
@@ -38,7 +40,9 @@ pub fn read_pieces<R: Pieces>(alloc: Global, reader: &mut R) -> Result<Request, 
 /// Reads a request, in whatever pieces it comes, and no more than it needs but for what comes with its last piece. The
 /// first read that fails ends it with ReadFault; a read of nothing is the end of the input.
 pub fn read_request<R: Read>(alloc: Global, reader: &mut R) -> Result<Request, HttpFault>
-    ensures { (seen : List ℕ) × Consumes (R.remaining reader.old) (R.remaining reader.new) seen × (length seen ≤ longest_request)
+    ensures { (seen : List ℕ)
+        × Consumes (R.remaining reader.old) (R.remaining reader.new) seen
+        × (length seen ≤ longest_request)
         × MatchResult result (IsRequest seen) (λ e. Refuses e seen (R.remaining reader.new)) }
 {
     read_pieces(alloc, reader)

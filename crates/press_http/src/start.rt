@@ -72,7 +72,8 @@ fn parts(
     count: usize,
 ) -> Result<Start, AllocError>
     requires { IsHead seen.now headers.now spans.now }
-    ensures { IfOk result (λ s. (s.method ≡ span_bytes seen.now spans.now.method) × (s.target ≡ span_bytes seen.now spans.now.path)
+    ensures { IfOk result (λ s. (s.method ≡ span_bytes seen.now spans.now.method)
+        × (s.target ≡ span_bytes seen.now spans.now.path)
         × (s.count ≡ count) × (s.rest ≡ drop spans.now.len seen.now)) }
 {
     let method = method_of(alloc, spans.method.of(seen))?;
@@ -106,8 +107,10 @@ fn begun(
 
 /// Reads the head of a request, and judges it.
 pub fn read_start<R: Pieces>(alloc: Global, reader: &mut R) -> Result<Start, HttpFault>
-    ensures { (reads : List (Option (List ℕ))) × Reads R.gives WantsHead reads reader.old reader.new
-        × Consumes (R.left reader.old) (R.left reader.new) (seen_by reads) × (length (seen_by reads) ≤ longest_head)
+    ensures { (reads : List (Option (List ℕ)))
+        × Reads R.gives WantsHead reads reader.old reader.new
+        × Consumes (R.left reader.old) (R.left reader.new) (seen_by reads)
+        × (length (seen_by reads) ≤ longest_head)
         × MatchResult result (λ s. IsStart (seen_by reads) s × MayGoOn reads)
         (λ e. Refuses e (seen_by reads) (R.left reader.new) × EndsBy e reads) }
 {

@@ -18,9 +18,13 @@ pub fn read_some<R: Pieces>(
 ) -> Result<usize, HttpFault>
     requires { 0 < room }
     ensures { (read : Option (List ℕ)) × R.gives reader.old read reader.new
-        × Consumes (R.left reader.old) (R.left reader.new) (came read) × (length (came read) ≤ room)
-        × MatchResult result (λ n. (read ≡ Some (came read)) × (n ≡ length (came read)) × (out.new.items ≡ out.old.items ++ came read)
-        × (n ≡ 0 → IsAtEnd (R.left reader.new))) (λ e. Misses e read) }
+        × Consumes (R.left reader.old) (R.left reader.new) (came read)
+        × (length (came read) ≤ room)
+        × MatchResult result
+        (λ n. (read ≡ Some (came read)) × (n ≡ length (came read))
+        × (out.new.items ≡ out.old.items ++ came read)
+        × (n ≡ 0 → IsAtEnd (R.left reader.new)))
+        (λ e. Misses e read) }
 {
     let mut piece = [0u8; PIECE];
     let room = if room < PIECE { room } else { PIECE };
