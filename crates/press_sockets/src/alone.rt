@@ -1,11 +1,11 @@
 //! A node by itself behind a server: it has nobody to call.
 
-use crate::answers::{Answers, Errand, Outgoing, Time};
 use crate::screen::{Screen, Sort, refuse_form};
 use crate::turn::serve_turn;
 use press_acceptor::PromiseStore;
 use press_http::HttpFault;
 use press_node::Node;
+use press_server::{Answers, Errand, Outgoing, Time};
 use std::alloc::Global;
 use std::net::{IpAddr, SocketAddr};
 

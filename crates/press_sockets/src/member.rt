@@ -1,7 +1,5 @@
 //! A node of a cluster behind a server: its messages go out as requests, and those that come are delivered.
 
-use crate::answers::{Answers, Errand, Outgoing, Time};
-use crate::gathered::words_of;
 use crate::pace::{Due, Pace};
 use crate::peers::{Peers, member_at};
 use crate::screen::{
@@ -10,6 +8,7 @@ use crate::screen::{
 use press_acceptor::PromiseStore;
 use press_http::HttpFault;
 use press_node::{Event, Node, Served, serve_one};
+use press_server::{Answers, Errand, Outgoing, Time, words_of};
 use press_wire::{Body, Message, Node as Member, Slot, encode_msg};
 use std::alloc::{AllocError, Global};
 use std::collections::VecDeque;

@@ -1,8 +1,8 @@
 //! What a server does with a request before its node sees it.
 
-use crate::gathered::words_of;
 use press_http::{Asked, HttpFault, read_request, route, write_fault, write_reply};
 use press_page::{ContentKind, Reply};
+use press_server::words_of;
 use press_text::{Text, write_once};
 use std::alloc::{AllocError, Global};
 

@@ -6,16 +6,15 @@ ghost use Rattle.press_sockets.specs.Listening.{listening_line, where_of};
 ghost use Rattle.press_sockets.specs.Listening.Where.{alone_at, member_of};
 
 use crate::alone::Alone;
-use crate::answers::Answers;
 use crate::joining::{join, seat_of};
 use crate::screen::Screen;
 use crate::serve_fault::ServeFault;
-use crate::server::Server;
 use crate::setup::{Place, Setup};
 use crate::turn::wake;
 use press_acceptor::{MemoryStore, PromiseStore, StoreFault};
 use press_callbacks::Kit;
 use press_node::{Node, StartFault};
+use press_server::{Answers, Server};
 use press_store::SqlStore;
 use press_text::{Text, write_once};
 use press_wire::Node as Member;

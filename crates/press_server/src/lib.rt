@@ -1,0 +1,14 @@
+//! A server over readiness: connections that come, and requests that go out, none of which is waited for.
+#![tactic(auto)]
+
+mod answers;
+mod call;
+mod calls;
+mod gathered;
+mod server;
+mod talk;
+mod talks;
+
+pub use answers::{Answers, Errand, Outgoing, Time};
+pub use gathered::words_of;
+pub use server::Server;
