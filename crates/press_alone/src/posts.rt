@@ -1,6 +1,6 @@
 use press_apply::{Command, Stamped, Value, apply};
 use press_callbacks::Kit;
-use press_posts::Status;
+use press_posts::{Draft, Status};
 use press_site::{Site, Token};
 use press_text::{Moment, Name, Text};
 use std::alloc::Global;
@@ -14,12 +14,12 @@ pub fn post(alloc: Global, seq: u32) -> anyhow::Result<Stamped> {
             seq: u64::from(seq),
         },
         at,
-        command: Command::Insert {
+        command: Command::Insert(Draft {
             title: Text::from_str(alloc, "a title")?,
             content: Text::from_str(alloc, "some content")?,
             status: Status::Publish,
             date: at,
-        },
+        }),
     })
 }
 

@@ -3,6 +3,7 @@ use Rattle.std.proofs.Common.{◌≡◌, refl, sym, ap, ◌∙◌, ℕ, true, �
 use Rattle.std.specs.Cmp.{unsigned_Decides}
 use Rattle.std.proofs.lemmas.Bool.{and_from, and_parts}
 use Rattle.std.proofs.lemmas.Slice.Eq.{bytes_eq-Decides}
+use Rattle.press_posts.specs.declared.draft.Draft as post
 use Rattle.press_posts.specs.declared.status.Status.{Status}
 use Rattle.press_posts.specs.declared.status.Status.TheVariants.{Publish, Future, Draft, Pending, Private, Trash as InTrash}
 use Rattle.press_posts.specs.Transitions.{status_named, status_word}
@@ -41,10 +42,16 @@ told_back Pending = refl
 told_back Private = refl
 told_back InTrash = refl
 
+abbrev drafted : Parts → post.Draft
+drafted p = record { title = p.first; content = p.second; status = told p.status; date = p.date }
+
+drafted_back : (d : post.Draft) → record { title = d.title; content = d.content; status = told (status_word d.status); date = d.date } ≡ d
+drafted_back d = λ i. record { title = d.title; content = d.content; status = told_back d.status i; date = d.date }
+
 abbrev of_kind : Option CommandKind → Parts → Command
 of_kind None p = Tick
-of_kind (Some kind.Insert) p = Insert p.first p.second (told p.status) p.date
-of_kind (Some kind.Update) p = Update p.id p.first p.second (told p.status) p.date
+of_kind (Some kind.Insert) p = Insert (drafted p)
+of_kind (Some kind.Update) p = Update p.id (drafted p)
 of_kind (Some kind.Trash) p = Trash p.id
 of_kind (Some kind.Untrash) p = Untrash p.id
 of_kind (Some kind.Delete) p = Delete p.id
@@ -57,8 +64,8 @@ abbrev of_parts : Parts → Command
 of_parts p = of_kind (command_kind_of p.kind) p
 
 back : (c : Command) → of_parts (parts_of c) ≡ c
-back (Insert title content status date) = ap (λ (s : Status). Insert title content s date) (told_back status)
-back (Update id title content status date) = ap (λ (s : Status). Update id title content s date) (told_back status)
+back (Insert draft) = ap Insert (drafted_back draft)
+back (Update id draft) = ap (Update id) (drafted_back draft)
 back (Trash id) = refl
 back (Untrash id) = refl
 back (Delete id) = refl

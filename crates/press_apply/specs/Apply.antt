@@ -3,6 +3,7 @@
 -- (own; what the work of each command runs and fires: Plugin Handbook, Hooks and Cron; hook reference).
 use Rattle.std.specs.Prelude.{ℕ, max, List, [], ◌∷◌, if◌then◌else◌, Bool, true, false, ◌||◌, Option, Some, None, Result, Ok, Err, is_some, codes, decimal}
 use Rattle.press_callbacks.specs.Kits.{KitView, plugin_of}
+use Rattle.press_posts.specs.declared.draft.Draft.{Draft}
 use Rattle.press_posts.specs.declared.fault.PostFault.{PostFault}
 use Rattle.press_posts.specs.declared.fire.Fire.{Fire}
 use Rattle.press_posts.specs.declared.post.Move.{Move}
@@ -103,21 +104,23 @@ delete_fault (Some p) = if is_trash p.status then None else Some refused.NotTras
 -- ---- the work of each command: its checks, its filters, its effect and its fires
 
 -- the title is filtered before the content
-unfoldable pub saves : Meaning → (List ℕ → List ℕ → Effect) → List ℕ → List ℕ → State → Result (State × ℕ) ApplyFault
-saves callback effect title content s = do
-  t ← filtered callback (codes "title_save_pre") title s
-  c ← filtered callback (codes "content_save_pre") content t.state
-  does callback (effect t.text c.text) c.state
+unfoldable pub prepared : Meaning → Draft → State → Result (State × Draft) ApplyFault
+prepared callback d s = do
+  t ← filtered callback (codes "title_save_pre") d.title s
+  c ← filtered callback (codes "content_save_pre") d.content t.state
+  Ok (c.state, record d { title = t.text; content = c.text })
 
-unfoldable pub inserts : Meaning → List ℕ → List ℕ → Status → ℕ → State → Result (State × ℕ) ApplyFault
-inserts callback title content status date s = do
-  passed ← passes (wanted_fault status)
-  saves callback (λ t c. effect.Insert t c status date) title content s
+unfoldable pub inserts : Meaning → Draft → State → Result (State × ℕ) ApplyFault
+inserts callback d s = do
+  passed ← passes (wanted_fault d.status)
+  done ← prepared callback d s
+  does callback (effect.Insert done.1) done.0
 
-unfoldable pub updates : Meaning → ℕ → List ℕ → List ℕ → Status → ℕ → State → Result (State × ℕ) ApplyFault
-updates callback id title content status date s = do
-  passed ← passes (update_fault status (post_at s.site.posts id))
-  saves callback (λ t c. effect.Edit id t c status date) title content s
+unfoldable pub updates : Meaning → ℕ → Draft → State → Result (State × ℕ) ApplyFault
+updates callback id d s = do
+  passed ← passes (update_fault d.status (post_at s.site.posts id))
+  done ← prepared callback d s
+  does callback (effect.Edit id done.1) done.0
 
 -- an action before the change, and one after its fires
 unfoldable pub between : Meaning → List ℕ → Effect → List ℕ → ℕ → State → Result (State × ℕ) ApplyFault
@@ -188,8 +191,8 @@ alone (Ok after) = Ok (after.0, after.1.id)
 alone (Err fault) = Err (Site fault)
 
 abbrev pub work_of : KitView → SiteView → Command → Result (SiteView × ℕ) ApplyFault
-work_of kit s (Insert title content status date) = booted kit s (inserts (callbacks_on kit) title content status date)
-work_of kit s (Update id title content status date) = booted kit s (updates (callbacks_on kit) id title content status date)
+work_of kit s (Insert draft) = booted kit s (inserts (callbacks_on kit) draft)
+work_of kit s (Update id draft) = booted kit s (updates (callbacks_on kit) id draft)
 work_of kit s (Trash id) = booted kit s (trashes (callbacks_on kit) id)
 work_of kit s (Untrash id) = booted kit s (untrashes (callbacks_on kit) id)
 work_of kit s (Delete id) = booted kit s (deletes (callbacks_on kit) id)

@@ -6,8 +6,8 @@ use Rattle.press_apply.specs.declared.kind.CommandKind.{CommandKind}
 use Rattle.press_apply.specs.declared.kind.CommandKind.TheVariants as kind
 
 abbrev pub kind_of_command : Command → CommandKind
-kind_of_command (command.Insert title content status date) = kind.Insert
-kind_of_command (command.Update id title content status date) = kind.Update
+kind_of_command (command.Insert draft) = kind.Insert
+kind_of_command (command.Update id draft) = kind.Update
 kind_of_command (command.Trash id) = kind.Trash
 kind_of_command (command.Untrash id) = kind.Untrash
 kind_of_command (command.Delete id) = kind.Delete

@@ -18,8 +18,8 @@ pub record Parts : Type 0 where
   pub second : List ℕ
 
 abbrev pub id_in : Command → ℕ
-id_in (Insert title content status date) = 0
-id_in (Update id title content status date) = id
+id_in (Insert draft) = 0
+id_in (Update id draft) = id
 id_in (Trash id) = id
 id_in (Untrash id) = id
 id_in (Delete id) = id
@@ -29,8 +29,8 @@ id_in (Deactivate plugin) = 0
 id_in Tick = 0
 
 abbrev pub date_in : Command → ℕ
-date_in (Insert title content status date) = date
-date_in (Update id title content status date) = date
+date_in (Insert draft) = draft.date
+date_in (Update id draft) = draft.date
 date_in (Trash id) = 0
 date_in (Untrash id) = 0
 date_in (Delete id) = 0
@@ -40,8 +40,8 @@ date_in (Deactivate plugin) = 0
 date_in Tick = 0
 
 abbrev pub status_in : Command → List ℕ
-status_in (Insert title content status date) = status_word status
-status_in (Update id title content status date) = status_word status
+status_in (Insert draft) = status_word draft.status
+status_in (Update id draft) = status_word draft.status
 status_in (Trash id) = []
 status_in (Untrash id) = []
 status_in (Delete id) = []
@@ -51,8 +51,8 @@ status_in (Deactivate plugin) = []
 status_in Tick = []
 
 abbrev pub first_in : Command → List ℕ
-first_in (Insert title content status date) = title
-first_in (Update id title content status date) = title
+first_in (Insert draft) = draft.title
+first_in (Update id draft) = draft.title
 first_in (Trash id) = []
 first_in (Untrash id) = []
 first_in (Delete id) = []
@@ -62,8 +62,8 @@ first_in (Deactivate plugin) = plugin
 first_in Tick = []
 
 abbrev pub second_in : Command → List ℕ
-second_in (Insert title content status date) = content
-second_in (Update id title content status date) = content
+second_in (Insert draft) = draft.content
+second_in (Update id draft) = draft.content
 second_in (Trash id) = []
 second_in (Untrash id) = []
 second_in (Delete id) = []

@@ -12,9 +12,7 @@ use Rattle.press_site.specs.declared.token.Outcome.TheVariants.{Done}
 use Rattle.press_site.specs.Open.{Open, begun_of}
 use Rattle.press_site.specs.Outcomes.{outcome_of}
 use Rattle.press_site.specs.SiteView.{SiteView}
-use Rattle.press_apply.specs.Apply.{callbacks_on, inserts, updates}
-use Rattle.press_apply.specs.declared.draft.Draft.{Draft}
-use Rattle.press_apply.specs.declared.draft.Edit.{Edit}
+use Rattle.press_apply.specs.Apply.{callbacks_on}
 use Rattle.press_apply.specs.declared.fault.ApplyFault.{ApplyFault}
 use Rattle.press_apply.specs.declared.fault.ApplyFault.TheVariants.{NoMemory, Limit, NoSuchPlugin, Site}
 use Rattle.press_apply.specs.declared.value.Value.{Value}
@@ -28,12 +26,6 @@ state_in w = state_of (standing (λ o. o.site) (λ o. Some (begun_of o)) w.stage
 -- what a kit's callbacks come to
 abbrev pub meaning_in : {t : _} {F : _} {g : _} → Kit t F g → Meaning
 meaning_in kit = callbacks_on (kit_view kit)
-
-abbrev pub inserts_draft : Meaning → Draft → State → Result (State × ℕ) ApplyFault
-inserts_draft callback d s = inserts callback d.title.now d.content.now d.status d.date s
-
-abbrev pub updates_by : Meaning → Edit → State → Result (State × ℕ) ApplyFault
-updates_by callback e s = updates callback e.id e.draft.title.now e.draft.content.now e.draft.status e.draft.date s
 
 -- a refusal is the meaning's own; out of memory says nothing
 abbrev pub Refuses : {A : Type 0} → ApplyFault → Result A ApplyFault → Type 0

@@ -6,16 +6,18 @@ ghost use Rattle.press_site.specs.Effects.{effect_on};
 ghost use Rattle.press_site.specs.Open.{begun_of};
 ghost use Rattle.press_site.specs.Outcomes.{outcome_of};
 ghost use Rattle.press_apply.specs.Apply.{alone, applied, applied_where, at_moment, booted};
-ghost use Rattle.press_apply.specs.Apply.{deletes, does, ticks, trashes, untrashes, with_kept, work_of};
+ghost use Rattle.press_apply.specs.Apply.{deletes, does, inserts, ticks, trashes, untrashes};
+ghost use Rattle.press_apply.specs.Apply.{updates, with_kept, work_of};
 ghost use Rattle.press_apply.specs.Faults.{apply_fault_number};
-ghost use Rattle.press_apply.specs.Works.{Refuses, TakesNone, Works, inserts_draft, meaning_in, updates_by};
+ghost use Rattle.press_apply.specs.Works.{Refuses, TakesNone, Works, meaning_in};
 
 use crate::command::{Command, Stamped};
-use crate::draft::{Draft, Edit, Setting};
+use crate::edit::{Edit, Setting};
 use crate::fault::ApplyFault;
 use crate::value::Value;
 use crate::work::Work;
 use press_callbacks::Kit;
+use press_posts::Draft;
 use press_site::{Effect, OpenSite, Outcome, Site, Token};
 use press_text::{Copied, Moment, Name};
 use std::alloc::{AllocError, Global};
@@ -191,46 +193,14 @@ fn work(
     ensures { Works (work_of (kit_view kit.now) site.site command.now) site result }
 {
     match command {
-        Command::Insert {
-            title,
-            content,
-            status,
-            date,
-        } => {
-            let (status, date) = (*status, *date);
-            let draft = Draft {
-                title,
-                content,
-                status,
-                date,
-            };
-            insert(alloc, kit, site, &draft)
-        }
-        Command::Update {
-            id,
-            title,
-            content,
-            status,
-            date,
-        } => {
-            let (id, status, date) = (*id, *status, *date);
-            let draft = Draft {
-                title,
-                content,
-                status,
-                date,
-            };
-            update(alloc, kit, site, &Edit { id, draft })
-        }
+        Command::Insert(draft) => insert(alloc, kit, site, draft),
+        Command::Update { id, draft } => update(alloc, kit, site, Edit { id: *id, draft }),
         Command::Trash { id } => trash(alloc, kit, site, *id),
         Command::Untrash { id } => untrash(alloc, kit, site, *id),
         Command::Delete { id } => delete(alloc, kit, site, *id),
-        Command::SetOption { name, value } => set_option(
-            alloc,
-            kit,
-            site,
-            &Setting { name, value },
-        ),
+        Command::SetOption { name, value } => {
+            set_option(alloc, kit, site, Setting { name, value })
+        }
         Command::Activate { plugin } => activate(alloc, kit, site, plugin),
         Command::Deactivate { plugin } => deactivate(alloc, site, plugin),
         Command::Tick => tick(alloc, kit, site),
@@ -242,10 +212,10 @@ fn insert(
     alloc: Global,
     kit: &Kit,
     site: OpenSite,
-    draft: &Draft<'_>,
+    draft: &Draft,
 ) -> (OpenSite, Result<u64, ApplyFault>)
     ensures { Works (booted (kit_view kit.now) site.site
-        (inserts_draft (meaning_in kit.now) draft.now)) site result }
+        (inserts (meaning_in kit.now) draft.now)) site result }
 {
     match Work::booted(alloc, kit, site) {
         Ok(mut work) => {
@@ -261,9 +231,9 @@ fn update(
     alloc: Global,
     kit: &Kit,
     site: OpenSite,
-    edit: &Edit<'_>,
+    edit: Edit<'_>,
 ) -> (OpenSite, Result<u64, ApplyFault>)
-    ensures { Works (booted (kit_view kit.now) site.site (updates_by (meaning_in kit.now) edit.now))
+    ensures { Works (booted (kit_view kit.now) site.site (updates (meaning_in kit.now) edit.id edit.draft.now))
         site result }
 {
     match Work::booted(alloc, kit, site) {
@@ -322,11 +292,11 @@ fn set_option(
     alloc: Global,
     kit: &Kit,
     site: OpenSite,
-    setting: &Setting<'_>,
+    setting: Setting<'_>,
 ) -> (OpenSite, Result<u64, ApplyFault>)
     ensures { Works (booted (kit_view kit.now) site.site
         (does (meaning_in kit.now)
-        (Effect.SetOption setting.now.name.now setting.now.value.now))) site result }
+        (Effect.SetOption setting.name.now setting.value.now))) site result }
 {
     match Work::booted(alloc, kit, site) {
         Ok(mut work) => {

@@ -2,7 +2,7 @@
 
 ghost use Rattle.std.specs.Prelude.{◌≡◌, IfOk};
 
-use press_posts::Status;
+use press_posts::Draft;
 use press_site::Token;
 use press_text::{Copied, Moment, Name, OptName, Text};
 use std::alloc::{AllocError, Global};
@@ -10,38 +10,14 @@ use std::alloc::{AllocError, Global};
 /// What is to be done to a site.
 #[derive(Debug, Drop)]
 pub enum Command {
-    Insert {
-        title: Text,
-        content: Text,
-        status: Status,
-        date: Moment,
-    },
-    Update {
-        id: u64,
-        title: Text,
-        content: Text,
-        status: Status,
-        date: Moment,
-    },
-    Trash {
-        id: u64,
-    },
-    Untrash {
-        id: u64,
-    },
-    Delete {
-        id: u64,
-    },
-    SetOption {
-        name: OptName,
-        value: Text,
-    },
-    Activate {
-        plugin: Name,
-    },
-    Deactivate {
-        plugin: Name,
-    },
+    Insert(Draft),
+    Update { id: u64, draft: Draft },
+    Trash { id: u64 },
+    Untrash { id: u64 },
+    Delete { id: u64 },
+    SetOption { name: OptName, value: Text },
+    Activate { plugin: Name },
+    Deactivate { plugin: Name },
     /// Does what is due at the command's moment.
     Tick,
 }
@@ -70,29 +46,10 @@ impl Command {
         ensures { IfOk result (λ c. c ≡ self.now) }
     {
         match self {
-            Command::Insert {
-                title,
-                content,
-                status,
-                date,
-            } => Ok(Command::Insert {
-                title: title.copy(alloc)?,
-                content: content.copy(alloc)?,
-                status: *status,
-                date: *date,
-            }),
-            Command::Update {
-                id,
-                title,
-                content,
-                status,
-                date,
-            } => Ok(Command::Update {
+            Command::Insert(draft) => Ok(Command::Insert(draft.copy(alloc)?)),
+            Command::Update { id, draft } => Ok(Command::Update {
                 id: *id,
-                title: title.copy(alloc)?,
-                content: content.copy(alloc)?,
-                status: *status,
-                date: *date,
+                draft: draft.copy(alloc)?,
             }),
             Command::Trash { id } => Ok(Command::Trash { id: *id }),
             Command::Untrash { id } => Ok(Command::Untrash { id: *id }),

@@ -25,7 +25,7 @@ impl CommandKind {
         ensures { result ≡ kind_of_command command.now }
     {
         match command {
-            Command::Insert { .. } => CommandKind::Insert,
+            Command::Insert(_) => CommandKind::Insert,
             Command::Update { .. } => CommandKind::Update,
             Command::Trash { .. } => CommandKind::Trash,
             Command::Untrash { .. } => CommandKind::Untrash,

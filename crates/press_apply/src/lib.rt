@@ -5,7 +5,7 @@ mod actions;
 mod applies;
 mod checks;
 mod command;
-mod draft;
+mod edit;
 mod fault;
 mod kind;
 mod laws;

@@ -16,7 +16,7 @@ impl Command {
             | Command::Trash { id }
             | Command::Untrash { id }
             | Command::Delete { id } => *id,
-            Command::Insert { .. }
+            Command::Insert(_)
             | Command::SetOption { .. }
             | Command::Activate { .. }
             | Command::Deactivate { .. }
@@ -28,7 +28,7 @@ impl Command {
         ensures { result ≡ date_in self.now }
     {
         match self {
-            Command::Insert { date, .. } | Command::Update { date, .. } => date.seconds(),
+            Command::Insert(draft) | Command::Update { draft, .. } => draft.date.seconds(),
             Command::Trash { .. }
             | Command::Untrash { .. }
             | Command::Delete { .. }
@@ -43,7 +43,7 @@ impl Command {
         ensures { result.now ≡ status_in self.now }
     {
         match self {
-            Command::Insert { status, .. } | Command::Update { status, .. } => status.word(),
+            Command::Insert(draft) | Command::Update { draft, .. } => draft.status.word(),
             Command::Trash { .. }
             | Command::Untrash { .. }
             | Command::Delete { .. }
@@ -58,7 +58,7 @@ impl Command {
         ensures { result.now ≡ first_in self.now }
     {
         match self {
-            Command::Insert { title, .. } | Command::Update { title, .. } => title.as_str(),
+            Command::Insert(draft) | Command::Update { draft, .. } => draft.title.as_str(),
             Command::SetOption { name, .. } => name.as_str(),
             Command::Activate { plugin } | Command::Deactivate { plugin } => plugin.as_str(),
             Command::Trash { .. }
@@ -72,7 +72,7 @@ impl Command {
         ensures { result.now ≡ second_in self.now }
     {
         match self {
-            Command::Insert { content, .. } | Command::Update { content, .. } => content.as_str(),
+            Command::Insert(draft) | Command::Update { draft, .. } => draft.content.as_str(),
             Command::SetOption { value, .. } => value.as_str(),
             Command::Activate { .. }
             | Command::Deactivate { .. }

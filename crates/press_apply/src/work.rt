@@ -6,17 +6,17 @@ ghost use Rattle.press_callbacks.specs.Kits.{kit_view, plugins_in};
 ghost use Rattle.press_events.specs.DueEvents.{due};
 ghost use Rattle.press_run.specs.Boot.{boot_actions};
 ghost use Rattle.press_apply.specs.Apply.{between, boots, changes, deletes, does, filtered, fires};
-ghost use Rattle.press_apply.specs.Apply.{passes, saves, takes, takes_all, ticks, trashes, untrashes};
-ghost use Rattle.press_apply.specs.Works.{Boots, GoesBack, Steps, inserts_draft, meaning_in, state_in};
-ghost use Rattle.press_apply.specs.Works.{updates_by};
+ghost use Rattle.press_apply.specs.Apply.{inserts, passes, prepared, takes, takes_all, ticks, trashes};
+ghost use Rattle.press_apply.specs.Apply.{untrashes, updates};
+ghost use Rattle.press_apply.specs.Works.{Boots, GoesBack, Steps, meaning_in, state_in};
 
 use crate::actions::{about, event_fires};
 use crate::checks::{delete_fault, move_fault, update_fault, wanted_fault};
-use crate::draft::{Draft, Edit};
+use crate::edit::Edit;
 use crate::fault::ApplyFault;
 use press_callbacks::Kit;
 use press_events::Event;
-use press_posts::{Fire, Move};
+use press_posts::{Draft, Fire, Move};
 use press_run::{Job, RunFault, Stage, boot, boot_actions};
 use press_site::{Changed, Effect, OpenSite, SiteFault};
 use press_text::{Copied, HookName, Items, OptName, Text, Texts};
@@ -138,55 +138,43 @@ impl Work {
 
     /// A new post, whose title is filtered before its content.
     #[tactic(auto, unfolding(crate::specs::Apply::inserts), using(crate::proofs::Refusals::handed_on))]
-    pub fn insert(&mut self, kit: &Kit, draft: &Draft<'_>) -> Result<u64, ApplyFault>
+    pub fn insert(&mut self, kit: &Kit, draft: &Draft) -> Result<u64, ApplyFault>
         ensures steps { Steps (λ s id. (s, id))
-            (inserts_draft (meaning_in kit.now) draft.now (state_in self.old))
-            self.new result }
+            (inserts (meaning_in kit.now) draft.now (state_in self.old)) self.new result }
         ensures back { GoesBack self.old self.new }
     {
         passes(wanted_fault(draft.status))?;
-        self.insert_filtered(kit, draft)
-    }
-
-    #[tactic(auto, unfolding(crate::specs::Apply::saves), using(crate::proofs::Refusals::handed_on))]
-    fn insert_filtered(&mut self, kit: &Kit, draft: &Draft<'_>) -> Result<u64, ApplyFault>
-        ensures steps { Steps (λ s id. (s, id))
-            (saves (meaning_in kit.now) (λ t c. Effect.Insert t c draft.now.status draft.now.date)
-            draft.now.title.now draft.now.content.now (state_in self.old))
-            self.new result }
-        ensures back { GoesBack self.old self.new }
-    {
-        let title = self.filtered(kit, "title_save_pre", draft.title)?;
-        let content = self.filtered(kit, "content_save_pre", draft.content)?;
-        let effect = Effect::Insert {
-            title,
-            content,
-            status: draft.status,
-            date: draft.date,
-        };
-        Ok(self.does(kit, effect)?)
+        let draft = self.prepared(kit, draft)?;
+        Ok(self.does(kit, Effect::Insert(draft))?)
     }
 
     /// Another title, content, status and date for a post, filtered likewise.
-    #[tactic(auto, unfolding(crate::specs::Apply::updates, crate::specs::Apply::saves), using(crate::proofs::Refusals::handed_on))]
-    pub fn update(&mut self, kit: &Kit, edit: &Edit<'_>) -> Result<u64, ApplyFault>
+    #[tactic(auto, unfolding(crate::specs::Apply::updates), using(crate::proofs::Refusals::handed_on))]
+    pub fn update(&mut self, kit: &Kit, edit: Edit<'_>) -> Result<u64, ApplyFault>
         ensures steps { Steps (λ s id. (s, id))
-            (updates_by (meaning_in kit.now) edit.now (state_in self.old))
+            (updates (meaning_in kit.now) edit.id edit.draft.now (state_in self.old))
             self.new result }
         ensures back { GoesBack self.old self.new }
     {
-        let draft = &edit.draft;
-        passes(update_fault(draft.status, self.stage.site.site().post(edit.id)))?;
-        let title = self.filtered(kit, "title_save_pre", draft.title)?;
-        let content = self.filtered(kit, "content_save_pre", draft.content)?;
-        let effect = Effect::Edit {
-            id: edit.id,
-            title,
-            content,
+        let Edit { id, draft } = edit;
+        passes(update_fault(draft.status, self.stage.site.site().post(id)))?;
+        let draft = self.prepared(kit, draft)?;
+        Ok(self.does(kit, Effect::Edit { id, draft })?)
+    }
+
+    // A draft whose title and content are filtered.
+    #[tactic(auto, unfolding(crate::specs::Apply::prepared), using(crate::proofs::Refusals::handed_on))]
+    fn prepared(&mut self, kit: &Kit, draft: &Draft) -> Result<Draft, ApplyFault>
+        ensures steps { Steps (λ s d. (s, d))
+            (prepared (meaning_in kit.now) draft.now (state_in self.old)) self.new result }
+        ensures back { GoesBack self.old self.new }
+    {
+        Ok(Draft {
+            title: self.filtered(kit, "title_save_pre", &draft.title)?,
+            content: self.filtered(kit, "content_save_pre", &draft.content)?,
             status: draft.status,
             date: draft.date,
-        };
-        Ok(self.does(kit, effect)?)
+        })
     }
 
     // A change of a post between an action before it and one after its fires.

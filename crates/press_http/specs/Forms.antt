@@ -6,6 +6,7 @@ use Rattle.form_urlencoded.specs.Form.{decode, raw_pairs, IsPlainText}
 use Rattle.press_text.specs.Decimals.{decimal_in}
 use Rattle.press_text.specs.Moments.{moment_of}
 use Rattle.press_text.specs.Names.{is_name}
+use Rattle.press_posts.specs.declared.draft.Draft as post
 use Rattle.press_posts.specs.declared.status.Status.{Status}
 use Rattle.press_posts.specs.declared.status.Status.TheVariants.{Draft}
 use Rattle.press_posts.specs.Transitions.{status_named}
@@ -18,7 +19,6 @@ use Rattle.press_apply.specs.declared.kind.CommandKind.TheVariants as kind
 use Rattle.press_apply.specs.Kinds.{kind_named}
 use Rattle.press_http.specs.declared.fault.HttpFault.{HttpFault}
 use Rattle.press_http.specs.declared.fault.HttpFault.TheVariants.{BadForm}
-use Rattle.press_http.specs.declared.command.Written.{Written}
 use Rattle.press_http.specs.Meanings.{◌>>=◌, or_fault, made}
 
 -- ---- fields
@@ -76,22 +76,19 @@ date_at now form = or_bad (default now moment_in (first_named (codes "date") for
 
 -- ---- commands, at their moment
 
-unfoldable pub written : ℕ → List ℕ → Result Written HttpFault
-written now form = do
+unfoldable pub draft : ℕ → List ℕ → Result post.Draft HttpFault
+draft now form = do
   title ← text_at (codes "title") form
   content ← text_at (codes "content") form
   status ← status_at form
   date ← date_at now form
   Ok (record { title = title; content = content; status = status; date = date })
 
-abbrev pub inserts : Written → Command
-inserts w = command.Insert w.title w.content w.status w.date
-
 unfoldable pub updated : ℕ → List ℕ → Result Command HttpFault
 updated now form = do
   id ← number_at (codes "id") form
-  w ← written now form
-  Ok (command.Update id w.title w.content w.status w.date)
+  d ← draft now form
+  Ok (command.Update id d)
 
 unfoldable pub option_set : List ℕ → Result Command HttpFault
 option_set form = do
@@ -103,7 +100,7 @@ abbrev pub kind_at : List ℕ → Result CommandKind HttpFault
 kind_at form = or_bad (option_and_then kind_named (first_named (codes "kind") form))
 
 unfoldable pub command_by : CommandKind → ℕ → List ℕ → Result Command HttpFault
-command_by kind.Insert now form = made inserts (written now form)
+command_by kind.Insert now form = made command.Insert (draft now form)
 command_by kind.Update now form = updated now form
 command_by kind.Trash now form = made command.Trash (number_at (codes "id") form)
 command_by kind.Untrash now form = made command.Untrash (number_at (codes "id") form)

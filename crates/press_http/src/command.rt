@@ -8,19 +8,10 @@ ghost use Rattle.press_http.specs.Meanings.{Refuses};
 use crate::fault::HttpFault;
 use crate::form::{Form, moment_in};
 use press_apply::{Command, CommandKind, Stamped};
-use press_posts::Status;
+use press_posts::{Draft, Status};
 use press_site::Token;
-use press_text::{Moment, Text};
+use press_text::Moment;
 use std::alloc::Global;
-
-/// A post as it is written.
-#[derive(Debug, Drop)]
-pub(crate) struct Written {
-    pub title: Text,
-    pub content: Text,
-    pub status: Status,
-    pub date: Moment,
-}
 
 impl<'f> Form<'f> {
     // Draft, where none is given.
@@ -59,11 +50,11 @@ impl<'f> Form<'f> {
         }
     }
 
-    #[tactic(auto, unfolding(crate::specs::Forms::written))]
-    fn written(&self, now: Moment) -> Result<Written, HttpFault>
-        ensures { Gives Refuses Ok result (spec.written now self.now.bytes.now) }
+    #[tactic(auto, unfolding(crate::specs::Forms::draft))]
+    fn draft(&self, now: Moment) -> Result<Draft, HttpFault>
+        ensures { Gives Refuses Ok result (spec.draft now self.now.bytes.now) }
     {
-        Ok(Written {
+        Ok(Draft {
             title: self.text("title")?,
             content: self.text("content")?,
             status: self.status()?,
@@ -75,19 +66,9 @@ impl<'f> Form<'f> {
     fn update(&self, now: Moment) -> Result<Command, HttpFault>
         ensures { Gives Refuses Ok result (spec.updated now self.now.bytes.now) }
     {
-        let id = self.number("id")?;
-        let Written {
-            title,
-            content,
-            status,
-            date,
-        } = self.written(now)?;
         Ok(Command::Update {
-            id,
-            title,
-            content,
-            status,
-            date,
+            id: self.number("id")?,
+            draft: self.draft(now)?,
         })
     }
 
@@ -106,20 +87,7 @@ impl<'f> Form<'f> {
         ensures { Gives Refuses Ok result (spec.command_by kind now self.now.bytes.now) }
     {
         match kind {
-            CommandKind::Insert => {
-                let Written {
-                    title,
-                    content,
-                    status,
-                    date,
-                } = self.written(now)?;
-                Ok(Command::Insert {
-                    title,
-                    content,
-                    status,
-                    date,
-                })
-            }
+            CommandKind::Insert => Ok(Command::Insert(self.draft(now)?)),
             CommandKind::Update => self.update(now),
             CommandKind::Trash => Ok(Command::Trash {
                 id: self.number("id")?,

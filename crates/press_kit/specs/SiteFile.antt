@@ -4,6 +4,7 @@ use Rattle.std.specs.Prelude.{ℕ, List, length, nat_le, if◌then◌else◌, Op
 use Rattle.serde_json.specs.Data.{Data}
 use Rattle.serde_json.specs.Find.{get, as_str}
 use Rattle.press_text.specs.Moments.{moment_of}
+use Rattle.press_posts.specs.declared.draft.Draft as post
 use Rattle.press_posts.specs.declared.status.Status.{Status}
 use Rattle.press_posts.specs.declared.status.Status.TheVariants.{Draft}
 use Rattle.press_posts.specs.Transitions.{status_named}
@@ -16,7 +17,6 @@ use Rattle.press_apply.specs.declared.kind.CommandKind.TheVariants as kind
 use Rattle.press_apply.specs.Kinds.{kind_named}
 use Rattle.press_kit.specs.declared.place.Place.{Place}
 use Rattle.press_kit.specs.declared.place.Place.TheVariants as place
-use Rattle.press_kit.specs.declared.commands.Written.{Written}
 use Rattle.press_kit.specs.Fields.{◌>>=◌, made, or_bad, text_at, name_at, number_in, number_at, default, list_at, each}
 use Rattle.press_kit.specs.KitFile.{file_in}
 
@@ -41,22 +41,19 @@ date_at now at d = or_bad at (default now moment_in (get (codes "date") d))
 
 -- ---- commands, at their moment
 
-unfoldable pub written : ℕ → Place → Data → Result Written Place
-written now at d = do
+unfoldable pub draft : ℕ → Place → Data → Result post.Draft Place
+draft now at d = do
   title ← text_at at (codes "title") d
   content ← text_at at (codes "content") d
   status ← status_at at d
   date ← date_at now at d
   Ok (record { title = title; content = content; status = status; date = date })
 
-abbrev pub inserts : Written → Command
-inserts w = command.Insert w.title w.content w.status w.date
-
 unfoldable pub updated : ℕ → Place → Data → Result Command Place
 updated now at d = do
   id ← number_at at (codes "id") d
-  w ← written now at d
-  Ok (command.Update id w.title w.content w.status w.date)
+  post ← draft now at d
+  Ok (command.Update id post)
 
 unfoldable pub option_set : Place → Data → Result Command Place
 option_set at d = do
@@ -65,7 +62,7 @@ option_set at d = do
   Ok (command.SetOption name value)
 
 unfoldable pub command_by : CommandKind → ℕ → Place → Data → Result Command Place
-command_by kind.Insert now at d = made inserts (written now at d)
+command_by kind.Insert now at d = made command.Insert (draft now at d)
 command_by kind.Update now at d = updated now at d
 command_by kind.Trash now at d = made command.Trash (number_at at (codes "id") d)
 command_by kind.Untrash now at d = made command.Untrash (number_at at (codes "id") d)

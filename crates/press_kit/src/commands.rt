@@ -15,20 +15,11 @@ use crate::fields::Fields;
 use crate::listed::Listed;
 use crate::place::Place;
 use press_apply::{Command, CommandKind, Stamped};
-use press_posts::Status;
+use press_posts::{Draft, Status};
 use press_site::Token;
-use press_text::{Moment, Text};
+use press_text::Moment;
 use serde_json::Value;
 use std::alloc::Global;
-
-/// A post as it is written.
-#[derive(Debug, Drop)]
-pub(crate) struct Written {
-    pub title: Text,
-    pub content: Text,
-    pub status: Status,
-    pub date: Moment,
-}
 
 fn status(value: &Value) -> Option<Status>
     ensures { result ≡ spec.status_in (view value.now) }
@@ -82,14 +73,14 @@ impl<'v> Fields<'v> {
         }
     }
 
-    #[tactic(auto, unfolding(crate::specs::SiteFile::written))]
-    fn written(&self, now: Moment) -> Result<Written, KitFileFault>
+    #[tactic(auto, unfolding(crate::specs::SiteFile::draft))]
+    fn draft(&self, now: Moment) -> Result<Draft, KitFileFault>
         ensures gives { Gives Refuses Ok result
-            (spec.written now self.now.at (view self.now.value.now)) }
+            (spec.draft now self.now.at (view self.now.value.now)) }
         ensures memory { GrowsBehind result
             (text_at self.now.at (codes "title") (view self.now.value.now)) }
     {
-        Ok(Written {
+        Ok(Draft {
             title: self.text("title")?,
             content: self.text("content")?,
             status: self.status()?,
@@ -104,19 +95,9 @@ impl<'v> Fields<'v> {
         ensures memory { GrowsBehind result
             (title_behind_id self.now.at (view self.now.value.now)) }
     {
-        let id = self.number("id")?;
-        let Written {
-            title,
-            content,
-            status,
-            date,
-        } = self.written(now)?;
         Ok(Command::Update {
-            id,
-            title,
-            content,
-            status,
-            date,
+            id: self.number("id")?,
+            draft: self.draft(now)?,
         })
     }
 
@@ -140,20 +121,7 @@ impl<'v> Fields<'v> {
         ensures memory { GrowsBehind result (first_of kind self.now.at (view self.now.value.now)) }
     {
         match kind {
-            CommandKind::Insert => {
-                let Written {
-                    title,
-                    content,
-                    status,
-                    date,
-                } = self.written(now)?;
-                Ok(Command::Insert {
-                    title,
-                    content,
-                    status,
-                    date,
-                })
-            }
+            CommandKind::Insert => Ok(Command::Insert(self.draft(now)?)),
             CommandKind::Update => self.update(now),
             CommandKind::Trash => Ok(Command::Trash {
                 id: self.number("id")?,

@@ -7,8 +7,7 @@ use form_urlencoded::Serializer;
 use itoa::Buffer;
 use press_apply::{Command, CommandKind, Stamped};
 use press_page::Target;
-use press_posts::Status;
-use press_text::{Moment, Text};
+use press_posts::Draft;
 use press_wire::{Message, WireFault, encode_msg};
 use press_world::{Step, World};
 use std::alloc::{AllocError, Global};
@@ -42,37 +41,19 @@ fn put_number(form: &mut Serializer, name: &str, number: u64) -> Result<(), Allo
     form.append_pair(name, digits.format(number))
 }
 
-fn put_texts(form: &mut Serializer, title: &Text, content: &Text) -> Result<(), AllocError> {
-    form.append_pair("title", title.as_str())?;
-    form.append_pair("content", content.as_str())
-}
-
-fn put_standing(form: &mut Serializer, status: Status, date: Moment) -> Result<(), AllocError> {
-    form.append_pair("status", status.word())?;
-    put_number(form, "date", date.seconds())
+fn put_draft(form: &mut Serializer, draft: &Draft) -> Result<(), AllocError> {
+    form.append_pair("title", draft.title.as_str())?;
+    form.append_pair("content", draft.content.as_str())?;
+    form.append_pair("status", draft.status.word())?;
+    put_number(form, "date", draft.date.seconds())
 }
 
 fn put_fields(form: &mut Serializer, command: &Command) -> Result<(), AllocError> {
     match command {
-        Command::Insert {
-            title,
-            content,
-            status,
-            date,
-        } => {
-            put_texts(form, title, content)?;
-            put_standing(form, *status, *date)
-        }
-        Command::Update {
-            id,
-            title,
-            content,
-            status,
-            date,
-        } => {
+        Command::Insert(draft) => put_draft(form, draft),
+        Command::Update { id, draft } => {
             put_number(form, "id", *id)?;
-            put_texts(form, title, content)?;
-            put_standing(form, *status, *date)
+            put_draft(form, draft)
         }
         Command::Trash { id } | Command::Untrash { id } | Command::Delete { id } => {
             put_number(form, "id", *id)

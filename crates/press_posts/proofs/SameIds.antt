@@ -6,7 +6,7 @@ use Rattle.press_posts.specs.declared.fault.PostFault.TheVariants.{NotTrashed}
 use Rattle.press_posts.specs.declared.post.Post.{Post}
 use Rattle.press_posts.specs.declared.status.Status.{Status}
 use Rattle.press_posts.specs.Ids.{HaveIds}
-use Rattle.press_posts.specs.PostChange.{Change, Changed, post_change, post_at, put_at, unless, of_post, insert_fault, edit_fault, inserted, edited, deleted, settled, status_moved, moved_to, is_trash}
+use Rattle.press_posts.specs.PostChange.{Change, Changed, post_change, post_at, put_at, unless, of_post, insert_fault, edit_fault, inserted, edited, deleted, post_of, status_moved, moved_to, is_trash}
 use Rattle.press_posts.specs.PostChange.Change.{Insert, Edit, Moves, Delete}
 use Rattle.press_posts.proofs.Once.{HaveIdsFrom, all_from}
 
@@ -71,10 +71,9 @@ deleted_by true posts id p f e = put_ids posts id None (some_id posts id p e) tt
 deleted_by false posts id p f e = tt
 
 pub keep_ids : (posts : List (Option Post)) (change : Change) (now : ℕ) → HaveIds posts → IfOk (post_change posts change now) (λ c. HaveIds c.posts)
-keep_ids posts (Insert title content status date) now f =
-    keep_unless (insert_fault title content status posts) (inserted title content (settled status date now) date posts) (more_ids posts _ refl f)
-keep_ids posts (Edit id title content status date) now f =
+keep_ids posts (Insert d) now f = keep_unless (insert_fault d posts) (inserted (post_of (length posts + 1) d now) posts) (more_ids posts _ refl f)
+keep_ids posts (Edit id d) now f =
     keep_of (post_at posts id) _
-    (λ p e. keep_unless (edit_fault title content status p) (edited id title content (settled status date now) date p posts) (put_ids posts id _ (some_id posts id p e) refl f))
+    (λ p e. keep_unless (edit_fault d p) (edited (post_of id d now) p posts) (put_ids posts id _ (some_id posts id p e) refl f))
 keep_ids posts (Moves id move) now f = keep_of (post_at posts id) _ (λ p e. moved_by (status_moved move p) posts id p f e)
 keep_ids posts (Delete id) now f = keep_of (post_at posts id) _ (λ p e. deleted_by (is_trash p.status) posts id p f e)

@@ -2,12 +2,13 @@
 use Rattle.std.proofs.Common.{◌≡◌, refl, sym, ◌∙◌, ap, ℕ, zero, suc, ◌+◌, ◌-◌, ◌<◌, List, [], ◌∷◌, ◌++◌, length, get_or, set, cond, Bool, true, false, Option, Some, None, Result, Ok, Err, arith, length-append, length-set, set-set, take_at}
 use Rattle.std.specs.Prelude.{IfOk}
 use Rattle.std.proofs.lemmas.List.{set-get_or}
+use Rattle.press_posts.specs.declared.draft.Draft.{Draft}
 use Rattle.press_posts.specs.declared.fault.PostFault.{PostFault}
 use Rattle.press_posts.specs.declared.fault.PostFault.TheVariants.{NotTrashed}
 use Rattle.press_posts.specs.declared.post.Move.{Move}
 use Rattle.press_posts.specs.declared.post.Post.{Post}
 use Rattle.press_posts.specs.declared.status.Status.{Status}
-use Rattle.press_posts.specs.PostChange.{Change, Changed, post_change, post_at, put_at, unless, of_post, insert_fault, edit_fault, inserted, edited, turned_to, untouched, deleted, settled, status_moved, moved_to, is_trash}
+use Rattle.press_posts.specs.PostChange.{Change, Changed, post_change, post_at, put_at, unless, of_post, insert_fault, edit_fault, inserted, edited, turned_to, untouched, deleted, post_of, status_moved, moved_to, is_trash}
 use Rattle.press_posts.specs.PostChange.Change.{Insert, Edit, Moves, Delete}
 use Rattle.press_posts.specs.Restored.{restored, changed_id, stood, IsGiven, IsRestorable, IsTakenBack}
 use Rattle.press_posts.proofs.Keeping.{at_place}
@@ -59,9 +60,9 @@ may_last posts q = record { given = (omega arith, omega (arith, long posts q)); 
 back_last : (posts : List (Option Post)) (q : Option Post) → restored (length posts + 1) None (posts ++ q ∷ []) ≡ posts
 back_last posts q = take_at posts (q ∷ []) (length (posts ++ q ∷ []) - 1) (omega (arith, long posts q))
 
-insert_taken : (posts : List (Option Post)) (title content : List ℕ) (status : Status) (date now : ℕ) → Taken (Insert title content status date) posts (post_change posts (Insert title content status date) now)
-insert_taken posts title content status date now =
-    taken_unless (Insert title content status date) posts (insert_fault title content status posts) (inserted title content (settled status date now) date posts)
+insert_taken : (posts : List (Option Post)) (d : Draft) (now : ℕ) → Taken (Insert d) posts (post_change posts (Insert d) now)
+insert_taken posts d now =
+    taken_unless (Insert d) posts (insert_fault d posts) (inserted (post_of (length posts + 1) d now) posts)
     (record { id = refl; may = may_last posts _; back = back_last posts _ })
 
 -- ---- any other
@@ -73,11 +74,11 @@ put_taken change posts id p q c here old e same new = record {
   back = rw (same, old, new) (back posts id p q e);
 }
 
-edit_taken : (posts : List (Option Post)) (id : ℕ) (title content : List ℕ) (status : Status) (date now : ℕ) → Taken (Edit id title content status date) posts (post_change posts (Edit id title content status date) now)
-edit_taken posts id title content status date now =
-    taken_of (Edit id title content status date) posts (post_at posts id) _
-    (λ p e. taken_unless (Edit id title content status date) posts (edit_fault title content status p) (edited id title content (settled status date now) date p posts)
-    (put_taken (Edit id title content status date) posts id p _ (edited id title content (settled status date now) date p posts) refl e e refl refl))
+edit_taken : (posts : List (Option Post)) (id : ℕ) (d : Draft) (now : ℕ) → Taken (Edit id d) posts (post_change posts (Edit id d) now)
+edit_taken posts id d now =
+    taken_of (Edit id d) posts (post_at posts id) _
+    (λ p e. taken_unless (Edit id d) posts (edit_fault d p) (edited (post_of id d now) p posts)
+    (put_taken (Edit id d) posts id p _ (edited (post_of id d now) p posts) refl e e refl refl))
 
 moved_by : (r : Result (Option Status) PostFault) (posts : List (Option Post)) (id : ℕ) (move : Move) (p : Post) → post_at posts id ≡ Some p → Taken (Moves id move) posts (moved_to id r p posts)
 moved_by (Ok (Some status)) posts id move p e = put_taken (Moves id move) posts id p _ (turned_to id status p posts) refl e e refl refl
@@ -95,7 +96,7 @@ delete_taken : (posts : List (Option Post)) (id now : ℕ) → Taken (Delete id)
 delete_taken posts id now = taken_of (Delete id) posts (post_at posts id) _ (λ p e. delete_by (is_trash p.status) posts id p e)
 
 pub taken_back : (posts : List (Option Post)) (change : Change) (now : ℕ) → IfOk (post_change posts change now) (IsTakenBack change posts)
-taken_back posts (Insert title content status date) now = insert_taken posts title content status date now
-taken_back posts (Edit id title content status date) now = edit_taken posts id title content status date now
+taken_back posts (Insert d) now = insert_taken posts d now
+taken_back posts (Edit id d) now = edit_taken posts id d now
 taken_back posts (Moves id move) now = move_taken posts id move now
 taken_back posts (Delete id) now = delete_taken posts id now

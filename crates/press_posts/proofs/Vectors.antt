@@ -35,7 +35,7 @@ transits new old args = fire (codes "transition_post_status") (new ∷ old ∷ a
 -- ---- a scheduled post
 
 abbrev dated : ℕ → Change
-dated date = Insert (codes "x") (codes "y") Publish date
+dated date = Insert (record { title = codes "x"; content = codes "y"; status = Publish; date = date })
 
 abbrev one : Posts
 one = then [] (dated 100) 100
@@ -86,12 +86,12 @@ in_order = refl
 -- ---- refusals
 
 abbrev drafted : Change
-drafted = Edit 1 (codes "x") (codes "y") Draft 100
+drafted = Edit 1 (record { title = codes "x"; content = codes "y"; status = Draft; date = 100 })
 
 abbrev trashed : Posts
 trashed = then one (Moves 1 move.Trash) 100
 
-no_such_post : told (post_change one (Edit 9 (codes "x") (codes "y") Draft 100) 100) ≡ Err NoSuchPost
+no_such_post : told (post_change one (Edit 9 (record { title = codes "x"; content = codes "y"; status = Draft; date = 100 })) 100) ≡ Err NoSuchPost
 no_such_post = refl
 
 to_draft : told (post_change one drafted 100) ≡ Ok (

@@ -2,6 +2,7 @@
 -- (Plugin Handbook, Post Status Transitions; ids, limits, the trash and the order of refusals are own).
 -- A post is at a place for good: ids are 1, 2, .. by place, and the place of a deleted post stays empty.
 use Rattle.std.specs.Prelude.{◌≡◌, ℕ, zero, suc, ◌+◌, ◌-◌, ◌^◌, List, [], ◌∷◌, ◌++◌, length, filter, set, slice_index_or, Bool, true, false, ◌&&◌, ◌||◌, nat_lt, nat_le, if◌then◌else◌, Option, Some, None, is_some, Result, Ok, Err, MatchResult}
+use Rattle.press_posts.specs.declared.draft.Draft as draft
 use Rattle.press_posts.specs.declared.fault.PostFault.{PostFault}
 use Rattle.press_posts.specs.declared.fault.PostFault.TheVariants.{NoMemory, TooLong, NoSuchPost, NotTrashed, IsTrashed, TooManyPosts}
 use Rattle.press_posts.specs.declared.fire.Fire.{Fire}
@@ -13,8 +14,8 @@ use Rattle.press_posts.specs.declared.status.Status.TheVariants.{Publish, Future
 use Rattle.press_posts.specs.Transitions.{transition, inserts, updates}
 
 pub data Change : Type 0 where
-  Insert : (title content : List ℕ) (status : Status) (date : ℕ) → Change
-  Edit : (id : ℕ) (title content : List ℕ) (status : Status) (date : ℕ) → Change
+  Insert : (draft : draft.Draft) → Change
+  Edit : (id : ℕ) (draft : draft.Draft) → Change
   Moves : (id : ℕ) (move : Move) → Change
   Delete : (id : ℕ) → Change
 
@@ -80,23 +81,23 @@ standing posts = length (filter (λ p. is_some p) posts)
 
 -- ---- refusals
 
-abbrev pub is_too_long : List ℕ → List ℕ → Bool
-is_too_long title content = nat_lt 1024 (length title) || nat_lt 65536 (length content)
+abbrev pub is_too_long : draft.Draft → Bool
+is_too_long d = nat_lt 1024 (length d.title) || nat_lt 65536 (length d.content)
 
 -- also where no greater id is left
 abbrev pub is_full : List (Option Post) → Bool
 is_full posts = nat_le 10000 (standing posts) || nat_le (2 ^ 64 - 1) (length posts)
 
-abbrev pub insert_fault : List ℕ → List ℕ → Status → List (Option Post) → Option PostFault
-insert_fault title content status posts =
-    if is_trash status then Some IsTrashed else
-    (if is_too_long title content then Some TooLong else
+abbrev pub insert_fault : draft.Draft → List (Option Post) → Option PostFault
+insert_fault d posts =
+    if is_trash d.status then Some IsTrashed else
+    (if is_too_long d then Some TooLong else
     (if is_full posts then Some TooManyPosts else None))
 
-abbrev pub edit_fault : List ℕ → List ℕ → Status → Post → Option PostFault
-edit_fault title content status p =
-    if is_trash p.status || is_trash status then Some IsTrashed else
-    (if is_too_long title content then Some TooLong else None)
+abbrev pub edit_fault : draft.Draft → Post → Option PostFault
+edit_fault d p =
+    if is_trash p.status || is_trash d.status then Some IsTrashed else
+    (if is_too_long d then Some TooLong else None)
 
 -- ---- changes
 
@@ -104,14 +105,17 @@ edit_fault title content status p =
 abbrev pub comes : Status → ℕ → Option ℕ
 comes status date = if is_future status then Some date else None
 
-abbrev pub inserted : List ℕ → List ℕ → Status → ℕ → List (Option Post) → Changed
-inserted title content status date posts =
-    let id = length posts + 1 in
-    record { posts = posts ++ Some (record { id = id; title = title; content = content; status = status; date = date }) ∷ []; id = id; fires = inserts status id; goes = true; comes = comes status date }
+-- the post of an id that a draft gives at a moment
+abbrev pub post_of : ℕ → draft.Draft → ℕ → Post
+post_of id d now = record { id = id; title = d.title; content = d.content; status = settled d.status d.date now; date = d.date }
 
-abbrev pub edited : ℕ → List ℕ → List ℕ → Status → ℕ → Post → List (Option Post) → Changed
-edited id title content status date p posts =
-    record { posts = put_at posts id (Some (record { id = id; title = title; content = content; status = status; date = date })); id = id; fires = updates p.status status id; goes = true; comes = comes status date }
+abbrev pub inserted : Post → List (Option Post) → Changed
+inserted new posts =
+    record { posts = posts ++ Some new ∷ []; id = new.id; fires = inserts new.status new.id; goes = true; comes = comes new.status new.date }
+
+abbrev pub edited : Post → Post → List (Option Post) → Changed
+edited new old posts =
+    record { posts = put_at posts new.id (Some new); id = new.id; fires = updates old.status new.status new.id; goes = true; comes = comes new.status new.date }
 
 abbrev pub with_status : Status → Post → Post
 with_status status p = record p { status = status }
@@ -147,9 +151,8 @@ of_post None change = Err NoSuchPost
 of_post (Some p) change = change p
 
 abbrev pub post_change : List (Option Post) → Change → ℕ → Result Changed PostFault
-post_change posts (Insert title content status date) now = unless (insert_fault title content status posts) (inserted title content (settled status date now) date posts)
-post_change posts (Edit id title content status date) now =
-    of_post (post_at posts id) (λ p. unless (edit_fault title content status p) (edited id title content (settled status date now) date p posts))
+post_change posts (Insert d) now = unless (insert_fault d posts) (inserted (post_of (length posts + 1) d now) posts)
+post_change posts (Edit id d) now = of_post (post_at posts id) (λ p. unless (edit_fault d p) (edited (post_of id d now) p posts))
 post_change posts (Moves id move) now = of_post (post_at posts id) (λ p. moved_to id (status_moved move p) p posts)
 post_change posts (Delete id) now = of_post (post_at posts id) (λ p. if is_trash p.status then Ok (deleted id posts) else Err NotTrashed)
 

@@ -22,15 +22,15 @@ pub record IsRestorable (id : ℕ) (post : Option Post) (posts : List (Option Po
 
 -- the id that it is about
 abbrev pub changed_id : Change → List (Option Post) → ℕ
-changed_id (Insert title content status date) posts = length posts + 1
-changed_id (Edit id title content status date) posts = id
+changed_id (Insert d) posts = length posts + 1
+changed_id (Edit id d) posts = id
 changed_id (Moves id move) posts = id
 changed_id (Delete id) posts = id
 
 -- the post that was there before it
 abbrev pub stood : Change → List (Option Post) → Option Post
-stood (Insert title content status date) posts = None
-stood (Edit id title content status date) posts = post_at posts id
+stood (Insert d) posts = None
+stood (Edit id d) posts = post_at posts id
 stood (Moves id move) posts = post_at posts id
 stood (Delete id) posts = post_at posts id
 

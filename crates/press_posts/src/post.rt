@@ -1,17 +1,14 @@
 ghost use Rattle.std.specs.Prelude.{◌≡◌, Some};
 ghost use Rattle.press_posts.specs.Kept.{keeps_order};
-ghost use Rattle.press_posts.specs.PostChange.{is_due, is_too_long, edit_fault, status_moved};
+ghost use Rattle.press_posts.specs.PostChange.{is_due, edit_fault, status_moved};
 ghost use Rattle.press_posts.specs.Published.{dated_of};
 
+use crate::draft::Draft;
 use crate::fault::PostFault;
 use crate::posts::Dated;
 use crate::status::Status;
 use press_text::{Copied, Moment, Text};
 use std::alloc::{AllocError, Global};
-
-const MOST_TITLE: usize = 1024;
-
-const MOST_CONTENT: usize = 65_536;
 
 /// A post as it is now, without its history.
 #[derive(Debug)]
@@ -74,13 +71,13 @@ impl Post {
     }
 
     /// Why an edit of it is refused, if it is.
-    pub fn edit_fault(&self, title: &str, content: &str, status: Status) -> Option<PostFault>
-        ensures { result ≡ edit_fault title.now content.now status self.now }
+    pub fn edit_fault(&self, draft: &Draft) -> Option<PostFault>
+        ensures { result ≡ edit_fault draft.now self.now }
     {
-        if self.status.is_trash() || status.is_trash() {
+        if self.status.is_trash() || draft.status.is_trash() {
             return Some(PostFault::IsTrashed);
         }
-        if is_too_long(title, content) {
+        if draft.is_too_long() {
             return Some(PostFault::TooLong);
         }
         None
@@ -100,13 +97,6 @@ impl Post {
             Move::PublishDue(_) => Ok(None),
         }
     }
-}
-
-/// Whether a title or a content is longer than a post may have it.
-pub fn is_too_long(title: &str, content: &str) -> bool
-    ensures { result ≡ is_too_long title.now content.now }
-{
-    title.len() > MOST_TITLE || content.len() > MOST_CONTENT
 }
 
 impl Copied for Post {

@@ -8,12 +8,13 @@ ghost use Rattle.press_posts.specs.PostChange.Change.{Insert, Edit, Moves, Delet
 ghost use Rattle.press_posts.specs.Published.{published};
 ghost use Rattle.press_posts.specs.Restored.{restored, IsGiven, IsRestorable};
 
+use crate::draft::Draft;
 use crate::fault::PostFault;
 use crate::fire::{Fire, inserts, transition, updates};
 use crate::in_order::{make_room, newest, put_in, take_out};
-use crate::post::{Move, Post, is_too_long};
+use crate::post::{Move, Post};
 use crate::status::Status;
-use press_text::{Copied, Items, Moment, Text};
+use press_text::{Copied, Items, Moment};
 use std::alloc::{AllocError, Global};
 use std::marker::Model;
 
@@ -74,62 +75,34 @@ impl Posts {
     }
 
     /// Adds a post with the next id; its title and content are stored as they are given.
-    pub fn insert(
-        &mut self,
-        title: Text,
-        content: Text,
-        status: Status,
-        date: Moment,
-        now: Moment,
-    ) -> Result<(u64, Items<Fire>), PostFault>
+    pub fn insert(&mut self, draft: Draft, now: Moment) -> Result<(u64, Items<Fire>), PostFault>
         ensures { Changes (λ c. (c.id, c.fires)) result
-            (post_change self.old (Insert title content status date) now) self.old self.new }
+            (post_change self.old (Insert draft) now) self.old self.new }
     {
-        if let Some(fault) = self.insert_fault(title.as_str(), content.as_str(), status) {
+        if let Some(fault) = self.insert_fault(&draft) {
             return Err(fault);
         }
-        let status = status.settled(date, now);
-        let id = self.places.len() as u64 + 1;
-        let fires = inserts(self.alloc, status, id)?;
-        self.push(Post {
-            id,
-            title,
-            content,
-            status,
-            date,
-        })?;
+        let id = self.next_id();
+        let post = draft.post(id, now);
+        let fires = inserts(self.alloc, post.status, id)?;
+        self.push(post)?;
         Ok((id, fires))
     }
 
     /// Gives a post another title, content, status and date.
-    pub fn edit(
-        &mut self,
-        id: u64,
-        title: Text,
-        content: Text,
-        status: Status,
-        date: Moment,
-        now: Moment,
-    ) -> Result<Items<Fire>, PostFault>
+    pub fn edit(&mut self, id: u64, draft: Draft, now: Moment) -> Result<Items<Fire>, PostFault>
         ensures { Changes (λ c. c.fires) result
-            (post_change self.old (Edit id title content status date) now) self.old self.new }
+            (post_change self.old (Edit id draft) now) self.old self.new }
     {
-        let Some(post) = self.get(id) else {
+        let Some(old) = self.get(id) else {
             return Err(PostFault::NoSuchPost);
         };
-        if let Some(fault) = post.edit_fault(title.as_str(), content.as_str(), status) {
+        if let Some(fault) = old.edit_fault(&draft) {
             return Err(fault);
         }
-        let old = post.status;
-        let status = status.settled(date, now);
-        let fires = updates(self.alloc, old, status, id)?;
-        let post = Post {
-            id,
-            title,
-            content,
-            status,
-            date,
-        };
+        let old = old.status;
+        let post = draft.post(id, now);
+        let fires = updates(self.alloc, old, post.status, id)?;
         self.put(id, post);
         Ok(fires)
     }
@@ -236,13 +209,13 @@ impl Posts {
     }
 
     /// Why an insert is refused, if it is.
-    pub fn insert_fault(&self, title: &str, content: &str, status: Status) -> Option<PostFault>
-        ensures { result ≡ insert_fault title.now content.now status self.now }
+    pub fn insert_fault(&self, draft: &Draft) -> Option<PostFault>
+        ensures { result ≡ insert_fault draft.now self.now }
     {
-        if status.is_trash() {
+        if draft.status.is_trash() {
             return Some(PostFault::IsTrashed);
         }
-        if is_too_long(title, content) {
+        if draft.is_too_long() {
             return Some(PostFault::TooLong);
         }
         if self.is_full() {

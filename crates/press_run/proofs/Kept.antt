@@ -30,8 +30,8 @@ plugins s (Ok after) = refl
 plugins s (Err fault) = refl
 
 after_effect : (s : SiteView) (e : Effect) → kept (or_site s (effect_on s e)) ≡ kept s
-after_effect s (Insert title text status date) = content s _
-after_effect s (Edit id title text status date) = content s _
+after_effect s (Insert draft) = content s _
+after_effect s (Edit id draft) = content s _
 after_effect s (Move id to) = content s _
 after_effect s (Delete id) = content s _
 after_effect s (SetOption name value) = options s _

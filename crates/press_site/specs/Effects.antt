@@ -37,8 +37,8 @@ with_plugins s (Ok names) = Ok (record s { active = names }, no_post true)
 with_plugins s (Err fault) = Err fault
 
 abbrev pub effect_on : SiteView → Effect → Result (SiteView × Changed) SiteFault
-effect_on s (Insert title content status date) = with_content s (post_effect (content_of s) (PostInsert title content status date) s.moment)
-effect_on s (Edit id title content status date) = with_content s (post_effect (content_of s) (PostEdit id title content status date) s.moment)
+effect_on s (Insert draft) = with_content s (post_effect (content_of s) (PostInsert draft) s.moment)
+effect_on s (Edit id draft) = with_content s (post_effect (content_of s) (PostEdit id draft) s.moment)
 effect_on s (Move id to) = with_content s (post_effect (content_of s) (PostMoves id to) s.moment)
 effect_on s (Delete id) = with_content s (post_effect (content_of s) (PostDelete id) s.moment)
 effect_on s (SetOption name value) = with_options s (set_option name value s.options)

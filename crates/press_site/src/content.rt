@@ -16,7 +16,7 @@ use crate::fault::SiteFault;
 use crate::stood::{Done, Stood, Undone};
 use itoa::Buffer;
 use press_events::{Event, Events};
-use press_posts::{Fire, Move, Post, Posts, Status, changes_are_taken_back};
+use press_posts::{Draft, Fire, Move, Post, Posts, Status, changes_are_taken_back};
 use press_text::{Copied, Every, HookName, Items, Moment, Text};
 use std::alloc::{AllocError, Global};
 use std::marker::Model;
@@ -90,54 +90,34 @@ impl Content {
         self.events.due(now)
     }
 
-    pub fn insert(
-        &mut self,
-        title: Text,
-        content: Text,
-        status: Status,
-        date: Moment,
-        now: Moment,
-    ) -> Result<Done, SiteFault>
-        ensures does { Does result (post_effect self.old (Insert title content status date) now)
-            self.old self.new }
+    pub fn insert(&mut self, draft: Draft, now: Moment) -> Result<Done, SiteFault>
+        ensures does { Does result (post_effect self.old (Insert draft) now) self.old self.new }
         ensures back { IfOk result (λ d. ContentGoesBack true d.undone self.new self.old) }
     {
-        if let Some(fault) = self
-            .posts
-            .insert_fault(title.as_str(), content.as_str(), status)
-        {
+        if let Some(fault) = self.posts.insert_fault(&draft) {
             return Err(SiteFault::from(fault));
         }
         let id = self.posts.next_id();
-        let beside = self.beside(id, status.settled(date, now), date)?;
-        let (id, fires) = self.posts.insert(title, content, status, date, now)?;
+        let beside = self.beside(id, draft.status.settled(draft.date, now), draft.date)?;
+        let (id, fires) = self.posts.insert(draft, now)?;
         changes_are_taken_back();
         let stood = Stood { id, post: None };
         Ok(self.done(id, fires, stood, beside))
     }
 
-    pub fn edit(
-        &mut self,
-        id: u64,
-        title: Text,
-        content: Text,
-        status: Status,
-        date: Moment,
-        now: Moment,
-    ) -> Result<Done, SiteFault>
-        ensures does { Does result (post_effect self.old (Edit id title content status date) now)
-            self.old self.new }
+    pub fn edit(&mut self, id: u64, draft: Draft, now: Moment) -> Result<Done, SiteFault>
+        ensures does { Does result (post_effect self.old (Edit id draft) now) self.old self.new }
         ensures back { IfOk result (λ d. ContentGoesBack true d.undone self.new self.old) }
     {
         let Some(post) = self.posts.get(id) else {
             return Err(SiteFault::NoSuchPost);
         };
-        if let Some(fault) = post.edit_fault(title.as_str(), content.as_str(), status) {
+        if let Some(fault) = post.edit_fault(&draft) {
             return Err(SiteFault::from(fault));
         }
-        let beside = self.beside(id, status.settled(date, now), date)?;
+        let beside = self.beside(id, draft.status.settled(draft.date, now), draft.date)?;
         let stood = self.stood(id)?;
-        let fires = self.posts.edit(id, title, content, status, date, now)?;
+        let fires = self.posts.edit(id, draft, now)?;
         changes_are_taken_back();
         Ok(self.done(id, fires, stood, beside))
     }

@@ -25,7 +25,7 @@ use crate::stood::{Done, Undone, Wants};
 use crate::token::{Outcome, Token};
 use crate::undo::Undo;
 use press_events::Event;
-use press_posts::{Fire, Move, Post, Status};
+use press_posts::{Draft, Fire, Move, Post};
 use press_text::{Items, Moment, Name, OptName, Text};
 use std::alloc::{AllocError, Global};
 use std::marker::Model;
@@ -201,19 +201,8 @@ impl Site {
         ensures back { IfOk result (λ d. GoesBack wants d.undone self.new self.old) }
     {
         match effect {
-            Effect::Insert {
-                title,
-                content,
-                status,
-                date,
-            } => self.insert(title, content, status, date),
-            Effect::Edit {
-                id,
-                title,
-                content,
-                status,
-                date,
-            } => self.edit(id, title, content, status, date),
+            Effect::Insert(draft) => self.insert(draft),
+            Effect::Edit { id, draft } => self.edit(id, draft),
             Effect::Move { id, to } => self.move_post(id, to),
             Effect::Delete { id } => self.delete(id),
             Effect::SetOption { name, value } => self.set_option(&name, value, wants.options),
@@ -259,37 +248,24 @@ impl Site {
         undo.back_plugins(&mut self.plugins);
     }
 
-    fn insert(
-        &mut self,
-        title: Text,
-        content: Text,
-        status: Status,
-        date: Moment,
-    ) -> Result<Done, SiteFault>
-        ensures does { Does result (effect_on self.old (Effect.Insert title content status date))
+    fn insert(&mut self, draft: Draft) -> Result<Done, SiteFault>
+        ensures does { Does result (effect_on self.old (Effect.Insert draft))
             self.old self.new }
         ensures back { (wants : Wants) → IfOk result
             (λ d. GoesBack wants d.undone self.new self.old) }
     {
         let now = self.moment;
-        self.content.insert(title, content, status, date, now)
+        self.content.insert(draft, now)
     }
 
-    fn edit(
-        &mut self,
-        id: u64,
-        title: Text,
-        content: Text,
-        status: Status,
-        date: Moment,
-    ) -> Result<Done, SiteFault>
-        ensures does { Does result (effect_on self.old (Effect.Edit id title content status date))
+    fn edit(&mut self, id: u64, draft: Draft) -> Result<Done, SiteFault>
+        ensures does { Does result (effect_on self.old (Effect.Edit id draft))
             self.old self.new }
         ensures back { (wants : Wants) → IfOk result
             (λ d. GoesBack wants d.undone self.new self.old) }
     {
         let now = self.moment;
-        self.content.edit(id, title, content, status, date, now)
+        self.content.edit(id, draft, now)
     }
 
     fn move_post(&mut self, id: u64, to: Move) -> Result<Done, SiteFault>

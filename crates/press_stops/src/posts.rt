@@ -1,5 +1,5 @@
 use press_apply::{Command, Stamped};
-use press_posts::Status;
+use press_posts::{Draft, Status};
 use press_site::Token;
 use press_text::{Moment, Name, Text};
 use std::alloc::Global;
@@ -18,11 +18,11 @@ pub fn post(alloc: Global, seq: u32) -> anyhow::Result<Stamped> {
     Ok(Stamped {
         token: token(alloc, seq)?,
         at,
-        command: Command::Insert {
+        command: Command::Insert(Draft {
             title: Text::from_str(alloc, "a title")?,
             content: Text::from_str(alloc, "some content")?,
             status: Status::Publish,
             date: at,
-        },
+        }),
     })
 }

@@ -3,7 +3,7 @@ use Rattle.std.proofs.Common.{◌≡◌, ℕ, ◌+◌, ◌≤◌, List, ◌∷�
 use Rattle.std.proofs.lemmas.List.{length-append}
 use Rattle.std.proofs.lemmas.Bool.Decides.{nat_tests}
 use Rattle.press_text.specs.Names.{IsName}
-use Rattle.press_posts.specs.declared.status.Status.{Status}
+use Rattle.press_posts.specs.declared.draft.Draft.{Draft}
 use Rattle.press_apply.specs.declared.command.Command.{Command}
 use Rattle.press_apply.specs.declared.command.Command.TheVariants.{Insert, Update, Trash, Untrash, Delete, SetOption, Activate, Deactivate, Tick}
 use Rattle.press_apply.specs.declared.command.Stamped.{Stamped}
@@ -11,7 +11,7 @@ use Rattle.press_apply.specs.declared.value.Value.{Value}
 use Rattle.press_apply.specs.declared.value.Value.TheVariants.{Noop, Cmd}
 use Rattle.press_wire.specs.Kinds.{status_number}
 use Rattle.press_wire.specs.Held.{HasShortTexts, IsShort}
-use Rattle.press_wire.specs.Spelling.{longest, number4, number8, name, text, post, fields, stamped, spelled_command}
+use Rattle.press_wire.specs.Spelling.{longest, number4, number8, name, text, draft, fields, stamped, spelled_command}
 
 -- pieces put at the end one after another
 pub regroup : (a b c : List ℕ) → (a ++ b) ++ c ≡ a ++ (b ++ c)
@@ -36,15 +36,15 @@ pub length_text : (bytes : List ℕ) → length (text bytes) ≡ 4 + length byte
 unfolding text
 length_text bytes = omega (arith, length-append (number4 (length bytes)) bytes, length_number4 (length bytes))
 
-length_post : (title content : List ℕ) (status : Status) (date : ℕ) → length (post title content status date) ≡ 17 + length title + length content
-unfolding post
-length_post title content status date =
-    omega (arith, length-append (text title) (text content ++ (status_number status ∷ number8 date)), length-append (text content) (status_number status ∷ number8 date), length_text title, length_text content, length_number8 date)
+length_draft : (d : Draft) → length (draft d) ≡ 17 + length d.title + length d.content
+unfolding draft
+length_draft d =
+    omega (arith, length-append (text d.title) (text d.content ++ (status_number d.status ∷ number8 d.date)), length-append (text d.content) (status_number d.status ∷ number8 d.date), length_text d.title, length_text d.content, length_number8 d.date)
 
 -- the length of the fields, by the lengths of names and texts
 abbrev pub fields_len : Command → ℕ
-fields_len (Insert title content status date) = 17 + length title + length content
-fields_len (Update id title content status date) = 25 + length title + length content
+fields_len (Insert d) = 17 + length d.title + length d.content
+fields_len (Update id d) = 25 + length d.title + length d.content
 fields_len (Trash id) = 8
 fields_len (Untrash id) = 8
 fields_len (Delete id) = 8
@@ -55,8 +55,8 @@ fields_len Tick = 0
 
 pub length_fields : (c : Command) → length (fields c) ≡ fields_len c
 unfolding fields
-length_fields (Insert title content status date) = length_post title content status date
-length_fields (Update id title content status date) = omega (arith, length-append (number8 id) (post title content status date), length_number8 id, length_post title content status date)
+length_fields (Insert d) = length_draft d
+length_fields (Update id d) = omega (arith, length-append (number8 id) (draft d), length_number8 id, length_draft d)
 length_fields (Trash id) = length_number8 id
 length_fields (Untrash id) = length_number8 id
 length_fields (Delete id) = length_number8 id
@@ -89,8 +89,8 @@ length_spelled (Noop at) = omega (arith, length_number8 at)
 length_spelled (Cmd s) = omega (arith, length_stamped s)
 
 short_texts : (c : Command) → length (fields c) ≤ longest → HasShortTexts c
-short_texts (Insert title content status date) short = let e = length_fields (Insert title content status date) in (omega arith, omega arith)
-short_texts (Update id title content status date) short = let e = length_fields (Update id title content status date) in (omega arith, omega arith)
+short_texts (Insert d) short = let e = length_fields (Insert d) in (omega arith, omega arith)
+short_texts (Update id d) short = let e = length_fields (Update id d) in (omega arith, omega arith)
 short_texts (Trash id) short = tt
 short_texts (Untrash id) short = tt
 short_texts (Delete id) short = tt

@@ -3,7 +3,7 @@ use Rattle.std.proofs.Common.{◌≡◌, ℕ, ◌^◌, ◌<◌, ◌≤◌, Bool,
 use Rattle.std.proofs.lemmas.List.{append-nil, nil_from_length}
 use Rattle.std.proofs.lemmas.Bool.{eqb-true, ltb-false, le-ltb}
 use Rattle.press_text.specs.Names.{IsName}
-use Rattle.press_posts.specs.declared.status.Status.{Status}
+use Rattle.press_posts.specs.declared.draft.Draft.{Draft}
 use Rattle.press_apply.specs.declared.command.Command.{Command}
 use Rattle.press_apply.specs.declared.command.Command.TheVariants.{Insert, Update, Trash, Untrash, Delete, SetOption, Activate, Deactivate, Tick}
 use Rattle.press_apply.specs.declared.command.Stamped.{Stamped}
@@ -15,7 +15,6 @@ use Rattle.press_apply.specs.declared.kind.CommandKind.{CommandKind}
 use Rattle.press_apply.specs.declared.kind.CommandKind.TheVariants as kind
 use Rattle.press_wire.specs.declared.kind.ValueKind.{ValueKind}
 use Rattle.press_wire.specs.declared.kind.ValueKind.TheVariants as value
-use Rattle.press_wire.specs.declared.post.PostFields.{PostFields}
 use Rattle.press_wire.specs.Fields.{◌>>=◌, byte_at, checked}
 use Rattle.std.specs.Prelude.{IfOk}
 use Rattle.press_text.specs.Gives.{Gives}
@@ -24,55 +23,49 @@ use Rattle.press_wire.specs.Measures.{Measures}
 use Rattle.press_wire.specs.Held.{IsBytes, IsMoment, IsCommand, IsValue, HasShortTexts, IsShort}
 use Rattle.press_apply.specs.Kinds.{command_number, command_kind_of, kind_of_command}
 use Rattle.press_wire.specs.Kinds.{value_kind_of}
-use Rattle.press_wire.specs.Reading.{ended, post_at, insert_at, update_at, option_at, fields_at, stamped_at, behind_kind, command_at, read_value, read_command}
-use Rattle.press_wire.specs.Spelling.{number8, name, text, post, fields, stamped, spelled_command, longest, is_too_long}
+use Rattle.press_wire.specs.Reading.{ended, draft_at, insert_at, update_at, option_at, fields_at, stamped_at, behind_kind, command_at, read_value, read_command}
+use Rattle.press_wire.specs.Spelling.{number8, name, text, draft, fields, stamped, spelled_command, longest, is_too_long}
 use Rattle.press_wire.proofs.Codec.{Takes, Codec, step, step_again, join, ok_is, checked_codec, or_next, or_none, recast, mapped_codec, paired_codec}
 use Rattle.press_wire.proofs.FieldLaws.{one, byte_codec, number8_codec, moment_codec, status_codec, name_codec, FitsText, text_codec}
 use Rattle.press_wire.proofs.Lengths.{is_short}
 
--- ---- posts
+-- ---- drafts
 
-abbrev post_spelled : PostFields → List ℕ
-post_spelled p = post p.title p.content p.status p.date
+abbrev FitsDraft : Draft → Type 0
+FitsDraft d = FitsText d.title × FitsText d.content × IsMoment d.date
 
-abbrev FitsPost : PostFields → Type 0
-FitsPost p = FitsText p.title × FitsText p.content × IsMoment p.date
-
-made_post : List ℕ → List ℕ → Status → ℕ → PostFields
-made_post title content status date = record { title = title; content = content; status = status; date = date }
-
-post_takes : (bytes : List ℕ) (v : PostFields) (rest : List ℕ) → IsBytes bytes → post_at bytes ≡ Ok (v, rest) → Takes post_spelled FitsPost bytes v rest
-unfolding post_at post
-post_takes bytes v rest fits e =
+draft_takes : (bytes : List ℕ) (v : Draft) (rest : List ℕ) → IsBytes bytes → draft_at bytes ≡ Ok (v, rest) → Takes draft FitsDraft bytes v rest
+unfolding draft_at draft
+draft_takes bytes v rest fits e =
     let a = step text_codec _ (v, rest) bytes fits e in
     let b = step text_codec _ (v, rest) a.rest a.took.rest_fits a.next in
     let c = step status_codec _ (v, rest) b.rest b.took.rest_fits b.next in
     let d = step moment_codec _ (v, rest) c.rest c.took.rest_fits c.next in
-    let made : PostFields = record { title = a.value; content = b.value; status = c.value; date = d.value } in
-    subst (λ (p : PostFields × List ℕ). Takes post_spelled FitsPost bytes p.0 p.1) (ok_is (made, d.rest) (v, rest) d.next) (record {
+    let made : Draft = record { title = a.value; content = b.value; status = c.value; date = d.value } in
+    subst (λ (p : Draft × List ℕ). Takes draft FitsDraft bytes p.0 p.1) (ok_is (made, d.rest) (v, rest) d.next) (record {
       parts = join bytes (text a.value) a.rest (text b.value ++ (_ ∷ number8 d.value)) d.rest a.took.parts (join a.rest (text b.value) b.rest (_ ∷ number8 d.value) d.rest b.took.parts (join b.rest (one _) c.rest (number8 d.value) d.rest c.took.parts d.took.parts));
       rest_fits = d.took.rest_fits;
       fits = (a.took.fits, b.took.fits, d.took.fits);
     })
 
-post_again : (v : PostFields) (rest : List ℕ) → FitsPost v → post_at (post_spelled v ++ rest) ≡ Ok (v, rest)
-unfolding post_at post
-post_again v rest fits =
+draft_again : (v : Draft) (rest : List ℕ) → FitsDraft v → draft_at (draft v ++ rest) ≡ Ok (v, rest)
+unfolding draft_at draft
+draft_again v rest fits =
     let regrouped = append_assoc (text v.title) (text v.content ++ (_ ∷ number8 v.date)) rest ∙ ap (λ (t : List ℕ). text v.title ++ t) (append_assoc (text v.content) (_ ∷ number8 v.date) rest) in
-    ap post_at regrouped
+    ap draft_at regrouped
     ∙ step_again text_codec _ v.title _ fits.0
     ∙ step_again text_codec _ v.content _ fits.1
     ∙ step_again status_codec _ v.status _ tt
     ∙ step_again moment_codec _ v.date rest fits.2
 
-post_codec : Codec post_at post_spelled FitsPost
-post_codec = record { takes = post_takes; again = post_again }
+draft_codec : Codec draft_at draft FitsDraft
+draft_codec = record { takes = draft_takes; again = draft_again }
 
 -- ---- the fields of a kind
 
 abbrev pub FitsCommand : Command → Type 0
-FitsCommand (Insert title content status date) = FitsText title × FitsText content × IsMoment date
-FitsCommand (Update id title content status date) = (id < 2 ^ 64) × FitsText title × FitsText content × IsMoment date
+FitsCommand (Insert d) = FitsDraft d
+FitsCommand (Update id d) = (id < 2 ^ 64) × FitsDraft d
 FitsCommand (Trash id) = id < 2 ^ 64
 FitsCommand (Untrash id) = id < 2 ^ 64
 FitsCommand (Delete id) = id < 2 ^ 64
@@ -85,12 +78,12 @@ FitsCommand Tick = Unit {0}
 abbrev FitsKind : CommandKind → Command → Type 0
 FitsKind k c = FitsCommand c × (kind_of_command c ≡ k)
 
-back_insert : (c : Command) → FitsKind kind.Insert c → (p : PostFields) × (c ≡ Insert p.title p.content p.status p.date) × FitsPost p
-back_insert (Insert title content status date) fits = (record { title = title; content = content; status = status; date = date }, refl, fits.0)
+back_insert : (c : Command) → FitsKind kind.Insert c → (d : Draft) × (c ≡ Insert d) × FitsDraft d
+back_insert (Insert d) fits = (d, refl, fits.0)
 back_insert other fits = let e = fits.1 in absurd cc
 
-back_update : (c : Command) → FitsKind kind.Update c → (id : ℕ) × (p : PostFields) × (c ≡ Update id p.title p.content p.status p.date) × (id < 2 ^ 64) × FitsPost p
-back_update (Update id title content status date) fits = (id, record { title = title; content = content; status = status; date = date }, refl, fits.0.0, (fits.0.1, fits.0.2, fits.0.3))
+back_update : (c : Command) → FitsKind kind.Update c → (id : ℕ) × (d : Draft) × (c ≡ Update id d) × (id < 2 ^ 64) × FitsDraft d
+back_update (Update id d) fits = (id, d, refl, fits.0.0, fits.0.1)
 back_update other fits = let e = fits.1 in absurd cc
 
 back_trash : (c : Command) → FitsKind kind.Trash c → (id : ℕ) × (c ≡ Trash id) × (id < 2 ^ 64)
@@ -127,8 +120,8 @@ no_fields = refl
 
 fields_codec : (k : CommandKind) → Codec (fields_at k) fields (FitsKind k)
 unfolding fields_at insert_at update_at option_at fields
-fields_codec kind.Insert = mapped_codec post_codec (λ p. Insert p.title p.content p.status p.date) fields (FitsKind kind.Insert) (λ p. refl) (λ p fits. (fits, refl)) back_insert
-fields_codec kind.Update = paired_codec number8_codec post_codec (λ id p. Update id p.title p.content p.status p.date) fields (FitsKind kind.Update) (λ id p. refl) (λ id p small fits. ((small, fits.0, fits.1, fits.2), refl)) back_update
+fields_codec kind.Insert = mapped_codec draft_codec Insert fields (FitsKind kind.Insert) (λ d. refl) (λ d fits. (fits, refl)) back_insert
+fields_codec kind.Update = paired_codec number8_codec draft_codec Update fields (FitsKind kind.Update) (λ id d. refl) (λ id d small fits. ((small, fits), refl)) back_update
 fields_codec kind.Trash = mapped_codec number8_codec Trash fields (FitsKind kind.Trash) (λ id. refl) (λ id fits. (fits, refl)) back_trash
 fields_codec kind.Untrash = mapped_codec number8_codec Untrash fields (FitsKind kind.Untrash) (λ id. refl) (λ id fits. (fits, refl)) back_untrash
 fields_codec kind.Delete = mapped_codec number8_codec Delete fields (FitsKind kind.Delete) (λ id. refl) (λ id fits. (fits, refl)) back_delete
@@ -290,8 +283,8 @@ guard false r y e = e
 -- ---- what the types hold
 
 is_command : (c : Command) → FitsCommand c → IsCommand c
-is_command (Insert title content status date) fits = (fits.0.1, fits.1.1, fits.2)
-is_command (Update id title content status date) fits = (fits.0, fits.1.1, fits.2.1, fits.3)
+is_command (Insert d) fits = (fits.0.1, fits.1.1, fits.2)
+is_command (Update id d) fits = (fits.0, fits.1.0.1, fits.1.1.1, fits.1.2)
 is_command (Trash id) fits = fits
 is_command (Untrash id) fits = fits
 is_command (Delete id) fits = fits
@@ -308,8 +301,8 @@ within : (n : ℕ) → n ≤ longest → n ≤ 65536
 within n short = omega arith
 
 command_fits : (c : Command) → IsCommand c → HasShortTexts c → FitsCommand c
-command_fits (Insert title content status date) is short = ((within _ short.0, is.0), (within _ short.1, is.1), is.2)
-command_fits (Update id title content status date) is short = (is.0, (within _ short.0, is.1), (within _ short.1, is.2), is.3)
+command_fits (Insert d) is short = ((within _ short.0, is.0), (within _ short.1, is.1), is.2)
+command_fits (Update id d) is short = (is.0, ((within _ short.0, is.1.0), (within _ short.1, is.1.1), is.1.2))
 command_fits (Trash id) is short = is
 command_fits (Untrash id) is short = is
 command_fits (Delete id) is short = is

@@ -2,6 +2,7 @@
 use Rattle.std.specs.Prelude.{◌≡◌, ℕ, ◌<◌, ◌≤◌, ◌^◌, List, length, get_or, Option, Some, None, true}
 use Rattle.std.specs.Str.{is_utf8}
 use Rattle.press_text.specs.Names.{IsName}
+use Rattle.press_posts.specs.declared.draft.Draft.{Draft}
 use Rattle.press_apply.specs.declared.command.Command.{Command}
 use Rattle.press_apply.specs.declared.command.Command.TheVariants.{Insert, Update, Trash, Untrash, Delete, SetOption, Activate, Deactivate, Tick}
 use Rattle.press_apply.specs.declared.command.Stamped.{Stamped}
@@ -24,9 +25,12 @@ IsText bytes = is_utf8 bytes ≡ true
 abbrev pub IsMoment : ℕ → Type 0
 IsMoment seconds = seconds ≤ 2 ^ 40
 
+abbrev pub IsDraft : Draft → Type 0
+IsDraft d = IsText d.title × IsText d.content × IsMoment d.date
+
 abbrev pub IsCommand : Command → Type 0
-IsCommand (Insert title content status date) = IsText title × IsText content × IsMoment date
-IsCommand (Update id title content status date) = (id < 2 ^ 64) × IsText title × IsText content × IsMoment date
+IsCommand (Insert d) = IsDraft d
+IsCommand (Update id d) = (id < 2 ^ 64) × IsDraft d
 IsCommand (Trash id) = id < 2 ^ 64
 IsCommand (Untrash id) = id < 2 ^ 64
 IsCommand (Delete id) = id < 2 ^ 64
@@ -75,8 +79,8 @@ IsMessage m = IsNode m.from × IsNode m.to × IsSlot m.slot × IsBody m.body
 -- ---- the texts of a command that isn't too long
 
 abbrev pub HasShortTexts : Command → Type 0
-HasShortTexts (Insert title content status date) = (length title ≤ longest) × (length content ≤ longest)
-HasShortTexts (Update id title content status date) = (length title ≤ longest) × (length content ≤ longest)
+HasShortTexts (Insert d) = (length d.title ≤ longest) × (length d.content ≤ longest)
+HasShortTexts (Update id d) = (length d.title ≤ longest) × (length d.content ≤ longest)
 HasShortTexts (Trash id) = Unit {0}
 HasShortTexts (Untrash id) = Unit {0}
 HasShortTexts (Delete id) = Unit {0}

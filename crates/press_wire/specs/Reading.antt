@@ -1,5 +1,6 @@
 -- What bytes are read as: a value or a message, with no byte left; else the fault of the first field that fails (own).
 use Rattle.std.specs.Prelude.{ℕ, List, ◌==◌, length, nat_lt, Bool, true, false, Option, Some, None, Result, Ok, Err, if◌then◌else◌}
+use Rattle.press_posts.specs.declared.draft.Draft.{Draft}
 use Rattle.press_apply.specs.declared.command.Command.{Command}
 use Rattle.press_apply.specs.declared.command.Command.TheVariants.{Insert, Update, Trash, Untrash, Delete, SetOption, Activate, Deactivate, Tick}
 use Rattle.press_apply.specs.declared.command.Stamped.{Stamped}
@@ -16,7 +17,6 @@ use Rattle.press_wire.specs.declared.kind.MessageKind.TheVariants as about
 use Rattle.press_wire.specs.declared.message.Body.{Body}
 use Rattle.press_wire.specs.declared.message.Body.TheVariants.{Prepare, Promise, Nack, Accept, Accepted, Query}
 use Rattle.press_wire.specs.declared.message.Message.{Message}
-use Rattle.press_wire.specs.declared.post.PostFields.{PostFields}
 use Rattle.press_wire.specs.declared.vote.Vote.{Vote}
 use Rattle.press_wire.specs.Fields.{Reading, ◌>>=◌, byte_at, number4_at, checked, counted, name_at, text_at, number8_at, moment_at, status_at, node_at, slot_at, round_at, ballot_at}
 use Rattle.press_wire.specs.Kinds.{value_kind_of, message_kind_of}
@@ -29,8 +29,8 @@ ended x = if length x.1 == 0 then Ok x.0 else Err Extra
 
 -- ---- commands
 
-unfoldable pub post_at : Reading PostFields
-post_at bytes = do
+unfoldable pub draft_at : Reading Draft
+draft_at bytes = do
   title ← text_at bytes
   content ← text_at title.1
   status ← status_at content.1
@@ -39,14 +39,14 @@ post_at bytes = do
 
 unfoldable pub insert_at : Reading Command
 insert_at bytes = do
-  post ← post_at bytes
-  Ok (Insert post.0.title post.0.content post.0.status post.0.date, post.1)
+  draft ← draft_at bytes
+  Ok (Insert draft.0, draft.1)
 
 unfoldable pub update_at : Reading Command
 update_at bytes = do
   id ← number8_at bytes
-  post ← post_at id.1
-  Ok (Update id.0 post.0.title post.0.content post.0.status post.0.date, post.1)
+  draft ← draft_at id.1
+  Ok (Update id.0 draft.0, draft.1)
 
 unfoldable pub option_at : Reading Command
 option_at bytes = do

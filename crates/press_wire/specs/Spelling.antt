@@ -6,7 +6,7 @@ use Rattle.press_apply.specs.declared.command.Command.TheVariants.{Insert, Updat
 use Rattle.press_apply.specs.declared.command.Stamped.{Stamped}
 use Rattle.press_apply.specs.declared.value.Value.{Value}
 use Rattle.press_apply.specs.declared.value.Value.TheVariants.{Noop, Cmd}
-use Rattle.press_posts.specs.declared.status.Status.{Status}
+use Rattle.press_posts.specs.declared.draft.Draft.{Draft}
 use Rattle.press_wire.specs.declared.ballot.Ballot.{Ballot}
 use Rattle.press_wire.specs.declared.message.Body.{Body}
 use Rattle.press_wire.specs.declared.message.Body.TheVariants.{Prepare, Promise, Nack, Accept, Accepted, Query}
@@ -35,12 +35,12 @@ text bytes = number4 (length bytes) ++ bytes
 
 -- ---- values
 
-unfoldable pub post : List ℕ → List ℕ → Status → ℕ → List ℕ
-post title content status date = text title ++ (text content ++ (status_number status ∷ number8 date))
+unfoldable pub draft : Draft → List ℕ
+draft d = text d.title ++ (text d.content ++ (status_number d.status ∷ number8 d.date))
 
 unfoldable pub fields : Command → List ℕ
-fields (Insert title content status date) = post title content status date
-fields (Update id title content status date) = number8 id ++ post title content status date
+fields (Insert d) = draft d
+fields (Update id d) = number8 id ++ draft d
 fields (Trash id) = number8 id
 fields (Untrash id) = number8 id
 fields (Delete id) = number8 id

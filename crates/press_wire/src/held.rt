@@ -1,12 +1,13 @@
 //! What the types hold, as facts for the law that spellings read back. Nothing here does anything.
 
 ghost use Rattle.std.specs.Prelude.{◌≡◌};
-ghost use Rattle.press_wire.specs.Held.{IsText, IsCommand, IsStamped, IsValue, IsBallot, IsVote, IsPerhapsVote, IsBody, IsMessage};
+ghost use Rattle.press_wire.specs.Held.{IsText, IsDraft, IsCommand, IsStamped, IsValue, IsBallot, IsVote, IsPerhapsVote, IsBody, IsMessage};
 
 use crate::ballot::Ballot;
 use crate::message::{Body, Message};
 use crate::vote::Vote;
 use press_apply::{Command, Stamped, Value};
+use press_posts::Draft;
 use press_text::Text;
 
 #[tactic(auto, using(crate::proofs::Names::text_is_utf8))]
@@ -16,31 +17,22 @@ fn hold_text(text: &Text)
     let _text = text.as_str();
 }
 
+fn hold_draft(draft: &Draft)
+    ensures { IsDraft draft.now }
+{
+    hold_text(&draft.title);
+    hold_text(&draft.content);
+    let _date = draft.date.seconds();
+}
+
 fn hold_command(command: &Command)
     ensures { IsCommand command.now }
 {
     match command {
-        Command::Insert {
-            title,
-            content,
-            date,
-            ..
-        } => {
-            hold_text(title);
-            hold_text(content);
-            let _date = date.seconds();
-        }
-        Command::Update {
-            id,
-            title,
-            content,
-            date,
-            ..
-        } => {
+        Command::Insert(draft) => hold_draft(draft),
+        Command::Update { id, draft } => {
             let _id = *id;
-            hold_text(title);
-            hold_text(content);
-            let _date = date.seconds();
+            hold_draft(draft);
         }
         Command::Trash { id } => {
             let _id = *id;

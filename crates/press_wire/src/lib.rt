@@ -12,7 +12,6 @@ mod kind;
 mod laws;
 mod message;
 mod node;
-mod post;
 mod read_message;
 mod read_value;
 mod reader;

@@ -6,32 +6,28 @@ ghost use Rattle.press_wire.specs.Fields.{name_at, text_at};
 ghost use Rattle.press_wire.specs.Memory.{behind_id, first_at, editor_at, editor_behind};
 ghost use Rattle.press_wire.specs.Refusals.{Refuses};
 ghost use Rattle.press_wire.specs.Spelling.{longest};
-ghost use Rattle.press_wire.specs.Reading.{post_at, insert_at, update_at, option_at, fields_at, stamped_at, behind_kind, command_at, read_value, read_command};
+ghost use Rattle.press_wire.specs.Reading.{draft_at, insert_at, update_at, option_at, fields_at, stamped_at, behind_kind, command_at, read_value, read_command};
 
 use crate::fault::WireFault;
 use crate::kind::ValueKind;
-use crate::post::PostFields;
 use crate::reader::Reader;
 use crate::write_value::LONGEST;
 use press_apply::{Command, CommandKind, Stamped, Value};
+use press_posts::Draft;
 use press_site::Token;
 use std::alloc::Global;
 
 impl<'a> Reader<'a> {
-    #[tactic(auto, unfolding(crate::specs::Reading::post_at))]
-    fn post(&mut self, alloc: Global) -> Result<PostFields, WireFault>
-        ensures read { Gives Refuses (λ x. Ok (x, self.new)) result (post_at self.old) }
+    #[tactic(auto, unfolding(crate::specs::Reading::draft_at))]
+    fn draft(&mut self, alloc: Global) -> Result<Draft, WireFault>
+        ensures read { Gives Refuses (λ x. Ok (x, self.new)) result (draft_at self.old) }
         ensures memory { result ≡ Err WireFault.NoMemory → IsOk (text_at self.old) }
     {
-        let title = self.text(alloc)?;
-        let content = self.text(alloc)?;
-        let status = self.status()?;
-        let date = self.moment()?;
-        Ok(PostFields {
-            title,
-            content,
-            status,
-            date,
+        Ok(Draft {
+            title: self.text(alloc)?,
+            content: self.text(alloc)?,
+            status: self.status()?,
+            date: self.moment()?,
         })
     }
 
@@ -40,13 +36,7 @@ impl<'a> Reader<'a> {
         ensures read { Gives Refuses (λ x. Ok (x, self.new)) result (insert_at self.old) }
         ensures memory { result ≡ Err WireFault.NoMemory → IsOk (text_at self.old) }
     {
-        let post = self.post(alloc)?;
-        Ok(Command::Insert {
-            title: post.title,
-            content: post.content,
-            status: post.status,
-            date: post.date,
-        })
+        Ok(Command::Insert(self.draft(alloc)?))
     }
 
     #[tactic(auto, unfolding(crate::specs::Reading::update_at))]
@@ -54,14 +44,9 @@ impl<'a> Reader<'a> {
         ensures read { Gives Refuses (λ x. Ok (x, self.new)) result (update_at self.old) }
         ensures memory { result ≡ Err WireFault.NoMemory → IsOk (behind_id self.old) }
     {
-        let id = self.number8()?;
-        let post = self.post(alloc)?;
         Ok(Command::Update {
-            id,
-            title: post.title,
-            content: post.content,
-            status: post.status,
-            date: post.date,
+            id: self.number8()?,
+            draft: self.draft(alloc)?,
         })
     }
 

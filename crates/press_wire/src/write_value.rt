@@ -10,30 +10,22 @@ ghost use Rattle.press_wire.specs.Measures.{Measures, MeasuresWell};
 use crate::status::status_number;
 use crate::writer::Writer;
 use press_apply::{Command, CommandKind, Stamped, Value};
-use press_posts::Status;
-use press_text::{Moment, Text};
+use press_posts::Draft;
 use std::alloc::AllocError;
 
 /// The most bytes of a value.
 pub const LONGEST: usize = 16_384;
 
 impl Writer {
-    #[tactic(auto, using(crate::proofs::Lengths::regroup), unfolding(crate::specs::Spelling::post))]
-    fn post(
-        &mut self,
-        title: &Text,
-        content: &Text,
-        status: Status,
-        date: Moment,
-    ) -> Result<(), AllocError>
-        requires { (length title.now ≤ longest) × (length content.now ≤ longest) }
-        ensures { OnOk result (self.new ≡ self.old
-            ++ spell.post title.now content.now status date) }
+    #[tactic(auto, using(crate::proofs::Lengths::regroup), unfolding(crate::specs::Spelling::draft))]
+    fn draft(&mut self, draft: &Draft) -> Result<(), AllocError>
+        requires { (length draft.now.title ≤ longest) × (length draft.now.content ≤ longest) }
+        ensures { OnOk result (self.new ≡ self.old ++ spell.draft draft.now) }
     {
-        self.text(title)?;
-        self.text(content)?;
-        self.byte(status_number(status))?;
-        self.moment(date)
+        self.text(&draft.title)?;
+        self.text(&draft.content)?;
+        self.byte(status_number(draft.status))?;
+        self.moment(draft.date)
     }
 
     #[tactic(auto, using(crate::proofs::Lengths::regroup), unfolding(crate::specs::Spelling::fields))]
@@ -42,21 +34,10 @@ impl Writer {
         ensures { OnOk result (self.new ≡ self.old ++ spell.fields command.now) }
     {
         match command {
-            Command::Insert {
-                title,
-                content,
-                status,
-                date,
-            } => self.post(title, content, *status, *date),
-            Command::Update {
-                id,
-                title,
-                content,
-                status,
-                date,
-            } => {
+            Command::Insert(draft) => self.draft(draft),
+            Command::Update { id, draft } => {
                 self.number8(*id)?;
-                self.post(title, content, *status, *date)
+                self.draft(draft)
             }
             Command::Trash { id } => self.number8(*id),
             Command::Untrash { id } => self.number8(*id),
@@ -100,13 +81,14 @@ impl Writer {
     }
 }
 
-fn post_len(title: &Text, content: &Text) -> Option<usize>
-    ensures { MeasuresWell 40000 result (17 + length title.now + length content.now) }
+fn draft_len(draft: &Draft) -> Option<usize>
+    ensures { MeasuresWell 40000 result (17 + length draft.now.title
+        + length draft.now.content) }
 {
-    if title.len() > LONGEST || content.len() > LONGEST {
+    if draft.title.len() > LONGEST || draft.content.len() > LONGEST {
         return None;
     }
-    Some(17 + title.len() + content.len())
+    Some(17 + draft.title.len() + draft.content.len())
 }
 
 #[tactic(auto, using(crate::proofs::Lengths::length_fields))]
@@ -114,8 +96,8 @@ fn fields_len(command: &Command) -> Option<usize>
     ensures { MeasuresWell 50000 result (length (spell.fields command.now)) }
 {
     match command {
-        Command::Insert { title, content, .. } => post_len(title, content),
-        Command::Update { title, content, .. } => match post_len(title, content) {
+        Command::Insert(draft) => draft_len(draft),
+        Command::Update { draft, .. } => match draft_len(draft) {
             Some(len) => Some(8 + len),
             None => None,
         },

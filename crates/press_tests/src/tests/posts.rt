@@ -1,6 +1,6 @@
-use press_posts::{Fire, Move, PostFault, Posts, Status};
+use press_posts::{Draft, Fire, Move, PostFault, Posts, Status};
 use press_text::{Items, Moment, Text};
-use std::alloc::Global;
+use std::alloc::{AllocError, Global};
 use std::test::Fail;
 
 fn moment(seconds: u64) -> Moment {
@@ -10,11 +10,18 @@ fn moment(seconds: u64) -> Moment {
     }
 }
 
+fn draft(alloc: Global, status: Status, date: u64) -> Result<Draft, AllocError> {
+    Ok(Draft {
+        title: Text::from_str(alloc, "x")?,
+        content: Text::from_str(alloc, "y")?,
+        status,
+        date: moment(date),
+    })
+}
+
 // A post of that date, inserted at 100.
 fn insert(alloc: Global, posts: &mut Posts, date: u64) -> Result<(u64, Items<Fire>), PostFault> {
-    let title = Text::from_str(alloc, "x")?;
-    let content = Text::from_str(alloc, "y")?;
-    posts.insert(title, content, Status::Publish, moment(date), moment(100))
+    posts.insert(draft(alloc, Status::Publish, date)?, moment(100))
 }
 
 // Whether the last fire is of that hook and has that last argument.
@@ -50,8 +57,7 @@ fn a_deleted_post_keeps_its_id(rt: HostRuntime) -> Result<(), Fail> {
     let alloc = rt.alloc();
     let mut posts = Posts::new(alloc);
     insert(alloc, &mut posts, 100)?;
-    let (title, content) = (Text::from_str(alloc, "x")?, Text::from_str(alloc, "y")?);
-    let fires = posts.edit(1, title, content, Status::Draft, moment(100), moment(100))?;
+    let fires = posts.edit(1, draft(alloc, Status::Draft, 100)?, moment(100))?;
     assert!(rt; ends_with(fires, "save_post", "1"));
     assert_eq!(rt; posts.delete(1), Err(PostFault::NotTrashed));
     let fires = posts.set_status(1, Move::Trash)?;

@@ -1,17 +1,17 @@
 use press_events::Event;
-use press_posts::{Move, Status};
+use press_posts::{Draft, Move, Status};
 use press_site::{Effect, Outcome, Site, SiteFault, Token};
 use press_text::{Every, HookName, Moment, Name, NameFault, OptName, Text};
 use std::alloc::{AllocError, Global};
 use std::test::Fail;
 
 fn publish(alloc: Global) -> Result<Effect, AllocError> {
-    Ok(Effect::Insert {
+    Ok(Effect::Insert(Draft {
         title: Text::from_str(alloc, "x")?,
         content: Text::from_str(alloc, "y")?,
         status: Status::Publish,
         date: Moment::zero(),
-    })
+    }))
 }
 
 fn token(alloc: Global, seq: u64) -> Result<Token, NameFault> {
@@ -85,10 +85,12 @@ fn changes(alloc: Global) -> Result<Vec<Effect>, Fail> {
         publish(alloc)?,
         Effect::Edit {
             id,
-            title: Text::from_str(alloc, "z")?,
-            content: Text::new(alloc),
-            status: Status::Draft,
-            date: Moment::zero(),
+            draft: Draft {
+                title: Text::from_str(alloc, "z")?,
+                content: Text::new(alloc),
+                status: Status::Draft,
+                date: Moment::zero(),
+            },
         },
         Effect::Move { id, to },
         Effect::Delete { id: 2 },

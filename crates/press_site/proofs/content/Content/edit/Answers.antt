@@ -8,7 +8,7 @@ use Rattle.press_site.proofs.content.Content.edit.Goals as goal
 
 pub returns-clause-back : goal.returns-clause-back
 returns-clause-back c =
-    let change = Edit c.args.id c.args.title c.args.content c.args.status c.args.date in
+    let change = Edit c.args.id c.args.draft in
     let t = taken (λ x. x.fires) c.in_ok-fires.fires c.edit.new.self c.self.inside.posts change (post_change c.self.inside.posts change c.args.now) (c.changes_are_taken_back.ensures c.self.inside.posts change c.args.now) c.in_ok-fires.ensures in
     subst (λ (v : ContentView). ContentGoesBack true c.done.result.undone c.done.new.self v) c.self.view_is
     (went c.done.result.undone c.done.new.self (record { posts = c.self.inside.posts; events = c.self.inside.events }) (record { id = c.args.id; post = post_at c.self.inside.posts c.args.id }) c.edit.new.self
