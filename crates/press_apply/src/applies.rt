@@ -233,8 +233,8 @@ fn update(
     site: OpenSite,
     edit: Edit<'_>,
 ) -> (OpenSite, Result<u64, ApplyFault>)
-    ensures { Works (booted (kit_view kit.now) site.site (updates (meaning_in kit.now) edit.id edit.draft.now))
-        site result }
+    ensures { Works (booted (kit_view kit.now) site.site
+        (updates (meaning_in kit.now) edit.id edit.draft.now)) site result }
 {
     match Work::booted(alloc, kit, site) {
         Ok(mut work) => {
