@@ -1,5 +1,5 @@
 -- A change of posts and events is taken back by what it answers.
-use Rattle.std.proofs.Common.{◌≡◌, sym, ℕ, true, List, Option, Some, None}
+use Rattle.std.proofs.Common.{◌≡◌, refl, sym, ℕ, true, List, Option, Some, None}
 use Rattle.std.specs.Prelude.{Result, Ok, Err, IfOk, unwrap_or}
 use Rattle.press_posts.specs.declared.fault.PostFault.{PostFault}
 use Rattle.press_posts.specs.declared.post.Post.{Post}
@@ -7,7 +7,8 @@ use Rattle.press_posts.specs.PostChange as post
 use Rattle.press_posts.specs.Restored.{restored, changed_id, stood, IsRestorable, IsTakenBack}
 use Rattle.press_site.specs.Back.{ContentGoesBack}
 use Rattle.press_site.specs.ContentView.{ContentView}
-use Rattle.press_site.specs.declared.stood.Stood.{Stood}
+use Rattle.press_site.specs.Options.{Values}
+use Rattle.press_site.specs.declared.stood.Stood.TheVariants.{OfPost}
 use Rattle.press_site.specs.declared.stood.Undone.{Undone}
 
 abbrev TakesBack : ℕ → Option Post → List (Option Post) → List (Option Post) → Type 0
@@ -17,5 +18,5 @@ pub taken : {A : Type 0} (part : post.Changed → A) (answer : A) (new posts : L
 taken part answer new posts change (Ok c) t d = rw (d.1, sym t.id) (t.may, t.back)
 taken part answer new posts change (Err f) t d = absurd d
 
-pub went : (undone : Undone) (new old : ContentView) (w : Stood) (posts : List (Option Post)) → undone.stood ≡ Some w → undone.options ≡ None → undone.active ≡ None → new.posts ≡ posts → TakesBack w.id w.post posts old.posts → unwrap_or undone.events new.events ≡ old.events → ContentGoesBack true undone new old
-went undone new old w posts s o a n t e = record { may = rw (s, n) t.0; same_posts = rw (s, n) t.1; same_events = λ _. e; no_options = o; no_active = a }
+pub went : (undone : Undone) (new old : ContentView) (id : ℕ) (p : Option Post) (posts : List (Option Post)) → undone.stood ≡ Some (OfPost id p) → undone.active ≡ None → new.posts ≡ posts → TakesBack id p posts old.posts → unwrap_or undone.events new.events ≡ old.events → ContentGoesBack true undone new old
+went undone new old id p posts s a n t e = record { may = rw (s, n) (t.0, tt); same_posts = rw (s, n) t.1; same_events = λ _. e; no_options = λ (options : Values). rw s refl; no_active = a }

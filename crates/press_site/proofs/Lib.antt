@@ -7,5 +7,6 @@ mod Hooks
 mod Joined
 mod Lifted
 mod Noted
+mod PutBack
 mod Undoing
 mod Vectors

@@ -1,6 +1,6 @@
 -- A refusal of a part is the site's.
-use Rattle.std.proofs.Common.{◌≡◌, ◌∙◌, refl, sym, ap, subst, ℕ, Bool, true, false, List, Option, Some, None}
-use Rattle.std.specs.Prelude.{Result, Ok, Err, IfOk, ◌||◌, is_some, unwrap_or}
+use Rattle.std.proofs.Common.{◌≡◌, ◌∙◌, refl, sym, ap, subst, ℕ, Bool, true, List, Option, Some, None}
+use Rattle.std.specs.Prelude.{Result, Ok, Err, IfOk, ◌||◌, is_some, unwrap_or, option_map}
 use Rattle.press_posts.specs.declared.fire.Fire.{Fire}
 use Rattle.press_site.specs.declared.changed.Changed.{Changed}
 use Rattle.press_site.specs.declared.fault.SiteFault.{SiteFault}
@@ -10,10 +10,12 @@ use Rattle.press_site.specs.Becomes.{Refuses, MayGrow}
 use Rattle.press_site.specs.ContentView.{ContentView}
 use Rattle.press_site.specs.Effects.{content_of, with_content, with_options, with_plugins}
 use Rattle.press_site.specs.Options.{Values}
+use Rattle.press_site.specs.Sets.{set_back}
 use Rattle.press_site.specs.SiteView.{SiteView}
+use Rattle.press_site.specs.declared.options.SetDone.{SetDone}
 use Rattle.press_site.specs.declared.stood.Done.{Done}
+use Rattle.press_site.specs.declared.stood.Stood.TheVariants.{OfOption}
 use Rattle.press_site.specs.declared.stood.Undone.{Undone}
-use Rattle.press_site.specs.declared.stood.Wants.{Wants}
 
 -- the change of a part, put into the site
 refused_by : {A B : Type 0} (h : Result A SiteFault → Result B SiteFault) → ((x : A) → MayGrow (h (Ok x))) → ((f : SiteFault) → h (Err f) ≡ Err f) → (f : SiteFault) (r : Result A SiteFault) → Refuses f r → Refuses f (h r)
@@ -47,48 +49,53 @@ pub does_lifted : (s : SiteView) (result : Result Done SiteFault) (meant : Resul
 does_lifted s (Ok d) meant new b = ap (with_content s) b
 does_lifted s (Err f) meant new b = (content_refused s f meant b.0, ap (with_new s) b.1)
 
-goes_back : (s : SiteView) (undone : Undone) (b : Bool) (wants : Wants) (new : ContentView) → ((wants.events || is_some undone.stood) ≡ true → (b || is_some undone.stood) ≡ true) → ContentGoesBack b undone new (content_of s) → GoesBack wants undone (with_new s new) s
+goes_back : (s : SiteView) (undone : Undone) (b wants : Bool) (new : ContentView) → ((wants || is_some undone.stood) ≡ true → (b || is_some undone.stood) ≡ true) → ContentGoesBack b undone new (content_of s) → GoesBack wants undone (with_new s new) s
 goes_back s undone b wants new e g = record {
   may = g.may;
   same_posts = g.same_posts;
   same_events = λ h. g.same_events (e h);
-  same_options = λ _. ap (λ (o : Option Values). unwrap_or o s.options) g.no_options;
+  same_options = g.no_options s.options;
   same_active = ap (λ (o : Option (List (List ℕ))). unwrap_or o s.active) g.no_active;
   same_moment = refl;
   same_outcomes = refl;
 }
 
-pub back_lifted : (s : SiteView) (done : Result Done SiteFault) (events options : Bool) (new : ContentView) → IfOk done (λ d. ContentGoesBack events d.undone new (content_of s)) → IfOk done (λ d. GoesBack (record { events = events; options = options }) d.undone (with_new s new) s)
-back_lifted s (Ok d) events options new g = goes_back s d.undone events (record { events = events; options = options }) new (λ h. h) g
-back_lifted s (Err f) events options new g = tt
+pub back_lifted : (s : SiteView) (done : Result Done SiteFault) (wants : Bool) (new : ContentView) → IfOk done (λ d. ContentGoesBack wants d.undone new (content_of s)) → IfOk done (λ d. GoesBack wants d.undone (with_new s new) s)
+back_lifted s (Ok d) wants new g = goes_back s d.undone wants wants new (λ h. h) g
+back_lifted s (Err f) wants new g = tt
 
-pub back_of_post : (s : SiteView) (done : Result Done SiteFault) (wants : Wants) (new : ContentView) → IfOk done (λ d. ContentGoesBack true d.undone new (content_of s)) → IfOk done (λ d. GoesBack wants d.undone (with_new s new) s)
+pub back_of_post : (s : SiteView) (done : Result Done SiteFault) (wants : Bool) (new : ContentView) → IfOk done (λ d. ContentGoesBack true d.undone new (content_of s)) → IfOk done (λ d. GoesBack wants d.undone (with_new s new) s)
 back_of_post s (Ok d) wants new g = goes_back s d.undone true wants new (λ h. refl) g
 back_of_post s (Err f) wants new g = tt
 
 -- ---- options and active plugins
 
-or_none : (b : Bool) → (b || false) ≡ true → b ≡ true
-or_none true e = refl
-or_none false e = e
-
-pub options_back : (s : SiteView) (events wanted : Bool) (undone : Undone) (stood : Option Values) (new : Values) → undone ≡ record { stood = None; events = None; options = stood; active = None } → (wanted ≡ true → unwrap_or stood new ≡ s.options) → GoesBack (record { events = events; options = wanted }) undone (record s { options = new }) s
-options_back s events wanted undone stood new is e = subst (λ (u : Undone). GoesBack (record { events = events; options = wanted }) u (record s { options = new }) s) (sym is) (record {
+pub options_back : (s : SiteView) (wants : Bool) (undone : Undone) (name : List ℕ) (done : Option SetDone) (new : Values) → undone ≡ record { stood = option_map (λ (d : SetDone). OfOption name d.stood) done; events = None; active = None } → set_back name done new ≡ s.options → GoesBack wants undone (record s { options = new }) s
+options_back s wants undone name None new is e = subst (λ (u : Undone). GoesBack wants u (record s { options = new }) s) (sym is) (record {
   may = tt;
   same_posts = refl;
   same_events = λ _. refl;
-  same_options = λ h. e (or_none wanted h);
+  same_options = e;
+  same_active = refl;
+  same_moment = refl;
+  same_outcomes = refl;
+})
+options_back s wants undone name (Some d) new is e = subst (λ (u : Undone). GoesBack wants u (record s { options = new }) s) (sym is) (record {
+  may = (tt, tt);
+  same_posts = refl;
+  same_events = λ _. refl;
+  same_options = e;
   same_active = refl;
   same_moment = refl;
   same_outcomes = refl;
 })
 
-pub active_back : (s : SiteView) (wants : Wants) (undone : Undone) (stood new : List (List ℕ)) → undone ≡ record { stood = None; events = None; options = None; active = Some stood } → stood ≡ s.active → GoesBack wants undone (record s { active = new }) s
+pub active_back : (s : SiteView) (wants : Bool) (undone : Undone) (stood new : List (List ℕ)) → undone ≡ record { stood = None; events = None; active = Some stood } → stood ≡ s.active → GoesBack wants undone (record s { active = new }) s
 active_back s wants undone stood new is e = subst (λ (u : Undone). GoesBack wants u (record s { active = new }) s) (sym is) (record {
   may = tt;
   same_posts = refl;
   same_events = λ _. refl;
-  same_options = λ _. refl;
+  same_options = refl;
   same_active = e;
   same_moment = refl;
   same_outcomes = refl;

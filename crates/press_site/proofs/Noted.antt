@@ -1,11 +1,12 @@
 -- A change that is noted leaves what stood when the site was begun.
-use Rattle.std.proofs.Common.{◌≡◌, refl, sym, ◌∙◌, ap, ap₂, subst, ℕ, Bool, true, false, List, Option, Some, None}
+use Rattle.std.proofs.Common.{◌≡◌, refl, sym, ◌∙◌, ap, ap₂, subst, ℕ, Bool, true, false, List, [], Option, Some, None}
 use Rattle.std.specs.Prelude.{Result, Ok, Err, IfOk, ◌||◌, is_none, is_some, unwrap_or}
 use Rattle.press_events.specs.declared.event.Event.{Event}
 use Rattle.press_posts.specs.declared.post.Post.{Post}
-use Rattle.press_site.specs.Back.{Does, GoesBack, Keeps, MayPostGoBack, MayPostsGoBack, post_back, posts_back, site_back}
+use Rattle.press_site.specs.Back.{Does, GoesBack, Keeps, MayPostsGoBack, options_back, posts_back, site_back}
 use Rattle.press_site.specs.Becomes.{Becomes, MayGrow}
-use Rattle.press_site.specs.Log.{Log, first_kept, noted, wants, with_stood}
+use Rattle.press_site.specs.Log.{Log, first_kept, noted, told, with_stood}
+use Rattle.press_site.specs.Options.{Values}
 use Rattle.press_site.specs.SiteView.{SiteView}
 use Rattle.press_site.specs.declared.changed.Changed.{Changed}
 use Rattle.press_site.specs.declared.fault.SiteFault.{SiteFault}
@@ -13,20 +14,23 @@ use Rattle.press_site.specs.declared.fault.SiteFault.TheVariants.{NoMemory}
 use Rattle.press_site.specs.declared.stood.Done.{Done}
 use Rattle.press_site.specs.declared.stood.Stood.{Stood}
 use Rattle.press_site.specs.declared.stood.Undone.{Undone}
-use Rattle.press_site.specs.declared.stood.Wants.{Wants}
 use Rattle.press_site.specs.declared.token.Outcome.{Outcome}
 use Rattle.press_site.specs.declared.token.Token.{Token}
-use Rattle.press_site.proofs.Undoing.{may_push, posts_pushed}
+use Rattle.press_site.proofs.Undoing.{may_push, options_pushed, posts_pushed}
 
 -- ---- part by part
 
-posts_same : (w : Option Stood) (ws : List Stood) (ps qs : List (Option Post)) → post_back w ps ≡ qs → posts_back (with_stood w ws) ps ≡ posts_back ws qs
+posts_same : (w : Option Stood) (ws : List Stood) (ps qs : List (Option Post)) → posts_back (with_stood w []) ps ≡ qs → posts_back (with_stood w ws) ps ≡ posts_back ws qs
 posts_same None ws ps qs e = ap (posts_back ws) e
 posts_same (Some w) ws ps qs e = posts_pushed ws w ps ∙ ap (posts_back ws) e
 
-may_same : (w : Option Stood) (ws : List Stood) (ps qs : List (Option Post)) → MayPostGoBack w ps → post_back w ps ≡ qs → MayPostsGoBack ws qs → MayPostsGoBack (with_stood w ws) ps
+options_same : (w : Option Stood) (ws : List Stood) (es fs : Values) → options_back (with_stood w []) es ≡ fs → options_back (with_stood w ws) es ≡ options_back ws fs
+options_same None ws es fs e = ap (options_back ws) e
+options_same (Some w) ws es fs e = options_pushed ws w es ∙ ap (options_back ws) e
+
+may_same : (w : Option Stood) (ws : List Stood) (ps qs : List (Option Post)) → MayPostsGoBack (with_stood w []) ps → posts_back (with_stood w []) ps ≡ qs → MayPostsGoBack ws qs → MayPostsGoBack (with_stood w ws) ps
 may_same None ws ps qs m e h = subst (MayPostsGoBack ws) (sym e) h
-may_same (Some w) ws ps qs m e h = may_push ws w ps m (subst (MayPostsGoBack ws) (sym e) h)
+may_same (Some w) ws ps qs m e h = may_push ws w ps m.0 (subst (MayPostsGoBack ws) (sym e) h)
 
 kept_same : {A : Type 0} (kept told : Option A) (b : Bool) (x y : A) → ((is_none kept || b) ≡ true → unwrap_or told x ≡ y) → unwrap_or (first_kept kept told) x ≡ unwrap_or kept y
 kept_same None told b x y e = e refl
@@ -40,15 +44,15 @@ same_site a b m p e o s k =
 
 -- ---- a change
 
-keeps_noted : (log : Log) (undone : Undone) (before after : SiteView) → GoesBack (wants log) undone after before → Keeps log before (noted undone log) after
+keeps_noted : (log : Log) (undone : Undone) (before after : SiteView) → GoesBack (is_none log.events) undone after before → Keeps log before (noted undone log) after
 keeps_noted log undone before after g = record {
   same =
       same_site _ _ g.same_moment
-      (posts_same undone.stood log.posts after.posts before.posts g.same_posts)
+      (posts_same undone.stood log.stood after.posts before.posts g.same_posts)
       (kept_same log.events undone.events (is_some undone.stood) after.events before.events g.same_events)
-      (kept_same log.options undone.options (is_some undone.stood) after.options before.options g.same_options)
+      (options_same undone.stood log.stood after.options before.options g.same_options)
       (kept_same log.active undone.active true after.active before.active (λ _. g.same_active)) g.same_outcomes;
-  may = λ h. may_same undone.stood log.posts after.posts before.posts g.may g.same_posts h;
+  may = λ h. may_same undone.stood log.stood after.posts before.posts g.may g.same_posts h;
 }
 
 keeps_same : (log : Log) (before after : SiteView) → after ≡ before → Keeps log before log after
@@ -58,9 +62,9 @@ or_true : (a b : Bool) → b ≡ true → (a || b) ≡ true
 or_true true b e = refl
 or_true false b e = e
 
-went_back : (w : Wants) (undone : Undone) (after before : SiteView) → GoesBack w undone after before → is_some undone.stood ≡ true → site_back undone after ≡ before
+went_back : (w : Bool) (undone : Undone) (after before : SiteView) → GoesBack w undone after before → is_some undone.stood ≡ true → site_back undone after ≡ before
 went_back w undone after before g e =
-    same_site _ _ g.same_moment g.same_posts (g.same_events (or_true w.events (is_some undone.stood) e)) (g.same_options (or_true w.options (is_some undone.stood) e)) g.same_active g.same_outcomes
+    same_site _ _ g.same_moment g.same_posts (g.same_events (or_true w (is_some undone.stood) e)) g.same_options g.same_active g.same_outcomes
 
 -- ---- by its three ways out
 
@@ -71,17 +75,17 @@ module _ (meant : Result (SiteView × Changed) SiteFault) (before after : SiteVi
   pub refused : (f : SiteFault) (done : Result Done SiteFault) → done ≡ Err f → Does done meant before after → Ends (Err f) after log
   refused f done e d = let h = subst (λ (r : Result Done SiteFault). Does r meant before after) e d in ((h.0, h.1), keeps_same log before after h.1)
 
-  pub done_well : (x : Done) (new : Log) → new ≡ noted x.undone log → meant ≡ Ok (after, x.changed) → GoesBack (wants log) x.undone after before → Ends (Ok x.changed) after new
+  pub done_well : (x : Done) (new : Log) → new ≡ noted x.undone log → meant ≡ Ok (after, x.changed) → GoesBack (is_none log.events) x.undone after before → Ends (Ok x.changed) after new
   done_well x new n m g = (m, subst (λ (l : Log). Keeps log before l after) (sym n) (keeps_noted log x.undone before after g))
 
   grows : (x : SiteView × Changed) → meant ≡ Ok x → MayGrow meant
   grows x m = rw m tt
 
-  pub taken_back : (x : Done) (back : SiteView) (new : Log) → new ≡ log → back ≡ site_back x.undone after → is_some x.undone.stood ≡ true → meant ≡ Ok (after, x.changed) → GoesBack (wants log) x.undone after before → Becomes (Err NoMemory) meant before back × Keeps log before new back
+  pub taken_back : (x : Done) (back : SiteView) (new : Log) → new ≡ log → back ≡ site_back x.undone after → is_some x.undone.stood ≡ true → meant ≡ Ok (after, x.changed) → GoesBack (is_none log.events) x.undone after before → Becomes (Err NoMemory) meant before back × Keeps log before new back
   taken_back x back new n b s m g =
-      let same = b ∙ went_back (wants log) x.undone after before g s in
+      let same = b ∙ went_back (is_none log.events) x.undone after before g s in
       ((grows (after, x.changed) m, same), subst (λ (l : Log). Keeps log before l back) (sym n) (keeps_same log before back same))
 
-pub may_of : (done : Result Done SiteFault) (w : Wants) (new old : SiteView) → IfOk done (λ d. GoesBack w d.undone new old) → IfOk done (λ d. MayPostGoBack d.undone.stood new.posts)
+pub may_of : (done : Result Done SiteFault) (w : Bool) (new old : SiteView) → IfOk done (λ d. GoesBack w d.undone new old) → IfOk done (λ d. MayPostsGoBack (told d.undone) new.posts)
 may_of (Ok d) w new old g = g.may
 may_of (Err f) w new old g = tt

@@ -1,51 +1,72 @@
 -- The way back: what was kept is put back, the last change first.
-use Rattle.std.specs.Prelude.{◌≡◌, List, [], ◌∷◌, Bool, true, ◌||◌, is_some, unwrap_or, Option, None, Some, Result, Ok, IfOk}
+use Rattle.std.specs.Prelude.{◌≡◌, List, [], ◌∷◌, Bool, true, ◌||◌, is_none, is_some, unwrap_or, Option, None, Result, Ok, IfOk}
 use Rattle.press_posts.specs.declared.post.Post.{Post}
 use Rattle.press_posts.specs.Restored.{restored, IsRestorable}
 use Rattle.press_text.specs.Gives.{GivesOrStays}
 use Rattle.press_site.specs.declared.changed.Changed.{Changed}
 use Rattle.press_site.specs.declared.stood.Done.{Done}
 use Rattle.press_site.specs.declared.stood.Stood.{Stood}
+use Rattle.press_site.specs.declared.stood.Stood.TheVariants.{OfPost, OfOption}
 use Rattle.press_site.specs.declared.stood.Undone.{Undone}
-use Rattle.press_site.specs.declared.stood.Wants.{Wants}
 use Rattle.press_site.specs.declared.fault.SiteFault.{SiteFault}
 use Rattle.press_site.specs.Becomes.{Becomes, Refuses}
 use Rattle.press_site.specs.ContentView.{ContentView}
-use Rattle.press_site.specs.Log.{Log, wants}
+use Rattle.press_site.specs.Log.{Log, told}
+use Rattle.press_site.specs.Options.{Values, put_back}
 use Rattle.press_site.specs.SiteView.{SiteView}
+
+-- ---- what stood at one place: of a post it leaves the options, of an option the posts
+
+abbrev pub post_back : Stood → List (Option Post) → List (Option Post)
+post_back (OfPost id post) posts = restored id post posts
+post_back (OfOption name value) posts = posts
+
+abbrev pub option_back : Stood → Values → Values
+option_back (OfPost id post) options = options
+option_back (OfOption name value) options = put_back name value options
+
+abbrev pub MayPostGoBack : Stood → List (Option Post) → Type 0
+MayPostGoBack (OfPost id post) posts = IsRestorable id post posts
+MayPostGoBack (OfOption name value) posts = Unit {0}
+
+-- ---- all that stood
+
+abbrev pub posts_back : List Stood → List (Option Post) → List (Option Post)
+posts_back [] posts = posts
+posts_back (w ∷ ws) posts = post_back w (posts_back ws posts)
+
+abbrev pub options_back : List Stood → Values → Values
+options_back [] options = options
+options_back (w ∷ ws) options = option_back w (options_back ws options)
+
+abbrev pub MayPostsGoBack : List Stood → List (Option Post) → Type 0
+MayPostsGoBack [] posts = Unit {0}
+MayPostsGoBack (w ∷ ws) posts = MayPostGoBack w (posts_back ws posts) × MayPostsGoBack ws posts
 
 -- ---- one change
 
-abbrev pub post_back : Option Stood → List (Option Post) → List (Option Post)
-post_back None posts = posts
-post_back (Some w) posts = restored w.id w.post posts
-
-abbrev pub MayPostGoBack : Option Stood → List (Option Post) → Type 0
-MayPostGoBack None posts = Unit {0}
-MayPostGoBack (Some w) posts = IsRestorable w.id w.post posts
-
 abbrev pub site_back : Undone → SiteView → SiteView
 site_back u s = record s {
-  posts = post_back u.stood s.posts;
+  posts = posts_back (told u) s.posts;
   events = unwrap_or u.events s.events;
-  options = unwrap_or u.options s.options;
+  options = options_back (told u) s.options;
   active = unwrap_or u.active s.active;
 }
 
 -- with what a change of posts and events answers it may be taken back; events alone are told only where they are wanted
 pub record ContentGoesBack (wants : Bool) (undone : Undone) (new old : ContentView) : Type 0 where
-  pub may : MayPostGoBack undone.stood new.posts
-  pub same_posts : post_back undone.stood new.posts ≡ old.posts
+  pub may : MayPostsGoBack (told undone) new.posts
+  pub same_posts : posts_back (told undone) new.posts ≡ old.posts
   pub same_events : (wants || is_some undone.stood) ≡ true → unwrap_or undone.events new.events ≡ old.events
-  pub no_options : undone.options ≡ None
+  pub no_options : (options : Values) → options_back (told undone) options ≡ options
   pub no_active : undone.active ≡ None
 
--- with what any change answers; without a post, events and options are told only where they are wanted
-pub record GoesBack (wants : Wants) (undone : Undone) (new old : SiteView) : Type 0 where
-  pub may : MayPostGoBack undone.stood new.posts
-  pub same_posts : post_back undone.stood new.posts ≡ old.posts
-  pub same_events : (wants.events || is_some undone.stood) ≡ true → unwrap_or undone.events new.events ≡ old.events
-  pub same_options : (wants.options || is_some undone.stood) ≡ true → unwrap_or undone.options new.options ≡ old.options
+-- with what any change answers; without what stood at a place, events are told only where they are wanted
+pub record GoesBack (wants : Bool) (undone : Undone) (new old : SiteView) : Type 0 where
+  pub may : MayPostsGoBack (told undone) new.posts
+  pub same_posts : posts_back (told undone) new.posts ≡ old.posts
+  pub same_events : (wants || is_some undone.stood) ≡ true → unwrap_or undone.events new.events ≡ old.events
+  pub same_options : options_back (told undone) new.options ≡ old.options
   pub same_active : unwrap_or undone.active new.active ≡ old.active
   pub same_moment : new.moment ≡ old.moment
   pub same_outcomes : new.outcomes ≡ old.outcomes
@@ -55,19 +76,11 @@ Does result meant old new = GivesOrStays Refuses (λ d. Ok (new, d.changed)) res
 
 -- ---- all changes since
 
-abbrev pub posts_back : List Stood → List (Option Post) → List (Option Post)
-posts_back [] posts = posts
-posts_back (w ∷ ws) posts = restored w.id w.post (posts_back ws posts)
-
-abbrev pub MayPostsGoBack : List Stood → List (Option Post) → Type 0
-MayPostsGoBack [] posts = Unit {0}
-MayPostsGoBack (w ∷ ws) posts = IsRestorable w.id w.post (posts_back ws posts) × MayPostsGoBack ws posts
-
 abbrev pub log_back : Log → SiteView → SiteView
 log_back log s = record s {
-  posts = posts_back log.posts s.posts;
+  posts = posts_back log.stood s.posts;
   events = unwrap_or log.events s.events;
-  options = unwrap_or log.options s.options;
+  options = options_back log.stood s.options;
   active = unwrap_or log.active s.active;
 }
 
@@ -75,10 +88,10 @@ log_back log s = record s {
 
 pub record Keeps (old : Log) (before : SiteView) (new : Log) (after : SiteView) : Type 0 where
   pub same : log_back new after ≡ log_back old before
-  pub may : MayPostsGoBack old.posts before.posts → MayPostsGoBack new.posts after.posts
+  pub may : MayPostsGoBack old.stood before.posts → MayPostsGoBack new.stood after.posts
 
 -- what becomes of a change that is done, where it is noted: it means what it meant before
 abbrev pub Notes : Result Done SiteFault → Result Changed SiteFault → SiteView → SiteView → Log → Log → Type 0
 Notes done result given site old new =
-    (meant : Result (SiteView × Changed) SiteFault) (before : SiteView) → Does done meant before given → IfOk done (λ d. GoesBack (wants old) d.undone given before) →
+    (meant : Result (SiteView × Changed) SiteFault) (before : SiteView) → Does done meant before given → IfOk done (λ d. GoesBack (is_none old.events) d.undone given before) →
     Becomes result meant before site × Keeps old before new site

@@ -2,7 +2,7 @@
 use Rattle.std.specs.Prelude.{ℕ, String, List, [], ◌∷◌, ◌++◌, length, map, nat_lt, nat_le, bytes_eq, if◌then◌else◌, codes, string_bytes, Option, Some, None, Result, Ok, Err}
 use Rattle.std.specs.BTreeMap.{insert_entry, is_at}
 use Rattle.std.specs.Cmp.Lexicographic.{slice_cmp}
-use Rattle.std.specs.Map.{lookup}
+use Rattle.std.specs.Map.{lookup, remove_entry, set_value}
 use Rattle.std.specs.Ordering.{nat_cmp}
 use Rattle.press_posts.specs.declared.fire.Fire.{Fire}
 use Rattle.press_site.specs.declared.fault.SiteFault.{SiteFault}
@@ -20,6 +20,11 @@ option_of name values = lookup (is_at (slice_cmp nat_cmp name)) values
 
 abbrev pub put_option : List ℕ → List ℕ → Values → Values
 put_option name value values = insert_entry (slice_cmp nat_cmp) values name value
+
+-- an option as it stood: with that value, or out where it had none
+abbrev pub put_back : List ℕ → Option (List ℕ) → Values → Values
+put_back name (Some value) values = set_value (is_at (slice_cmp nat_cmp name)) values value
+put_back name None values = remove_entry (is_at (slice_cmp nat_cmp name)) values
 
 -- ---- what is fired
 

@@ -6,6 +6,7 @@ ghost use Rattle.press_posts.specs.PostChange.{comes, post_at};
 ghost use Rattle.press_posts.specs.PostChange.Change.{Insert, Edit, Moves, Delete};
 ghost use Rattle.press_posts.specs.Published.{published};
 ghost use Rattle.press_posts.specs.Restored.{restored, IsRestorable};
+ghost use Rattle.press_site.specs.declared.stood.Stood.TheVariants.{OfPost};
 ghost use Rattle.press_site.specs.Back.{ContentGoesBack, Does};
 ghost use Rattle.press_site.specs.Becomes.{Refuses};
 ghost use Rattle.press_text.specs.Gives.{Gives};
@@ -101,7 +102,7 @@ impl Content {
         let beside = self.beside(id, draft.status.settled(draft.date, now), draft.date)?;
         let (id, fires) = self.posts.insert(draft, now)?;
         changes_are_taken_back();
-        let stood = Stood { id, post: None };
+        let stood = Stood::OfPost { id, post: None };
         Ok(self.done(id, fires, stood, beside))
     }
 
@@ -177,12 +178,10 @@ impl Content {
     }
 
     /// Puts what stood at a post's place there again.
-    pub fn restore(&mut self, stood: Stood)
-        requires { IsRestorable stood.id stood.post self.old.posts }
-        ensures { self.new ≡ record self.old
-            { posts = restored stood.id stood.post self.old.posts } }
+    pub fn restore(&mut self, id: u64, post: Option<Post>)
+        requires { IsRestorable id post self.old.posts }
+        ensures { self.new ≡ record self.old { posts = restored id post self.old.posts } }
     {
-        let (id, post) = stood.parts();
         self.posts.restore(id, post);
     }
 
@@ -223,14 +222,13 @@ impl Content {
             { events = unwrap_or beside.events self.old.events } }
         ensures changed { result.changed ≡ record { id = id; did = true; fires = fires } }
         ensures stood { result.undone.stood ≡ Some stood }
-        ensures options { result.undone.options ≡ None }
         ensures active { result.undone.active ≡ None }
         ensures events { unwrap_or result.undone.events self.new.events ≡ self.old.events }
     {
         let did = true;
         let changed = Changed { id, did, fires };
         let events = self.swap(beside);
-        let undone = Undone::of_post(stood, events);
+        let undone = Undone::of(stood, events);
         Done { changed, undone }
     }
 
@@ -248,13 +246,13 @@ impl Content {
 
     // What stands at a post's place.
     fn stood(&self, id: u64) -> Result<Stood, AllocError>
-        ensures { IfOk result (λ s. s ≡ record { id = id; post = post_at self.now.posts id }) }
+        ensures { IfOk result (λ s. s ≡ OfPost id (post_at self.now.posts id)) }
     {
         let post = match self.posts.get(id) {
             Some(post) => Some(post.copied(self.alloc)?),
             None => None,
         };
-        Ok(Stood { id, post })
+        Ok(Stood::OfPost { id, post })
     }
 
     fn events_if(&self, wants: bool) -> Result<Option<Events>, AllocError>
@@ -357,7 +355,7 @@ struct Beside {
 fn untouched(alloc: Global, id: u64) -> Done
     ensures { result ≡ record {
       changed = record { id = id; did = false; fires = [] };
-      undone = record { stood = None; events = None; options = None; active = None };
+      undone = record { stood = None; events = None; active = None };
     } }
 {
     let (did, fires) = (false, Items::new(alloc));
@@ -370,7 +368,7 @@ fn untouched(alloc: Global, id: u64) -> Done
 fn done_alone(alloc: Global, did: bool, events: Option<Events>) -> Done
     ensures { result ≡ record {
       changed = record { id = 0; did = did; fires = [] };
-      undone = record { stood = None; events = events; options = None; active = None };
+      undone = record { stood = None; events = events; active = None };
     } }
 {
     let (id, fires) = (0, Items::new(alloc));

@@ -1,9 +1,10 @@
 //! A site at work, which can go back.
 
 ghost use Rattle.std.specs.Prelude.{◌≡◌, None, IfOk, IfErr};
-ghost use Rattle.press_site.specs.Back.{MayPostGoBack, Notes};
+ghost use Rattle.press_site.specs.Back.{MayPostsGoBack, Notes};
 ghost use Rattle.press_site.specs.Becomes.{Becomes};
 ghost use Rattle.press_site.specs.Effects.{effect_on};
+ghost use Rattle.press_site.specs.Log.{told};
 ghost use Rattle.press_site.specs.Open.{begun_of};
 ghost use Rattle.press_site.specs.Outcomes.{outcome_of, with_outcome};
 
@@ -38,7 +39,7 @@ impl Model for OpenSite {
 
     ghost view = { λ o. record { site = o.site; log = o.undo } };
 
-    ghost invariant = { λ o. MayPostsGoBack o.undo.posts o.site.posts };
+    ghost invariant = { λ o. MayPostsGoBack o.undo.stood o.site.posts };
 }
 
 impl OpenSite {
@@ -63,7 +64,7 @@ impl OpenSite {
             self.old.site self.new.site }
         ensures begun { begun_of self.new ≡ begun_of self.old }
     {
-        let wants = self.undo.wants();
+        let wants = self.undo.wants_events();
         let done = self.site.change(effect, wants);
         noted(&mut self.site, &mut self.undo, done)
     }
@@ -111,7 +112,7 @@ fn noted(
     undo: &mut Undo,
     done: Result<Done, SiteFault>,
 ) -> Result<Changed, SiteFault>
-    requires { IfOk done (λ d. MayPostGoBack d.undone.stood site.old.posts) }
+    requires { IfOk done (λ d. MayPostsGoBack (told d.undone) site.old.posts) }
     ensures { Notes done result site.old site.new undo.old undo.new }
 {
     let Done { changed, undone } = done?;

@@ -1,6 +1,6 @@
-ghost use Rattle.std.specs.Prelude.{◌≡◌, [], ◌∷◌, ◌<◌, ◌++◌, length, None, Some, Ok, true, if◌then◌else◌, unwrap_or, IfOk, OnOk, OnErr, option_map, codes, string_bytes};
-ghost use Rattle.press_site.specs.Sets.{Sets};
-ghost use Rattle.press_site.specs.Options.{option_of, put_option, set_option, set_over, added_fire, updated_fire, added_name, updated_name};
+ghost use Rattle.std.specs.Prelude.{◌≡◌, [], ◌∷◌, ◌<◌, ◌++◌, length, None, Some, Ok, IfOk, OnOk, OnErr, option_map, codes, string_bytes};
+ghost use Rattle.press_site.specs.Sets.{Sets, set_back};
+ghost use Rattle.press_site.specs.Options.{option_of, put_back, put_option, set_option, set_over, added_fire, updated_fire, added_name, updated_name};
 
 use crate::fault::SiteFault;
 use press_posts::Fire;
@@ -38,11 +38,11 @@ impl Model for Options {
     ghost view = { λ o. by_bytes o.values.entries };
 }
 
-/// What the setting of an option fires, if it changes anything; and the options that stood.
+/// What the setting of an option fires, and the value that stood, if one did.
 #[derive(Debug, Drop)]
 pub struct SetDone {
-    pub fires: Option<Items<Fire>>,
-    pub stood: Option<Options>,
+    pub fires: Items<Fire>,
+    pub stood: Option<Text>,
 }
 
 impl Options {
@@ -77,37 +77,44 @@ impl Options {
         }
     }
 
-    /// Gives an option a value; what that fires, and None where it has that value already. Refused by TooLong, then TooManyOptions.
-    /// The options that stood are told where they are wanted.
-    pub fn set(&mut self, name: &OptName, value: Text, wants: bool) -> Result<SetDone, SiteFault>
+    /// Gives an option a value: what that fires and what stood, or None where it has that value already. Refused by TooLong, then
+    /// TooManyOptions. Memory is taken by the fires and a name that is new.
+    pub fn set(&mut self, name: &OptName, value: Text) -> Result<Option<SetDone>, SiteFault>
         ensures does { Sets result (set_option name.now value self.old) self.old self.new }
-        ensures back { IfOk result
-            (λ s. wants ≡ true → unwrap_or s.stood self.new ≡ self.old) }
+        ensures back { IfOk result (λ s. set_back name.now s self.new ≡ self.old) }
     {
         if value.len() > MOST_VALUE {
             return Err(SiteFault::TooLong);
         }
         let Some(old) = self.value(name.as_str()) else {
-            return self.add(name, value, wants);
+            return self.add(name, value);
         };
         if old.as_str() == value.as_str() {
-            let (fires, stood) = (None, None);
-            return Ok(SetDone { fires, stood });
+            return Ok(None);
         }
         let fire = updated_fire(self.alloc, name, old.as_str(), value.as_str())?;
-        self.put(name.as_str(), value, fire, wants)
+        self.put(name.as_str(), value, fire)
     }
 
-    fn add(&mut self, name: &OptName, value: Text, wants: bool) -> Result<SetDone, SiteFault>
+    /// Puts an option back as it stood: with that value, or out where it had none. Takes no memory.
+    pub fn restore(&mut self, name: &OptName, stood: Option<Text>)
+        ensures { self.new ≡ put_back name.now stood self.old }
+    {
+        match stood {
+            Some(value) => self.replace(name.as_str(), value),
+            None => self.remove(name.as_str()),
+        }
+    }
+
+    fn add(&mut self, name: &OptName, value: Text) -> Result<Option<SetDone>, SiteFault>
         ensures does { Sets result (set_over None name.now value self.old) self.old self.new }
-        ensures back { IfOk result
-            (λ s. wants ≡ true → unwrap_or s.stood self.new ≡ self.old) }
+        ensures back { IfOk result (λ s. set_back name.now s self.new ≡ self.old) }
     {
         if self.values.len() >= MOST_OPTIONS {
             return Err(SiteFault::TooManyOptions);
         }
         let fire = added_fire(self.alloc, name, value.as_str())?;
-        self.put(name.as_str(), value, fire, wants)
+        self.put(name.as_str(), value, fire)
     }
 
     fn value(&self, name: &str) -> Option<&Text>
@@ -116,41 +123,40 @@ impl Options {
         self.values.get(name)
     }
 
-    fn put(
-        &mut self,
-        name: &str,
-        value: Text,
-        fire: Fire,
-        wants: bool,
-    ) -> Result<SetDone, SiteFault>
+    fn put(&mut self, name: &str, value: Text, fire: Fire) -> Result<Option<SetDone>, SiteFault>
         ensures does { Sets result (Ok (put_option name.now value self.old, Some (fire ∷ [])))
             self.old self.new }
-        ensures back { IfOk result
-            (λ s. wants ≡ true → unwrap_or s.stood self.new ≡ self.old) }
+        ensures back { IfOk result (λ s. set_back name.now s self.new ≡ self.old) }
     {
-        let fires = Some(Items::from_vec(vec![in self.alloc; fire]?));
-        let stood = self.copy_if(wants)?;
-        self.give(name, value)?;
-        Ok(SetDone { fires, stood })
+        let fires = Items::from_vec(vec![in self.alloc; fire]?);
+        let stood = self.give(name, value)?;
+        Ok(Some(SetDone { fires, stood }))
     }
 
-    fn copy_if(&self, wants: bool) -> Result<Option<Options>, AllocError>
-        ensures { IfOk result (λ o. o ≡ (if wants then Some self.now else None)) }
-    {
-        if wants {
-            Ok(Some(self.copy()?))
-        } else {
-            Ok(None)
-        }
-    }
-
-    fn give(&mut self, name: &str, value: Text) -> Result<(), AllocError>
+    // Gives an option a value; the one that stood, if one did.
+    fn give(&mut self, name: &str, value: Text) -> Result<Option<Text>, AllocError>
         ensures ok { OnOk result (self.new ≡ put_option name.now value self.old) }
+        ensures back { IfOk result (λ stood. put_back name.now stood self.new ≡ self.old) }
         ensures err { OnErr result (self.new ≡ self.old) }
     {
         let name = String::from_str(self.alloc, name)?;
-        self.values.insert(name, value)?;
-        Ok(())
+        let stood = self.values.insert(name, value)?;
+        Ok(stood)
+    }
+
+    // Gives an option that is there another value.
+    fn replace(&mut self, name: &str, value: Text)
+        ensures { self.new ≡ put_back name.now (Some value) self.old }
+    {
+        if let Some(stands) = self.values.get_mut(name) {
+            *stands = value;
+        }
+    }
+
+    fn remove(&mut self, name: &str)
+        ensures { self.new ≡ put_back name.now None self.old }
+    {
+        drop(self.values.remove(name));
     }
 }
 

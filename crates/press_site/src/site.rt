@@ -1,17 +1,19 @@
 //! The whole site as one value.
 
-ghost use Rattle.std.specs.Prelude.{Bool, ◌≡◌, None, Ok, true, IfOk, OnOk, OnErr, option_map, take};
+ghost use Rattle.std.specs.Prelude.{Bool, ◌≡◌, [], false, None, Some, Ok, true, IfOk, OnOk, OnErr, option_map, take};
 ghost use Rattle.press_posts.specs.PostChange.{post_at};
 ghost use Rattle.press_posts.specs.Published.{published};
 ghost use Rattle.press_events.specs.DueEvents.{due};
-ghost use Rattle.press_site.specs.Back.{Does, GoesBack, MayPostGoBack, MayPostsGoBack};
+ghost use Rattle.press_site.specs.Back.{Does, GoesBack, MayPostsGoBack};
 ghost use Rattle.press_site.specs.Back.{log_back, site_back};
 ghost use Rattle.press_site.specs.Becomes.{Becomes};
 ghost use Rattle.press_site.specs.Contents.{no_post};
-ghost use Rattle.press_site.specs.Effects.{no_site, effect_on, fired};
+ghost use Rattle.press_site.specs.Effects.{no_site, effect_on};
+ghost use Rattle.press_site.specs.Log.{told};
 ghost use Rattle.press_site.specs.Options.{option_of};
 ghost use Rattle.press_site.specs.Open.{begun_of};
 ghost use Rattle.press_site.specs.Outcomes.{outcome_of, with_outcome};
+ghost use Rattle.press_site.specs.declared.stood.Stood.TheVariants.{OfOption};
 
 use crate::changed::Changed;
 use crate::content::Content;
@@ -21,7 +23,7 @@ use crate::open::OpenSite;
 use crate::options::{Options, SetDone};
 use crate::outcomes::Outcomes;
 use crate::plugins::Plugins;
-use crate::stood::{Done, Undone, Wants};
+use crate::stood::{Done, Stood, Undone};
 use crate::token::{Outcome, Token};
 use crate::undo::Undo;
 use press_events::Event;
@@ -186,17 +188,13 @@ impl Site {
     pub fn effect(&mut self, effect: Effect) -> Result<Changed, SiteFault>
         ensures { Becomes result (effect_on self.old effect) self.old self.new }
     {
-        let wants = Wants {
-            events: false,
-            options: false,
-        };
-        let Done { changed, undone } = self.change(effect, wants)?;
+        let Done { changed, undone } = self.change(effect, false)?;
         drop(undone);
         Ok(changed)
     }
 
-    /// The same, with what takes it back.
-    pub(crate) fn change(&mut self, effect: Effect, wants: Wants) -> Result<Done, SiteFault>
+    /// The same, with what takes it back. The events that stood are told beside a post's change, and else where they are wanted.
+    pub(crate) fn change(&mut self, effect: Effect, wants: bool) -> Result<Done, SiteFault>
         ensures does { Does result (effect_on self.old effect) self.old self.new }
         ensures back { IfOk result (λ d. GoesBack wants d.undone self.new self.old) }
     {
@@ -205,53 +203,48 @@ impl Site {
             Effect::Edit { id, draft } => self.edit(id, draft),
             Effect::Move { id, to } => self.move_post(id, to),
             Effect::Delete { id } => self.delete(id),
-            Effect::SetOption { name, value } => self.set_option(&name, value, wants.options),
-            Effect::Schedule(event) => self.schedule(event, wants.events),
-            Effect::Take(event) => self.take(&event, wants.events),
+            Effect::SetOption { name, value } => self.set_option(name, value),
+            Effect::Schedule(event) => self.schedule(event, wants),
+            Effect::Take(event) => self.take(&event, wants),
             Effect::Activate { plugin } => self.activate(plugin),
             Effect::Deactivate { plugin } => self.deactivate(&plugin),
         }
     }
 
-    /// Takes the last change back.
+    /// Takes the last change back. Takes no memory.
     pub(crate) fn take_back(&mut self, undone: Undone)
-        requires { MayPostGoBack undone.stood self.old.posts }
+        requires { MayPostsGoBack (told undone) self.old.posts }
         ensures { self.new ≡ site_back undone self.old }
     {
         let Undone {
             stood,
             events,
-            options,
             active,
         } = undone;
         if let Some(stood) = stood {
-            self.content.restore(stood);
+            stood.put_back(&mut self.content, &mut self.options);
         }
         if let Some(events) = events {
             self.content.set_events(events);
-        }
-        if let Some(options) = options {
-            self.options = options;
         }
         if let Some(active) = active {
             self.plugins = active;
         }
     }
 
-    /// Takes all changes back that were noted.
+    /// Takes all changes back that were noted. Takes no memory.
     pub(crate) fn go_back(&mut self, undo: &mut Undo)
-        requires { MayPostsGoBack undo.old.posts self.old.posts }
+        requires { MayPostsGoBack undo.old.stood self.old.posts }
         ensures { self.new ≡ log_back undo.old self.old }
     {
-        undo.back_content(&mut self.content);
-        undo.back_options(&mut self.options);
+        undo.back_content(&mut self.content, &mut self.options);
         undo.back_plugins(&mut self.plugins);
     }
 
     fn insert(&mut self, draft: Draft) -> Result<Done, SiteFault>
         ensures does { Does result (effect_on self.old (Effect.Insert draft))
             self.old self.new }
-        ensures back { (wants : Wants) → IfOk result
+        ensures back { (wants : Bool) → IfOk result
             (λ d. GoesBack wants d.undone self.new self.old) }
     {
         let now = self.moment;
@@ -261,7 +254,7 @@ impl Site {
     fn edit(&mut self, id: u64, draft: Draft) -> Result<Done, SiteFault>
         ensures does { Does result (effect_on self.old (Effect.Edit id draft))
             self.old self.new }
-        ensures back { (wants : Wants) → IfOk result
+        ensures back { (wants : Bool) → IfOk result
             (λ d. GoesBack wants d.undone self.new self.old) }
     {
         let now = self.moment;
@@ -271,7 +264,7 @@ impl Site {
     fn move_post(&mut self, id: u64, to: Move) -> Result<Done, SiteFault>
         ensures does { Does result (effect_on self.old (Effect.Move id to))
             self.old self.new }
-        ensures back { (wants : Wants) → IfOk result
+        ensures back { (wants : Bool) → IfOk result
             (λ d. GoesBack wants d.undone self.new self.old) }
     {
         self.content.set_status(id, to)
@@ -280,7 +273,7 @@ impl Site {
     fn delete(&mut self, id: u64) -> Result<Done, SiteFault>
         ensures does { Does result (effect_on self.old (Effect.Delete id))
             self.old self.new }
-        ensures back { (wants : Wants) → IfOk result
+        ensures back { (wants : Bool) → IfOk result
             (λ d. GoesBack wants d.undone self.new self.old) }
     {
         self.content.delete(id)
@@ -289,8 +282,7 @@ impl Site {
     fn schedule(&mut self, event: Event, wants: bool) -> Result<Done, SiteFault>
         ensures does { Does result (effect_on self.old (Effect.Schedule event))
             self.old self.new }
-        ensures back { (options : Bool) → IfOk result (λ d. GoesBack
-            (record { events = wants; options = options }) d.undone self.new self.old) }
+        ensures back { IfOk result (λ d. GoesBack wants d.undone self.new self.old) }
     {
         self.content.schedule(event, wants)
     }
@@ -298,29 +290,28 @@ impl Site {
     fn take(&mut self, event: &Event, wants: bool) -> Result<Done, SiteFault>
         ensures does { Does result (effect_on self.old (Effect.Take event.now))
             self.old self.new }
-        ensures back { (options : Bool) → IfOk result (λ d. GoesBack
-            (record { events = wants; options = options }) d.undone self.new self.old) }
+        ensures back { IfOk result (λ d. GoesBack wants d.undone self.new self.old) }
     {
         let now = self.moment;
         self.content.take(event, now, wants)
     }
 
-    fn set_option(&mut self, name: &OptName, value: Text, wants: bool) -> Result<Done, SiteFault>
-        ensures does { Does result (effect_on self.old (Effect.SetOption name.now value))
+    fn set_option(&mut self, name: OptName, value: Text) -> Result<Done, SiteFault>
+        ensures does { Does result (effect_on self.old (Effect.SetOption name value))
             self.old self.new }
-        ensures back { (events : Bool) → IfOk result (λ d. GoesBack
-            (record { events = events; options = wants }) d.undone self.new self.old) }
+        ensures back { (wants : Bool) → IfOk result
+            (λ d. GoesBack wants d.undone self.new self.old) }
     {
-        let SetDone { fires, stood } = self.options.set(name, value, wants)?;
-        let changed = fired(self.alloc, fires);
-        let undone = Undone::of_options(stood);
-        Ok(Done { changed, undone })
+        match self.options.set(&name, value)? {
+            Some(SetDone { fires, stood }) => Ok(option_done(name, fires, stood)),
+            None => Ok(nothing_done(self.alloc)),
+        }
     }
 
     fn activate(&mut self, plugin: Name) -> Result<Done, SiteFault>
         ensures does { Does result (effect_on self.old (Effect.Activate plugin))
             self.old self.new }
-        ensures back { (wants : Wants) → IfOk result
+        ensures back { (wants : Bool) → IfOk result
             (λ d. GoesBack wants d.undone self.new self.old) }
     {
         let stood = self.plugins.activate(plugin)?;
@@ -332,7 +323,7 @@ impl Site {
     fn deactivate(&mut self, plugin: &Name) -> Result<Done, SiteFault>
         ensures does { Does result (effect_on self.old (Effect.Deactivate plugin.now))
             self.old self.new }
-        ensures back { (wants : Wants) → IfOk result
+        ensures back { (wants : Bool) → IfOk result
             (λ d. GoesBack wants d.undone self.new self.old) }
     {
         let stood = self.plugins.deactivate(plugin)?;
@@ -342,23 +333,30 @@ impl Site {
     }
 }
 
-// What the setting of an option did.
-fn fired(alloc: Global, fires: Option<Items<Fire>>) -> Changed
-    ensures { result ≡ fired fires }
+// An option that was set.
+fn option_done(name: OptName, fires: Items<Fire>, value: Option<Text>) -> Done
+    ensures { result ≡ record {
+      changed = record { id = 0; did = true; fires = fires };
+      undone = record { stood = Some (OfOption name value); events = None; active = None };
+    } }
 {
-    let id = 0;
-    match fires {
-        Some(fires) => Changed {
-            id,
-            did: true,
-            fires,
-        },
-        None => Changed {
-            id,
-            did: false,
-            fires: Items::new(alloc),
-        },
-    }
+    let (id, did) = (0, true);
+    let changed = Changed { id, did, fires };
+    let undone = Undone::of(Stood::OfOption { name, value }, None);
+    Done { changed, undone }
+}
+
+// A change that changed nothing.
+fn nothing_done(alloc: Global) -> Done
+    ensures { result ≡ record {
+      changed = no_post false;
+      undone = record { stood = None; events = None; active = None };
+    } }
+{
+    let (id, did, fires) = (0, false, Items::new(alloc));
+    let changed = Changed { id, did, fires };
+    let undone = Undone::of_events(None);
+    Done { changed, undone }
 }
 
 // A change that is about no post.

@@ -1,102 +1,78 @@
 ghost use Rattle.std.specs.Prelude.{◌≡◌, Some, None};
+ghost use Rattle.press_site.specs.Back.{MayPostGoBack, option_back, post_back};
 
 use crate::changed::Changed;
+use crate::content::Content;
 use crate::options::Options;
 use crate::plugins::Plugins;
 use press_events::Events;
 use press_posts::Post;
+use press_text::{OptName, Text};
 
-/// What stood at a post's place before a change: no post before it was inserted.
-#[derive(Debug)]
-pub struct Stood {
-    pub id: u64,
-    pub post: Option<Post>,
-}
-
-impl Drop for Stood {
-    fn drop(self) {
-        let Stood { id: _, post: _ } = self;
-    }
+/// What stood before one change: at a post's place, where no post is one that was inserted, or at an option's name, where no value is an
+/// option that was added.
+#[derive(Debug, Drop)]
+pub enum Stood {
+    OfPost { id: u64, post: Option<Post> },
+    OfOption { name: OptName, value: Option<Text> },
 }
 
 impl Stood {
-    /// The id and the post.
-    pub fn parts(self) -> (u64, Option<Post>)
-        ensures { result ≡ (self.id, self.post) }
+    /// Puts it back. Takes no memory.
+    pub fn put_back(self, content: &mut Content, options: &mut Options)
+        requires { MayPostGoBack self content.old.posts }
+        ensures posts { content.new ≡ record content.old
+            { posts = post_back self content.old.posts } }
+        ensures options { options.new ≡ option_back self options.old }
     {
-        let Stood { id, post } = self;
-        (id, post)
+        match self {
+            Stood::OfPost { id, post } => content.restore(id, post),
+            Stood::OfOption { name, value } => options.restore(&name, value),
+        }
     }
 }
 
-/// What a change is taken back with: the parts that it changed, as they stood.
+/// What a change is taken back with: what stood at the place of one, and the events or the active plugins that stood.
 #[derive(Debug, Drop)]
 pub struct Undone {
     pub stood: Option<Stood>,
     pub events: Option<Events>,
-    pub options: Option<Options>,
     pub active: Option<Plugins>,
 }
 
 impl Undone {
-    /// Of a post, and the events beside it.
-    pub fn of_post(stood: Stood, events: Option<Events>) -> Undone
-        ensures { result ≡ record
-            { stood = Some stood; events = events; options = None; active = None } }
+    /// Of a post or an option, and the events beside it.
+    pub fn of(stood: Stood, events: Option<Events>) -> Undone
+        ensures { result ≡ record { stood = Some stood; events = events; active = None } }
     {
         Undone {
             stood: Some(stood),
             events,
-            options: None,
             active: None,
         }
     }
 
     /// Of events alone.
     pub fn of_events(events: Option<Events>) -> Undone
-        ensures { result ≡ record
-            { stood = None; events = events; options = None; active = None } }
+        ensures { result ≡ record { stood = None; events = events; active = None } }
     {
         Undone {
             stood: None,
             events,
-            options: None,
-            active: None,
-        }
-    }
-
-    /// Of options.
-    pub fn of_options(options: Option<Options>) -> Undone
-        ensures { result ≡ record
-            { stood = None; events = None; options = options; active = None } }
-    {
-        Undone {
-            stood: None,
-            events: None,
-            options,
             active: None,
         }
     }
 
     /// Of active plugins.
     pub fn of_active(active: Plugins) -> Undone
-        ensures { result ≡ record
-            { stood = None; events = None; options = None; active = Some active } }
+        ensures { result ≡ record { stood = None; events = None; active = Some active } }
     {
         Undone {
             stood: None,
             events: None,
-            options: None,
             active: Some(active),
         }
     }
-}
-
-/// Which parts are yet to be told as they stood before a change.
-#[derive(Debug, Clone, Copy)]
-pub struct Wants {
-    pub events: bool,
-    pub options: bool,
 }
 
 /// A change that is done.

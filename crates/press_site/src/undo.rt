@@ -1,13 +1,13 @@
 //! What an open site keeps, so that it can go back.
 
-ghost use Rattle.std.specs.Prelude.{◌≡◌, [], Some, None, true, is_some, OnOk, OnErr, IfErr, unwrap_or};
-ghost use Rattle.press_site.specs.Back.{MayPostsGoBack, posts_back};
-ghost use Rattle.press_site.specs.Log.{first_kept, fresh, noted, wants};
+ghost use Rattle.std.specs.Prelude.{◌≡◌, [], Some, None, true, is_none, is_some, OnOk, OnErr, IfErr, unwrap_or};
+ghost use Rattle.press_site.specs.Back.{MayPostsGoBack, options_back, posts_back};
+ghost use Rattle.press_site.specs.Log.{first_kept, fresh, noted};
 
 use crate::content::Content;
 use crate::options::Options;
 use crate::plugins::Plugins;
-use crate::stood::{Stood, Undone, Wants};
+use crate::stood::{Stood, Undone};
 use press_events::Events;
 use std::alloc::Global;
 use std::marker::Model;
@@ -15,18 +15,16 @@ use std::marker::Model;
 /// What stood before what changed since a site was begun.
 #[derive(Debug)]
 pub struct Undo {
-    posts: Vec<Stood>,
+    stood: Vec<Stood>,
     events: Option<Events>,
-    options: Option<Options>,
     active: Option<Plugins>,
 }
 
 impl Drop for Undo {
     fn drop(self) {
         let Undo {
-            posts: _,
+            stood: _,
             events: _,
-            options: _,
             active: _,
         } = self;
     }
@@ -37,7 +35,7 @@ impl Model for Undo {
 
     ghost Value = { Log };
 
-    ghost view = { λ u. record { posts = u.posts.items; events = u.events; options = u.options; active = u.active } };
+    ghost view = { λ u. record { stood = u.stood.items; events = u.events; active = u.active } };
 }
 
 impl Undo {
@@ -46,21 +44,17 @@ impl Undo {
         ensures { result ≡ fresh }
     {
         Undo {
-            posts: Vec::new(alloc),
+            stood: Vec::new(alloc),
             events: None,
-            options: None,
             active: None,
         }
     }
 
-    /// What is yet to be kept before its first change.
-    pub fn wants(&self) -> Wants
-        ensures { result ≡ wants self.now }
+    /// Whether the events are yet to be kept, before their first change.
+    pub fn wants_events(&self) -> bool
+        ensures { result ≡ is_none self.now.events }
     {
-        Wants {
-            events: self.events.is_none(),
-            options: self.options.is_none(),
-        }
+        self.events.is_none()
     }
 
     /// Keeps what stood before a change; without memory it comes back.
@@ -73,48 +67,36 @@ impl Undo {
         let Undone {
             stood,
             events,
-            options,
             active,
         } = undone;
         if let Some(stood) = stood {
-            if let Err(refused) = self.posts.push(stood) {
+            if let Err(refused) = self.stood.push(stood) {
                 let stood = Some(refused.value);
                 return Err(Undone {
                     stood,
                     events,
-                    options,
                     active,
                 });
             }
         }
         keep(&mut self.events, events);
-        keep(&mut self.options, options);
         keep(&mut self.active, active);
         Ok(())
     }
 
-    /// Puts posts and events back.
-    pub fn back_content(&mut self, content: &mut Content)
-        requires { MayPostsGoBack self.old.posts content.old.posts }
+    /// Puts posts, events and options back. Takes no memory.
+    pub fn back_content(&mut self, content: &mut Content, options: &mut Options)
+        requires { MayPostsGoBack self.old.stood content.old.posts }
         ensures back { content.new ≡ record {
-          posts = posts_back self.old.posts content.old.posts;
+          posts = posts_back self.old.stood content.old.posts;
           events = unwrap_or self.old.events content.old.events;
         } }
-        ensures left { self.new ≡ record self.old { posts = []; events = None } }
+        ensures options { options.new ≡ options_back self.old.stood options.old }
+        ensures left { self.new ≡ record self.old { stood = []; events = None } }
     {
-        put_back(&mut self.posts, content);
+        put_back(&mut self.stood, content, options);
         if let Some(events) = self.events.take() {
             content.set_events(events);
-        }
-    }
-
-    /// Puts the options back.
-    pub fn back_options(&mut self, options: &mut Options)
-        ensures back { options.new ≡ unwrap_or self.old.options options.old }
-        ensures left { self.new ≡ record self.old { options = None } }
-    {
-        if let Some(stood) = self.options.take() {
-            *options = stood;
         }
     }
 
@@ -138,14 +120,15 @@ fn keep<T: Drop>(kept: &mut Option<T>, stood: Option<T>)
     }
 }
 
-// Puts posts back, the last one first.
-fn put_back(posts: &mut Vec<Stood>, content: &mut Content)
-    requires { MayPostsGoBack posts.old.items content.old.posts }
+// Puts back what stood, the last first.
+fn put_back(stood: &mut Vec<Stood>, content: &mut Content, options: &mut Options)
+    requires { MayPostsGoBack stood.old.items content.old.posts }
     ensures back { content.new ≡ record content.old
-        { posts = posts_back posts.old.items content.old.posts } }
-    ensures left { posts.new.items ≡ [] }
+        { posts = posts_back stood.old.items content.old.posts } }
+    ensures options { options.new ≡ options_back stood.old.items options.old }
+    ensures left { stood.new.items ≡ [] }
 {
-    while let Some(stood) = posts.pop() {
-        content.restore(stood);
+    while let Some(last) = stood.pop() {
+        last.put_back(content, options);
     }
 }

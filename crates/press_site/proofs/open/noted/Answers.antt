@@ -1,7 +1,6 @@
 use Rattle.std.proofs.Common.{◌≡◌, subst}
-use Rattle.std.specs.Prelude.{Result, Ok, IfOk}
+use Rattle.std.specs.Prelude.{Result, Ok, IfOk, is_none}
 use Rattle.press_site.specs.Back.{Does, GoesBack}
-use Rattle.press_site.specs.Log.{wants}
 use Rattle.press_site.specs.declared.fault.SiteFault.{SiteFault}
 use Rattle.press_site.specs.declared.stood.Done.{Done}
 use Rattle.press_site.proofs.Noted.{done_well}
@@ -13,4 +12,4 @@ returns-in-Ok c = λ meant before d g.
     let is : c.args.done ≡ Ok x = c.in_ok-changed.was in
     done_well meant before c.args.site.now c.args.undo.now x c.note.new.self c.in-Ok.ensures.ok
     (subst (λ (r : Result Done SiteFault). Does r meant before c.args.site.now) is d)
-    (subst (λ (r : Result Done SiteFault). IfOk r (λ d. GoesBack (wants c.args.undo.now) d.undone c.args.site.now before)) is g)
+    (subst (λ (r : Result Done SiteFault). IfOk r (λ d. GoesBack (is_none c.args.undo.now.events) d.undone c.args.site.now before)) is g)

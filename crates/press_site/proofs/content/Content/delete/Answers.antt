@@ -5,6 +5,7 @@ use Rattle.press_posts.specs.PostChange.{post_at, post_change, deleted}
 use Rattle.press_posts.specs.PostChange.Change.{Delete}
 use Rattle.press_site.specs.Back.{ContentGoesBack, Does}
 use Rattle.press_site.specs.ContentView.{ContentView}
+use Rattle.press_site.specs.declared.stood.Stood.TheVariants.{OfPost}
 use Rattle.press_site.specs.Contents.{events_of, post_effect}
 use Rattle.press_site.specs.declared.changed.Changed.{Changed}
 use Rattle.press_site.proofs.Back.{taken, went}
@@ -40,6 +41,6 @@ returns-clause-back c =
     let change = Delete c.args.id in
     let t = taken (λ x. tt) c.in_ok-delete.field-0 c.delete.new.self c.self.inside.posts change (post_change c.self.inside.posts change 0) (c.changes_are_taken_back.ensures c.self.inside.posts change 0) (c.in_ok-delete.ensures 0) in
     subst (λ (v : ContentView). ContentGoesBack true c.done.result.undone c.done.new.self v) c.self.view_is
-    (went c.done.result.undone c.done.new.self (record { posts = c.self.inside.posts; events = c.self.inside.events }) (record { id = c.args.id; post = post_at c.self.inside.posts c.args.id }) c.delete.new.self
-    (c.done.ensures.stood ∙ ap Some (subst (λ (v : ContentView). c.in_ok-stood.stood ≡ record { id = c.args.id; post = post_at v.posts c.args.id }) (sym c.self.view_is) c.in_ok-stood.ensures))
-    c.done.ensures.options c.done.ensures.active (ap (λ (v : ContentView). v.posts) c.done.ensures.new) t c.done.ensures.events)
+    (went c.done.result.undone c.done.new.self (record { posts = c.self.inside.posts; events = c.self.inside.events }) c.args.id (post_at c.self.inside.posts c.args.id) c.delete.new.self
+    (c.done.ensures.stood ∙ ap Some (subst (λ (v : ContentView). c.in_ok-stood.stood ≡ OfPost c.args.id (post_at v.posts c.args.id)) (sym c.self.view_is) c.in_ok-stood.ensures))
+    c.done.ensures.active (ap (λ (v : ContentView). v.posts) c.done.ensures.new) t c.done.ensures.events)

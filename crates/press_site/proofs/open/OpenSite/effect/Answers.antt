@@ -1,29 +1,28 @@
-use Rattle.std.proofs.Common.{◌≡◌, subst}
+use Rattle.std.proofs.Common.{◌≡◌, subst, Bool}
 use Rattle.std.specs.Prelude.{IfOk}
 use Rattle.press_site.specs.Back.{GoesBack, log_back}
 use Rattle.press_site.specs.Becomes.{Becomes}
 use Rattle.press_site.specs.Effects.{effect_on}
 use Rattle.press_site.specs.Open.{Open, begun_of}
-use Rattle.press_site.specs.declared.stood.Wants.{Wants}
 use Rattle.press_site.proofs.Noted.{may_of}
 use Rattle.press_site.proofs.open.OpenSite.effect.Goals as goal
 
 pub noted-requires : goal.noted-requires
-noted-requires c = may_of c.change-done.result c.wants-wants.result c.change-done.new.self c.self.inside.site c.change-done.ensures.back
+noted-requires c = may_of c.change-done.result c.wants_events-wants.result c.change-done.new.self c.self.inside.site c.change-done.ensures.back
 
 pub invariant_of-self : goal.invariant_of-self
 invariant_of-self c =
-    let back = subst (λ (w : Wants). IfOk c.change-done.result (λ d. GoesBack w d.undone c.change-done.new.self c.self.inside.site)) c.wants-wants.ensures c.change-done.ensures.back in
+    let back = subst (λ (w : Bool). IfOk c.change-done.result (λ d. GoesBack w d.undone c.change-done.new.self c.self.inside.site)) c.wants_events-wants.ensures c.change-done.ensures.back in
     (c.noted.ensures (effect_on c.self.inside.site c.args.effect) c.self.inside.site c.change-done.ensures.does back).1.may c.self.invariant
 
 pub returns-clause-does : goal.returns-clause-does
 returns-clause-does c =
-    let back = subst (λ (w : Wants). IfOk c.change-done.result (λ d. GoesBack w d.undone c.change-done.new.self c.self.inside.site)) c.wants-wants.ensures c.change-done.ensures.back in
+    let back = subst (λ (w : Bool). IfOk c.change-done.result (λ d. GoesBack w d.undone c.change-done.new.self c.self.inside.site)) c.wants_events-wants.ensures c.change-done.ensures.back in
     subst (λ (o : Open). Becomes c.noted.result (effect_on o.site c.args.effect) o.site c.noted.new.site) c.self.view_is
     (c.noted.ensures (effect_on c.self.inside.site c.args.effect) c.self.inside.site c.change-done.ensures.does back).0
 
 pub returns-clause-begun : goal.returns-clause-begun
 returns-clause-begun c =
-    let back = subst (λ (w : Wants). IfOk c.change-done.result (λ d. GoesBack w d.undone c.change-done.new.self c.self.inside.site)) c.wants-wants.ensures c.change-done.ensures.back in
+    let back = subst (λ (w : Bool). IfOk c.change-done.result (λ d. GoesBack w d.undone c.change-done.new.self c.self.inside.site)) c.wants_events-wants.ensures c.change-done.ensures.back in
     subst (λ (o : Open). log_back c.noted.new.undo c.noted.new.site ≡ begun_of o) c.self.view_is
     (c.noted.ensures (effect_on c.self.inside.site c.args.effect) c.self.inside.site c.change-done.ensures.does back).1.same

@@ -14,7 +14,7 @@ returns-clause-does c =
     (does_lifted s c.schedule.result (scheduling (content_of s) c.args.event) c.schedule.new.self c.schedule.ensures.does)
 
 pub returns-clause-back : goal.returns-clause-back
-returns-clause-back c = λ options.
+returns-clause-back c =
     let s : SiteView = record { moment = c.self.inside.moment; posts = c.self.inside.content.posts; events = c.self.inside.content.events; options = c.self.inside.options; active = c.self.inside.plugins; outcomes = c.self.inside.outcomes } in
-    subst (λ (v : SiteView). IfOk c.schedule.result (λ d. GoesBack (record { events = c.args.wants; options = options }) d.undone (with_new s c.schedule.new.self) v)) c.self.view_is
-    (back_lifted s c.schedule.result c.args.wants options c.schedule.new.self c.schedule.ensures.back)
+    subst (λ (v : SiteView). IfOk c.schedule.result (λ d. GoesBack c.args.wants d.undone (with_new s c.schedule.new.self) v)) c.self.view_is
+    (back_lifted s c.schedule.result c.args.wants c.schedule.new.self c.schedule.ensures.back)

@@ -14,7 +14,7 @@ returns-clause-does c =
     (does_lifted s c.take.result (Ok (taking (content_of s) c.args.event.now s.moment)) c.take.new.self c.take.ensures.does)
 
 pub returns-clause-back : goal.returns-clause-back
-returns-clause-back c = λ options.
+returns-clause-back c =
     let s : SiteView = record { moment = c.self.inside.moment; posts = c.self.inside.content.posts; events = c.self.inside.content.events; options = c.self.inside.options; active = c.self.inside.plugins; outcomes = c.self.inside.outcomes } in
-    subst (λ (v : SiteView). IfOk c.take.result (λ d. GoesBack (record { events = c.args.wants; options = options }) d.undone (with_new s c.take.new.self) v)) c.self.view_is
-    (back_lifted s c.take.result c.args.wants options c.take.new.self c.take.ensures.back)
+    subst (λ (v : SiteView). IfOk c.take.result (λ d. GoesBack c.args.wants d.undone (with_new s c.take.new.self) v)) c.self.view_is
+    (back_lifted s c.take.result c.args.wants c.take.new.self c.take.ensures.back)
