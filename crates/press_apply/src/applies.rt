@@ -234,7 +234,7 @@ fn update(
     edit: Edit<'_>,
 ) -> (OpenSite, Result<u64, ApplyFault>)
     ensures { Works (booted (kit_view kit.now) site.site
-        (updates (meaning_in kit.now) edit.id edit.draft.now)) site result }
+        (updates (meaning_in kit.now) edit.entry.id edit.entry.draft.now)) site result }
 {
     match Work::booted(alloc, kit, site) {
         Ok(mut work) => {
@@ -296,7 +296,7 @@ fn set_option(
 ) -> (OpenSite, Result<u64, ApplyFault>)
     ensures { Works (booted (kit_view kit.now) site.site
         (does (meaning_in kit.now)
-        (Effect.SetOption setting.name.now setting.value.now))) site result }
+        (Effect.SetOption setting.entry.name.now setting.entry.value.now))) site result }
 {
     match Work::booted(alloc, kit, site) {
         Ok(mut work) => {

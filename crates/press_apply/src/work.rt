@@ -152,7 +152,7 @@ impl Work {
     #[tactic(auto, unfolding(crate::specs::Apply::updates), using(crate::proofs::Refusals::handed_on))]
     pub fn update(&mut self, kit: &Kit, edit: Edit<'_>) -> Result<u64, ApplyFault>
         ensures steps { Steps (λ s id. (s, id))
-            (updates (meaning_in kit.now) edit.id edit.draft.now (state_in self.old))
+            (updates (meaning_in kit.now) edit.entry.id edit.entry.draft.now (state_in self.old))
             self.new result }
         ensures back { GoesBack self.old self.new }
     {
