@@ -284,7 +284,7 @@ guard false r y e = e
 
 is_command : (c : Command) → FitsCommand c → IsCommand c
 is_command (Insert d) fits = (fits.0.1, fits.1.1, fits.2)
-is_command (Update id d) fits = (fits.0, fits.1.0.1, fits.1.1.1, fits.1.2)
+is_command (Update id d) fits = (fits.0, (fits.1.0.1, fits.1.1.1, fits.1.2))
 is_command (Trash id) fits = fits
 is_command (Untrash id) fits = fits
 is_command (Delete id) fits = fits
