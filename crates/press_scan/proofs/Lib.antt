@@ -1,3 +1,4 @@
+pub mod Bytes
 pub mod Computes
 pub mod Cuts
 pub mod Edges

@@ -72,10 +72,16 @@ fn push_part(out: &mut String, text: &str, from: usize, to: usize) -> Result<(),
     out.push_str(&text[from..to])
 }
 
-fn with_second(alloc: Global, answer: &str) -> Result<String, AllocError>
-    ensures { IfOk result (λ t. string_bytes t ≡ answer.now ++ 93 ∷ []) }
+fn front_bracket(shortcode: Shortcode) -> &'static str
+    ensures { result.now ≡ before shortcode }
 {
-    format!(in alloc; "{answer}]")
+    if shortcode.lead { "[" } else { "" }
+}
+
+fn back_bracket(shortcode: Shortcode) -> &'static str
+    ensures { result.now ≡ behind shortcode }
+{
+    if shortcode.tail { "]" } else { "" }
 }
 
 // An answer with the brackets that its shortcode leaves.
@@ -83,12 +89,27 @@ fn in_brackets(alloc: Global, shortcode: Shortcode, answer: &str) -> Result<Stri
     ensures { IfOk result (λ t. string_bytes t ≡ before shortcode
         ++ (answer.now ++ behind shortcode)) }
 {
-    match (shortcode.lead, shortcode.tail) {
-        (false, false) => String::from_str(alloc, answer),
-        (true, false) => format!(in alloc; "[{answer}"),
-        (false, true) => with_second(alloc, answer),
-        (true, true) => format!(in alloc; "[{answer}]"),
+    let front = front_bracket(shortcode);
+    let back = back_bracket(shortcode);
+    format!(in alloc; "{front}{answer}{back}")
+}
+
+// Adds an answer. With brackets it is made first, so that after running out of memory nothing has changed.
+fn push_answer(
+    out: &mut String,
+    alloc: Global,
+    shortcode: Shortcode,
+    answer: &str,
+) -> Result<(), AllocError>
+    ensures ok { OnOk result (string_bytes out.new ≡ string_bytes out.old
+        ++ (before shortcode ++ (answer.now ++ behind shortcode))) }
+    ensures err { OnErr result (string_bytes out.new ≡ string_bytes out.old) }
+{
+    if shortcode.lead || shortcode.tail {
+        let piece = in_brackets(alloc, shortcode, answer)?;
+        return out.push_str(piece.as_str());
     }
+    out.push_str(answer)
 }
 
 // What an opening and its shortcode are, without work.
@@ -265,8 +286,7 @@ impl Scan {
     {
         match self.waiting {
             Some(shortcode) => {
-                let piece = in_brackets(self.alloc, shortcode, answer)?;
-                self.output.push_str(piece.as_str())?;
+                push_answer(&mut self.output, self.alloc, shortcode, answer)?;
                 self.at = shortcode.end;
                 self.waiting = None;
                 Ok(())
