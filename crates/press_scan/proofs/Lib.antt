@@ -10,6 +10,7 @@ pub mod Heads
 pub mod Lists
 pub mod MapAtts
 pub mod Missings
+pub mod Named
 pub mod Names
 pub mod OneReading
 pub mod OneToken

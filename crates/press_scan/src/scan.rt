@@ -3,13 +3,13 @@
 //! With the same tags at each step a scan reads each byte a bounded number of times for each tag, also where brackets
 //! and closing tags are missing: where no `]` is ahead no later place has a shortcode, so the rest is taken at once; a
 //! name that has no closing tag is remembered with the place from which it has none, and looked for no more. A step
-//! that stops in front of a shortcode finds it a second time in the next one. Where the tags change between steps, each
-//! name that is new can cost one more search to the end of the text.
+//! that stops in front of a shortcode keeps it: it is the next one's, if its name is registered still. Where the tags
+//! change between steps, each name that is new can cost one more search to the end of the text.
 
 ghost use Rattle.std.specs.Prelude.{IsSome, IfSome, IfNone, ◌≡◌, ◌+◌, ◌-◌, ◌<◌, ◌≤◌, ◌++◌, ◌∷◌, ◌⊎◌, [], IsTrue, length, IfOk, OnOk, OnErr, IfErr, MatchResult, string_bytes, slice_range, Some, None, true, false, Option};
 ghost use Rattle.std.specs.Str.{IsCharBoundary};
 ghost use Rattle.press_scan.specs.Places.{At, IsFirst, NoneFrom, NoneBetween};
-ghost use Rattle.press_scan.specs.Openings.{IsMade, IsOpening, HasEdges};
+ghost use Rattle.press_scan.specs.Openings.{IsMade, IsOpening, IsNamed, HasEdges};
 ghost use Rattle.press_scan.specs.Shortcodes.{IsNext, HasShortcode};
 ghost use Rattle.press_scan.specs.Scans.{Progress, StepGives, PutGives, before, behind};
 ghost use Rattle.press_scan.specs.Tags.{names_of};
@@ -30,6 +30,8 @@ pub struct Scan {
     output: String,
     waiting: Option<Shortcode>,
     missing: Vec<Missing>,
+    // What was found last: a shortcode of the text wherever its name is a tag.
+    found: Option<Shortcode>,
     alloc: Global,
 }
 
@@ -41,6 +43,7 @@ impl Drop for Scan {
             output: _,
             waiting: _,
             missing: _,
+            found: _,
             alloc: _,
         } = self;
     }
@@ -52,12 +55,13 @@ impl Model for Scan {
     ghost use Rattle.press_scan.specs.declared.shortcode.Shortcode.{Shortcode};
     ghost use Rattle.press_scan.specs.Scans.{Progress};
     ghost use Rattle.press_scan.specs.Missing.{AreMissing};
+    ghost use Rattle.press_scan.specs.Openings.{IsNamed};
 
     ghost Value = { Progress };
 
     ghost view = { λ s. record { text = string_bytes s.text; at = s.at; output = string_bytes s.output; waiting = s.waiting } };
 
-    ghost invariant = { λ s. IsCharBoundary (string_bytes s.text) s.at × AreMissing (string_bytes s.text) s.missing.items × ((w : Shortcode) → s.waiting ≡ Some w → IsCharBoundary (string_bytes s.text) w.end) };
+    ghost invariant = { λ s. IsCharBoundary (string_bytes s.text) s.at × AreMissing (string_bytes s.text) s.missing.items × ((w : Shortcode) → s.waiting ≡ Some w → IsCharBoundary (string_bytes s.text) w.end) × ((f : Shortcode) → s.found ≡ Some f → IsNamed (string_bytes s.text) f) };
 }
 
 // Adds a part of a text.
@@ -118,7 +122,17 @@ fn stands(text: &str, tags: &TagTable, from: usize, opening: Opening, shortcode:
     requires made { IsMade text.now opening shortcode }
     ensures next { IsNext text.now (names_of tags.now) from shortcode }
     ensures edges { HasEdges text.now shortcode }
+    ensures named { IsNamed text.now shortcode }
 {}
+
+// Whether a shortcode of the text is one under these tags.
+fn is_registered(text: &str, tags: &TagTable, shortcode: Shortcode) -> bool
+    requires { IsNamed text.now shortcode }
+    ensures next { IsTrue result → IsNext text.now (names_of tags.now) shortcode.start shortcode }
+    ensures edges { HasEdges text.now shortcode }
+{
+    tags.has(&text.as_bytes()[shortcode.tag.start..shortcode.tag.end])
+}
 
 // A text begins with a character.
 fn begins_well(text: &str)
@@ -146,6 +160,26 @@ impl Scan {
             o × (o.head.tag.end ≤ length self.now.text) × (o.close < length self.now.text)) }
     {
         next_opening(self.text.as_bytes(), self.at, tags)
+    }
+
+    // The shortcode at the place, where it was found before and its name is registered.
+    fn found_here(&self, tags: &TagTable) -> Option<Shortcode>
+        ensures { IfSome result (λ s. (s.start ≡ self.now.at)
+            × IsNext self.now.text (names_of tags.now) self.now.at s
+            × HasEdges self.now.text s) }
+    {
+        match self.found {
+            Some(shortcode) => {
+                if shortcode.start == self.at
+                    && is_registered(self.text.as_str(), tags, shortcode)
+                {
+                    Some(shortcode)
+                } else {
+                    None
+                }
+            }
+            None => None,
+        }
     }
 
     // The text up to a place, unchanged.
@@ -205,6 +239,7 @@ impl Scan {
             output: String::new(alloc),
             waiting: None,
             missing: Vec::new(alloc),
+            found: None,
             alloc,
         }
     }
@@ -229,6 +264,9 @@ impl Scan {
         requires { self.old.waiting ≡ None }
         ensures { StepGives result (names_of tags.now) self.old self.new }
     {
+        if let Some(shortcode) = self.found_here(tags) {
+            return self.take(tags, shortcode);
+        }
         let end = self.end();
         if self.place() == end {
             return Ok(ScanStep::End);
@@ -259,6 +297,7 @@ impl Scan {
     {
         let shortcode = shortcode_of(self.text.as_bytes(), &mut self.missing, opening)?;
         stands(self.text.as_str(), tags, self.at, opening, shortcode);
+        self.found = Some(shortcode);
         Ok(shortcode)
     }
 
@@ -306,6 +345,7 @@ impl Scan {
             at: _,
             waiting: _,
             missing: _,
+            found: _,
             alloc: _,
         } = self;
         output
