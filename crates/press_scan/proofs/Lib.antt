@@ -8,6 +8,7 @@ pub mod Fronts
 pub mod Gathers
 pub mod Heads
 pub mod Lists
+pub mod Lower
 pub mod MapAtts
 pub mod Missings
 pub mod Named

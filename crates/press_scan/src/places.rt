@@ -47,6 +47,9 @@ pub fn find_byte(text: &[u8], byte: u8, from: usize) -> Option<usize>
     if text.len() <= from {
         return None;
     }
+    if text[from] == byte {
+        return Some(from);
+    }
     match memchr(byte, &text[from..]) {
         Some(ahead) => Some(from + ahead),
         None => None,
