@@ -65,6 +65,10 @@ no_more text tags from place none before k a (s, here) = elim (cases_lt k place)
 pub no_head_here : (text : List ℕ) (tags : List (List ℕ)) (k : ℕ) → NoHead text tags k → HasShortcode text tags k → ⊥
 no_head_here text tags k none (s, here) = none s.lead s.tag here.head
 
+-- a shortcode begins with a `[`
+pub has_bracket : (text : List ℕ) (tags : List (List ℕ)) (k : ℕ) → HasShortcode text tags k → At text 91 k
+has_bracket text tags k (s, here) = here.head.bracket
+
 pub shortcode_within : (text : List ℕ) (tags : List (List ℕ)) (k : ℕ) → HasShortcode text tags k → k < length text
 shortcode_within text tags k (s, here) = at_within text 91 k (omega arith) here.head.bracket
 

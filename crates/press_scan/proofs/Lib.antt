@@ -1,3 +1,4 @@
+pub mod Bytes
 pub mod Computes
 pub mod Cuts
 pub mod Edges
@@ -7,8 +8,10 @@ pub mod Fronts
 pub mod Gathers
 pub mod Heads
 pub mod Lists
+pub mod Lower
 pub mod MapAtts
 pub mod Missings
+pub mod Named
 pub mod Names
 pub mod OneReading
 pub mod OneToken

@@ -1,10 +1,10 @@
 -- How attributes are kept: as they were listed, or each under its key.
-use Rattle.std.specs.Prelude.{⊤, List}
+use Rattle.std.specs.Prelude.{⊤, ℕ, List}
 use Rattle.indexmap.specs.IndexMap.{values}
 use Rattle.press_scan.specs.declared.att.Att.{Att}
-use Rattle.press_scan.specs.declared.atts.Kept.{Kept}
-use Rattle.press_scan.specs.declared.atts.Kept.TheVariants.{Listed, Keyed}
-use Rattle.press_scan.specs.Entries.{HaveOwnKeys}
+use Rattle.press_scan.specs.declared.kept.Kept.{Kept}
+use Rattle.press_scan.specs.declared.kept.Kept.TheVariants.{Listed, Keyed}
+use Rattle.press_scan.specs.Entries.{HaveOwnKeys, AreBefore}
 
 abbrev pub kept_atts : Kept → List Att
 kept_atts (Listed atts) = atts.items
@@ -13,3 +13,8 @@ kept_atts (Keyed atts) = values atts
 abbrev pub IsKept : Kept → Type 0
 IsKept (Listed atts) = ⊤
 IsKept (Keyed atts) = HaveOwnKeys atts.entries
+
+-- the same, and each number under which one is kept is below the next one
+abbrev pub IsNumbered : ℕ → Kept → Type 0
+IsNumbered next (Listed atts) = ⊤
+IsNumbered next (Keyed atts) = HaveOwnKeys atts.entries × AreBefore next atts.entries

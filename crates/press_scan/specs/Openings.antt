@@ -1,8 +1,8 @@
 -- What the code finds on its way to a shortcode.
-use Rattle.std.specs.Prelude.{◌≡◌, ℕ, ◌+◌, ◌-◌, ◌≤◌, List, true}
+use Rattle.std.specs.Prelude.{◌≡◌, ℕ, ◌+◌, ◌-◌, ◌≤◌, List, [], ◌∷◌, true}
 use Rattle.std.specs.Str.{IsCharBoundary}
 use Rattle.press_scan.specs.Places.{At, IsFirst, NoneBetween}
-use Rattle.press_scan.specs.Shortcodes.{IsHead, IsRest, HasShortcode}
+use Rattle.press_scan.specs.Shortcodes.{IsHead, IsRest, IsShortcode, HasShortcode, cut}
 use Rattle.press_scan.specs.declared.shortcode.Shortcode.{Shortcode}
 use Rattle.press_scan.specs.declared.next.Opening.{Opening}
 
@@ -19,6 +19,10 @@ pub record IsMade (text : List ℕ) (o : Opening) (s : Shortcode) : Type 0 where
   pub lead : s.lead ≡ o.head.lead
   pub tag : s.tag ≡ o.head.tag
   pub rest : IsRest text s
+
+-- a shortcode of the text, wherever its name is a tag
+abbrev pub IsNamed : List ℕ → Shortcode → Type 0
+IsNamed text s = IsShortcode text (cut text s.tag ∷ []) s.start s
 
 -- where a text may be cut at a shortcode
 pub record HasEdges (text : List ℕ) (s : Shortcode) : Type 0 where

@@ -2,18 +2,13 @@ ghost use Rattle.std.specs.Prelude.{◌≡◌, ◌<◌, length, option_map, slic
 ghost use Rattle.indexmap.specs.IndexMap.{values};
 ghost use Rattle.press_scan.specs.Attributes.{value_of};
 ghost use Rattle.press_scan.specs.Entries.{HaveOwnKeys};
+ghost use Rattle.press_scan.specs.Kept.{IsKept, kept_atts};
 
 use crate::att::Att;
 use crate::att_key::AttKey;
+use crate::kept::Kept;
 use indexmap::IndexMap;
 use std::marker::Model;
-
-// As they were listed, where a key may occur twice, or each under its key.
-#[derive(Debug, Drop)]
-enum Kept {
-    Listed(Vec<Att>),
-    Keyed(IndexMap<AttKey, Att>),
-}
 
 /// Attributes in order: those of a text, each name once, or a list as it was given.
 #[derive(Debug)]
@@ -51,13 +46,11 @@ impl Atts {
     }
 
     /// Takes no memory.
-    pub(crate) fn from_map(entries: IndexMap<AttKey, Att>) -> Atts
-        requires { HaveOwnKeys entries.entries }
-        ensures { result ≡ values entries }
+    pub(crate) fn from_kept(kept: Kept) -> Atts
+        requires { IsKept kept }
+        ensures { result ≡ kept_atts kept }
     {
-        Atts {
-            kept: Kept::Keyed(entries),
-        }
+        Atts { kept }
     }
 
     pub fn len(&self) -> usize

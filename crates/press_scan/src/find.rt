@@ -6,7 +6,7 @@ ghost use Rattle.press_scan.specs.declared.span.Span.{Span};
 ghost use Rattle.press_scan.specs.Shortcodes.{IsTag, NoHead, IsHead, IsClosing, cut};
 ghost use Rattle.press_scan.specs.Tags.{names_of};
 
-use crate::places::{byte_at, name_end};
+use crate::places::{byte_at, find_byte, name_end};
 use crate::span::Span;
 use crate::tag_table::TagTable;
 
@@ -72,10 +72,12 @@ pub fn find_closing(text: &[u8], name: &[u8], from: usize) -> Option<usize>
         (λ p. IsFirst (IsClosing text.now name.now) from p
         × (p + 3 + length name.now ≤ length text.now)) }
 {
-    for place in from..text.len() {
+    let mut at = from;
+    while let Some(place) = find_byte(text, b'[', at) {
         if is_closing(text, name, place) {
             return Some(place);
         }
+        at = place + 1;
     }
     None
 }

@@ -2,10 +2,12 @@
 //!
 //! Splitting reads each byte a bounded number of times: a quote is looked for from an opening quote to the next one of
 //! its kind, and an opening quote is tried at most twice, after a name and where a token begins. A name is looked up
-//! among those so far by its hash.
+//! among those so far by its hash; in a text of up to 64 bytes it is compared with each, which are 32 at most.
 
 ghost use Rattle.std.specs.Prelude.{◌≡◌, ◌-◌, ◌^◌, ◌+◌, ◌<◌, ◌≤◌, ◌++◌, ◌∷◌, [], IfOk, OnOk, OnErr, IsTrue, ◌↔◌, length, string_bytes, slice_range};
 ghost use Rattle.std.specs.Str.{str_to_ascii_lowercase};
+ghost use Rattle.std.specs.Char.{is_ascii_uppercase};
+ghost use Rattle.std.specs.List.{list_any};
 ghost use Rattle.press_scan.specs.Attributes.{with_name, IsAttributes, Gathers, IsCutAt};
 ghost use Rattle.press_scan.specs.declared.att_key.AttKey.TheVariants.{Place};
 ghost use Rattle.std.specs.Str.{IsCharBoundary};
@@ -14,9 +16,8 @@ ghost use Rattle.press_scan.specs.Shortcodes.{cut};
 ghost use Rattle.press_scan.specs.Tokens.{IsToken, NoSpace};
 ghost use Rattle.press_scan.specs.Places.{IsFirst};
 
-use crate::att::Att;
-use crate::att_key::AttKey;
 use crate::atts::Atts;
+use crate::kept::{Kept, key_name, key_number, list_name, list_number};
 use crate::span::Span;
 use crate::token::{Token, skip_spaces, token_at};
 use indexmap::IndexMap;
@@ -24,70 +25,68 @@ use press_text::Text;
 use std::alloc::{AllocError, Global};
 use std::marker::Model;
 
+// A text that is no longer has so few attributes that a list of them is cheaper than a map.
+const FEW_BYTES: usize = 64;
+
 // What was found so far, and the number of the next nameless attribute.
 #[derive(Drop)]
 struct Gathering {
-    atts: IndexMap<AttKey, Att>,
+    kept: Kept,
     next: u32,
 }
 
 impl Model for Gathering {
-    ghost use Rattle.indexmap.specs.IndexMap.{values};
     ghost use Rattle.press_scan.specs.Attributes.{Found};
-    ghost use Rattle.press_scan.specs.Entries.{HaveOwnKeys, AreBefore};
+    ghost use Rattle.press_scan.specs.Kept.{kept_atts, IsNumbered};
 
     ghost Value = { Found };
 
-    ghost view = { λ g. record { atts = values g.atts; next = g.next } };
+    ghost view = { λ g. record { atts = kept_atts g.kept; next = g.next } };
 
-    ghost invariant = { λ g. HaveOwnKeys g.atts.entries × AreBefore g.next g.atts.entries };
+    ghost invariant = { λ g. IsNumbered g.next g.kept };
 }
 
 impl Gathering {
-    fn new(alloc: Global) -> Gathering
+    fn new(alloc: Global, bytes: usize) -> Gathering
         ensures atts { result.atts ≡ [] }
         ensures next { result.next ≡ 0 }
     {
-        Gathering {
-            atts: IndexMap::new(alloc),
-            next: 0,
-        }
+        let kept = if bytes <= FEW_BYTES {
+            Kept::Listed(Vec::new(alloc))
+        } else {
+            Kept::Keyed(IndexMap::new(alloc))
+        };
+        Gathering { kept, next: 0 }
     }
 
     fn into_atts(self) -> Atts
         ensures { result ≡ self.atts }
     {
-        Atts::from_map(self.atts)
+        Atts::from_kept(self.kept)
     }
 
     // Stores a value under a name.
-    #[tactic(auto, using(crate::proofs::MapAtts::own_inserted, crate::proofs::MapAtts::before_inserted, crate::proofs::MapAtts::name_inserted))]
     fn put_name(&mut self, alloc: Global, name: Text, value: Text) -> Result<(), AllocError>
         ensures atts { OnOk result (self.new.atts ≡ with_name self.old.atts name value) }
         ensures next { OnOk result (self.new.next ≡ self.old.next) }
     {
-        let key = AttKey::Name(name.copy(alloc)?);
-        let att = Att {
-            key: AttKey::Name(name),
-            value,
-        };
-        self.atts.insert(key, att)?;
-        Ok(())
+        match &mut self.kept {
+            Kept::Listed(atts) => list_name(atts, name, value),
+            Kept::Keyed(atts) => key_name(atts, alloc, name, value),
+        }
     }
 
     // Puts a value without a name last, with its number.
-    #[tactic(auto, using(crate::proofs::MapAtts::own_inserted, crate::proofs::MapAtts::before_numbered, crate::proofs::MapAtts::number_inserted))]
     fn put_number(&mut self, value: Text) -> Result<(), AllocError>
         requires { self.old.next < 2 ^ 32 - 1 }
         ensures atts { OnOk result (self.new.atts ≡ self.old.atts
             ++ record { key = Place self.old.next; value = value } ∷ []) }
         ensures next { OnOk result (self.new.next ≡ self.old.next + 1) }
     {
-        let att = Att {
-            key: AttKey::Place(self.next),
-            value,
-        };
-        self.atts.insert(AttKey::Place(self.next), att)?;
+        match &mut self.kept {
+            Kept::Listed(atts) => list_number(atts, self.next, value)?,
+            Kept::Keyed(atts) => key_number(atts, self.next, value)?,
+        }
         self.next += 1;
         Ok(())
     }
@@ -103,15 +102,25 @@ fn part(alloc: Global, text: &str, span: Span) -> Result<Text, AllocError>
     Text::from_str(alloc, &text[span.start..span.end])
 }
 
+fn has_upper(bytes: &[u8]) -> bool
+    ensures { result ≡ list_any is_ascii_uppercase bytes.now }
+{
+    bytes.iter().any(|b| b.is_ascii_uppercase())
+}
+
 // The same in ASCII lower case.
+#[tactic(auto, using(crate::proofs::Lower::lower_already))]
 fn lower(alloc: Global, text: &str, span: Span) -> Result<Text, AllocError>
     requires order { span.start ≤ span.end }
     requires start { IsCharBoundary text.now span.start }
     requires end { IsCharBoundary text.now span.end }
     ensures { IfOk result (λ t. t ≡ str_to_ascii_lowercase (cut text.now span)) }
 {
-    let name = text[span.start..span.end].to_ascii_lowercase(alloc)?;
-    Text::from_string(name)
+    let name = &text[span.start..span.end];
+    if has_upper(name.as_bytes()) {
+        return Text::from_string(name.to_ascii_lowercase(alloc)?);
+    }
+    Text::from_str(alloc, name)
 }
 
 fn take(alloc: Global, text: &str, found: &mut Gathering, token: Token) -> Result<(), AllocError>
@@ -185,7 +194,7 @@ pub fn attributes(alloc: Global, text: &str) -> Result<Atts, AllocError>
     ensures computed { IfOk result (λ atts. atts ≡ attributes_of text.now) }
     ensures list { IfOk result (λ atts. IsAttributes text.now atts) }
 {
-    let mut found = Gathering::new(alloc);
+    let mut found = Gathering::new(alloc, text.len());
     let mut at = 0;
     'tokens: loop {
         let place = next_place(text, at);

@@ -6,6 +6,7 @@ mod att_key;
 mod atts;
 mod find;
 mod gathering;
+mod kept;
 mod laws;
 mod missing;
 mod next;

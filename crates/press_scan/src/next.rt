@@ -32,7 +32,8 @@ pub fn next_opening(text: &[u8], from: usize, tags: &TagTable) -> Option<Opening
     ensures some { IfSome result (λ o. IsOpening text.now (names_of tags.now) from o
         × (o.head.tag.end ≤ length text.now) × (o.close < length text.now)) }
 {
-    for place in from..text.len() {
+    let mut at = from;
+    while let Some(place) = find_byte(text, b'[', at) {
         if let Some(head) = head_at(text, place, tags) {
             return match find_byte(text, b']', head.tag.end) {
                 Some(close) => Some(Opening {
@@ -43,6 +44,7 @@ pub fn next_opening(text: &[u8], from: usize, tags: &TagTable) -> Option<Opening
                 None => None,
             };
         }
+        at = place + 1;
     }
     None
 }

@@ -3,6 +3,8 @@ ghost use Rattle.std.specs.List.{list_all};
 ghost use Rattle.press_text.specs.Names.{is_name_byte as name_byte};
 ghost use Rattle.press_scan.specs.Places.{At, AtNoName, IsFirst, NoneFrom};
 
+use memchr::memchr;
+
 fn is_name_byte(b: u8) -> bool
     ensures { result ≡ name_byte b }
 {
@@ -42,10 +44,14 @@ pub fn find_byte(text: &[u8], byte: u8, from: usize) -> Option<usize>
     ensures { MatchOption result (NoneFrom (At text.now byte) from)
         (λ p. IsFirst (At text.now byte) from p) }
 {
-    for place in from..text.len() {
-        if text[place] == byte {
-            return Some(place);
-        }
+    if text.len() <= from {
+        return None;
     }
-    None
+    if text[from] == byte {
+        return Some(from);
+    }
+    match memchr(byte, &text[from..]) {
+        Some(ahead) => Some(from + ahead),
+        None => None,
+    }
 }

@@ -3,13 +3,13 @@
 //! With the same tags at each step a scan reads each byte a bounded number of times for each tag, also where brackets
 //! and closing tags are missing: where no `]` is ahead no later place has a shortcode, so the rest is taken at once; a
 //! name that has no closing tag is remembered with the place from which it has none, and looked for no more. A step
-//! that stops in front of a shortcode finds it a second time in the next one. Where the tags change between steps, each
-//! name that is new can cost one more search to the end of the text.
+//! that stops in front of a shortcode keeps it: it is the next one's, if its name is registered still. Where the tags
+//! change between steps, each name that is new can cost one more search to the end of the text.
 
 ghost use Rattle.std.specs.Prelude.{IsSome, IfSome, IfNone, ◌≡◌, ◌+◌, ◌-◌, ◌<◌, ◌≤◌, ◌++◌, ◌∷◌, ◌⊎◌, [], IsTrue, length, IfOk, OnOk, OnErr, IfErr, MatchResult, string_bytes, slice_range, Some, None, true, false, Option};
 ghost use Rattle.std.specs.Str.{IsCharBoundary};
 ghost use Rattle.press_scan.specs.Places.{At, IsFirst, NoneFrom, NoneBetween};
-ghost use Rattle.press_scan.specs.Openings.{IsMade, IsOpening, HasEdges};
+ghost use Rattle.press_scan.specs.Openings.{IsMade, IsOpening, IsNamed, HasEdges};
 ghost use Rattle.press_scan.specs.Shortcodes.{IsNext, HasShortcode};
 ghost use Rattle.press_scan.specs.Scans.{Progress, StepGives, PutGives, before, behind};
 ghost use Rattle.press_scan.specs.Tags.{names_of};
@@ -30,6 +30,8 @@ pub struct Scan {
     output: String,
     waiting: Option<Shortcode>,
     missing: Vec<Missing>,
+    // What was found last: a shortcode of the text wherever its name is a tag.
+    found: Option<Shortcode>,
     alloc: Global,
 }
 
@@ -41,6 +43,7 @@ impl Drop for Scan {
             output: _,
             waiting: _,
             missing: _,
+            found: _,
             alloc: _,
         } = self;
     }
@@ -52,12 +55,13 @@ impl Model for Scan {
     ghost use Rattle.press_scan.specs.declared.shortcode.Shortcode.{Shortcode};
     ghost use Rattle.press_scan.specs.Scans.{Progress};
     ghost use Rattle.press_scan.specs.Missing.{AreMissing};
+    ghost use Rattle.press_scan.specs.Openings.{IsNamed};
 
     ghost Value = { Progress };
 
     ghost view = { λ s. record { text = string_bytes s.text; at = s.at; output = string_bytes s.output; waiting = s.waiting } };
 
-    ghost invariant = { λ s. IsCharBoundary (string_bytes s.text) s.at × AreMissing (string_bytes s.text) s.missing.items × ((w : Shortcode) → s.waiting ≡ Some w → IsCharBoundary (string_bytes s.text) w.end) };
+    ghost invariant = { λ s. IsCharBoundary (string_bytes s.text) s.at × AreMissing (string_bytes s.text) s.missing.items × ((w : Shortcode) → s.waiting ≡ Some w → IsCharBoundary (string_bytes s.text) w.end) × ((f : Shortcode) → s.found ≡ Some f → IsNamed (string_bytes s.text) f) };
 }
 
 // Adds a part of a text.
@@ -72,10 +76,16 @@ fn push_part(out: &mut String, text: &str, from: usize, to: usize) -> Result<(),
     out.push_str(&text[from..to])
 }
 
-fn with_second(alloc: Global, answer: &str) -> Result<String, AllocError>
-    ensures { IfOk result (λ t. string_bytes t ≡ answer.now ++ 93 ∷ []) }
+fn front_bracket(shortcode: Shortcode) -> &'static str
+    ensures { result.now ≡ before shortcode }
 {
-    format!(in alloc; "{answer}]")
+    if shortcode.lead { "[" } else { "" }
+}
+
+fn back_bracket(shortcode: Shortcode) -> &'static str
+    ensures { result.now ≡ behind shortcode }
+{
+    if shortcode.tail { "]" } else { "" }
 }
 
 // An answer with the brackets that its shortcode leaves.
@@ -83,12 +93,27 @@ fn in_brackets(alloc: Global, shortcode: Shortcode, answer: &str) -> Result<Stri
     ensures { IfOk result (λ t. string_bytes t ≡ before shortcode
         ++ (answer.now ++ behind shortcode)) }
 {
-    match (shortcode.lead, shortcode.tail) {
-        (false, false) => String::from_str(alloc, answer),
-        (true, false) => format!(in alloc; "[{answer}"),
-        (false, true) => with_second(alloc, answer),
-        (true, true) => format!(in alloc; "[{answer}]"),
+    let front = front_bracket(shortcode);
+    let back = back_bracket(shortcode);
+    format!(in alloc; "{front}{answer}{back}")
+}
+
+// Adds an answer. With brackets it is made first, so that after running out of memory nothing has changed.
+fn push_answer(
+    out: &mut String,
+    alloc: Global,
+    shortcode: Shortcode,
+    answer: &str,
+) -> Result<(), AllocError>
+    ensures ok { OnOk result (string_bytes out.new ≡ string_bytes out.old
+        ++ (before shortcode ++ (answer.now ++ behind shortcode))) }
+    ensures err { OnErr result (string_bytes out.new ≡ string_bytes out.old) }
+{
+    if shortcode.lead || shortcode.tail {
+        let piece = in_brackets(alloc, shortcode, answer)?;
+        return out.push_str(piece.as_str());
     }
+    out.push_str(answer)
 }
 
 // What an opening and its shortcode are, without work.
@@ -97,7 +122,17 @@ fn stands(text: &str, tags: &TagTable, from: usize, opening: Opening, shortcode:
     requires made { IsMade text.now opening shortcode }
     ensures next { IsNext text.now (names_of tags.now) from shortcode }
     ensures edges { HasEdges text.now shortcode }
+    ensures named { IsNamed text.now shortcode }
 {}
+
+// Whether a shortcode of the text is one under these tags.
+fn is_registered(text: &str, tags: &TagTable, shortcode: Shortcode) -> bool
+    requires { IsNamed text.now shortcode }
+    ensures next { IsTrue result → IsNext text.now (names_of tags.now) shortcode.start shortcode }
+    ensures edges { HasEdges text.now shortcode }
+{
+    tags.has(&text.as_bytes()[shortcode.tag.start..shortcode.tag.end])
+}
 
 // A text begins with a character.
 fn begins_well(text: &str)
@@ -125,6 +160,26 @@ impl Scan {
             o × (o.head.tag.end ≤ length self.now.text) × (o.close < length self.now.text)) }
     {
         next_opening(self.text.as_bytes(), self.at, tags)
+    }
+
+    // The shortcode at the place, where it was found before and its name is registered.
+    fn found_here(&self, tags: &TagTable) -> Option<Shortcode>
+        ensures { IfSome result (λ s. (s.start ≡ self.now.at)
+            × IsNext self.now.text (names_of tags.now) self.now.at s
+            × HasEdges self.now.text s) }
+    {
+        match self.found {
+            Some(shortcode) => {
+                if shortcode.start == self.at
+                    && is_registered(self.text.as_str(), tags, shortcode)
+                {
+                    Some(shortcode)
+                } else {
+                    None
+                }
+            }
+            None => None,
+        }
     }
 
     // The text up to a place, unchanged.
@@ -184,6 +239,7 @@ impl Scan {
             output: String::new(alloc),
             waiting: None,
             missing: Vec::new(alloc),
+            found: None,
             alloc,
         }
     }
@@ -208,6 +264,9 @@ impl Scan {
         requires { self.old.waiting ≡ None }
         ensures { StepGives result (names_of tags.now) self.old self.new }
     {
+        if let Some(shortcode) = self.found_here(tags) {
+            return self.take(tags, shortcode);
+        }
         let end = self.end();
         if self.place() == end {
             return Ok(ScanStep::End);
@@ -238,6 +297,7 @@ impl Scan {
     {
         let shortcode = shortcode_of(self.text.as_bytes(), &mut self.missing, opening)?;
         stands(self.text.as_str(), tags, self.at, opening, shortcode);
+        self.found = Some(shortcode);
         Ok(shortcode)
     }
 
@@ -265,8 +325,7 @@ impl Scan {
     {
         match self.waiting {
             Some(shortcode) => {
-                let piece = in_brackets(self.alloc, shortcode, answer)?;
-                self.output.push_str(piece.as_str())?;
+                push_answer(&mut self.output, self.alloc, shortcode, answer)?;
                 self.at = shortcode.end;
                 self.waiting = None;
                 Ok(())
@@ -286,6 +345,7 @@ impl Scan {
             at: _,
             waiting: _,
             missing: _,
+            found: _,
             alloc: _,
         } = self;
         output

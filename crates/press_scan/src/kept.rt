@@ -1,0 +1,108 @@
+//! How attributes are kept: a few in a list, many in a map.
+
+ghost use Rattle.std.specs.Prelude.{◌≡◌, ◌<◌, ◌+◌, ◌++◌, ◌∷◌, [], ℕ, IfSome, OnOk, OnErr, length, position};
+ghost use Rattle.indexmap.specs.IndexMap.{values};
+ghost use Rattle.press_scan.specs.Attributes.{has_name, with_name};
+ghost use Rattle.press_scan.specs.Entries.{HaveOwnKeys, AreBefore};
+ghost use Rattle.press_scan.specs.declared.att_key.AttKey.TheVariants.{Place};
+
+use crate::att::Att;
+use crate::att_key::AttKey;
+use indexmap::IndexMap;
+use press_text::Text;
+use std::alloc::{AllocError, Global};
+
+/// As they were listed, where a key may occur twice, or each under its key.
+#[derive(Debug, Drop)]
+pub enum Kept {
+    Listed(Vec<Att>),
+    Keyed(IndexMap<AttKey, Att>),
+}
+
+// The place of that name.
+fn place_of(atts: &[Att], name: &str) -> Option<usize>
+    ensures place { result ≡ position (λ a. has_name a.key name.now) atts.now }
+    ensures within { IfSome result (λ i. i < length atts.now) }
+{
+    atts.iter().position(|a| a.key.is_name(name))
+}
+
+/// Stores a value under a name, which is looked for among the names so far.
+pub fn list_name(atts: &mut Vec<Att>, name: Text, value: Text) -> Result<(), AllocError>
+    ensures { OnOk result (atts.new.items ≡ with_name atts.old.items name value) }
+{
+    let place = place_of(atts.as_slice(), name.as_str());
+    let att = Att {
+        key: AttKey::Name(name),
+        value,
+    };
+    match place {
+        Some(place) => {
+            atts[place] = att;
+            Ok(())
+        }
+        None => {
+            atts.push(att)?;
+            Ok(())
+        }
+    }
+}
+
+/// Puts a value without a name last, with its number.
+pub fn list_number(atts: &mut Vec<Att>, number: u32, value: Text) -> Result<(), AllocError>
+    ensures { OnOk result (atts.new.items ≡ atts.old.items
+        ++ record { key = Place number; value = value } ∷ []) }
+{
+    let att = Att {
+        key: AttKey::Place(number),
+        value,
+    };
+    atts.push(att)?;
+    Ok(())
+}
+
+/// Stores a value under a name, which is looked up by its hash.
+#[tactic(auto, using(crate::proofs::MapAtts::own_inserted, crate::proofs::MapAtts::before_inserted, crate::proofs::MapAtts::name_inserted))]
+pub fn key_name(
+    atts: &mut IndexMap<AttKey, Att>,
+    alloc: Global,
+    name: Text,
+    value: Text,
+) -> Result<(), AllocError>
+    requires { HaveOwnKeys atts.old.entries }
+    ensures keys { HaveOwnKeys atts.new.entries }
+    ensures before { (next : ℕ) → AreBefore next atts.old.entries
+        → AreBefore next atts.new.entries }
+    ensures ok { OnOk result (values atts.new ≡ with_name (values atts.old) name value) }
+{
+    let key = AttKey::Name(name.copy(alloc)?);
+    let att = Att {
+        key: AttKey::Name(name),
+        value,
+    };
+    atts.insert(key, att)?;
+    Ok(())
+}
+
+/// Puts a value without a name last, under its number.
+#[tactic(auto, using(crate::proofs::MapAtts::own_inserted, crate::proofs::MapAtts::before_numbered, crate::proofs::MapAtts::number_inserted))]
+pub fn key_number(
+    atts: &mut IndexMap<AttKey, Att>,
+    number: u32,
+    value: Text,
+) -> Result<(), AllocError>
+    requires keys { HaveOwnKeys atts.old.entries }
+    requires before { AreBefore number atts.old.entries }
+    ensures keys { HaveOwnKeys atts.new.entries }
+    ensures before { OnOk result (AreBefore (number + 1) atts.new.entries) }
+    ensures ok { OnOk result (values atts.new ≡ values atts.old
+        ++ record { key = Place number; value = value } ∷ []) }
+    ensures err { OnErr result (AreBefore number atts.new.entries) }
+{
+    let att = Att {
+        key: AttKey::Place(number),
+        value,
+    };
+    atts.insert(AttKey::Place(number), att)?;
+    Ok(())
+}
