@@ -1,5 +1,6 @@
 pub mod ByTime
 pub mod Halves
+pub mod Numbers
 pub mod Moments
 pub mod Once
 pub mod Vectors

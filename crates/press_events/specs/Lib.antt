@@ -1,2 +1,3 @@
 pub mod DueEvents
 pub mod Faults
+pub mod Marks

@@ -1,11 +1,12 @@
 //! The scheduled events.
 
-ghost use Rattle.std.specs.Prelude.{◌≡◌, [], ◌<◌, ◌≤◌, length, take, true, false, IfOk, OnErr, IfSome, is_some, vec_len, vec_capacity};
+ghost use Rattle.std.specs.Prelude.{◌≡◌, [], ◌<◌, ◌≤◌, length, take, true, false, IfOk, OnErr, IfSome, is_some, not, vec_len, vec_capacity};
 ghost use Rattle.std.specs.List.Sorted.{IsPartitionPoint};
 ghost use Rattle.press_events.specs.DueEvents.{is_earlier, is_later, place_of, stands, place_in, IsByTime, Adds, add_event, cancelled, cancels, is_full_without, fault_of, due, take_event, put_again};
 
 use crate::event::Event;
 use crate::fault::EventFault;
+use crate::marks::{Marks, mark};
 use press_text::{Copied, HookName, Items, Moment, copied_all};
 use std::alloc::{AllocError, Global};
 use std::marker::Model;
@@ -19,6 +20,7 @@ const MOST_EVENTS: usize = 4096;
 pub struct Events {
     alloc: Global,
     events: Vec<Event>,
+    marks: Marks,
 }
 
 impl Drop for Events {
@@ -26,6 +28,7 @@ impl Drop for Events {
         let Events {
             alloc: _,
             events: _,
+            marks: _,
         } = self;
     }
 }
@@ -33,13 +36,14 @@ impl Drop for Events {
 impl Model for Events {
     ghost use Rattle.std.specs.Prelude.{List};
     ghost use Rattle.press_events.specs.DueEvents.{IsByTime};
+    ghost use Rattle.press_events.specs.Marks.{Covers};
     ghost use Rattle.press_events.specs.declared.event.Event.{Event};
 
     ghost Value = { List Event };
 
     ghost view = { λ e. e.events.items };
 
-    ghost invariant = { λ e. IsByTime e.events.items };
+    ghost invariant = { λ e. IsByTime e.events.items × Covers e.marks e.events.items };
 }
 
 impl Events {
@@ -50,6 +54,7 @@ impl Events {
         Events {
             alloc,
             events: Vec::new(alloc),
+            marks: Marks::new(alloc),
         }
     }
 
@@ -66,8 +71,15 @@ impl Events {
         if self.events.len() >= MOST_EVENTS {
             return Err(EventFault::TooManyEvents);
         }
+        let mark = mark(event.arg.as_str());
+        let Ok(()) = self.marks.add(mark) else {
+            return Err(EventFault::NoMemory);
+        };
         let place = place_in(&self.events, event.time);
-        self.events.insert(place, event)?;
+        let Ok(()) = self.events.insert(place, event) else {
+            self.marks.remove(mark);
+            return Err(EventFault::NoMemory);
+        };
         Ok(true)
     }
 
@@ -91,7 +103,7 @@ impl Events {
     pub fn has(&self, hook: &str, arg: &str) -> bool
         ensures { result ≡ cancels hook.now arg.now self.now }
     {
-        self.events.iter().any(|e| e.is_of(hook, arg))
+        self.marks.has(mark(arg)) && any_of(&self.events, hook, arg)
     }
 
     /// Removes every event of that hook and argument; returns whether there was one (`wp_clear_scheduled_hook`).
@@ -101,7 +113,9 @@ impl Events {
     {
         let all = self.events.len();
         cancel(&mut self.events, hook, arg);
-        self.events.len() < all
+        let left = self.events.len();
+        self.marks.remove_times(mark(arg), all - left);
+        left < all
     }
 
     /// Whether there is no room for another event once every event of that hook and argument is removed.
@@ -130,9 +144,14 @@ impl Events {
             return false;
         };
         let mut taken = self.events.remove(place);
-        if let Some(time) = taken.next(now) {
-            taken.time = time;
-            put_again(&mut self.events, taken);
+        let mark = mark(taken.arg.as_str());
+        let Some(time) = taken.next(now) else {
+            self.marks.remove(mark);
+            return true;
+        };
+        taken.time = time;
+        if !put_again(&mut self.events, taken) {
+            self.marks.remove(mark);
         }
         true
     }
@@ -148,8 +167,15 @@ impl Events {
         Ok(Events {
             alloc: self.alloc,
             events: copied_all(self.alloc, self.events.as_slice())?,
+            marks: self.marks.copy()?,
         })
     }
+}
+
+fn any_of(events: &[Event], hook: &str, arg: &str) -> bool
+    ensures { result ≡ cancels hook.now arg.now events.now }
+{
+    events.iter().any(|e| e.is_of(hook, arg))
 }
 
 fn cancel(events: &mut Vec<Event>, hook: &HookName, arg: &str)
@@ -212,19 +238,21 @@ fn place_in(events: &[Event], time: Moment) -> usize
     events.partition_point(|e| !e.is_later(time))
 }
 
-// Schedules an event in the room that it left, if none of its identity exists.
-fn put_again(events: &mut Vec<Event>, event: Event)
+// Schedules an event in the room that it left, if none of its identity exists; whether none did.
+fn put_again(events: &mut Vec<Event>, event: Event) -> bool
     requires order { IsByTime events.old.items }
     requires room { vec_len events.old < vec_capacity events.old }
-    ensures { events.new.items ≡ put_again event events.old.items }
+    ensures after { events.new.items ≡ put_again event events.old.items }
+    ensures put { result ≡ not (stands event events.old.items) }
 {
     if stands(events, &event) {
-        return;
+        return false;
     }
     let place = place_in(events, event.time);
     let Ok(()) = events.insert(place, event) else {
         unreachable!()
     };
+    true
 }
 
 // How many are due. They are the first ones, and are found by binary search.

@@ -7,6 +7,7 @@ mod event;
 mod events;
 mod fault;
 mod laws;
+mod marks;
 
 pub use event::Event;
 pub use events::Events;

@@ -9,8 +9,8 @@ use press_events::Events;
 use press_posts::Post;
 use press_text::{OptName, Text};
 
-/// What stood before one change: at a post's place, where no post is one that was inserted, or at an option's name, where no value is an
-/// option that was added.
+/// What stood before one change: a post at its id's place, or None before it was inserted; an option's value, or None before it was
+/// added.
 #[derive(Debug, Drop)]
 pub enum Stood {
     OfPost { id: u64, post: Option<Post> },

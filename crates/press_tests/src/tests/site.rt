@@ -52,9 +52,9 @@ fn event(alloc: Global, hook: &str) -> Result<Event, NameFault> {
     })
 }
 
-fn option(alloc: Global, value: &str) -> Result<Effect, NameFault> {
+fn option(alloc: Global, name: &str, value: &str) -> Result<Effect, NameFault> {
     Ok(Effect::SetOption {
-        name: OptName::new(alloc, "o")?,
+        name: OptName::new(alloc, name)?,
         value: Text::from_str(alloc, value)?,
     })
 }
@@ -73,12 +73,12 @@ fn full(alloc: Global) -> Result<Site, Fail> {
     let (id, to) = (2, Move::Trash);
     site.effect(Effect::Move { id, to })?;
     site.effect(Effect::Schedule(event(alloc, "h")?))?;
-    site.effect(option(alloc, "v")?)?;
+    site.effect(option(alloc, "o", "v")?)?;
     site.effect(activation(alloc, "a")?)?;
     Ok(site)
 }
 
-// A change of each kind.
+// A change of each kind, and an option set twice.
 fn changes(alloc: Global) -> Result<Vec<Effect>, Fail> {
     let (id, to) = (1, Move::Trash);
     Ok(vec![in alloc;
@@ -94,7 +94,9 @@ fn changes(alloc: Global) -> Result<Vec<Effect>, Fail> {
         },
         Effect::Move { id, to },
         Effect::Delete { id: 2 },
-        option(alloc, "w")?,
+        option(alloc, "o", "w")?,
+        option(alloc, "p", "v")?,
+        option(alloc, "o", "x")?,
         Effect::Schedule(event(alloc, "i")?),
         Effect::Take(event(alloc, "h")?),
         activation(alloc, "b")?,

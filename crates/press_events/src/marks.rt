@@ -1,0 +1,115 @@
+//! Numbers of the arguments that events have.
+
+ghost use Rattle.std.specs.Prelude.{◌≡◌, ◌<◌, ◌≤◌, ℕ, [], ◌+◌, ◌-◌, cond, length, nat_eq, nat_lt, slice_index_or, IfOk, OnOk, OnErr};
+ghost use Rattle.std.specs.List.Sorted.{IsNonDecreasing};
+ghost use Rattle.press_events.specs.Marks.{count_of, mark, one};
+
+use std::alloc::{AllocError, Global};
+use std::marker::Model;
+
+/// Numbers in their order, each as often as it was put in: whether one is there is found by binary search.
+#[derive(Debug)]
+pub struct Marks {
+    marks: Vec<u64>,
+}
+
+impl Drop for Marks {
+    fn drop(self) {
+        let Marks { marks: _ } = self;
+    }
+}
+
+impl Model for Marks {
+    ghost use Rattle.std.specs.Prelude.{ℕ, List};
+    ghost use Rattle.std.specs.List.Sorted.{IsNonDecreasing};
+
+    ghost Value = { List ℕ };
+
+    ghost view = { λ m. m.marks.items };
+
+    ghost invariant = { λ m. IsNonDecreasing m.marks.items };
+}
+
+impl Marks {
+    /// No numbers, which takes no memory.
+    pub fn new(alloc: Global) -> Marks
+        ensures { result ≡ [] }
+    {
+        Marks {
+            marks: Vec::new(alloc),
+        }
+    }
+
+    /// A copy of the numbers.
+    pub fn copy(&self) -> Result<Marks, AllocError>
+        ensures { IfOk result (λ m. m ≡ self.now) }
+    {
+        let marks = self.marks.clone()?;
+        Ok(Marks { marks })
+    }
+
+    /// Whether the number is there.
+    pub fn has(&self, mark: u64) -> bool
+        ensures { result ≡ nat_lt 0 (count_of mark self.now) }
+    {
+        match self.marks.binary_search(&mark) {
+            Ok(_) => true,
+            Err(_) => false,
+        }
+    }
+
+    /// Puts the number in once more.
+    pub fn add(&mut self, mark: u64) -> Result<(), AllocError>
+        ensures ok { OnOk result ((x : ℕ)
+            → count_of x self.new ≡ count_of x self.old + one x mark) }
+        ensures err { OnErr result (self.new ≡ self.old) }
+    {
+        let place = place_in(&self.marks, mark);
+        self.marks.insert(place, mark)?;
+        Ok(())
+    }
+
+    /// Takes the number out once, if it is there.
+    pub fn remove(&mut self, mark: u64)
+        ensures { (x : ℕ) → count_of x self.new ≡ count_of x self.old - one x mark }
+    {
+        if let Ok(place) = self.marks.binary_search(&mark) {
+            self.marks.remove(place);
+        }
+    }
+
+    /// Takes the number out so often.
+    pub fn remove_times(&mut self, mark: u64, times: usize)
+        ensures { (x : ℕ) → count_of x self.new ≡ count_of x self.old
+            - cond (nat_eq x mark) times 0 }
+    {
+        for _ in 0..times {
+            self.remove(mark);
+        }
+    }
+}
+
+// Where a number belongs among numbers in their order.
+fn place_in(marks: &[u64], mark: u64) -> usize
+    requires { IsNonDecreasing marks.now }
+    ensures below { (k d : ℕ) → k < result → slice_index_or marks.now k d ≤ mark }
+    ensures above { (k d : ℕ) → result ≤ k → k < length marks.now
+        → mark ≤ slice_index_or marks.now k d }
+    ensures within { result ≤ length marks.now }
+{
+    match marks.binary_search(&mark) {
+        Ok(place) => place,
+        Err(place) => place,
+    }
+}
+
+/// The number of an argument. Others may have it too.
+pub fn mark(arg: &str) -> u64
+    ensures { result ≡ mark arg.now }
+{
+    let mut mark = 0;
+    for byte in arg.as_bytes() {
+        mark = (mark * 31 + u64::from(*byte)) % (1 << 32);
+    }
+    mark
+}
