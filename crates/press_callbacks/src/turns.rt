@@ -1,6 +1,7 @@
 ghost use Rattle.std.specs.Prelude.{◌≡◌, ◌∷◌, ◌++◌, map, IfOk, OnOk, bytes_eq};
 ghost use Rattle.press_text.specs.Escapes.{escaped};
 ghost use Rattle.press_callbacks.specs.Turns.{source_text, part_text, text_of, turn_of_op, turn_of, skipped};
+ghost use Rattle.press_callbacks.specs.declared.script.Turn.TheVariants.{Go, Return};
 
 use crate::script::{Ask, CallIn, Op, Part, Parts, Script, Source, Turn};
 use press_text::{Copied, Items, Text, Texts, esc_html};
@@ -12,16 +13,41 @@ pub fn script_turn(alloc: Global, script: &Script, call: &CallIn) -> Result<Turn
     ensures { IfOk result (λ t. t ≡ turn_of script.now call.now) }
 {
     match script.as_slice().get(call.turn) {
-        None => Ok(Turn::Return(call.value.copy(alloc)?)),
+        None => last_turn(alloc, call),
+        Some(Op::Set(parts)) => set_turn(alloc, parts, call),
+        Some(Op::Return(parts)) => return_turn(alloc, parts, call),
         Some(op) => op_turn(alloc, op, call),
     }
 }
 
+// The commonest turns have functions of their own: a call clears the room of all arms of its function.
+#[inline(never)]
+fn last_turn(alloc: Global, call: &CallIn) -> Result<Turn, AllocError>
+    ensures { IfOk result (λ t. t ≡ Return call.now.value) }
+{
+    Ok(Turn::Return(call.value.copy(alloc)?))
+}
+
+#[inline(never)]
+fn set_turn(alloc: Global, parts: &Parts, call: &CallIn) -> Result<Turn, AllocError>
+    ensures { IfOk result (λ t. t ≡ Go (text_of call.now parts.now)) }
+{
+    Ok(Turn::Go(text_of(alloc, parts, call)?))
+}
+
+#[inline(never)]
+fn return_turn(alloc: Global, parts: &Parts, call: &CallIn) -> Result<Turn, AllocError>
+    ensures { IfOk result (λ t. t ≡ Return (text_of call.now parts.now)) }
+{
+    Ok(Turn::Return(text_of(alloc, parts, call)?))
+}
+
+#[inline(never)]
 fn op_turn(alloc: Global, op: &Op, call: &CallIn) -> Result<Turn, AllocError>
     ensures { IfOk result (λ t. t ≡ turn_of_op call.now op.now) }
 {
     match op {
-        Op::Set(parts) => Ok(Turn::Go(text_of(alloc, parts, call)?)),
+        Op::Set(parts) => set_turn(alloc, parts, call),
         Op::AddHook {
             hook,
             callback,
@@ -83,7 +109,7 @@ fn op_turn(alloc: Global, op: &Op, call: &CallIn) -> Result<Turn, AllocError>
         }),
         Op::Publish(parts) => Ok(Turn::Publish(text_of(alloc, parts, call)?)),
         Op::Echo(parts) => Ok(Turn::Echo(text_of(alloc, parts, call)?)),
-        Op::Return(parts) => Ok(Turn::Return(text_of(alloc, parts, call)?)),
+        Op::Return(parts) => return_turn(alloc, parts, call),
     }
 }
 
