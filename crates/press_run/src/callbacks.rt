@@ -1,5 +1,6 @@
 ghost use Rattle.std.specs.Prelude.{◌≡◌, IfOk};
 ghost use Rattle.press_callbacks.specs.Turns.{turn_of};
+ghost use Rattle.press_callbacks.specs.declared.script.Turn.TheVariants.{Return};
 ghost use Rattle.press_callbacks.specs.Kits.{Scripts, scripts_in, script_of, script_at};
 ghost use Rattle.press_run.specs.Run.{or_empty};
 
@@ -35,11 +36,19 @@ impl Callbacks for Kit {
         input: &CallIn,
     ) -> Result<Turn, AllocError> {
         let Some(place) = place else {
-            return Ok(Turn::Return(input.value.copy(alloc)?));
+            return returned(alloc, input);
         };
         match self.at(place) {
             Some(stored) => stored.turn(input),
-            None => Ok(Turn::Return(input.value.copy(alloc)?)),
+            None => returned(alloc, input),
         }
     }
+}
+
+// The turn of a callback that the kit lacks.
+#[inline(never)]
+fn returned(alloc: Global, input: &CallIn) -> Result<Turn, AllocError>
+    ensures { IfOk result (λ t. t ≡ Return input.now.value) }
+{
+    Ok(Turn::Return(input.value.copy(alloc)?))
 }

@@ -99,7 +99,7 @@ impl Drop for OpenScan {
 #[derive(Drop)]
 pub enum Frame {
     Callback(Held<OpenCallback>),
-    Hook(OpenHook),
+    Hook(Held<OpenHook>),
     Fires(Held<OpenFires>),
     Scan(Held<OpenScan>),
 }
@@ -141,8 +141,8 @@ impl OpenCallback {
 }
 
 impl OpenHook {
-    // The arguments of the next callback, after one has answered.
-    fn take(&mut self, text: Text) -> Result<(), AllocError>
+    /// The arguments of the next callback, after one has answered.
+    pub fn take(&mut self, text: Text) -> Result<(), AllocError>
         ensures { OnOk result (self.new ≡ record self.old {
           args = handed_on self.old.kind text self.old.args;
         }) }

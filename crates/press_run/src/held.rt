@@ -1,14 +1,15 @@
 //! What frames hold in a box, so that they are moved as a few words.
 
-ghost use Rattle.std.specs.Prelude.{◌≡◌, ◌<◌, ◌^◌, IfOk, IsSome, OnOk};
+ghost use Rattle.std.specs.Prelude.{◌≡◌, ◌<◌, ◌^◌, IfOk, IsSome, IsTrue, OnOk};
+ghost use Rattle.press_hooks.specs.NextEntry.{is_innermost};
 ghost use Rattle.press_callbacks.specs.Kits.{Scripts};
-ghost use Rattle.press_run.specs.Run.{next_call};
+ghost use Rattle.press_run.specs.Run.{handed_on, next_call};
 ghost use Rattle.press_run.specs.Frames.{GoesOn, IsFew, MovesTo, Steps, put};
 ghost use Rattle.press_run.specs.Standing.{standing};
 ghost use Rattle.press_run.specs.declared.frame.Frame.TheVariants as frame;
 
 use crate::callbacks::Callbacks;
-use crate::frame::{OpenCallback, OpenFires, OpenScan};
+use crate::frame::{OpenCallback, OpenFires, OpenHook, OpenScan};
 use crate::link::SiteLink;
 use crate::run_fault::RunFault;
 use crate::stage::Stage;
@@ -70,6 +71,32 @@ impl Held<OpenCallback> {
         } }
     {
         self.inside.with_last(last)
+    }
+}
+
+impl Held<OpenHook> {
+    /// Its next entry.
+    pub fn entry<L: SiteLink + Drop, K: Callbacks>(
+        &mut self,
+        stage: &mut Stage<L>,
+        kit: &K,
+    ) -> Result<Moved, RunFault>
+        requires { IsTrue (is_innermost self.old.run stage.old.tables.hooks.open_runs) }
+        ensures steps { MovesTo L.changes (K.scripts kit.now)
+            (frame.Hook self.old) (frame.Hook self.new)
+            (standing L.view L.fixed stage.old) (standing L.view L.fixed stage.new) result }
+        ensures fixed { L.fixed stage.new.site ≡ L.fixed stage.old.site }
+    {
+        stage.entry(kit, &mut self.inside)
+    }
+
+    /// The arguments of the next callback, after one has answered.
+    pub fn take(&mut self, text: Text) -> Result<(), AllocError>
+        ensures { OnOk result (self.new ≡ record self.old {
+          args = handed_on self.old.kind text self.old.args;
+        }) }
+    {
+        self.inside.take(text)
     }
 }
 

@@ -2,7 +2,8 @@
 
 ghost use Rattle.std.specs.Prelude.{◌≡◌, None, false, IsErrOf};
 ghost use Rattle.press_callbacks.specs.Kits.{Scripts};
-ghost use Rattle.press_run.specs.Frames.{BeginsAs, CallsAs, CountsAs, IsFew, Steps, meant};
+ghost use Rattle.press_callbacks.specs.declared.script.Turn.TheVariants as turn;
+ghost use Rattle.press_run.specs.Frames.{BeginsAs, CallsAs, CountsAs, IsFew, Steps, Turns, meant};
 ghost use Rattle.press_run.specs.Run.{at_depth, built_in, fits, one_turn};
 ghost use Rattle.press_run.specs.Outcome.{around, state_of};
 ghost use Rattle.press_run.specs.Standing.{standing};
@@ -17,7 +18,7 @@ use crate::run_fault::RunFault;
 use crate::step::{Begun, Called, Step};
 use crate::texts;
 use press_callbacks::{CallIn, Turn, is_built_in, is_do_shortcode};
-use press_text::CallbackId;
+use press_text::{CallbackId, Text};
 
 impl<L: SiteLink + Drop> Stage<L> {
     /// A callback on its call, where a number may be open from it on.
@@ -121,11 +122,56 @@ impl<L: SiteLink + Drop> Stage<L> {
             return Err(RunFault::Limit);
         }
         callback.left -= 1;
-        let turn = kit.turn(self.machine.allocator(), callback.place, &callback.call)?;
-        self.counted(callback, turn)
+        match kit.turn(self.machine.allocator(), callback.place, &callback.call) {
+            Ok(Turn::Go(value)) => self.goes(callback, value),
+            Ok(Turn::Return(text)) => self.gives(callback, text),
+            Ok(turn) => self.counted(callback, turn),
+            Err(_) => Err(RunFault::NoMemory),
+        }
+    }
+
+    // The turn Go, counted. It and Return are the commonest, so that what is moved is their text alone.
+    fn goes(&mut self, callback: &mut OpenCallback, value: Text) -> Result<Step, RunFault>
+        requires { IsFew 1 callback.old }
+        ensures steps { (scripts : Scripts) → CountsAs L.changes scripts
+            callback.old (turn.Go value) callback.new
+            (standing L.view L.fixed self.old) (standing L.view L.fixed self.new) result }
+        ensures fixed { L.fixed self.new.site ≡ L.fixed self.old.site }
+    {
+        if !self.machine.counts_turn() || !texts::is_short(&value) {
+            drop(value);
+            return Err(RunFault::Limit);
+        }
+        self.gone(callback, value)
+    }
+
+    // The same, which is counted already.
+    fn gone(&self, callback: &mut OpenCallback, value: Text) -> Result<Step, RunFault>
+        requires { IsFew 1 callback.old }
+        ensures { (scripts : Scripts) → Turns L.changes scripts
+            callback.old (turn.Go value) callback.new
+            (standing L.view L.fixed self.now) (standing L.view L.fixed self.now) result }
+    {
+        Ok(callback.with_value(value))
+    }
+
+    // The turn Return, counted.
+    fn gives(&mut self, callback: &OpenCallback, text: Text) -> Result<Step, RunFault>
+        requires { IsFew 1 callback.now }
+        ensures steps { (scripts : Scripts) → CountsAs L.changes scripts
+            callback.now (turn.Return text) callback.now
+            (standing L.view L.fixed self.old) (standing L.view L.fixed self.new) result }
+        ensures fixed { L.fixed self.new.site ≡ L.fixed self.old.site }
+    {
+        if !self.machine.counts_turn() || !texts::is_short(&text) {
+            drop(text);
+            return Err(RunFault::Limit);
+        }
+        Ok(Step::Gives(text))
     }
 
     // A turn, counted, with texts that are within the bytes.
+    #[inline(never)]
     fn counted(&mut self, callback: &mut OpenCallback, turn: Turn) -> Result<Step, RunFault>
         requires { IsFew 1 callback.old }
         ensures late { one_turn (state_of (standing L.view L.fixed self.old)) ≡ None

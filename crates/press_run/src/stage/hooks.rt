@@ -12,6 +12,7 @@ ghost use Rattle.press_run.specs.declared.frame.Frame.TheVariants as frame;
 use super::Stage;
 use crate::callbacks::Callbacks;
 use crate::frame::{FUEL, Frame, OpenHook};
+use crate::held::Held;
 use crate::link::SiteLink;
 use crate::run_fault::RunFault;
 use crate::step::{Begun, Kind, Moved, Step};
@@ -40,13 +41,15 @@ impl<L: SiteLink + Drop> Stage<L> {
         }
         self.machine.enter(hook)?;
         let run = self.tables.hooks.begin(hook)?;
-        Ok(Begun::Opens(Frame::Hook(OpenHook {
+        let open = OpenHook {
             room,
             left: FUEL,
             kind,
             run,
             args,
-        })))
+        };
+        let held = Held::new(self.machine.allocator(), open)?;
+        Ok(Begun::Opens(Frame::Hook(held)))
     }
 
     /// An action: its start is counted, and its answers are ignored.
@@ -69,7 +72,7 @@ impl<L: SiteLink + Drop> Stage<L> {
     }
 
     /// The next entry is called; without one the run ends.
-    pub(super) fn entry<K: Callbacks>(
+    pub(crate) fn entry<K: Callbacks>(
         &mut self,
         kit: &K,
         run: &mut OpenHook,

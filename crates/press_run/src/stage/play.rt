@@ -96,7 +96,7 @@ impl<L: SiteLink + Drop> Stage<L> {
     {
         match top {
             Frame::Callback(callback) => Ok(Moved::By(callback.turn(self, kit)?)),
-            Frame::Hook(run) => self.entry(kit, run),
+            Frame::Hook(run) => run.entry(self, kit),
             Frame::Fires(fires) => Ok(Moved::By(fires.fire(self)?)),
             Frame::Scan(scan) => scan.piece(self, kit),
         }
