@@ -138,7 +138,7 @@ impl Site {
         self.content.published()
     }
 
-    /// The first `most` published posts. It looks at each post once, and keeps no more than it gives.
+    /// The first `most` published posts. It looks at no others.
     pub fn newest(&self, most: usize) -> Result<Items<u64>, AllocError>
         ensures { IfOk result (λ ids. ids ≡ take most (published self.now.posts)) }
     {
