@@ -141,6 +141,8 @@ impl Journal {
         turned
     }
 
+    // Out of line: what it needs room for is not cleared in a turn that nobody notes.
+    #[inline(never)]
     fn note(&self, id: CallbackId, call: &CallIn, turn: &Turn) {
         if let Ok(mut plays) = self.plays.try_borrow_mut() {
             plays.note(id, call, turn);
