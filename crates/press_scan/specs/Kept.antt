@@ -8,13 +8,13 @@ use Rattle.press_scan.specs.Entries.{HaveOwnKeys, AreBefore}
 
 abbrev pub kept_atts : Kept → List Att
 kept_atts (Listed atts) = atts.items
-kept_atts (Keyed atts) = values atts
+kept_atts (Keyed atts) = values atts.value
 
 abbrev pub IsKept : Kept → Type 0
 IsKept (Listed atts) = ⊤
-IsKept (Keyed atts) = HaveOwnKeys atts.entries
+IsKept (Keyed atts) = HaveOwnKeys atts.value.entries
 
 -- the same, and each number under which one is kept is below the next one
 abbrev pub IsNumbered : ℕ → Kept → Type 0
 IsNumbered next (Listed atts) = ⊤
-IsNumbered next (Keyed atts) = HaveOwnKeys atts.entries × AreBefore next atts.entries
+IsNumbered next (Keyed atts) = HaveOwnKeys atts.value.entries × AreBefore next atts.value.entries

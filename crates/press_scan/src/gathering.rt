@@ -17,10 +17,9 @@ ghost use Rattle.press_scan.specs.Tokens.{IsToken, NoSpace};
 ghost use Rattle.press_scan.specs.Places.{IsFirst};
 
 use crate::atts::Atts;
-use crate::kept::{Kept, key_name, key_number, list_name, list_number};
+use crate::kept::{Kept, key_name, key_number, list_name, list_number, new_keyed};
 use crate::span::Span;
 use crate::token::{Token, skip_spaces, token_at};
-use indexmap::IndexMap;
 use press_text::Text;
 use std::alloc::{AllocError, Global};
 use std::marker::Model;
@@ -47,16 +46,17 @@ impl Model for Gathering {
 }
 
 impl Gathering {
-    fn new(alloc: Global, bytes: usize) -> Gathering
-        ensures atts { result.atts ≡ [] }
-        ensures next { result.next ≡ 0 }
+    // Takes memory for a map alone.
+    fn new(alloc: Global, bytes: usize) -> Result<Gathering, AllocError>
+        ensures atts { IfOk result (λ found. found.atts ≡ []) }
+        ensures next { IfOk result (λ found. found.next ≡ 0) }
     {
         let kept = if bytes <= FEW_BYTES {
             Kept::Listed(Vec::new(alloc))
         } else {
-            Kept::Keyed(IndexMap::new(alloc))
+            new_keyed(alloc)?
         };
-        Gathering { kept, next: 0 }
+        Ok(Gathering { kept, next: 0 })
     }
 
     fn into_atts(self) -> Atts
@@ -194,7 +194,7 @@ pub fn attributes(alloc: Global, text: &str) -> Result<Atts, AllocError>
     ensures computed { IfOk result (λ atts. atts ≡ attributes_of text.now) }
     ensures list { IfOk result (λ atts. IsAttributes text.now atts) }
 {
-    let mut found = Gathering::new(alloc, text.len());
+    let mut found = Gathering::new(alloc, text.len())?;
     let mut at = 0;
     'tokens: loop {
         let place = next_place(text, at);

@@ -1,9 +1,10 @@
 //! How attributes are kept: a few in a list, many in a map.
 
-ghost use Rattle.std.specs.Prelude.{◌≡◌, ◌<◌, ◌+◌, ◌++◌, ◌∷◌, [], ℕ, IfSome, OnOk, OnErr, length, position};
+ghost use Rattle.std.specs.Prelude.{◌≡◌, ◌<◌, ◌+◌, ◌++◌, ◌∷◌, [], ℕ, IfOk, IfSome, OnOk, OnErr, length, position};
 ghost use Rattle.indexmap.specs.IndexMap.{values};
 ghost use Rattle.press_scan.specs.Attributes.{has_name, with_name};
 ghost use Rattle.press_scan.specs.Entries.{HaveOwnKeys, AreBefore};
+ghost use Rattle.press_scan.specs.Kept.{IsNumbered, kept_atts};
 ghost use Rattle.press_scan.specs.declared.att_key.AttKey.TheVariants.{Place};
 
 use crate::att::Att;
@@ -12,11 +13,23 @@ use indexmap::IndexMap;
 use press_text::Text;
 use std::alloc::{AllocError, Global};
 
-/// As they were listed, where a key may occur twice, or each under its key.
+/// As they were listed, where a key may occur twice, or each under its key. The map is in a box, since few texts have one, and
+/// every call has room for it.
 #[derive(Debug, Drop)]
 pub enum Kept {
     Listed(Vec<Att>),
-    Keyed(IndexMap<AttKey, Att>),
+    Keyed(Box<IndexMap<AttKey, Att>>),
+}
+
+/// An empty map, for attributes each under its key.
+pub fn new_keyed(alloc: Global) -> Result<Kept, AllocError>
+    ensures list { IfOk result (λ kept. kept_atts kept ≡ []) }
+    ensures numbered { IfOk result (λ kept. IsNumbered 0 kept) }
+{
+    match Box::new(alloc, IndexMap::new(alloc)) {
+        Ok(atts) => Ok(Kept::Keyed(atts)),
+        Err(_) => Err(AllocError),
+    }
 }
 
 // The place of that name.

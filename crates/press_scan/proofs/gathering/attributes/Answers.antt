@@ -8,8 +8,8 @@ use Rattle.press_scan.proofs.gathering.attributes.Goals as goal
 
 pub tokens-init : goal.tokens-init
 tokens-init c =
-    let empty = subst (λ (xs : List Att). Leads c.args.text.now 0 xs 0) (sym c.new-found.ensures.atts) (leads_at_first c.args.text.now) in
-    (IsCharBoundary-start _ c.utf8.text, omega (arith, c.new-found.ensures.next), subst (λ (n : ℕ). Leads c.args.text.now 0 c.new-found.result.atts n) (sym c.new-found.ensures.next) empty)
+    let empty = subst (λ (xs : List Att). Leads c.args.text.now 0 xs 0) (sym c.in_ok-found.ensures.atts) (leads_at_first c.args.text.now) in
+    (IsCharBoundary-start _ c.utf8.text, omega (arith, c.in_ok-found.ensures.next), subst (λ (n : ℕ). Leads c.args.text.now 0 c.in_ok-found.found.atts n) (sym c.in_ok-found.ensures.next) empty)
 
 pub returns-then-place-text-clause-list : goal.returns-then-place-text-clause-list
 returns-then-place-text-clause-list c = subst (IsAttributes c.args.text.now) (sym c.into_atts.ensures) (leads_to_all c.args.text.now c.tokens.at c.next_place-place.result c.tokens.found.atts c.tokens.found.next c.tokens.invariant.2 c.if-place-text.true c.next_place-place.ensures.first)
