@@ -3,4 +3,5 @@ pub mod Halves
 pub mod Numbers
 pub mod Moments
 pub mod Once
+pub mod Shifting
 pub mod Vectors

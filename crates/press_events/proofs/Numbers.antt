@@ -89,10 +89,10 @@ rises_without xs i lt up a b d le within =
 
 -- ---- events
 
-abbrev marked : ℕ → List Event → ℕ
+abbrev pub marked : ℕ → List Event → ℕ
 marked x es = count_by (λ e. nat_eq x (mark e.arg)) es
 
-abbrev mark_one : ℕ → Event → ℕ
+abbrev pub mark_one : ℕ → Event → ℕ
 mark_one x e = one x (mark e.arg)
 
 pub covers_put : (e : Event) (es : List Event) (i : ℕ) (ms ns : List ℕ) → Covers ms es → ((x : ℕ) → count_of x ns ≡ count_of x ms + one x (mark e.arg)) → Covers ns (insert es i e)
@@ -133,7 +133,7 @@ stays_out es new b p f = by (stands new es) (sym p ∙ f)
 abbrev gone : List ℕ → List ℕ → List Event → ℕ
 gone hook arg es = count_by (is_of hook arg) es
 
-one_of_it : (hook arg : List ℕ) (x : ℕ) (e : Event) → is_of hook arg e ≡ true → mark_one x e ≡ one x (mark arg)
+pub one_of_it : (hook arg : List ℕ) (x : ℕ) (e : Event) → is_of hook arg e ≡ true → mark_one x e ≡ one x (mark arg)
 one_of_it hook arg x e h = ap (λ (a : List ℕ). one x (mark a)) (same_arg (bytes_eq e.hook hook) h)
   where
     same_arg : (b : Bool) → (b && bytes_eq e.arg arg) ≡ true → e.arg ≡ arg
@@ -197,3 +197,30 @@ pub none_covered : (hook arg : List ℕ) (es : List Event) (ms : List ℕ) (m : 
 none_covered hook arg es ms m b c e h f =
     let z : count_of (mark arg) ms ≡ 0 = no_more (count_of (mark arg) ms) (ap (λ i. nat_lt 0 (count_of i ms)) (sym e) ∙ sym h ∙ f) in
     f ∙ none_has hook arg es (omega (arith, c (mark arg)))
+
+-- ---- a number that others stand beside
+
+module _ (xs : List ℕ) (i : ℕ) (up : IsNonDecreasing xs) (lt : i < length xs) where
+  pub single : (x : ℕ) → get_or xs i 0 ≡ x → (0 < i → (d : ℕ) → get_or xs (i - 1) d ≡ get_or xs i d → ⊥) → (i + 1 < length xs → (d : ℕ) → get_or xs (i + 1) d ≡ get_or xs i d → ⊥) → count_of x xs ≤ 1
+  single x at before behind =
+      let rest : count_of x (remove xs i) ≡ 0 = none x (remove xs i) others in
+      let all : count_of x (remove xs i) + one x (get_or xs i 0) ≡ count_of x xs = sum_by-remove (one x) xs i 0 lt in
+      let is : one x (get_or xs i 0) ≡ 1 = rw at (same_one x) in
+      omega arith
+    where
+      less : length (remove xs i) + 1 ≡ length xs
+      less = length-remove xs i lt
+
+      others : (k : ℕ) → k < length (remove xs i) → get_or (remove xs i) k 0 ≡ x → ⊥
+      others k within e = elim (cases_lt k i) [
+        | inl l ↦
+            let same : get_or xs k 0 ≡ x = sym (get_or-remove_below xs i 0 k l lt) ∙ e in
+            let low = up k (i - 1) 0 (omega arith) (omega arith) in
+            let high = up (i - 1) i 0 (omega arith) lt in
+            before (omega arith) 0 (omega arith)
+        | inr g ↦
+            let same : get_or xs (k + 1) 0 ≡ x = sym (get_or-remove_above xs i 0 k g lt) ∙ e in
+            let low = up i (i + 1) 0 (omega arith) (omega (arith, less)) in
+            let high = up (i + 1) (k + 1) 0 (omega arith) (omega (arith, less)) in
+            behind (omega (arith, less)) 0 (omega arith)
+      ]

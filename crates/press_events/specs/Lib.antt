@@ -1,3 +1,4 @@
 pub mod DueEvents
 pub mod Faults
 pub mod Marks
+pub mod Shifts

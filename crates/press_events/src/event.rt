@@ -1,5 +1,6 @@
 ghost use Rattle.std.specs.Prelude.{◌≡◌, ◌<◌, ◌≤◌, IfSome};
 ghost use Rattle.press_events.specs.DueEvents.{is_same, is_of, is_earlier, is_later, is_due, interval, moment_after, moment_next};
+ghost use Rattle.press_events.specs.Shifts.{event_at};
 
 use press_text::{Copied, Every, HookName, Moment, Text};
 use std::alloc::{AllocError, Global};
@@ -29,8 +30,14 @@ impl Event {
     pub fn is_same(&self, other: &Event) -> bool
         ensures { result ≡ is_same self.now other.now }
     {
-        self.time.seconds() == other.time.seconds()
-            && self.is_of(other.hook.as_str(), other.arg.as_str())
+        self.is_at(other.time, other.hook.as_str(), other.arg.as_str())
+    }
+
+    /// Whether it runs that hook with that argument at that time.
+    pub fn is_at(&self, time: Moment, hook: &str, arg: &str) -> bool
+        ensures { result ≡ is_same self.now (event_at time hook.now arg.now) }
+    {
+        self.time.seconds() == time.seconds() && self.is_of(hook, arg)
     }
 
     /// Whether it runs that hook with that argument, at whatever time.

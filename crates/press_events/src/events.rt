@@ -1,13 +1,17 @@
 //! The scheduled events.
 
-ghost use Rattle.std.specs.Prelude.{◌≡◌, [], ◌<◌, ◌≤◌, length, take, true, false, IfOk, OnErr, IfSome, is_some, not, vec_len, vec_capacity};
+ghost use Rattle.std.specs.Prelude.{◌≡◌, [], ◌<◌, ◌≤◌, length, take, true, false, IfOk, IfErr, OnOk, OnErr, IfSome, remove, slice_index_or, is_some, not, vec_len, vec_capacity};
 ghost use Rattle.std.specs.List.Sorted.{IsPartitionPoint};
-ghost use Rattle.press_events.specs.DueEvents.{is_earlier, is_later, place_of, stands, place_in, IsByTime, Adds, add_event, cancelled, cancels, is_full_without, fault_of, due, take_event, put_again};
+ghost use Rattle.press_events.specs.DueEvents.{is_earlier, is_later, place_of, stands, place_in, IsByTime, Adds, add_event, cancelled, cancels, is_full_without, fault_of, due, take_event, put_again, scheduled, is_of};
+ghost use Rattle.press_events.specs.Shifts.{Enters, IsOnly, MayGoBack, MayShiftBack, ShiftsBack, event_at, shift_back};
+ghost use Rattle.press_events.specs.declared.fault.EventFault.TheVariants.{NoMemory};
+ghost use Rattle.press_events.specs.declared.shift.Shift.TheVariants.{Moved};
 
 use crate::event::Event;
 use crate::fault::EventFault;
 use crate::marks::{Marks, mark};
-use press_text::{Copied, HookName, Items, Moment, copied_all};
+use crate::shift::Shift;
+use press_text::{Copied, Every, HookName, Items, Moment, copied_all};
 use std::alloc::{AllocError, Global};
 use std::marker::Model;
 
@@ -62,25 +66,75 @@ impl Events {
     pub fn add(&mut self, event: Event) -> Result<bool, EventFault>
         ensures { Adds result (add_event event self.old) self.old self.new }
     {
+        let entered = self.enter(event)?;
+        Ok(entered.is_some())
+    }
+
+    /// The same, with what takes it back; None where one of its identity is scheduled already.
+    pub fn enter(&mut self, event: Event) -> Result<Option<Shift>, EventFault>
+        ensures does { Enters result (add_event event self.old) self.old self.new }
+        ensures back { IfOk result (λ s. MayGoBack s self.new self.old) }
+    {
         if event.arg.len() > MOST_ARG {
             return Err(EventFault::TooLong);
         }
         if stands(&self.events, &event) {
-            return Ok(false);
+            return Ok(None);
         }
         if self.events.len() >= MOST_EVENTS {
             return Err(EventFault::TooManyEvents);
         }
-        let mark = mark(event.arg.as_str());
-        let Ok(()) = self.marks.add(mark) else {
-            return Err(EventFault::NoMemory);
-        };
-        let place = place_in(&self.events, event.time);
-        let Ok(()) = self.events.insert(place, event) else {
-            self.marks.remove(mark);
-            return Err(EventFault::NoMemory);
-        };
-        Ok(true)
+        let came = self.put_in(event)?;
+        Ok(Some(came))
+    }
+
+    /// The place of the event of that time, hook and argument, where no other has that hook and argument. No other is looked at, so
+    /// it may be missed where others have the number of that argument.
+    pub fn only_place(&self, time: Moment, hook: &str, arg: &str) -> Option<usize>
+        ensures { IfSome result (λ place. IsOnly hook.now arg.now place self.now) }
+    {
+        if self.events.len() > MOST_EVENTS {
+            return None;
+        }
+        if !self.marks.is_single(mark(arg)) {
+            return None;
+        }
+        place_at(&self.events, time, hook, arg)
+    }
+
+    /// Schedules an event in place of one of its hook and argument; what takes that back. Takes no memory.
+    pub fn move_to(&mut self, place: usize, event: Event) -> Shift
+        requires within { place < length self.old }
+        requires same { is_of event.hook event.arg (slice_index_or self.old place event) ≡ true }
+        ensures after { self.new ≡ scheduled event (remove self.old place) }
+        ensures back { ShiftsBack result self.new self.old }
+    {
+        let stood = self.events.remove(place);
+        let (time, every) = (stood.time, stood.every);
+        let to = put_over(&mut self.events, event);
+        Shift::Moved {
+            to,
+            from: place,
+            time,
+            every,
+        }
+    }
+
+    /// Takes a change back. Takes no memory.
+    pub fn go_back(&mut self, shift: Shift)
+        requires { MayShiftBack shift self.old }
+        ensures { self.new ≡ shift_back shift self.old }
+    {
+        match shift {
+            Shift::Came { place } => self.take_out(place),
+            Shift::Moved {
+                to,
+                from,
+                time,
+                every,
+            } => self.move_back(to, from, time, every),
+            Shift::All(stood) => *self = stood,
+        }
     }
 
     /// Why an event is refused, if it is.
@@ -156,6 +210,45 @@ impl Events {
         true
     }
 
+    // Puts an event in.
+    fn put_in(&mut self, event: Event) -> Result<Shift, EventFault>
+        ensures ok { OnOk result (self.new ≡ scheduled event self.old) }
+        ensures back { IfOk result (λ s. ShiftsBack s self.new self.old) }
+        ensures err { IfErr result (λ f. (f ≡ NoMemory) × (self.new ≡ self.old)) }
+    {
+        let mark = mark(event.arg.as_str());
+        let Ok(()) = self.marks.add(mark) else {
+            return Err(EventFault::NoMemory);
+        };
+        let place = place_in(&self.events, event.time);
+        let Ok(()) = self.events.insert(place, event) else {
+            self.marks.remove(mark);
+            return Err(EventFault::NoMemory);
+        };
+        Ok(Shift::Came { place })
+    }
+
+    // Takes out the event at a place.
+    fn take_out(&mut self, place: usize)
+        requires { place < length self.old }
+        ensures { self.new ≡ remove self.old place }
+    {
+        let taken = self.events.remove(place);
+        self.marks.remove(mark(taken.arg.as_str()));
+    }
+
+    fn move_back(&mut self, to: usize, from: usize, time: Moment, every: Every)
+        requires { MayShiftBack (Moved to from time every) self.old }
+        ensures { self.new ≡ shift_back (Moved to from time every) self.old }
+    {
+        let mut event = self.events.remove(to);
+        event.time = time;
+        event.every = every;
+        let Ok(()) = self.events.insert(from, event) else {
+            unreachable!()
+        };
+    }
+
     /// A copy of the events. Without an event this takes no memory.
     pub fn copy(&self) -> Result<Events, AllocError>
         ensures same { IfOk result (λ e. e ≡ self.now) }
@@ -198,23 +291,31 @@ fn stands(events: &[Event], event: &Event) -> bool
     place_of(events, event).is_some()
 }
 
-// Only the events of its time are searched.
 fn place_of(events: &[Event], event: &Event) -> Option<usize>
     requires { IsByTime events.now }
     ensures place { result ≡ place_of event.now events.now }
     ensures within { IfSome result (λ i. i < length events.now) }
 {
-    let start = start_of(events, event.time);
-    let end = place_in(events, event.time);
-    let place = place_among(&events[start..end], event)?;
+    place_at(events, event.time, event.hook.as_str(), event.arg.as_str())
+}
+
+// Only the events of that time are searched.
+fn place_at(events: &[Event], time: Moment, hook: &str, arg: &str) -> Option<usize>
+    requires { IsByTime events.now }
+    ensures place { result ≡ place_of (event_at time hook.now arg.now) events.now }
+    ensures within { IfSome result (λ i. i < length events.now) }
+{
+    let start = start_of(events, time);
+    let end = place_in(events, time);
+    let place = place_among(&events[start..end], time, hook, arg)?;
     Some(start + place)
 }
 
-fn place_among(events: &[Event], event: &Event) -> Option<usize>
-    ensures place { result ≡ place_of event.now events.now }
+fn place_among(events: &[Event], time: Moment, hook: &str, arg: &str) -> Option<usize>
+    ensures place { result ≡ place_of (event_at time hook.now arg.now) events.now }
     ensures within { IfSome result (λ i. i < length events.now) }
 {
-    events.iter().position(|e| e.is_same(event))
+    events.iter().position(|e| e.is_at(time, hook, arg))
 }
 
 // Where the earlier events end, by binary search.
@@ -248,11 +349,23 @@ fn put_again(events: &mut Vec<Event>, event: Event) -> bool
     if stands(events, &event) {
         return false;
     }
+    put_over(events, event);
+    true
+}
+
+// Schedules an event in the room that one left; where it went.
+fn put_over(events: &mut Vec<Event>, event: Event) -> usize
+    requires order { IsByTime events.old.items }
+    requires room { vec_len events.old < vec_capacity events.old }
+    ensures after { events.new.items ≡ scheduled event events.old.items }
+    ensures place { result ≡ place_in event.time events.old.items }
+    ensures within { result ≤ length events.old.items }
+{
     let place = place_in(events, event.time);
     let Ok(()) = events.insert(place, event) else {
         unreachable!()
     };
-    true
+    place
 }
 
 // How many are due. They are the first ones, and are found by binary search.

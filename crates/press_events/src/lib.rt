@@ -8,8 +8,10 @@ mod events;
 mod fault;
 mod laws;
 mod marks;
+mod shift;
 
 pub use event::Event;
 pub use events::Events;
 pub use fault::EventFault;
 pub use laws::{comes_again_first, schedules_each_once, schedules_few, takes_each_once};
+pub use shift::Shift;

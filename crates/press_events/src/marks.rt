@@ -1,6 +1,6 @@
 //! Numbers of the arguments that events have.
 
-ghost use Rattle.std.specs.Prelude.{◌≡◌, ◌<◌, ◌≤◌, ℕ, [], ◌+◌, ◌-◌, cond, length, nat_eq, nat_lt, slice_index_or, IfOk, OnOk, OnErr};
+ghost use Rattle.std.specs.Prelude.{◌≡◌, ◌<◌, ◌≤◌, ℕ, [], ◌+◌, ◌-◌, cond, length, nat_eq, nat_lt, slice_index_or, true, IfOk, OnOk, OnErr};
 ghost use Rattle.std.specs.List.Sorted.{IsNonDecreasing};
 ghost use Rattle.press_events.specs.Marks.{count_of, mark, one};
 
@@ -58,6 +58,16 @@ impl Marks {
         }
     }
 
+    /// True only where the number is there once at most.
+    pub fn is_single(&self, mark: u64) -> bool
+        ensures { result ≡ true → count_of mark self.now ≤ 1 }
+    {
+        match self.marks.binary_search(&mark) {
+            Ok(place) => is_alone(&self.marks, place),
+            Err(_) => true,
+        }
+    }
+
     /// Puts the number in once more.
     pub fn add(&mut self, mark: u64) -> Result<(), AllocError>
         ensures ok { OnOk result ((x : ℕ)
@@ -87,6 +97,20 @@ impl Marks {
             self.remove(mark);
         }
     }
+}
+
+// Whether the numbers beside a place are others.
+fn is_alone(marks: &[u64], place: usize) -> bool
+    requires { place < length marks.now }
+    ensures before { result ≡ true → 0 < place → (d : ℕ)
+        → slice_index_or marks.now (place - 1) d ≡ slice_index_or marks.now place d → ⊥ }
+    ensures behind { result ≡ true → place + 1 < length marks.now → (d : ℕ)
+        → slice_index_or marks.now (place + 1) d ≡ slice_index_or marks.now place d → ⊥ }
+{
+    if place > 0 && marks[place - 1] == marks[place] {
+        return false;
+    }
+    place + 1 >= marks.len() || marks[place + 1] != marks[place]
 }
 
 // Where a number belongs among numbers in their order.

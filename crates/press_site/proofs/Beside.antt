@@ -1,8 +1,11 @@
 -- The events beside a post: once those of its id are out, its own is put in wherever there is room.
-use Rattle.std.proofs.Common.{◌≡◌, refl, sym, ◌∙◌, ap, ℕ, ◌<◌, ◌≤◌, ◌^◌, Bool, true, false, not, cond, List, [], ◌∷◌, length, Some, arith, codes}
-use Rattle.std.specs.Prelude.{nat_eq, nat_lt, nat_le, if◌then◌else◌, decimal, Result, Ok, Err}
+use Rattle.std.proofs.Common.{◌≡◌, refl, sym, ◌∙◌, ap, ℕ, ◌+◌, ◌<◌, ◌≤◌, ◌^◌, Bool, true, false, not, cond, List, [], ◌∷◌, length, Some, arith, codes}
+use Rattle.std.specs.Prelude.{remove, nat_eq, nat_lt, nat_le, if◌then◌else◌, decimal, Result, Ok, Err}
 use Rattle.std.proofs.lemmas.Bool.{and_right, le-ltb}
+use Rattle.std.proofs.lemmas.Bool.Decides.{nat_tests}
 use Rattle.std.proofs.lemmas.Fmt.{length-decimal-le}
+use Rattle.std.proofs.lemmas.List.Edits.{length-remove}
+use Rattle.press_events.specs.Shifts.{IsOnly}
 use Rattle.press_events.specs.declared.event.Event.{Event}
 use Rattle.press_events.specs.declared.fault.EventFault.{EventFault}
 use Rattle.press_events.specs.declared.fault.EventFault.TheVariants as event
@@ -75,3 +78,11 @@ none_cancelled hook arg (e ∷ es) n = stays hook arg e es (is_of hook arg e) re
 
 pub none_out : (id : ℕ) (es : List Event) → cancels (codes "publish_future_post") (decimal id) es ≡ false → es ≡ events_without id es
 none_out id es n = sym (none_cancelled (codes "publish_future_post") (decimal id) es n)
+
+-- ---- where its own is the only one
+
+own_room : (m n k : ℕ) → m + 1 ≡ n → n ≤ k → nat_le k m ≡ false
+own_room m n k e h = grind (arith, nat_tests)
+
+pub own_moved : (id date place : ℕ) (es : List Event) → IsOnly (codes "publish_future_post") (decimal id) place es → events_of (Some date) id es ≡ Ok (scheduled (publish_event id date) (remove es place))
+own_moved id date place es o = rw (o.only, own_room (length (remove es place)) (length es) 4096 (length-remove es place o.within) o.few) refl

@@ -53,6 +53,7 @@ goes_back : (s : SiteView) (undone : Undone) (b wants : Bool) (new : ContentView
 goes_back s undone b wants new e g = record {
   may = g.may;
   same_posts = g.same_posts;
+  may_events = g.may_events;
   same_events = λ h. g.same_events (e h);
   same_options = g.no_options s.options;
   same_active = ap (λ (o : Option (List (List ℕ))). unwrap_or o s.active) g.no_active;
@@ -70,10 +71,11 @@ back_of_post s (Err f) wants new g = tt
 
 -- ---- options and active plugins
 
-pub options_back : (s : SiteView) (wants : Bool) (undone : Undone) (name : List ℕ) (done : Option SetDone) (new : Values) → undone ≡ record { stood = option_map (λ (d : SetDone). OfOption name d.stood) done; events = None; active = None } → set_back name done new ≡ s.options → GoesBack wants undone (record s { options = new }) s
+pub options_back : (s : SiteView) (wants : Bool) (undone : Undone) (name : List ℕ) (done : Option SetDone) (new : Values) → undone ≡ record { stood = option_map (λ (d : SetDone). OfOption name d.stood) done; shift = None; active = None } → set_back name done new ≡ s.options → GoesBack wants undone (record s { options = new }) s
 options_back s wants undone name None new is e = subst (λ (u : Undone). GoesBack wants u (record s { options = new }) s) (sym is) (record {
   may = tt;
   same_posts = refl;
+  may_events = tt;
   same_events = λ _. refl;
   same_options = e;
   same_active = refl;
@@ -83,6 +85,7 @@ options_back s wants undone name None new is e = subst (λ (u : Undone). GoesBac
 options_back s wants undone name (Some d) new is e = subst (λ (u : Undone). GoesBack wants u (record s { options = new }) s) (sym is) (record {
   may = (tt, tt);
   same_posts = refl;
+  may_events = tt;
   same_events = λ _. refl;
   same_options = e;
   same_active = refl;
@@ -90,10 +93,11 @@ options_back s wants undone name (Some d) new is e = subst (λ (u : Undone). Goe
   same_outcomes = refl;
 })
 
-pub active_back : (s : SiteView) (wants : Bool) (undone : Undone) (stood new : List (List ℕ)) → undone ≡ record { stood = None; events = None; active = Some stood } → stood ≡ s.active → GoesBack wants undone (record s { active = new }) s
+pub active_back : (s : SiteView) (wants : Bool) (undone : Undone) (stood new : List (List ℕ)) → undone ≡ record { stood = None; shift = None; active = Some stood } → stood ≡ s.active → GoesBack wants undone (record s { active = new }) s
 active_back s wants undone stood new is e = subst (λ (u : Undone). GoesBack wants u (record s { active = new }) s) (sym is) (record {
   may = tt;
   same_posts = refl;
+  may_events = tt;
   same_events = λ _. refl;
   same_options = refl;
   same_active = e;

@@ -1,11 +1,13 @@
 -- A change that is noted leaves what stood when the site was begun.
-use Rattle.std.proofs.Common.{◌≡◌, refl, sym, ◌∙◌, ap, ap₂, subst, ℕ, Bool, true, false, List, [], Option, Some, None}
+use Rattle.std.proofs.Common.{◌≡◌, refl, sym, ◌∙◌, ap, ap₂, subst, ℕ, Bool, true, List, [], Option, Some, None}
 use Rattle.std.specs.Prelude.{Result, Ok, Err, IfOk, ◌||◌, is_none, is_some, unwrap_or}
 use Rattle.press_events.specs.declared.event.Event.{Event}
+use Rattle.press_events.specs.declared.shift.Shift.{Shift}
+use Rattle.press_events.specs.declared.shift.Shift.TheVariants.{Came, Moved, All}
 use Rattle.press_posts.specs.declared.post.Post.{Post}
-use Rattle.press_site.specs.Back.{Does, GoesBack, Keeps, MayPostsGoBack, options_back, posts_back, site_back}
+use Rattle.press_site.specs.Back.{Does, GoesBack, Keeps, MayEventBack, MayEventsGoBack, MayPostsGoBack, event_back, events_back, options_back, posts_back, site_back}
 use Rattle.press_site.specs.Becomes.{Becomes, MayGrow}
-use Rattle.press_site.specs.Log.{Log, first_kept, noted, told, with_stood}
+use Rattle.press_site.specs.Log.{Log, all_of, first_kept, more_shifts, noted, told, with_stood}
 use Rattle.press_site.specs.Options.{Values}
 use Rattle.press_site.specs.SiteView.{SiteView}
 use Rattle.press_site.specs.declared.changed.Changed.{Changed}
@@ -16,7 +18,7 @@ use Rattle.press_site.specs.declared.stood.Stood.{Stood}
 use Rattle.press_site.specs.declared.stood.Undone.{Undone}
 use Rattle.press_site.specs.declared.token.Outcome.{Outcome}
 use Rattle.press_site.specs.declared.token.Token.{Token}
-use Rattle.press_site.proofs.Undoing.{may_push, options_pushed, posts_pushed}
+use Rattle.press_site.proofs.Undoing.{events_pushed, may_push, may_shift_push, options_pushed, posts_pushed}
 
 -- ---- part by part
 
@@ -36,6 +38,22 @@ kept_same : {A : Type 0} (kept told : Option A) (b : Bool) (x y : A) → ((is_no
 kept_same None told b x y e = e refl
 kept_same (Some k) told b x y e = refl
 
+events_same : (kept : Option (List Event)) (ws : List Shift) (shift : Option Shift) (b : Bool) (new old : List Event) → ((is_none kept || b) ≡ true → event_back shift new ≡ old)
+    → events_back (more_shifts kept shift ws) (unwrap_or (first_kept kept (all_of shift)) new) ≡ events_back ws (unwrap_or kept old)
+events_same (Some stood) ws shift b new old e = refl
+events_same None ws None b new old e = ap (events_back ws) (e refl)
+events_same None ws (Some (Came place)) b new old e = events_pushed ws (Came place) new ∙ ap (events_back ws) (e refl)
+events_same None ws (Some (Moved to from time every)) b new old e = events_pushed ws (Moved to from time every) new ∙ ap (events_back ws) (e refl)
+events_same None ws (Some (All stood)) b new old e = ap (events_back ws) (e refl)
+
+may_events : (kept : Option (List Event)) (ws : List Shift) (shift : Option Shift) (b : Bool) (new old : List Event) → MayEventBack shift new → ((is_none kept || b) ≡ true → event_back shift new ≡ old)
+    → MayEventsGoBack ws (unwrap_or kept old) → MayEventsGoBack (more_shifts kept shift ws) (unwrap_or (first_kept kept (all_of shift)) new)
+may_events (Some stood) ws shift b new old m e h = h
+may_events None ws None b new old m e h = subst (MayEventsGoBack ws) (sym (e refl)) h
+may_events None ws (Some (Came place)) b new old m e h = may_shift_push ws (Came place) new m (subst (MayEventsGoBack ws) (sym (e refl)) h)
+may_events None ws (Some (Moved to from time every)) b new old m e h = may_shift_push ws (Moved to from time every) new m (subst (MayEventsGoBack ws) (sym (e refl)) h)
+may_events None ws (Some (All stood)) b new old m e h = subst (MayEventsGoBack ws) (sym (e refl)) h
+
 same_site : (a b : SiteView) → a.moment ≡ b.moment → a.posts ≡ b.posts → a.events ≡ b.events → a.options ≡ b.options → a.active ≡ b.active → a.outcomes ≡ b.outcomes → a ≡ b
 same_site a b m p e o s k =
     ap₂ (λ (x : ℕ) (y : List (Option Post)). let v : SiteView = record { moment = x; posts = y; events = a.events; options = a.options; active = a.active; outcomes = a.outcomes } in v) m p
@@ -49,22 +67,21 @@ keeps_noted log undone before after g = record {
   same =
       same_site _ _ g.same_moment
       (posts_same undone.stood log.stood after.posts before.posts g.same_posts)
-      (kept_same log.events undone.events (is_some undone.stood) after.events before.events g.same_events)
+      (events_same log.events log.shifts undone.shift (is_some undone.stood) after.events before.events g.same_events)
       (options_same undone.stood log.stood after.options before.options g.same_options)
       (kept_same log.active undone.active true after.active before.active (λ _. g.same_active)) g.same_outcomes;
-  may = λ h. may_same undone.stood log.stood after.posts before.posts g.may g.same_posts h;
+  may = λ h. (
+    may_same undone.stood log.stood after.posts before.posts g.may g.same_posts h.0,
+    may_events log.events log.shifts undone.shift (is_some undone.stood) after.events before.events g.may_events g.same_events h.1,
+  );
 }
 
 keeps_same : (log : Log) (before after : SiteView) → after ≡ before → Keeps log before log after
 keeps_same log before after e = subst (λ (v : SiteView). Keeps log before log v) (sym e) (record { same = refl; may = λ m. m })
 
-or_true : (a b : Bool) → b ≡ true → (a || b) ≡ true
-or_true true b e = refl
-or_true false b e = e
-
-went_back : (w : Bool) (undone : Undone) (after before : SiteView) → GoesBack w undone after before → is_some undone.stood ≡ true → site_back undone after ≡ before
+went_back : (w : Bool) (undone : Undone) (after before : SiteView) → GoesBack w undone after before → (w || is_some undone.stood) ≡ true → site_back undone after ≡ before
 went_back w undone after before g e =
-    same_site _ _ g.same_moment g.same_posts (g.same_events (or_true w (is_some undone.stood) e)) g.same_options g.same_active g.same_outcomes
+    same_site _ _ g.same_moment g.same_posts (g.same_events e) g.same_options g.same_active g.same_outcomes
 
 -- ---- by its three ways out
 
@@ -81,11 +98,11 @@ module _ (meant : Result (SiteView × Changed) SiteFault) (before after : SiteVi
   grows : (x : SiteView × Changed) → meant ≡ Ok x → MayGrow meant
   grows x m = rw m tt
 
-  pub taken_back : (x : Done) (back : SiteView) (new : Log) → new ≡ log → back ≡ site_back x.undone after → is_some x.undone.stood ≡ true → meant ≡ Ok (after, x.changed) → GoesBack (is_none log.events) x.undone after before → Becomes (Err NoMemory) meant before back × Keeps log before new back
+  pub taken_back : (x : Done) (back : SiteView) (new : Log) → new ≡ log → back ≡ site_back x.undone after → (is_none log.events || is_some x.undone.stood) ≡ true → meant ≡ Ok (after, x.changed) → GoesBack (is_none log.events) x.undone after before → Becomes (Err NoMemory) meant before back × Keeps log before new back
   taken_back x back new n b s m g =
       let same = b ∙ went_back (is_none log.events) x.undone after before g s in
       ((grows (after, x.changed) m, same), subst (λ (l : Log). Keeps log before l back) (sym n) (keeps_same log before back same))
 
-pub may_of : (done : Result Done SiteFault) (w : Bool) (new old : SiteView) → IfOk done (λ d. GoesBack w d.undone new old) → IfOk done (λ d. MayPostsGoBack (told d.undone) new.posts)
-may_of (Ok d) w new old g = g.may
+pub may_of : (done : Result Done SiteFault) (w : Bool) (new old : SiteView) → IfOk done (λ d. GoesBack w d.undone new old) → IfOk done (λ d. MayPostsGoBack (told d.undone) new.posts × MayEventBack d.undone.shift new.events)
+may_of (Ok d) w new old g = (g.may, g.may_events)
 may_of (Err f) w new old g = tt

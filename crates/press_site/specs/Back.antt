@@ -1,5 +1,8 @@
 -- The way back: what was kept is put back, the last change first.
-use Rattle.std.specs.Prelude.{◌≡◌, List, [], ◌∷◌, Bool, true, ◌||◌, is_none, is_some, unwrap_or, Option, None, Result, Ok, IfOk}
+use Rattle.std.specs.Prelude.{◌≡◌, List, [], ◌∷◌, Bool, true, ◌||◌, is_none, is_some, unwrap_or, Option, None, Some, Result, Ok, IfOk}
+use Rattle.press_events.specs.declared.event.Event.{Event}
+use Rattle.press_events.specs.declared.shift.Shift.{Shift}
+use Rattle.press_events.specs.Shifts.{MayShiftBack, shift_back}
 use Rattle.press_posts.specs.declared.post.Post.{Post}
 use Rattle.press_posts.specs.Restored.{restored, IsRestorable}
 use Rattle.press_text.specs.Gives.{GivesOrStays}
@@ -43,12 +46,31 @@ abbrev pub MayPostsGoBack : List Stood → List (Option Post) → Type 0
 MayPostsGoBack [] posts = Unit {0}
 MayPostsGoBack (w ∷ ws) posts = MayPostGoBack w (posts_back ws posts) × MayPostsGoBack ws posts
 
+-- ---- events
+
+abbrev pub events_back : List Shift → List Event → List Event
+events_back [] events = events
+events_back (w ∷ ws) events = shift_back w (events_back ws events)
+
+abbrev pub MayEventsGoBack : List Shift → List Event → Type 0
+MayEventsGoBack [] events = Unit {0}
+MayEventsGoBack (w ∷ ws) events = MayShiftBack w (events_back ws events) × MayEventsGoBack ws events
+
+-- by the way back of one change, if it has one
+abbrev pub event_back : Option Shift → List Event → List Event
+event_back None events = events
+event_back (Some shift) events = shift_back shift events
+
+abbrev pub MayEventBack : Option Shift → List Event → Type 0
+MayEventBack None events = Unit {0}
+MayEventBack (Some shift) events = MayShiftBack shift events
+
 -- ---- one change
 
 abbrev pub site_back : Undone → SiteView → SiteView
 site_back u s = record s {
   posts = posts_back (told u) s.posts;
-  events = unwrap_or u.events s.events;
+  events = event_back u.shift s.events;
   options = options_back (told u) s.options;
   active = unwrap_or u.active s.active;
 }
@@ -57,7 +79,8 @@ site_back u s = record s {
 pub record ContentGoesBack (wants : Bool) (undone : Undone) (new old : ContentView) : Type 0 where
   pub may : MayPostsGoBack (told undone) new.posts
   pub same_posts : posts_back (told undone) new.posts ≡ old.posts
-  pub same_events : (wants || is_some undone.stood) ≡ true → unwrap_or undone.events new.events ≡ old.events
+  pub may_events : MayEventBack undone.shift new.events
+  pub same_events : (wants || is_some undone.stood) ≡ true → event_back undone.shift new.events ≡ old.events
   pub no_options : (options : Values) → options_back (told undone) options ≡ options
   pub no_active : undone.active ≡ None
 
@@ -65,7 +88,8 @@ pub record ContentGoesBack (wants : Bool) (undone : Undone) (new old : ContentVi
 pub record GoesBack (wants : Bool) (undone : Undone) (new old : SiteView) : Type 0 where
   pub may : MayPostsGoBack (told undone) new.posts
   pub same_posts : posts_back (told undone) new.posts ≡ old.posts
-  pub same_events : (wants || is_some undone.stood) ≡ true → unwrap_or undone.events new.events ≡ old.events
+  pub may_events : MayEventBack undone.shift new.events
+  pub same_events : (wants || is_some undone.stood) ≡ true → event_back undone.shift new.events ≡ old.events
   pub same_options : options_back (told undone) new.options ≡ old.options
   pub same_active : unwrap_or undone.active new.active ≡ old.active
   pub same_moment : new.moment ≡ old.moment
@@ -79,16 +103,19 @@ Does result meant old new = GivesOrStays Refuses (λ d. Ok (new, d.changed)) res
 abbrev pub log_back : Log → SiteView → SiteView
 log_back log s = record s {
   posts = posts_back log.stood s.posts;
-  events = unwrap_or log.events s.events;
+  events = events_back log.shifts (unwrap_or log.events s.events);
   options = options_back log.stood s.options;
   active = unwrap_or log.active s.active;
 }
+
+abbrev pub MayLogGoBack : Log → List (Option Post) → List Event → Type 0
+MayLogGoBack log posts events = MayPostsGoBack log.stood posts × MayEventsGoBack log.shifts (unwrap_or log.events events)
 
 -- ---- what a change leaves of it: what stood when the site was begun, and that it may go back
 
 pub record Keeps (old : Log) (before : SiteView) (new : Log) (after : SiteView) : Type 0 where
   pub same : log_back new after ≡ log_back old before
-  pub may : MayPostsGoBack old.stood before.posts → MayPostsGoBack new.stood after.posts
+  pub may : MayLogGoBack old before.posts before.events → MayLogGoBack new after.posts after.events
 
 -- what becomes of a change that is done, where it is noted: it means what it meant before
 abbrev pub Notes : Result Done SiteFault → Result Changed SiteFault → SiteView → SiteView → Log → Log → Type 0

@@ -1,5 +1,6 @@
 pub mod Back
 pub mod Becomes
+pub mod Beside
 pub mod ContentView
 pub mod Contents
 pub mod Effects

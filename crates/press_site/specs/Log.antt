@@ -1,18 +1,21 @@
--- What an open site keeps to go back by: what stood where posts and options were changed, the last changed last; and the events and active plugins that
--- stood before the first change of each.
+-- What an open site keeps to go back by: what stood where posts and options were changed, and the ways back of the events, the last changed last; all events
+-- that stood, once they were kept, which go back before those ways; and the active plugins that stood before their first change.
 use Rattle.std.specs.Prelude.{ℕ, List, [], ◌∷◌, ◌++◌, Option, None, Some}
 use Rattle.press_events.specs.declared.event.Event.{Event}
+use Rattle.press_events.specs.declared.shift.Shift.{Shift}
+use Rattle.press_events.specs.declared.shift.Shift.TheVariants.{Came, Moved, All}
 use Rattle.press_site.specs.declared.stood.Stood.{Stood}
 use Rattle.press_site.specs.declared.stood.Undone.{Undone}
 
 pub record Log : Type 0 where
   pub stood : List Stood
+  pub shifts : List Shift
   pub events : Option (List Event)
   pub active : Option (List (List ℕ))
 
 -- nothing changed since
 abbrev pub fresh : Log
-fresh = record { stood = []; events = None; active = None }
+fresh = record { stood = []; shifts = []; events = None; active = None }
 
 abbrev pub first_kept : {A : Type 0} → Option A → Option A → Option A
 first_kept None stood = stood
@@ -26,10 +29,30 @@ with_stood (Some w) ws = ws ++ w ∷ []
 abbrev pub told : Undone → List Stood
 told undone = with_stood undone.stood []
 
+-- ---- the way back of a change of events: by places, or all that stood
+
+abbrev pub with_shift : Option Shift → List Shift → List Shift
+with_shift None ws = ws
+with_shift (Some (Came place)) ws = ws ++ Came place ∷ []
+with_shift (Some (Moved to from time every)) ws = ws ++ Moved to from time every ∷ []
+with_shift (Some (All stood)) ws = ws
+
+abbrev pub all_of : Option Shift → Option (List Event)
+all_of None = None
+all_of (Some (Came place)) = None
+all_of (Some (Moved to from time every)) = None
+all_of (Some (All stood)) = Some stood
+
+-- nothing more of them is kept once all are
+abbrev pub more_shifts : Option (List Event) → Option Shift → List Shift → List Shift
+more_shifts None shift ws = with_shift shift ws
+more_shifts (Some stood) shift ws = ws
+
 -- after a change
 abbrev pub noted : Undone → Log → Log
 noted undone log = record {
   stood = with_stood undone.stood log.stood;
-  events = first_kept log.events undone.events;
+  shifts = more_shifts log.events undone.shift log.shifts;
+  events = first_kept log.events (all_of undone.shift);
   active = first_kept log.active undone.active;
 }

@@ -1,7 +1,9 @@
 //! Posts and events as one: each change of a post takes its event of `publish_future_post` along.
 
-ghost use Rattle.std.specs.Prelude.{◌≡◌, ℕ, Bool, [], IfOk, None, Some, Ok, true, false, length, nat_le, if◌then◌else◌, codes, decimal, option_map, take, unwrap_or};
+ghost use Rattle.std.specs.Prelude.{◌≡◌, ℕ, Bool, [], IfOk, None, Some, Ok, true, false, length, nat_le, if◌then◌else◌, codes, decimal, option_map, take, IfSome};
 ghost use Rattle.press_events.specs.DueEvents.{due, cancels};
+ghost use Rattle.press_events.specs.Shifts.{IsOnly, MayGoBack, MayShiftBack, shift_back};
+ghost use Rattle.press_events.specs.declared.shift.Shift.TheVariants.{All};
 ghost use Rattle.press_posts.specs.PostChange.{comes, post_at};
 ghost use Rattle.press_posts.specs.PostChange.Change.{Insert, Edit, Moves, Delete};
 ghost use Rattle.press_posts.specs.Published.{published};
@@ -9,6 +11,7 @@ ghost use Rattle.press_posts.specs.Restored.{restored, IsRestorable};
 ghost use Rattle.press_site.specs.declared.stood.Stood.TheVariants.{OfPost};
 ghost use Rattle.press_site.specs.Back.{ContentGoesBack, Does};
 ghost use Rattle.press_site.specs.Becomes.{Refuses};
+ghost use Rattle.press_site.specs.Beside.{MayStandBeside, events_beside};
 ghost use Rattle.press_text.specs.Gives.{Gives};
 ghost use Rattle.press_site.specs.Contents.{beside_move, events_of, events_without, post_effect, publish_event, scheduling, taking};
 
@@ -16,7 +19,7 @@ use crate::changed::Changed;
 use crate::fault::SiteFault;
 use crate::stood::{Done, Stood, Undone};
 use itoa::Buffer;
-use press_events::{Event, Events};
+use press_events::{Event, Events, Shift};
 use press_posts::{Draft, Fire, Move, Post, Posts, Status, changes_are_taken_back};
 use press_text::{Copied, Every, HookName, Items, Moment, Text};
 use std::alloc::{AllocError, Global};
@@ -99,7 +102,12 @@ impl Content {
             return Err(SiteFault::from(fault));
         }
         let id = self.posts.next_id();
-        let beside = self.beside(id, draft.status.settled(draft.date, now), draft.date)?;
+        let beside = self.beside(
+            id,
+            draft.status.settled(draft.date, now),
+            draft.date,
+            draft.date,
+        )?;
         let (id, fires) = self.posts.insert(draft, now)?;
         changes_are_taken_back();
         let stood = Stood::OfPost { id, post: None };
@@ -116,7 +124,8 @@ impl Content {
         if let Some(fault) = post.edit_fault(&draft) {
             return Err(SiteFault::from(fault));
         }
-        let beside = self.beside(id, draft.status.settled(draft.date, now), draft.date)?;
+        let near = post.date;
+        let beside = self.beside(id, draft.status.settled(draft.date, now), draft.date, near)?;
         let stood = self.stood(id)?;
         let fires = self.posts.edit(id, draft, now)?;
         changes_are_taken_back();
@@ -154,17 +163,13 @@ impl Content {
         Ok(self.done(id, fires, stood, beside))
     }
 
-    /// Schedules an event. The events that stood are told where they are wanted.
-    pub fn schedule(&mut self, event: Event, wants: bool) -> Result<Done, SiteFault>
+    /// Schedules an event.
+    pub fn schedule(&mut self, event: Event) -> Result<Done, SiteFault>
         ensures does { Does result (scheduling self.old event) self.old self.new }
-        ensures back { IfOk result (λ d. ContentGoesBack wants d.undone self.new self.old) }
+        ensures back { IfOk result (λ d. ContentGoesBack true d.undone self.new self.old) }
     {
-        if let Some(fault) = self.events.add_fault(&event) {
-            return Err(SiteFault::from(fault));
-        }
-        let events = self.events_if(wants)?;
-        let did = self.events.add(event)?;
-        Ok(done_alone(self.alloc, did, events))
+        let came = self.events.enter(event)?;
+        Ok(done_alone(self.alloc, came.is_some(), came))
     }
 
     /// Takes an event. The events that stood are told where they are wanted, and nothing else takes memory.
@@ -172,9 +177,9 @@ impl Content {
         ensures does { Does result (Ok (taking self.old event.now now)) self.old self.new }
         ensures back { IfOk result (λ d. ContentGoesBack wants d.undone self.new self.old) }
     {
-        let events = self.events_if(wants)?;
+        let stood = self.events_if(wants)?;
         let did = self.events.take(event, now);
-        Ok(done_alone(self.alloc, did, events))
+        Ok(done_alone(self.alloc, did, stood))
     }
 
     /// Puts what stood at a post's place there again.
@@ -192,6 +197,14 @@ impl Content {
         self.events = events;
     }
 
+    /// Takes a change of events back. Takes no memory.
+    pub fn shift_back(&mut self, shift: Shift)
+        requires { MayShiftBack shift self.old.events }
+        ensures { self.new ≡ record self.old { events = shift_back shift self.old.events } }
+    {
+        self.events.go_back(shift);
+    }
+
     /// A copy of the posts and events.
     pub fn copy(&self) -> Result<Content, AllocError>
         ensures { IfOk result (λ c. c ≡ self.now) }
@@ -204,8 +217,9 @@ impl Content {
     }
 
     fn turn(&mut self, id: u64, to: Move, beside: Beside) -> Result<Done, SiteFault>
-        requires { beside_move (post_at self.old.posts id) to id self.old.events
-            ≡ Ok (Some (unwrap_or beside.events self.old.events)) }
+        requires may { MayStandBeside beside self.old.events }
+        requires events { beside_move (post_at self.old.posts id) to id self.old.events
+            ≡ Ok (Some (events_beside beside self.old.events)) }
         ensures does { (now : ℕ) → Does result (post_effect self.old (Moves id to) now) self.old
             self.new }
         ensures back { IfOk result (λ d. ContentGoesBack true d.undone self.new self.old) }
@@ -218,29 +232,32 @@ impl Content {
 
     // A change that is done to a post, with the events beside it.
     fn done(&mut self, id: u64, fires: Items<Fire>, stood: Stood, beside: Beside) -> Done
+        requires { MayStandBeside beside self.old.events }
         ensures new { self.new ≡ record self.old
-            { events = unwrap_or beside.events self.old.events } }
+            { events = events_beside beside self.old.events } }
         ensures changed { result.changed ≡ record { id = id; did = true; fires = fires } }
         ensures stood { result.undone.stood ≡ Some stood }
         ensures active { result.undone.active ≡ None }
-        ensures events { unwrap_or result.undone.events self.new.events ≡ self.old.events }
+        ensures events { MayGoBack result.undone.shift self.new.events self.old.events }
     {
         let did = true;
         let changed = Changed { id, did, fires };
-        let events = self.swap(beside);
-        let undone = Undone::of(stood, events);
+        let shift = self.swap(beside);
+        let undone = Undone::of(stood, shift);
         Done { changed, undone }
     }
 
-    // Puts the events in that come; those that stood, where they do.
-    fn swap(&mut self, beside: Beside) -> Option<Events>
+    // Puts the events in that come; the way back. Takes no memory.
+    fn swap(&mut self, beside: Beside) -> Option<Shift>
+        requires { MayStandBeside beside self.old.events }
         ensures new { self.new ≡ record self.old
-            { events = unwrap_or beside.events self.old.events } }
-        ensures old { unwrap_or result self.new.events ≡ self.old.events }
+            { events = events_beside beside self.old.events } }
+        ensures back { MayGoBack result self.new.events self.old.events }
     {
-        match beside.events {
-            Some(events) => Some(mem::replace(&mut self.events, events)),
-            None => None,
+        match beside {
+            Beside::Same => None,
+            Beside::Moved { place, event } => Some(self.events.move_to(place, event)),
+            Beside::Others(events) => Some(Shift::All(mem::replace(&mut self.events, events))),
         }
     }
 
@@ -255,11 +272,11 @@ impl Content {
         Ok(Stood::OfPost { id, post })
     }
 
-    fn events_if(&self, wants: bool) -> Result<Option<Events>, AllocError>
-        ensures { IfOk result (λ es. es ≡ (if wants then Some self.now.events else None)) }
+    fn events_if(&self, wants: bool) -> Result<Option<Shift>, AllocError>
+        ensures { IfOk result (λ s. s ≡ (if wants then Some (All self.now.events) else None)) }
     {
         if wants {
-            Ok(Some(self.events.copy()?))
+            Ok(Some(Shift::All(self.events.copy()?)))
         } else {
             Ok(None)
         }
@@ -267,8 +284,9 @@ impl Content {
 
     // The events beside a post that is moved; None where the move leaves the post as it is.
     fn beside_move(&self, id: u64, to: Move) -> Result<Option<Beside>, SiteFault>
-        ensures { Gives Refuses (λ o. Ok (option_map (λ b. unwrap_or b.events self.now.events) o))
+        ensures does { Gives Refuses (λ o. Ok (option_map (λ b. events_beside b self.now.events) o))
             result (beside_move (post_at self.now.posts id) to id self.now.events) }
+        ensures may { IfOk result (λ o. IfSome o (λ b. MayStandBeside b self.now.events)) }
     {
         let Some(post) = self.posts.get(id) else {
             return Err(SiteFault::NoSuchPost);
@@ -276,17 +294,23 @@ impl Content {
         let Some(status) = post.moved(to)? else {
             return Ok(None);
         };
-        Ok(Some(self.beside(id, status, post.date)?))
+        Ok(Some(self.beside(id, status, post.date, post.date)?))
     }
 
-    // The events beside a post that gets that status.
-    fn beside(&self, id: u64, status: Status, date: Moment) -> Result<Beside, SiteFault>
-        ensures { Gives Refuses (λ b. Ok (unwrap_or b.events self.now.events)) result
+    // The events beside a post that gets that status and date. Its own is sought near the date that it has.
+    fn beside(
+        &self,
+        id: u64,
+        status: Status,
+        date: Moment,
+        near: Moment,
+    ) -> Result<Beside, SiteFault>
+        ensures does { Gives Refuses (λ b. Ok (events_beside b self.now.events)) result
             (events_of (comes status date) id self.now.events) }
+        ensures may { IfOk result (λ b. MayStandBeside b self.now.events) }
     {
         if status.is_future() {
-            let events = Some(self.events_with(id, date)?);
-            Ok(Beside { events })
+            self.beside_own(id, date, near)
         } else {
             Ok(self.beside_none(id)?)
         }
@@ -295,15 +319,40 @@ impl Content {
     // The events beside a post that none is for; they stay where none was.
     #[tactic(auto, using(crate::proofs::Beside::none_out))]
     fn beside_none(&self, id: u64) -> Result<Beside, AllocError>
-        ensures { IfOk result (λ b. unwrap_or b.events self.now.events
+        ensures does { IfOk result (λ b. events_beside b self.now.events
             ≡ events_without id self.now.events) }
+        ensures may { IfOk result (λ b. MayStandBeside b self.now.events) }
     {
         if self.has_event(id) {
-            let events = Some(self.events_without(id)?);
-            Ok(Beside { events })
+            Ok(Beside::Others(self.events_without(id)?))
         } else {
-            Ok(Beside { events: None })
+            Ok(Beside::Same)
         }
+    }
+
+    // The events beside a post whose own comes at that date: in its place, where it is the only one.
+    fn beside_own(&self, id: u64, date: Moment, near: Moment) -> Result<Beside, SiteFault>
+        ensures does { Gives Refuses (λ b. Ok (events_beside b self.now.events)) result
+            (events_of (Some date) id self.now.events) }
+        ensures may { IfOk result (λ b. MayStandBeside b self.now.events) }
+    {
+        match self.own_place(id, near) {
+            Some(place) => {
+                let event = publish_event(self.alloc, id, date)?;
+                Ok(Beside::Moved { place, event })
+            }
+            None => Ok(Beside::Others(self.events_with(id, date)?)),
+        }
+    }
+
+    // The place of the event that publishes that post, where it is the only one.
+    fn own_place(&self, id: u64, near: Moment) -> Option<usize>
+        ensures { IfSome result (λ place.
+            IsOnly (codes "publish_future_post") (decimal id) place self.now.events) }
+    {
+        let mut digits = Buffer::new();
+        self.events
+            .only_place(near, PUBLISH_HOOK, digits.format(id))
     }
 
     // Whether an event stands that publishes that post.
@@ -345,17 +394,21 @@ impl Content {
     }
 }
 
-// The events that come in beside a post's change; None where those that stand stay.
+// The events that come in beside a post's change.
 #[derive(Debug, Drop)]
-struct Beside {
-    events: Option<Events>,
+enum Beside {
+    Same,
+    // An event comes in place of the one at that place.
+    Moved { place: usize, event: Event },
+    // These come in place of all.
+    Others(Events),
 }
 
 // A post's change that changed nothing.
 fn untouched(alloc: Global, id: u64) -> Done
     ensures { result ≡ record {
       changed = record { id = id; did = false; fires = [] };
-      undone = record { stood = None; events = None; active = None };
+      undone = record { stood = None; shift = None; active = None };
     } }
 {
     let (did, fires) = (false, Items::new(alloc));
@@ -365,15 +418,15 @@ fn untouched(alloc: Global, id: u64) -> Done
 }
 
 // A change of events alone.
-fn done_alone(alloc: Global, did: bool, events: Option<Events>) -> Done
+fn done_alone(alloc: Global, did: bool, shift: Option<Shift>) -> Done
     ensures { result ≡ record {
       changed = record { id = 0; did = did; fires = [] };
-      undone = record { stood = None; events = events; active = None };
+      undone = record { stood = None; shift = shift; active = None };
     } }
 {
     let (id, fires) = (0, Items::new(alloc));
     let changed = Changed { id, did, fires };
-    let undone = Undone::of_events(events);
+    let undone = Undone::of_events(shift);
     Done { changed, undone }
 }
 

@@ -1,7 +1,7 @@
 //! A site at work, which can go back.
 
 ghost use Rattle.std.specs.Prelude.{◌≡◌, None, IfOk, IfErr};
-ghost use Rattle.press_site.specs.Back.{MayPostsGoBack, Notes};
+ghost use Rattle.press_site.specs.Back.{MayEventBack, MayPostsGoBack, Notes};
 ghost use Rattle.press_site.specs.Becomes.{Becomes};
 ghost use Rattle.press_site.specs.Effects.{effect_on};
 ghost use Rattle.press_site.specs.Log.{told};
@@ -32,14 +32,14 @@ impl Drop for OpenSite {
 }
 
 impl Model for OpenSite {
-    ghost use Rattle.press_site.specs.Back.{MayPostsGoBack};
+    ghost use Rattle.press_site.specs.Back.{MayLogGoBack};
     ghost use Rattle.press_site.specs.Open.{Open};
 
     ghost Value = { Open };
 
     ghost view = { λ o. record { site = o.site; log = o.undo } };
 
-    ghost invariant = { λ o. MayPostsGoBack o.undo.stood o.site.posts };
+    ghost invariant = { λ o. MayLogGoBack o.undo o.site.posts o.site.events };
 }
 
 impl OpenSite {
@@ -112,7 +112,8 @@ fn noted(
     undo: &mut Undo,
     done: Result<Done, SiteFault>,
 ) -> Result<Changed, SiteFault>
-    requires { IfOk done (λ d. MayPostsGoBack (told d.undone) site.old.posts) }
+    requires { IfOk done (λ d. MayPostsGoBack (told d.undone) site.old.posts
+        × MayEventBack d.undone.shift site.old.events) }
     ensures { Notes done result site.old site.new undo.old undo.new }
 {
     let Done { changed, undone } = done?;

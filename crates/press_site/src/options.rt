@@ -1,6 +1,7 @@
-ghost use Rattle.std.specs.Prelude.{◌≡◌, [], ◌∷◌, ◌<◌, ◌++◌, length, None, Some, Ok, IfOk, OnOk, OnErr, option_map, codes, string_bytes};
-ghost use Rattle.press_site.specs.Sets.{Sets, set_back};
+ghost use Rattle.std.specs.Prelude.{◌≡◌, [], ◌∷◌, ◌<◌, ◌++◌, length, None, Some, Ok, IfOk, IfErr, OnOk, OnErr, option_map, codes, string_bytes};
+ghost use Rattle.press_site.specs.Sets.{Changes, Sets, set_back};
 ghost use Rattle.press_site.specs.Options.{option_of, put_back, put_option, set_option, set_over, added_fire, updated_fire, added_name, updated_name};
+ghost use Rattle.press_site.specs.declared.fault.SiteFault.TheVariants.{NoMemory};
 
 use crate::fault::SiteFault;
 use press_posts::Fire;
@@ -8,6 +9,7 @@ use press_text::{HookName, Items, OptName, Text, Texts};
 use std::alloc::{AllocError, Global};
 use std::collections::BTreeMap;
 use std::marker::Model;
+use std::mem;
 
 const MOST_OPTIONS: usize = 1024;
 
@@ -86,14 +88,10 @@ impl Options {
         if value.len() > MOST_VALUE {
             return Err(SiteFault::TooLong);
         }
-        let Some(old) = self.value(name.as_str()) else {
+        let Some(stands) = self.values.get_mut(name.as_str()) else {
             return self.add(name, value);
         };
-        if old.as_str() == value.as_str() {
-            return Ok(None);
-        }
-        let fire = updated_fire(self.alloc, name, old.as_str(), value.as_str())?;
-        self.put(name.as_str(), value, fire)
+        change(self.alloc, name, stands, value)
     }
 
     /// Puts an option back as it stood: with that value, or out where it had none. Takes no memory.
@@ -107,6 +105,7 @@ impl Options {
     }
 
     fn add(&mut self, name: &OptName, value: Text) -> Result<Option<SetDone>, SiteFault>
+        requires { option_of name.now self.old ≡ None }
         ensures does { Sets result (set_over None name.now value self.old) self.old self.new }
         ensures back { IfOk result (λ s. set_back name.now s self.new ≡ self.old) }
     {
@@ -114,7 +113,10 @@ impl Options {
             return Err(SiteFault::TooManyOptions);
         }
         let fire = added_fire(self.alloc, name, value.as_str())?;
-        self.put(name.as_str(), value, fire)
+        let fires = Items::from_vec(vec![in self.alloc; fire]?);
+        self.put(name.as_str(), value)?;
+        let stood = None;
+        Ok(Some(SetDone { fires, stood }))
     }
 
     fn value(&self, name: &str) -> Option<&Text>
@@ -123,25 +125,16 @@ impl Options {
         self.values.get(name)
     }
 
-    fn put(&mut self, name: &str, value: Text, fire: Fire) -> Result<Option<SetDone>, SiteFault>
-        ensures does { Sets result (Ok (put_option name.now value self.old, Some (fire ∷ [])))
-            self.old self.new }
-        ensures back { IfOk result (λ s. set_back name.now s self.new ≡ self.old) }
-    {
-        let fires = Items::from_vec(vec![in self.alloc; fire]?);
-        let stood = self.give(name, value)?;
-        Ok(Some(SetDone { fires, stood }))
-    }
-
-    // Gives an option a value; the one that stood, if one did.
-    fn give(&mut self, name: &str, value: Text) -> Result<Option<Text>, AllocError>
+    // Puts an option in that isn't there.
+    fn put(&mut self, name: &str, value: Text) -> Result<(), AllocError>
+        requires { option_of name.now self.old ≡ None }
         ensures ok { OnOk result (self.new ≡ put_option name.now value self.old) }
-        ensures back { IfOk result (λ stood. put_back name.now stood self.new ≡ self.old) }
+        ensures back { OnOk result (put_back name.now None self.new ≡ self.old) }
         ensures err { OnErr result (self.new ≡ self.old) }
     {
         let name = String::from_str(self.alloc, name)?;
-        let stood = self.values.insert(name, value)?;
-        Ok(stood)
+        self.values.insert(name, value)?;
+        Ok(())
     }
 
     // Gives an option that is there another value.
@@ -158,6 +151,25 @@ impl Options {
     {
         drop(self.values.remove(name));
     }
+}
+
+// Gives an option that is there a value; what that fires and what stood, or None where it is the same.
+fn change(
+    alloc: Global,
+    name: &OptName,
+    stands: &mut Text,
+    value: Text,
+) -> Result<Option<SetDone>, SiteFault>
+    ensures ok { IfOk result (λ s. Changes name.now value s stands.old stands.new) }
+    ensures err { IfErr result (λ f. (f ≡ NoMemory) × (stands.new ≡ stands.old)) }
+{
+    if stands.as_str() == value.as_str() {
+        return Ok(None);
+    }
+    let fire = updated_fire(alloc, name, stands.as_str(), value.as_str())?;
+    let fires = Items::from_vec(vec![in alloc; fire]?);
+    let stood = Some(mem::replace(stands, value));
+    Ok(Some(SetDone { fires, stood }))
 }
 
 fn updated_fire(alloc: Global, name: &OptName, old: &str, new: &str) -> Result<Fire, AllocError>

@@ -4,7 +4,7 @@ ghost use Rattle.std.specs.Prelude.{Bool, ◌≡◌, [], false, None, Some, Ok, 
 ghost use Rattle.press_posts.specs.PostChange.{post_at};
 ghost use Rattle.press_posts.specs.Published.{published};
 ghost use Rattle.press_events.specs.DueEvents.{due};
-ghost use Rattle.press_site.specs.Back.{Does, GoesBack, MayPostsGoBack};
+ghost use Rattle.press_site.specs.Back.{Does, GoesBack, MayEventBack, MayLogGoBack, MayPostsGoBack};
 ghost use Rattle.press_site.specs.Back.{log_back, site_back};
 ghost use Rattle.press_site.specs.Becomes.{Becomes};
 ghost use Rattle.press_site.specs.Contents.{no_post};
@@ -193,7 +193,7 @@ impl Site {
         Ok(changed)
     }
 
-    /// The same, with what takes it back. The events that stood are told beside a post's change, and else where they are wanted.
+    /// The same, with what takes it back. All events that stood are told beside a post's change, and else where they are wanted.
     pub(crate) fn change(&mut self, effect: Effect, wants: bool) -> Result<Done, SiteFault>
         ensures does { Does result (effect_on self.old effect) self.old self.new }
         ensures back { IfOk result (λ d. GoesBack wants d.undone self.new self.old) }
@@ -204,7 +204,7 @@ impl Site {
             Effect::Move { id, to } => self.move_post(id, to),
             Effect::Delete { id } => self.delete(id),
             Effect::SetOption { name, value } => self.set_option(name, value),
-            Effect::Schedule(event) => self.schedule(event, wants),
+            Effect::Schedule(event) => self.schedule(event),
             Effect::Take(event) => self.take(&event, wants),
             Effect::Activate { plugin } => self.activate(plugin),
             Effect::Deactivate { plugin } => self.deactivate(&plugin),
@@ -213,19 +213,20 @@ impl Site {
 
     /// Takes the last change back. Takes no memory.
     pub(crate) fn take_back(&mut self, undone: Undone)
-        requires { MayPostsGoBack (told undone) self.old.posts }
+        requires posts { MayPostsGoBack (told undone) self.old.posts }
+        requires events { MayEventBack undone.shift self.old.events }
         ensures { self.new ≡ site_back undone self.old }
     {
         let Undone {
             stood,
-            events,
+            shift,
             active,
         } = undone;
         if let Some(stood) = stood {
             stood.put_back(&mut self.content, &mut self.options);
         }
-        if let Some(events) = events {
-            self.content.set_events(events);
+        if let Some(shift) = shift {
+            self.content.shift_back(shift);
         }
         if let Some(active) = active {
             self.plugins = active;
@@ -234,7 +235,7 @@ impl Site {
 
     /// Takes all changes back that were noted. Takes no memory.
     pub(crate) fn go_back(&mut self, undo: &mut Undo)
-        requires { MayPostsGoBack undo.old.stood self.old.posts }
+        requires { MayLogGoBack undo.old self.old.posts self.old.events }
         ensures { self.new ≡ log_back undo.old self.old }
     {
         undo.back_content(&mut self.content, &mut self.options);
@@ -279,12 +280,13 @@ impl Site {
         self.content.delete(id)
     }
 
-    fn schedule(&mut self, event: Event, wants: bool) -> Result<Done, SiteFault>
+    fn schedule(&mut self, event: Event) -> Result<Done, SiteFault>
         ensures does { Does result (effect_on self.old (Effect.Schedule event))
             self.old self.new }
-        ensures back { IfOk result (λ d. GoesBack wants d.undone self.new self.old) }
+        ensures back { (wants : Bool) → IfOk result
+            (λ d. GoesBack wants d.undone self.new self.old) }
     {
-        self.content.schedule(event, wants)
+        self.content.schedule(event)
     }
 
     fn take(&mut self, event: &Event, wants: bool) -> Result<Done, SiteFault>
@@ -337,7 +339,7 @@ impl Site {
 fn option_done(name: OptName, fires: Items<Fire>, value: Option<Text>) -> Done
     ensures { result ≡ record {
       changed = record { id = 0; did = true; fires = fires };
-      undone = record { stood = Some (OfOption name value); events = None; active = None };
+      undone = record { stood = Some (OfOption name value); shift = None; active = None };
     } }
 {
     let (id, did) = (0, true);
@@ -350,7 +352,7 @@ fn option_done(name: OptName, fires: Items<Fire>, value: Option<Text>) -> Done
 fn nothing_done(alloc: Global) -> Done
     ensures { result ≡ record {
       changed = no_post false;
-      undone = record { stood = None; events = None; active = None };
+      undone = record { stood = None; shift = None; active = None };
     } }
 {
     let (id, did, fires) = (0, false, Items::new(alloc));

@@ -5,7 +5,7 @@ use crate::changed::Changed;
 use crate::content::Content;
 use crate::options::Options;
 use crate::plugins::Plugins;
-use press_events::Events;
+use press_events::Shift;
 use press_posts::Post;
 use press_text::{OptName, Text};
 
@@ -32,44 +32,44 @@ impl Stood {
     }
 }
 
-/// What a change is taken back with: what stood at the place of one, and the events or the active plugins that stood.
+/// What a change is taken back with: what stood at the place of one, the way back of the events, and the active plugins that stood.
 #[derive(Debug, Drop)]
 pub struct Undone {
     pub stood: Option<Stood>,
-    pub events: Option<Events>,
+    pub shift: Option<Shift>,
     pub active: Option<Plugins>,
 }
 
 impl Undone {
     /// Of a post or an option, and the events beside it.
-    pub fn of(stood: Stood, events: Option<Events>) -> Undone
-        ensures { result ≡ record { stood = Some stood; events = events; active = None } }
+    pub fn of(stood: Stood, shift: Option<Shift>) -> Undone
+        ensures { result ≡ record { stood = Some stood; shift = shift; active = None } }
     {
         Undone {
             stood: Some(stood),
-            events,
+            shift,
             active: None,
         }
     }
 
     /// Of events alone.
-    pub fn of_events(events: Option<Events>) -> Undone
-        ensures { result ≡ record { stood = None; events = events; active = None } }
+    pub fn of_events(shift: Option<Shift>) -> Undone
+        ensures { result ≡ record { stood = None; shift = shift; active = None } }
     {
         Undone {
             stood: None,
-            events,
+            shift,
             active: None,
         }
     }
 
     /// Of active plugins.
     pub fn of_active(active: Plugins) -> Undone
-        ensures { result ≡ record { stood = None; events = None; active = Some active } }
+        ensures { result ≡ record { stood = None; shift = None; active = Some active } }
     {
         Undone {
             stood: None,
-            events: None,
+            shift: None,
             active: Some(active),
         }
     }

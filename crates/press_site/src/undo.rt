@@ -1,14 +1,14 @@
 //! What an open site keeps, so that it can go back.
 
-ghost use Rattle.std.specs.Prelude.{◌≡◌, [], Some, None, true, is_none, is_some, OnOk, OnErr, IfErr, unwrap_or};
-ghost use Rattle.press_site.specs.Back.{MayPostsGoBack, options_back, posts_back};
-ghost use Rattle.press_site.specs.Log.{first_kept, fresh, noted};
+ghost use Rattle.std.specs.Prelude.{◌≡◌, ◌<◌, [], ◌∷◌, ◌++◌, ◌||◌, Some, None, true, is_none, is_some, vec_len, vec_capacity, OnOk, OnErr, IfErr, unwrap_or};
+ghost use Rattle.press_site.specs.Back.{MayEventsGoBack, MayLogGoBack, MayPostsGoBack, events_back, options_back, posts_back};
+ghost use Rattle.press_site.specs.Log.{all_of, first_kept, fresh, noted, with_shift, with_stood};
 
 use crate::content::Content;
 use crate::options::Options;
 use crate::plugins::Plugins;
 use crate::stood::{Stood, Undone};
-use press_events::Events;
+use press_events::{Events, Shift};
 use std::alloc::Global;
 use std::marker::Model;
 
@@ -16,6 +16,7 @@ use std::marker::Model;
 #[derive(Debug)]
 pub struct Undo {
     stood: Vec<Stood>,
+    shifts: Vec<Shift>,
     events: Option<Events>,
     active: Option<Plugins>,
 }
@@ -24,6 +25,7 @@ impl Drop for Undo {
     fn drop(self) {
         let Undo {
             stood: _,
+            shifts: _,
             events: _,
             active: _,
         } = self;
@@ -35,7 +37,7 @@ impl Model for Undo {
 
     ghost Value = { Log };
 
-    ghost view = { λ u. record { stood = u.stood.items; events = u.events; active = u.active } };
+    ghost view = { λ u. record { stood = u.stood.items; shifts = u.shifts.items; events = u.events; active = u.active } };
 }
 
 impl Undo {
@@ -45,12 +47,13 @@ impl Undo {
     {
         Undo {
             stood: Vec::new(alloc),
+            shifts: Vec::new(alloc),
             events: None,
             active: None,
         }
     }
 
-    /// Whether the events are yet to be kept, before their first change.
+    /// Whether changes of events are yet to be noted: not once all that stood are kept.
     pub fn wants_events(&self) -> bool
         ensures { result ≡ is_none self.now.events }
     {
@@ -62,42 +65,43 @@ impl Undo {
         ensures ok { OnOk result (self.new ≡ noted undone self.old) }
         ensures err { IfErr result (λ u. u ≡ undone) }
         ensures stays { OnErr result (self.new ≡ self.old) }
-        ensures why { OnErr result (is_some undone.stood ≡ true) }
+        ensures why { OnErr result ((is_none self.old.events || is_some undone.stood) ≡ true) }
     {
+        let wants = self.events.is_none();
+        if undone.stood.is_some() && !has_room(&mut self.stood) {
+            return Err(undone);
+        }
+        if wants && !has_room(&mut self.shifts) {
+            return Err(undone);
+        }
         let Undone {
             stood,
-            events,
+            shift,
             active,
         } = undone;
-        if let Some(stood) = stood {
-            if let Err(refused) = self.stood.push(stood) {
-                let stood = Some(refused.value);
-                return Err(Undone {
-                    stood,
-                    events,
-                    active,
-                });
-            }
+        push(&mut self.stood, stood);
+        if wants {
+            keep_events(&mut self.shifts, &mut self.events, shift);
         }
-        keep(&mut self.events, events);
         keep(&mut self.active, active);
         Ok(())
     }
 
     /// Puts posts, events and options back. Takes no memory.
     pub fn back_content(&mut self, content: &mut Content, options: &mut Options)
-        requires { MayPostsGoBack self.old.stood content.old.posts }
+        requires { MayLogGoBack self.old content.old.posts content.old.events }
         ensures back { content.new ≡ record {
           posts = posts_back self.old.stood content.old.posts;
-          events = unwrap_or self.old.events content.old.events;
+          events = events_back self.old.shifts (unwrap_or self.old.events content.old.events);
         } }
         ensures options { options.new ≡ options_back self.old.stood options.old }
-        ensures left { self.new ≡ record self.old { stood = []; events = None } }
+        ensures left { self.new ≡ record self.old { stood = []; shifts = []; events = None } }
     {
         put_back(&mut self.stood, content, options);
         if let Some(events) = self.events.take() {
             content.set_events(events);
         }
+        shift_back(&mut self.shifts, content);
     }
 
     /// Puts the active plugins back.
@@ -117,6 +121,61 @@ fn keep<T: Drop>(kept: &mut Option<T>, stood: Option<T>)
 {
     if kept.is_none() {
         *kept = stood;
+    }
+}
+
+// Whether one more fits in, once there was memory for it.
+fn has_room<T>(list: &mut Vec<T>) -> bool
+    ensures items { list.new.items ≡ list.old.items }
+    ensures room { result ≡ true → vec_len list.new < vec_capacity list.new }
+{
+    list.reserve(1).is_ok()
+}
+
+// Puts what stood behind, if anything stood.
+fn push(list: &mut Vec<Stood>, stood: Option<Stood>)
+    requires { is_some stood ≡ true → vec_len list.old < vec_capacity list.old }
+    ensures { list.new.items ≡ with_stood stood list.old.items }
+{
+    if let Some(stood) = stood {
+        let Ok(()) = list.push(stood) else {
+            unreachable!()
+        };
+    }
+}
+
+// Keeps the way back of events: behind the others, or all that stood.
+fn keep_events(shifts: &mut Vec<Shift>, events: &mut Option<Events>, shift: Option<Shift>)
+    requires room { vec_len shifts.old < vec_capacity shifts.old }
+    requires none { events.old ≡ None }
+    ensures shifts { shifts.new.items ≡ with_shift shift shifts.old.items }
+    ensures events { events.new ≡ all_of shift }
+{
+    match shift {
+        Some(Shift::All(stood)) => *events = Some(stood),
+        Some(shift) => add(shifts, shift),
+        None => {}
+    }
+}
+
+fn add(shifts: &mut Vec<Shift>, shift: Shift)
+    requires { vec_len shifts.old < vec_capacity shifts.old }
+    ensures { shifts.new.items ≡ shifts.old.items ++ shift ∷ [] }
+{
+    let Ok(()) = shifts.push(shift) else {
+        unreachable!()
+    };
+}
+
+// Takes the changes of events back, the last first.
+fn shift_back(shifts: &mut Vec<Shift>, content: &mut Content)
+    requires { MayEventsGoBack shifts.old.items content.old.events }
+    ensures back { content.new ≡ record content.old
+        { events = events_back shifts.old.items content.old.events } }
+    ensures left { shifts.new.items ≡ [] }
+{
+    while let Some(last) = shifts.pop() {
+        content.shift_back(last);
     }
 }
 

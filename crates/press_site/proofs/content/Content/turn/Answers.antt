@@ -1,5 +1,5 @@
 use Rattle.std.proofs.Common.{◌≡◌, ◌∙◌, sym, ap, ap₂, subst, true, Some}
-use Rattle.std.specs.Prelude.{Ok, unwrap_or}
+use Rattle.std.specs.Prelude.{Ok}
 use Rattle.std.proofs.lemmas.Result.{err_from_is_err_and}
 use Rattle.press_posts.specs.PostChange.{post_at, post_change}
 use Rattle.press_posts.specs.PostChange.Change.{Moves}
@@ -8,6 +8,7 @@ use Rattle.press_site.specs.ContentView.{ContentView}
 use Rattle.press_site.specs.declared.stood.Stood.TheVariants.{OfPost}
 use Rattle.press_site.specs.Contents.{beside_move, post_effect}
 use Rattle.press_site.specs.declared.changed.Changed.{Changed}
+use Rattle.press_site.specs.Beside.{events_beside}
 use Rattle.press_site.proofs.Back.{taken, went}
 use Rattle.press_site.proofs.Joined.{joined, done, posts_refused, turned, told, answered}
 use Rattle.press_site.proofs.content.Content.turn.Goals as goal
@@ -15,8 +16,8 @@ use Rattle.press_site.proofs.content.Content.turn.Goals as goal
 pub returns-in_err-fires-clause-does : goal.returns-in_err-fires-clause-does
 returns-in_err-fires-clause-does c = λ now.
     let p = err_from_is_err_and c.from_residual-in_err-fires.result c.from_residual-in_err-fires.ensures.1 in
-    let es = unwrap_or c.args.beside.events c.self.inside.events in
-    let req = subst (λ (v : ContentView). beside_move (post_at v.posts c.args.id) c.args.to c.args.id v.events ≡ Ok (Some (unwrap_or c.args.beside.events v.events))) (sym c.self.view_is) c.requires in
+    let es = events_beside c.args.beside c.self.inside.events in
+    let req = subst (λ (v : ContentView). beside_move (post_at v.posts c.args.id) c.args.to c.args.id v.events ≡ Ok (Some (events_beside c.args.beside v.events))) (sym c.self.view_is) c.requires.events in
     let t = turned c.self.inside.posts c.args.to c.args.id c.self.inside.events es (post_at c.self.inside.posts c.args.id) req in
     let h = c.in_err-fires.ensures now in
     subst (λ (v : ContentView). Does c.from_residual-in_err-fires.result (post_effect v (Moves c.args.id c.args.to) now) v (record { posts = c.set_status.new.self; events = c.self.inside.events })) c.self.view_is
@@ -27,8 +28,8 @@ returns-in_err-fires-clause-does c = λ now.
 
 pub returns-clause-does : goal.returns-clause-does
 returns-clause-does c = λ now.
-    let es = unwrap_or c.args.beside.events c.self.inside.events in
-    let req = subst (λ (v : ContentView). beside_move (post_at v.posts c.args.id) c.args.to c.args.id v.events ≡ Ok (Some (unwrap_or c.args.beside.events v.events))) (sym c.self.view_is) c.requires in
+    let es = events_beside c.args.beside c.self.inside.events in
+    let req = subst (λ (v : ContentView). beside_move (post_at v.posts c.args.id) c.args.to c.args.id v.events ≡ Ok (Some (events_beside c.args.beside v.events))) (sym c.self.view_is) c.requires.events in
     let t = turned c.self.inside.posts c.args.to c.args.id c.self.inside.events es (post_at c.self.inside.posts c.args.id) req in
     let d = done (λ x. x.fires) c.in_ok-fires.fires c.set_status.new.self (post_change c.self.inside.posts (Moves c.args.id c.args.to) now) t.x t.is (c.in_ok-fires.ensures now) in
     subst (λ (v : ContentView). post_effect v (Moves c.args.id c.args.to) now ≡ answered c.set_status.new.self es c.args.id true c.in_ok-fires.fires) c.self.view_is

@@ -4,7 +4,7 @@ use Rattle.press_site.specs.Back.{Does, GoesBack}
 use Rattle.press_site.specs.Contents.{scheduling}
 use Rattle.press_site.specs.Effects.{content_of, with_content}
 use Rattle.press_site.specs.SiteView.{SiteView}
-use Rattle.press_site.proofs.Lifted.{back_lifted, does_lifted, with_new}
+use Rattle.press_site.proofs.Lifted.{back_of_post, does_lifted, with_new}
 use Rattle.press_site.proofs.site.Site.schedule.Goals as goal
 
 pub returns-clause-does : goal.returns-clause-does
@@ -14,7 +14,7 @@ returns-clause-does c =
     (does_lifted s c.schedule.result (scheduling (content_of s) c.args.event) c.schedule.new.self c.schedule.ensures.does)
 
 pub returns-clause-back : goal.returns-clause-back
-returns-clause-back c =
+returns-clause-back c = λ wants.
     let s : SiteView = record { moment = c.self.inside.moment; posts = c.self.inside.content.posts; events = c.self.inside.content.events; options = c.self.inside.options; active = c.self.inside.plugins; outcomes = c.self.inside.outcomes } in
-    subst (λ (v : SiteView). IfOk c.schedule.result (λ d. GoesBack c.args.wants d.undone (with_new s c.schedule.new.self) v)) c.self.view_is
-    (back_lifted s c.schedule.result c.args.wants c.schedule.new.self c.schedule.ensures.back)
+    subst (λ (v : SiteView). IfOk c.schedule.result (λ d. GoesBack wants d.undone (with_new s c.schedule.new.self) v)) c.self.view_is
+    (back_of_post s c.schedule.result wants c.schedule.new.self c.schedule.ensures.back)

@@ -1,0 +1,121 @@
+-- A change of events is taken back by its way back.
+use Rattle.std.proofs.Common.{◌≡◌, refl, sym, ◌∙◌, ap, subst, ℕ, zero, suc, ◌<◌, ◌≤◌, List, [], ◌∷◌, length, get_or, Bool, true, false, not, cond, Option, Some, None, arith}
+use Rattle.std.specs.Prelude.{◌&&◌, ◌||◌, nat_eq, insert, remove, bytes_eq, IfSome}
+use Rattle.std.specs.List.{slice_get}
+use Rattle.std.proofs.lemmas.List.Edits.{length-insert, length-remove}
+use Rattle.std.proofs.lemmas.List.Quantifiers.{position-Some}
+use Rattle.std.proofs.lemmas.List.Sums.{sum_by-cons, sum_by-insert, sum_by-remove, get_or-le-sum_by}
+use Rattle.std.proofs.lemmas.Slice.Eq.{bytes_eq-Decides}
+use Rattle.press_text.specs.declared.every.Every.{Every}
+use Rattle.press_events.specs.declared.event.Event.{Event}
+use Rattle.press_events.specs.declared.shift.Shift.TheVariants.{Came, Moved}
+use Rattle.press_events.specs.DueEvents.{IsByTime, cancelled, cancels, is_of, is_same, place_of}
+use Rattle.press_events.specs.Marks.{Covers, count_of, mark}
+use Rattle.press_events.specs.Shifts.{IsOnly, ShiftsBack, event_at, put_at, shift_back}
+use Rattle.press_events.proofs.Numbers.{mark_one, marked, none_has, one_of_it, same_one}
+
+-- ---- one in and out again, one out and in again
+
+out_again : (es : List Event) (i : ℕ) (e : Event) → i ≤ length es → remove (insert es i e) i ≡ es
+out_again [] zero e le = refl
+out_again [] (suc i) e le = absurd (omega arith)
+out_again (x ∷ xs) zero e le = refl
+out_again (x ∷ xs) (suc i) e le = ap (λ (ys : List Event). x ∷ ys) (out_again xs i e (omega arith))
+
+in_again : (es : List Event) (i : ℕ) (e : Event) → i < length es → e ≡ get_or es i e → insert (remove es i) i e ≡ es
+in_again [] i e lt at = absurd (omega arith)
+in_again (x ∷ []) zero e lt at = ap (λ (y : Event). y ∷ []) at
+in_again (x ∷ y ∷ ys) zero e lt at = ap (λ (z : Event). z ∷ y ∷ ys) at
+in_again (x ∷ xs) (suc i) e lt at = ap (λ (ys : List Event). x ∷ ys) (in_again xs i e (omega arith) at)
+
+there : (es : List Event) (i : ℕ) (e : Event) → i ≤ length es → slice_get (insert es i e) i ≡ Some e
+there [] zero e le = refl
+there [] (suc i) e le = absurd (omega arith)
+there (x ∷ xs) zero e le = refl
+there (x ∷ xs) (suc i) e le = there xs i e (omega arith)
+
+pub got : (es : List Event) (i : ℕ) (e : Event) → i < length es → e ≡ get_or es i e → slice_get es i ≡ Some e
+got [] i e lt at = absurd (omega arith)
+got (x ∷ xs) zero e lt at = ap (λ (y : Event). Some y) (sym at)
+got (x ∷ xs) (suc i) e lt at = got xs i e (omega arith) at
+
+pub any_default : (es : List Event) (i : ℕ) (d e : Event) → i < length es → get_or es i d ≡ get_or es i e
+any_default [] i d e lt = absurd (omega arith)
+any_default (x ∷ xs) zero d e lt = refl
+any_default (x ∷ xs) (suc i) d e lt = any_default xs i d e (omega arith)
+
+pub came : (es : List Event) (i : ℕ) (e : Event) → i ≤ length es → ShiftsBack (Came i) (insert es i e) es
+came es i e le = (omega (arith, length-insert es i e le), out_again es i e le)
+
+both : (a b : Bool) → (a && b) ≡ true → (a ≡ true) × (b ≡ true)
+both true b e = (refl, e)
+both false b e = absurd (cc)
+
+same_of : (e old : Event) → is_of e.hook e.arg old ≡ true → record e { time = old.time; every = old.every } ≡ old
+same_of e old s =
+    let of_it = both (bytes_eq old.hook e.hook) (bytes_eq old.arg e.arg) s in
+    let hook = (bytes_eq-Decides old.hook e.hook).0 of_it.0 in
+    let arg = (bytes_eq-Decides old.arg e.arg).0 of_it.1 in
+    λ i. record { time = old.time; hook = sym hook i; arg = sym arg i; every = old.every }
+
+pub same_arg : (e old : Event) → is_of e.hook e.arg old ≡ true → e.arg ≡ old.arg
+same_arg e old s = sym ((bytes_eq-Decides old.arg e.arg).0 (both (bytes_eq old.hook e.hook) (bytes_eq old.arg e.arg) s).1)
+
+pub moved : (es : List Event) (i to : ℕ) (old e : Event) → i < length es → to ≤ length (remove es i) → old ≡ get_or es i old → is_of e.hook e.arg old ≡ true → IsByTime es
+    → ShiftsBack (Moved to i old.time old.every) (insert (remove es i) to e) es
+moved es i to old e lt le at s o =
+    let back : put_at (slice_get (insert (remove es i) to e) to) i old.time old.every (remove (insert (remove es i) to e) to) ≡ es =
+    ap (λ x. put_at x i old.time old.every (remove (insert (remove es i) to e) to)) (there (remove es i) to e le)
+    ∙ ap (λ (xs : List Event). insert xs i (record e { time = old.time; every = old.every })) (out_again (remove es i) to e le)
+    ∙ ap (λ (x : Event). insert (remove es i) i x) (same_of e old s)
+    ∙ in_again es i old lt at in
+    let long = length-insert (remove es i) to e le in
+    let less = length-remove es i lt in
+    ((omega arith, omega arith, subst IsByTime (sym back) o), back)
+
+pub back_at : (es : List Event) (to from time : ℕ) (every : Every) (e : Event) → to < length es → e ≡ get_or es to e → insert (remove es to) from (record e { time = time; every = every }) ≡ shift_back (Moved to from time every) es
+back_at es to from time every e lt at = ap (λ x. put_at x from time every (remove es to)) (sym (got es to e lt at))
+
+-- an event with its argument, put in where another went
+pub covers_moved : (es : List Event) (i to : ℕ) (e new : Event) (ms : List ℕ) → i < length es → e ≡ get_or es i e → new.arg ≡ e.arg → Covers ms es → Covers ms (insert (remove es i) to new)
+covers_moved es i to e new ms lt at same c x =
+    let one_of : mark_one x new ≡ mark_one x (get_or es i e) = ap (λ (arg : List ℕ). mark_one x (record new { arg = arg })) same ∙ ap (mark_one x) at in
+    omega (arith, sum_by-remove (mark_one x) es i e lt, sum_by-insert (mark_one x) (remove es i) to new, c x)
+
+-- ---- the only one
+
+pub none_cancelled : (hook arg : List ℕ) (es : List Event) → cancels hook arg es ≡ false → cancelled hook arg es ≡ es
+none_cancelled hook arg [] n = refl
+none_cancelled hook arg (e ∷ es) n = by (is_of hook arg e) n (none_cancelled hook arg es)
+  where
+    by : (b : Bool) → (b || cancels hook arg es) ≡ false → (cancels hook arg es ≡ false → cancelled hook arg es ≡ es) → cond (not b) (e ∷ cancelled hook arg es) (cancelled hook arg es) ≡ e ∷ es
+    by true n rest = absurd (cc)
+    by false n rest = ap (λ (xs : List Event). e ∷ xs) (rest n)
+
+one_out : (hook arg : List ℕ) (es : List Event) (i : ℕ) (d : Event) → i < length es → is_of hook arg (get_or es i d) ≡ true → marked (mark arg) es ≤ 1 → cancelled hook arg es ≡ remove es i
+one_out hook arg [] i d lt t n = absurd (omega arith)
+one_out hook arg (e ∷ es) zero d lt t n =
+    let o : mark_one (mark arg) e ≡ 1 = one_of_it hook arg (mark arg) e t ∙ same_one (mark arg) in
+    let none : marked (mark arg) es ≡ 0 = omega (arith, sum_by-cons (mark_one (mark arg)) e es) in
+    ap (λ (b : Bool). cond (not b) (e ∷ cancelled hook arg es) (cancelled hook arg es)) t ∙ none_cancelled hook arg es (sym (none_has hook arg es none))
+one_out hook arg (e ∷ es) (suc i) d lt t n = by (is_of hook arg e) refl (λ (few : marked (mark arg) es ≤ 1). one_out hook arg es i d (omega arith) t few)
+  where
+    by : (b : Bool) → is_of hook arg e ≡ b → (marked (mark arg) es ≤ 1 → cancelled hook arg es ≡ remove es i) → cond (not b) (e ∷ cancelled hook arg es) (cancelled hook arg es) ≡ e ∷ remove es i
+    by true h rest =
+        let o : mark_one (mark arg) e ≡ 1 = one_of_it hook arg (mark arg) e h ∙ same_one (mark arg) in
+        let p : mark_one (mark arg) (get_or es i d) ≡ 1 = one_of_it hook arg (mark arg) (get_or es i d) t ∙ same_one (mark arg) in
+        absurd (omega (arith, sum_by-cons (mark_one (mark arg)) e es, get_or-le-sum_by (mark_one (mark arg)) es i d (omega arith)))
+    by false h rest = ap (λ (xs : List Event). e ∷ xs) (rest (omega (arith, sum_by-cons (mark_one (mark arg)) e es)))
+
+pub only : (time : ℕ) (hook arg : List ℕ) (es : List Event) (ms : List ℕ) (place : Option ℕ) → place ≡ place_of (event_at time hook arg) es → Covers ms es → count_of (mark arg) ms ≤ 1 → length es ≤ 4096 → IfSome place (λ i. IsOnly hook arg i es)
+only time hook arg es ms None is c n few = tt
+only time hook arg es ms (Some i) is c n few =
+    let e : Event = event_at time hook arg in
+    let p = position-Some (λ x. is_same x e) es i e (sym is) in
+    let of_it = (both (nat_eq (get_or es i e).time time) (is_of hook arg (get_or es i e)) p.1).1 in
+    record {
+      within = p.0;
+      of_it = λ d. ap (is_of hook arg) (any_default es i d e p.0) ∙ of_it;
+      only = one_out hook arg es i e p.0 of_it (omega (arith, c (mark arg)));
+      few = few;
+    }

@@ -1,0 +1,56 @@
+-- Changes of events, and the way back: an event that came in goes out, one that was moved goes to its old place, or all that stood come back (own).
+use Rattle.press_text.specs.Gives.{GivesOrStays}
+use Rattle.std.specs.Prelude.{◌≡◌, ℕ, ◌<◌, ◌≤◌, List, length, insert, remove, slice_index_or, Bool, true, Option, Some, None, is_some, Result, Ok}
+use Rattle.std.specs.List.{slice_get}
+use Rattle.press_text.specs.declared.every.Every.{Every}
+use Rattle.press_text.specs.declared.every.Every.TheVariants.{Once}
+use Rattle.press_events.specs.declared.event.Event.{Event}
+use Rattle.press_events.specs.declared.fault.EventFault.{EventFault}
+use Rattle.press_events.specs.declared.shift.Shift.{Shift}
+use Rattle.press_events.specs.declared.shift.Shift.TheVariants.{Came, Moved, All}
+use Rattle.press_events.specs.DueEvents.{IsByTime, Refuses, cancelled, is_of}
+
+-- ---- the way back
+
+-- an event that was moved, put in as it stood
+abbrev pub put_at : Option Event → ℕ → ℕ → Every → List Event → List Event
+put_at None from time every events = events
+put_at (Some e) from time every events = insert events from (record e { time = time; every = every })
+
+abbrev pub shift_back : Shift → List Event → List Event
+shift_back (Came place) events = remove events place
+shift_back (Moved to from time every) events = put_at (slice_get events to) from time every (remove events to)
+shift_back (All stood) events = stood
+
+-- where there is such a way
+abbrev pub MayShiftBack : Shift → List Event → Type 0
+MayShiftBack (Came place) events = place < length events
+MayShiftBack (Moved to from time every) events = (to < length events) × (from < length events) × IsByTime (shift_back (Moved to from time every) events)
+MayShiftBack (All stood) events = Unit {0}
+
+-- by it a change is taken back
+abbrev pub ShiftsBack : Shift → List Event → List Event → Type 0
+ShiftsBack shift new old = MayShiftBack shift new × (shift_back shift new ≡ old)
+
+-- one that changed nothing has none
+abbrev pub MayGoBack : Option Shift → List Event → List Event → Type 0
+MayGoBack None new old = new ≡ old
+MayGoBack (Some shift) new old = ShiftsBack shift new old
+
+-- ---- scheduling, with the way back
+
+abbrev pub Enters : Result (Option Shift) EventFault → Result (List Event × Bool) EventFault → List Event → List Event → Type 0
+Enters result meant old new = GivesOrStays Refuses (λ shift. Ok (new, is_some shift)) result meant old new
+
+-- ---- one event of a hook and argument
+
+-- an event of that identity
+abbrev pub event_at : ℕ → List ℕ → List ℕ → Event
+event_at time hook arg = record { time = time; hook = hook; arg = arg; every = Once }
+
+-- whether the event at a place is the only one of its hook and argument, and not too many stand
+pub record IsOnly (hook arg : List ℕ) (place : ℕ) (events : List Event) : Type 0 where
+  pub within : place < length events
+  pub of_it : (d : Event) → is_of hook arg (slice_index_or events place d) ≡ true
+  pub only : cancelled hook arg events ≡ remove events place
+  pub few : length events ≤ 4096
