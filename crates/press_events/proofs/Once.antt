@@ -46,7 +46,7 @@ once_insert e (x ∷ xs) (suc i) h o =
     let n = neither (is_same x e) (stands e xs) h in
     (none_insert (λ y. is_same y x) e xs i (same_flip e x ∙ n.0) o.0, once_insert e xs i n.1 o.1)
 
-none_remove : (p : Event → Bool) (es : List Event) (i : ℕ) → list_any p es ≡ false → list_any p (remove es i) ≡ false
+pub none_remove : (p : Event → Bool) (es : List Event) (i : ℕ) → list_any p es ≡ false → list_any p (remove es i) ≡ false
 none_remove p [] zero k = refl
 none_remove p [] (suc i) k = refl
 none_remove p (x ∷ xs) zero k = (neither (p x) (list_any p xs) k).1

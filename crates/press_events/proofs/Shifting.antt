@@ -9,9 +9,10 @@ use Rattle.std.proofs.lemmas.Slice.Eq.{bytes_eq-Decides}
 use Rattle.press_text.specs.declared.every.Every.{Every}
 use Rattle.press_events.specs.declared.event.Event.{Event}
 use Rattle.press_events.specs.declared.shift.Shift.TheVariants.{Came, Moved}
-use Rattle.press_events.specs.DueEvents.{IsByTime, cancelled, cancels, is_of, is_same, place_of}
+use Rattle.press_events.specs.DueEvents.{IsByTime, again, cancelled, cancels, is_of, is_same, moment_next, place_of, put_again, scheduled, stands, take_event, taken_at}
 use Rattle.press_events.specs.Marks.{Covers, count_of, mark}
 use Rattle.press_events.specs.Shifts.{IsOnly, ShiftsBack, event_at, put_at, shift_back}
+use Rattle.press_events.proofs.Once.{none_remove}
 use Rattle.press_events.proofs.Numbers.{mark_one, marked, none_has, one_of_it, same_one}
 
 -- ---- one in and out again, one out and in again
@@ -60,6 +61,9 @@ same_of e old s =
 
 pub same_arg : (e old : Event) → is_of e.hook e.arg old ≡ true → e.arg ≡ old.arg
 same_arg e old s = sym ((bytes_eq-Decides old.arg e.arg).0 (both (bytes_eq old.hook e.hook) (bytes_eq old.arg e.arg) s).1)
+
+pub of_itself : (e : Event) → is_of e.hook e.arg e ≡ true
+of_itself e = rw ((bytes_eq-Decides e.hook e.hook).1 refl, (bytes_eq-Decides e.arg e.arg).1 refl) refl
 
 pub moved : (es : List Event) (i to : ℕ) (old e : Event) → i < length es → to ≤ length (remove es i) → old ≡ get_or es i old → is_of e.hook e.arg old ≡ true → IsByTime es
     → ShiftsBack (Moved to i old.time old.every) (insert (remove es i) to e) es
@@ -119,3 +123,21 @@ only time hook arg es ms (Some i) is c n few =
       only = one_out hook arg es i e p.0 of_it (omega (arith, c (mark arg)));
       few = few;
     }
+
+-- ---- an event that comes again
+
+free_still : (e : Event) (es : List Event) (i : ℕ) → stands e es ≡ false → stands e (remove es i) ≡ false
+free_still e es i s = none_remove (λ x. is_same x e) es i s
+
+put_new : (e : Event) (es : List Event) → stands e es ≡ false → put_again e es ≡ scheduled e es
+put_new e es s = rw s refl
+
+taken_where : (place : Option ℕ) (i : ℕ) (event : Event) (time now : ℕ) (es : List Event) → place ≡ Some i → moment_next now (get_or es i event) ≡ Some time → stands (record (get_or es i event) { time = time }) es ≡ false
+    → scheduled (record (get_or es i event) { time = time }) (remove es i) ≡ taken_at place event now es
+taken_where place i event time now es p m s =
+    let e : Event = record (get_or es i event) { time = time } in
+    sym (ap (λ (o : Option ℕ). taken_at o event now es) p ∙ ap (λ (o : Option ℕ). again o (get_or es i event) (remove es i)) m ∙ put_new e (remove es i) (free_still e es i s))
+
+pub taken_again : (i : ℕ) (event : Event) (time now : ℕ) (es : List Event) → place_of event es ≡ Some i → moment_next now (get_or es i event) ≡ Some time → stands (record (get_or es i event) { time = time }) es ≡ false
+    → scheduled (record (get_or es i event) { time = time }) (remove es i) ≡ take_event event now es
+taken_again i event time now es p m s = taken_where (place_of event es) i event time now es p m s

@@ -1,8 +1,8 @@
 //! The scheduled events.
 
-ghost use Rattle.std.specs.Prelude.{◌≡◌, [], ◌<◌, ◌≤◌, length, take, true, false, IfOk, IfErr, OnOk, OnErr, IfSome, remove, slice_index_or, is_some, not, vec_len, vec_capacity};
+ghost use Rattle.std.specs.Prelude.{◌≡◌, [], ◌<◌, ◌≤◌, length, take, true, false, IfOk, IfErr, OnOk, OnErr, IfSome, IfNone, Some, remove, slice_index_or, is_some, not, vec_len, vec_capacity};
 ghost use Rattle.std.specs.List.Sorted.{IsPartitionPoint};
-ghost use Rattle.press_events.specs.DueEvents.{is_earlier, is_later, place_of, stands, place_in, IsByTime, Adds, add_event, cancelled, cancels, is_full_without, fault_of, due, take_event, put_again, scheduled, is_of};
+ghost use Rattle.press_events.specs.DueEvents.{is_earlier, is_later, place_of, stands, place_in, IsByTime, Adds, add_event, cancelled, cancels, is_full_without, fault_of, due, take_event, put_again, scheduled, is_of, moment_next};
 ghost use Rattle.press_events.specs.Shifts.{Enters, IsOnly, MayGoBack, MayShiftBack, ShiftsBack, event_at, shift_back};
 ghost use Rattle.press_events.specs.declared.fault.EventFault.TheVariants.{NoMemory};
 ghost use Rattle.press_events.specs.declared.shift.Shift.TheVariants.{Moved};
@@ -86,6 +86,37 @@ impl Events {
         }
         let came = self.put_in(event)?;
         Ok(Some(came))
+    }
+
+    /// Schedules an event, without a look whether one of its identity is scheduled, or whether too many are; what takes that back.
+    pub fn put_in(&mut self, event: Event) -> Result<Shift, EventFault>
+        ensures ok { OnOk result (self.new ≡ scheduled event self.old) }
+        ensures back { IfOk result (λ s. ShiftsBack s self.new self.old) }
+        ensures err { IfErr result (λ f. (f ≡ NoMemory) × (self.new ≡ self.old)) }
+    {
+        let mark = mark(event.arg.as_str());
+        let Ok(()) = self.marks.add(mark) else {
+            return Err(EventFault::NoMemory);
+        };
+        let place = place_in(&self.events, event.time);
+        let Ok(()) = self.events.insert(place, event) else {
+            self.marks.remove(mark);
+            return Err(EventFault::NoMemory);
+        };
+        Ok(Shift::Came { place })
+    }
+
+    /// Takes an event as `take` does, where it comes again; what takes that back. None, and no change, where it isn't scheduled or
+    /// goes. Takes no memory.
+    pub fn take_again(&mut self, event: &Event, now: Moment) -> Option<Shift>
+        ensures did { IfSome result (λ _. is_some (place_of event.now self.old) ≡ true) }
+        ensures after { IfSome result (λ _. self.new ≡ take_event event.now now self.old) }
+        ensures back { IfSome result (λ s. ShiftsBack s self.new self.old) }
+        ensures stays { IfNone result (self.new ≡ self.old) }
+    {
+        let place = place_of(&self.events, event)?;
+        let time = time_again(&self.events, place, now)?;
+        Some(self.give_time(place, time))
     }
 
     /// The place of the event of that time, hook and argument, where no other has that hook and argument. No other is looked at, so
@@ -210,22 +241,23 @@ impl Events {
         true
     }
 
-    // Puts an event in.
-    fn put_in(&mut self, event: Event) -> Result<Shift, EventFault>
-        ensures ok { OnOk result (self.new ≡ scheduled event self.old) }
-        ensures back { IfOk result (λ s. ShiftsBack s self.new self.old) }
-        ensures err { IfErr result (λ f. (f ≡ NoMemory) × (self.new ≡ self.old)) }
+    // Gives the event at a place another time.
+    fn give_time(&mut self, place: usize, time: Moment) -> Shift
+        requires { place < length self.old }
+        ensures after { (d : Event) → self.new ≡ scheduled
+            (record (slice_index_or self.old place d) { time = time }) (remove self.old place) }
+        ensures back { ShiftsBack result self.new self.old }
     {
-        let mark = mark(event.arg.as_str());
-        let Ok(()) = self.marks.add(mark) else {
-            return Err(EventFault::NoMemory);
-        };
-        let place = place_in(&self.events, event.time);
-        let Ok(()) = self.events.insert(place, event) else {
-            self.marks.remove(mark);
-            return Err(EventFault::NoMemory);
-        };
-        Ok(Shift::Came { place })
+        let mut event = self.events.remove(place);
+        let (stood, every) = (event.time, event.every);
+        event.time = time;
+        let to = put_over(&mut self.events, event);
+        Shift::Moved {
+            to,
+            from: place,
+            time: stood,
+            every,
+        }
     }
 
     // Takes out the event at a place.
@@ -316,6 +348,23 @@ fn place_among(events: &[Event], time: Moment, hook: &str, arg: &str) -> Option<
     ensures within { IfSome result (λ i. i < length events.now) }
 {
     events.iter().position(|e| e.is_at(time, hook, arg))
+}
+
+// When the event at a place comes again, where it does, and none of that identity is scheduled.
+fn time_again(events: &[Event], place: usize, now: Moment) -> Option<Moment>
+    requires order { IsByTime events.now }
+    requires within { place < length events.now }
+    ensures next { IfSome result (λ time. (d : Event)
+        → moment_next now (slice_index_or events.now place d) ≡ Some time) }
+    ensures free { IfSome result (λ time. (d : Event)
+        → stands (record (slice_index_or events.now place d) { time = time }) events.now ≡ false) }
+{
+    let event = &events[place];
+    let time = event.next(now)?;
+    if place_at(events, time, event.hook.as_str(), event.arg.as_str()).is_some() {
+        return None;
+    }
+    Some(time)
 }
 
 // Where the earlier events end, by binary search.

@@ -11,6 +11,7 @@ use Rattle.press_events.specs.declared.fault.EventFault.{EventFault}
 use Rattle.press_events.specs.declared.fault.EventFault.TheVariants as event
 use Rattle.press_events.specs.DueEvents as events
 use Rattle.press_events.specs.DueEvents.{is_of, is_same, stands, cancelled, cancels, add_event, scheduled}
+use Rattle.press_site.specs.declared.fault.SiteFault.{SiteFault}
 use Rattle.press_site.specs.declared.fault.SiteFault.TheVariants.{TooManyEvents}
 use Rattle.press_site.specs.Becomes.{Refuses}
 use Rattle.press_site.specs.Contents.{publish_event, events_without, events_of}
@@ -86,3 +87,12 @@ own_room m n k e h = grind (arith, nat_tests)
 
 pub own_moved : (id date place : ℕ) (es : List Event) → IsOnly (codes "publish_future_post") (decimal id) place es → events_of (Some date) id es ≡ Ok (scheduled (publish_event id date) (remove es place))
 own_moved id date place es o = rw (o.only, own_room (length (remove es place)) (length es) 4096 (length-remove es place o.within) o.few) refl
+
+abbrev limited : Bool → List Event → Result (List Event) SiteFault
+limited b xs = if b then Err TooManyEvents else Ok xs
+
+-- where none is for it
+pub own_new : (id date : ℕ) (es : List Event) → cancels (codes "publish_future_post") (decimal id) es ≡ false → nat_le 4096 (length (events_without id es)) ≡ false → events_of (Some date) id es ≡ Ok (scheduled (publish_event id date) es)
+own_new id date es n room =
+    ap (λ (b : Bool). limited b (scheduled (publish_event id date) (events_without id es))) room
+    ∙ ap (λ (xs : List Event). Ok (scheduled (publish_event id date) xs)) (sym (none_out id es n))

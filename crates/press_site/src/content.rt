@@ -1,6 +1,6 @@
 //! Posts and events as one: each change of a post takes its event of `publish_future_post` along.
 
-ghost use Rattle.std.specs.Prelude.{◌≡◌, ℕ, Bool, [], IfOk, None, Some, Ok, true, false, length, nat_le, if◌then◌else◌, codes, decimal, option_map, take, IfSome};
+ghost use Rattle.std.specs.Prelude.{◌≡◌, ℕ, Bool, [], IfOk, None, Some, Ok, true, false, length, nat_le, if◌then◌else◌, codes, decimal, option_map, take, IfSome, IfErr, OnOk};
 ghost use Rattle.press_events.specs.DueEvents.{due, cancels};
 ghost use Rattle.press_events.specs.Shifts.{IsOnly, MayGoBack, MayShiftBack, shift_back};
 ghost use Rattle.press_events.specs.declared.shift.Shift.TheVariants.{All};
@@ -10,6 +10,7 @@ ghost use Rattle.press_posts.specs.Published.{published};
 ghost use Rattle.press_posts.specs.Restored.{restored, IsRestorable};
 ghost use Rattle.press_site.specs.declared.stood.Stood.TheVariants.{OfPost};
 ghost use Rattle.press_site.specs.Back.{ContentGoesBack, Does};
+ghost use Rattle.press_site.specs.declared.fault.SiteFault.TheVariants.{NoMemory};
 ghost use Rattle.press_site.specs.Becomes.{Refuses};
 ghost use Rattle.press_site.specs.Beside.{MayStandBeside, events_beside};
 ghost use Rattle.press_text.specs.Gives.{Gives};
@@ -110,8 +111,7 @@ impl Content {
         )?;
         let (id, fires) = self.posts.insert(draft, now)?;
         changes_are_taken_back();
-        let stood = Stood::OfPost { id, post: None };
-        Ok(self.done(id, fires, stood, beside))
+        self.ended(id, fires, None, beside)
     }
 
     pub fn edit(&mut self, id: u64, draft: Draft, now: Moment) -> Result<Done, SiteFault>
@@ -126,10 +126,10 @@ impl Content {
         }
         let near = post.date;
         let beside = self.beside(id, draft.status.settled(draft.date, now), draft.date, near)?;
-        let stood = self.stood(id)?;
+        let stood = self.standing(id)?;
         let fires = self.posts.edit(id, draft, now)?;
         changes_are_taken_back();
-        Ok(self.done(id, fires, stood, beside))
+        self.ended(id, fires, stood, beside)
     }
 
     pub fn set_status(&mut self, id: u64, to: Move) -> Result<Done, SiteFault>
@@ -156,11 +156,11 @@ impl Content {
             return Err(SiteFault::NotTrashed);
         }
         let beside = self.beside_none(id)?;
-        let stood = self.stood(id)?;
+        let stood = self.standing(id)?;
         self.posts.delete(id)?;
         changes_are_taken_back();
         let fires = Items::new(self.alloc);
-        Ok(self.done(id, fires, stood, beside))
+        self.ended(id, fires, stood, beside)
     }
 
     /// Schedules an event.
@@ -172,11 +172,14 @@ impl Content {
         Ok(done_alone(self.alloc, came.is_some(), came))
     }
 
-    /// Takes an event. The events that stood are told where they are wanted, and nothing else takes memory.
+    /// Takes an event. Where it goes, all events that stood are told if they are wanted; nothing else takes memory.
     pub fn take(&mut self, event: &Event, now: Moment, wants: bool) -> Result<Done, SiteFault>
         ensures does { Does result (Ok (taking self.old event.now now)) self.old self.new }
         ensures back { IfOk result (λ d. ContentGoesBack wants d.undone self.new self.old) }
     {
+        if let Some(shift) = self.events.take_again(event, now) {
+            return Ok(done_alone(self.alloc, true, Some(shift)));
+        }
         let stood = self.events_if(wants)?;
         let did = self.events.take(event, now);
         Ok(done_alone(self.alloc, did, stood))
@@ -224,52 +227,66 @@ impl Content {
             self.new }
         ensures back { IfOk result (λ d. ContentGoesBack true d.undone self.new self.old) }
     {
-        let stood = self.stood(id)?;
+        let stood = self.standing(id)?;
         let fires = self.posts.set_status(id, to)?;
         changes_are_taken_back();
-        Ok(self.done(id, fires, stood, beside))
+        self.ended(id, fires, stood, beside)
     }
 
-    // A change that is done to a post, with the events beside it.
-    fn done(&mut self, id: u64, fires: Items<Fire>, stood: Stood, beside: Beside) -> Done
-        requires { MayStandBeside beside self.old.events }
-        ensures new { self.new ≡ record self.old
-            { events = events_beside beside self.old.events } }
-        ensures changed { result.changed ≡ record { id = id; did = true; fires = fires } }
-        ensures stood { result.undone.stood ≡ Some stood }
-        ensures active { result.undone.active ≡ None }
-        ensures events { MayGoBack result.undone.shift self.new.events self.old.events }
+    // A change that is done to a post: the events come in beside it. Without memory for them it is taken back, by the post that stood.
+    fn ended(
+        &mut self,
+        id: u64,
+        fires: Items<Fire>,
+        post: Option<Post>,
+        beside: Beside,
+    ) -> Result<Done, SiteFault>
+        requires may { MayStandBeside beside self.old.events }
+        requires back { IsRestorable id post self.old.posts }
+        ensures new { OnOk result (self.new ≡ record self.old
+            { events = events_beside beside self.old.events }) }
+        ensures changed { IfOk result (λ d. d.changed
+            ≡ record { id = id; did = true; fires = fires }) }
+        ensures stood { IfOk result (λ d. d.undone.stood ≡ Some (OfPost id post)) }
+        ensures active { IfOk result (λ d. d.undone.active ≡ None) }
+        ensures events { IfOk result (λ d. MayGoBack d.undone.shift
+            self.new.events self.old.events) }
+        ensures err { IfErr result (λ f. (f ≡ NoMemory) × (self.new ≡ record self.old
+            { posts = restored id post self.old.posts })) }
     {
-        let did = true;
-        let changed = Changed { id, did, fires };
-        let shift = self.swap(beside);
-        let undone = Undone::of(stood, shift);
-        Done { changed, undone }
+        match self.swap(beside) {
+            Ok(shift) => Ok(done(id, fires, post, shift)),
+            Err(fault) => {
+                self.posts.restore(id, post);
+                Err(fault)
+            }
+        }
     }
 
-    // Puts the events in that come; the way back. Takes no memory.
-    fn swap(&mut self, beside: Beside) -> Option<Shift>
+    // Puts the events in that come; the way back.
+    fn swap(&mut self, beside: Beside) -> Result<Option<Shift>, SiteFault>
         requires { MayStandBeside beside self.old.events }
-        ensures new { self.new ≡ record self.old
-            { events = events_beside beside self.old.events } }
-        ensures back { MayGoBack result self.new.events self.old.events }
+        ensures new { OnOk result (self.new ≡ record self.old
+            { events = events_beside beside self.old.events }) }
+        ensures back { IfOk result (λ s. MayGoBack s self.new.events self.old.events) }
+        ensures err { IfErr result (λ f. (f ≡ NoMemory) × (self.new ≡ self.old)) }
     {
         match beside {
-            Beside::Same => None,
-            Beside::Moved { place, event } => Some(self.events.move_to(place, event)),
-            Beside::Others(events) => Some(Shift::All(mem::replace(&mut self.events, events))),
+            Beside::Same => Ok(None),
+            Beside::Came(event) => Ok(Some(self.events.put_in(event)?)),
+            Beside::Moved { place, event } => Ok(Some(self.events.move_to(place, event))),
+            Beside::Others(events) => Ok(Some(Shift::All(mem::replace(&mut self.events, events)))),
         }
     }
 
     // What stands at a post's place.
-    fn stood(&self, id: u64) -> Result<Stood, AllocError>
-        ensures { IfOk result (λ s. s ≡ OfPost id (post_at self.now.posts id)) }
+    fn standing(&self, id: u64) -> Result<Option<Post>, AllocError>
+        ensures { IfOk result (λ p. p ≡ post_at self.now.posts id) }
     {
-        let post = match self.posts.get(id) {
-            Some(post) => Some(post.copied(self.alloc)?),
-            None => None,
-        };
-        Ok(Stood::OfPost { id, post })
+        match self.posts.get(id) {
+            Some(post) => Ok(Some(post.copied(self.alloc)?)),
+            None => Ok(None),
+        }
     }
 
     fn events_if(&self, wants: bool) -> Result<Option<Shift>, AllocError>
@@ -336,13 +353,29 @@ impl Content {
             (events_of (Some date) id self.now.events) }
         ensures may { IfOk result (λ b. MayStandBeside b self.now.events) }
     {
-        match self.own_place(id, near) {
-            Some(place) => {
-                let event = publish_event(self.alloc, id, date)?;
-                Ok(Beside::Moved { place, event })
-            }
-            None => Ok(Beside::Others(self.events_with(id, date)?)),
+        if let Some(place) = self.own_place(id, near) {
+            let event = publish_event(self.alloc, id, date)?;
+            return Ok(Beside::Moved { place, event });
         }
+        if self.has_event(id) {
+            Ok(Beside::Others(self.events_with(id, date)?))
+        } else {
+            self.beside_new(id, date)
+        }
+    }
+
+    // The events beside a post that none is for, where one comes at that date.
+    fn beside_new(&self, id: u64, date: Moment) -> Result<Beside, SiteFault>
+        requires { cancels (codes "publish_future_post") (decimal id) self.now.events ≡ false }
+        ensures does { Gives Refuses (λ b. Ok (events_beside b self.now.events)) result
+            (events_of (Some date) id self.now.events) }
+        ensures may { IfOk result (λ b. MayStandBeside b self.now.events) }
+    {
+        if self.is_full_beside(id) {
+            return Err(SiteFault::TooManyEvents);
+        }
+        let event = publish_event(self.alloc, id, date)?;
+        Ok(Beside::Came(event))
     }
 
     // The place of the event that publishes that post, where it is the only one.
@@ -398,10 +431,24 @@ impl Content {
 #[derive(Debug, Drop)]
 enum Beside {
     Same,
+    Came(Event),
     // An event comes in place of the one at that place.
     Moved { place: usize, event: Event },
     // These come in place of all.
     Others(Events),
+}
+
+// A change that is done to a post.
+fn done(id: u64, fires: Items<Fire>, post: Option<Post>, shift: Option<Shift>) -> Done
+    ensures { result ≡ record {
+      changed = record { id = id; did = true; fires = fires };
+      undone = record { stood = Some (OfPost id post); shift = shift; active = None };
+    } }
+{
+    let did = true;
+    let changed = Changed { id, did, fires };
+    let undone = Undone::of(Stood::OfPost { id, post }, shift);
+    Done { changed, undone }
 }
 
 // A post's change that changed nothing.

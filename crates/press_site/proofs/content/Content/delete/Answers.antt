@@ -1,16 +1,16 @@
-use Rattle.std.proofs.Common.{◌≡◌, ◌∙◌, refl, sym, ap, ap₂, subst, rules, true, [], None, Some}
-use Rattle.std.specs.Prelude.{Ok}
+use Rattle.std.proofs.Common.{◌≡◌, ◌∙◌, sym, refl, ap, subst, rules, true, [], None, Option}
+use Rattle.std.specs.Prelude.{Ok, IfOk}
 use Rattle.std.proofs.lemmas.Result.{err_from_is_err_and}
+use Rattle.press_posts.specs.declared.post.Post.{Post}
 use Rattle.press_posts.specs.PostChange.{post_at, post_change, deleted}
 use Rattle.press_posts.specs.PostChange.Change.{Delete}
+use Rattle.press_posts.specs.Restored.{IsRestorable}
 use Rattle.press_site.specs.Back.{ContentGoesBack, Does}
-use Rattle.press_site.specs.ContentView.{ContentView}
-use Rattle.press_site.specs.declared.stood.Stood.TheVariants.{OfPost}
-use Rattle.press_site.specs.Contents.{events_of, post_effect}
-use Rattle.press_site.specs.declared.changed.Changed.{Changed}
 use Rattle.press_site.specs.Beside.{events_beside}
-use Rattle.press_site.proofs.Back.{taken, went}
-use Rattle.press_site.proofs.Joined.{joined, done, posts_refused, told, answered}
+use Rattle.press_site.specs.ContentView.{ContentView}
+use Rattle.press_site.specs.Contents.{events_of, post_effect}
+use Rattle.press_site.proofs.Back.{TakesBack, ended_back, ended_does, taken}
+use Rattle.press_site.proofs.Joined.{answered, done, joined, posts_refused, told}
 use Rattle.press_site.proofs.content.Content.delete.Goals as goal
 
 pub returns-in_err-delete-clause-does : goal.returns-in_err-delete-clause-does
@@ -26,22 +26,39 @@ returns-in_err-delete-clause-does c = λ now.
       ap (λ ps. record { posts = ps; events = c.self.inside.events }) h.1,
     ))
 
+pub ended-requires-clause-back : goal.ended-requires-clause-back
+ended-requires-clause-back c =
+    let change = Delete c.args.id in
+    let posts = c.self.inside.posts in
+    let st : c.in_ok-stood.stood ≡ post_at posts c.args.id = subst (λ (v : ContentView). c.in_ok-stood.stood ≡ post_at v.posts c.args.id) (sym c.self.view_is) c.in_ok-stood.ensures in
+    let t = taken (λ x. tt) c.in_ok-delete.field-0 c.delete.new.self posts change (post_change posts change 0) (c.changes_are_taken_back.ensures posts change 0) (c.in_ok-delete.ensures 0) in
+    subst (λ (p : Option Post). IsRestorable c.args.id p c.delete.new.self) (sym st) t.0
+
 pub returns-clause-does : goal.returns-clause-does
 returns-clause-does c = λ now.
-    let m : post_change c.self.inside.posts (Delete c.args.id) now ≡ Ok (deleted c.args.id c.self.inside.posts) = search rules in
-    let d = done (λ x. tt) c.in_ok-delete.field-0 c.delete.new.self (post_change c.self.inside.posts (Delete c.args.id) now) (deleted c.args.id c.self.inside.posts) m (c.in_ok-delete.ensures now) in
+    let change = Delete c.args.id in
+    let posts = c.self.inside.posts in
+    let st : c.in_ok-stood.stood ≡ post_at posts c.args.id = subst (λ (v : ContentView). c.in_ok-stood.stood ≡ post_at v.posts c.args.id) (sym c.self.view_is) c.in_ok-stood.ensures in
+    let t = taken (λ x. tt) c.in_ok-delete.field-0 c.delete.new.self posts change (post_change posts change 0) (c.changes_are_taken_back.ensures posts change 0) (c.in_ok-delete.ensures 0) in
+    let back = subst (λ (p : Option Post). TakesBack c.args.id p c.delete.new.self posts) (sym st) t in
+    let s : ContentView = record { posts = posts; events = c.self.inside.events } in
     let es = events_beside c.in_ok-beside.beside c.self.inside.events in
-    subst (λ (v : ContentView). post_effect v (Delete c.args.id) now ≡ answered c.delete.new.self es c.args.id true c.new-fires.result) c.self.view_is
-    (joined (post_change c.self.inside.posts (Delete c.args.id) now) (deleted c.args.id c.self.inside.posts) c.self.inside.events es m
+    let m : post_change posts (Delete c.args.id) now ≡ Ok (deleted c.args.id posts) = search rules in
+    let d = done (λ x. tt) c.in_ok-delete.field-0 c.delete.new.self (post_change posts (Delete c.args.id) now) (deleted c.args.id posts) m (c.in_ok-delete.ensures now) in
+    let e : post_effect s (Delete c.args.id) now ≡ answered c.delete.new.self es c.args.id true c.new-fires.result =
+    joined (post_change posts (Delete c.args.id) now) (deleted c.args.id posts) c.self.inside.events es m
     (subst (λ (v : ContentView). events_of None c.args.id v.events ≡ Ok (events_beside c.in_ok-beside.beside v.events)) (sym c.self.view_is) (ap (λ es. Ok es) (sym c.in_ok-beside.ensures.does)))
-    ∙ told _ _ es c.args.id c.args.id true true [] c.new-fires.result d.1 refl refl c.new-fires.ensures)
-    ∙ ap₂ (λ (v : ContentView) (x : Changed). Ok (v, x)) (sym c.done.ensures.new) (sym c.done.ensures.changed)
+    ∙ told _ _ es c.args.id c.args.id true true [] c.new-fires.result d.1 refl refl c.new-fires.ensures in
+    subst (λ (v : ContentView). Does c.ended.result (post_effect v (Delete c.args.id) now) v c.ended.new.self) c.self.view_is
+    (ended_does c.ended.result c.args.id c.in_ok-stood.stood c.delete.new.self es c.new-fires.result c.ended.new.self s back (post_effect s (Delete c.args.id) now) e c.ended.ensures.new c.ended.ensures.changed c.ended.ensures.err)
 
 pub returns-clause-back : goal.returns-clause-back
 returns-clause-back c =
     let change = Delete c.args.id in
-    let t = taken (λ x. tt) c.in_ok-delete.field-0 c.delete.new.self c.self.inside.posts change (post_change c.self.inside.posts change 0) (c.changes_are_taken_back.ensures c.self.inside.posts change 0) (c.in_ok-delete.ensures 0) in
-    subst (λ (v : ContentView). ContentGoesBack true c.done.result.undone c.done.new.self v) c.self.view_is
-    (went c.done.result.undone c.done.new.self (record { posts = c.self.inside.posts; events = c.self.inside.events }) c.args.id (post_at c.self.inside.posts c.args.id) c.delete.new.self
-    (c.done.ensures.stood ∙ ap Some (subst (λ (v : ContentView). c.in_ok-stood.stood ≡ OfPost c.args.id (post_at v.posts c.args.id)) (sym c.self.view_is) c.in_ok-stood.ensures))
-    c.done.ensures.active (ap (λ (v : ContentView). v.posts) c.done.ensures.new) t c.done.ensures.events)
+    let posts = c.self.inside.posts in
+    let st : c.in_ok-stood.stood ≡ post_at posts c.args.id = subst (λ (v : ContentView). c.in_ok-stood.stood ≡ post_at v.posts c.args.id) (sym c.self.view_is) c.in_ok-stood.ensures in
+    let t = taken (λ x. tt) c.in_ok-delete.field-0 c.delete.new.self posts change (post_change posts change 0) (c.changes_are_taken_back.ensures posts change 0) (c.in_ok-delete.ensures 0) in
+    let back = subst (λ (p : Option Post). TakesBack c.args.id p c.delete.new.self posts) (sym st) t in
+    let s : ContentView = record { posts = posts; events = c.self.inside.events } in
+    subst (λ (v : ContentView). IfOk c.ended.result (λ d. ContentGoesBack true d.undone c.ended.new.self v)) c.self.view_is
+    (ended_back c.ended.result c.args.id c.in_ok-stood.stood c.delete.new.self (events_beside c.in_ok-beside.beside c.self.inside.events) c.new-fires.result c.ended.new.self s back c.ended.ensures.new c.ended.ensures.stood c.ended.ensures.active c.ended.ensures.events)
