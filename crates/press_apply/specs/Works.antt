@@ -1,8 +1,8 @@
 -- What the steps of a command's work answer: an Ok is the meaning, with the state after it; a refusal is returned exactly where the meaning has it; and after each
 -- of them the site can go back to what it was begun as.
-use Rattle.std.specs.Prelude.{◌≡◌, ℕ, Some, IfSome, Result, Ok, Err, MatchResult}
+use Rattle.std.specs.Prelude.{◌≡◌, ℕ, ⊤, Some, IfSome, Result, Ok, Err, MatchResult, IsOk}
 use Rattle.std.specs.declared.alloc.AllocError.{AllocError}
-use Rattle.press_callbacks.specs.Kits.{kit_view}
+use Rattle.press_callbacks.specs.Kits.{KitView, kit_view}
 use Rattle.press_callbacks.specs.declared.kit.Kit.{Kit}
 use Rattle.press_run.specs.Outcome.{state_of}
 use Rattle.press_run.specs.Run.{Meaning, State}
@@ -12,7 +12,9 @@ use Rattle.press_site.specs.declared.token.Outcome.TheVariants.{Done}
 use Rattle.press_site.specs.Open.{Open, begun_of}
 use Rattle.press_site.specs.Outcomes.{outcome_of}
 use Rattle.press_site.specs.SiteView.{SiteView}
-use Rattle.press_apply.specs.Apply.{callbacks_on}
+use Rattle.press_apply.specs.Apply.{callbacks_on, work_of}
+use Rattle.press_apply.specs.declared.command.Command.{Command}
+use Rattle.press_apply.specs.declared.command.Command.TheVariants.{Insert, Update, Trash, Untrash, Delete, SetOption, Activate, Deactivate, Tick}
 use Rattle.press_apply.specs.declared.fault.ApplyFault.{ApplyFault}
 use Rattle.press_apply.specs.declared.fault.ApplyFault.TheVariants.{NoMemory, Limit, NoSuchPlugin, Site}
 use Rattle.press_apply.specs.declared.value.Value.{Value}
@@ -42,6 +44,10 @@ Boots meant old result = MatchResult result (λ work. (meant ≡ Ok (state_in wo
 abbrev pub Steps : {A M : Type 0} → (State → A → M) → Result M ApplyFault → Work → Result A ApplyFault → Type 0
 Steps shows meant new result = MatchResult result (λ x. meant ≡ Ok (shows (state_in new) x)) (λ fault. Refuses fault meant)
 
+-- out of memory comes only behind what has to be passed
+abbrev pub GrowsBehind : {A B E : Type 0} → Result A ApplyFault → Result B E → Type 0
+GrowsBehind result needed = result ≡ Err NoMemory → IsOk needed
+
 -- what it leaves of the site
 abbrev pub GoesBack : Work → Work → Type 0
 GoesBack old new = begun_of new.stage.site ≡ begun_of old.stage.site
@@ -49,6 +55,18 @@ GoesBack old new = begun_of new.stage.site ≡ begun_of old.stage.site
 -- the site after the whole work, and the id of the post that it is about, or 0
 abbrev pub Works : Result (SiteView × ℕ) ApplyFault → Open → Open × Result ℕ ApplyFault → Type 0
 Works meant old result = MatchResult result.1 (λ id. meant ≡ Ok (result.0.site, id)) (λ fault. Refuses fault meant) × (begun_of result.0 ≡ begun_of old)
+
+-- which commands may take memory: all that boot, and of plugins those that aren't refused
+abbrev pub TakesMemory : KitView → SiteView → Command → Type 0
+TakesMemory kit s (Insert draft) = ⊤
+TakesMemory kit s (Update id draft) = ⊤
+TakesMemory kit s (Trash id) = ⊤
+TakesMemory kit s (Untrash id) = ⊤
+TakesMemory kit s (Delete id) = ⊤
+TakesMemory kit s (SetOption name value) = ⊤
+TakesMemory kit s (Activate plugin) = IsOk (work_of kit s (Activate plugin))
+TakesMemory kit s (Deactivate plugin) = IsOk (work_of kit s (Deactivate plugin))
+TakesMemory kit s Tick = ⊤
 
 -- a noop and a known token take no memory
 abbrev pub TakesNone : Value → SiteView → Result Outcome AllocError → Type 0

@@ -1,6 +1,6 @@
 //! One value applied to a site.
 
-ghost use Rattle.std.specs.Prelude.{◌≡◌, None, Ok, MatchResult, max, IfOk, IfSome, OnErr, OnOk, is_some};
+ghost use Rattle.std.specs.Prelude.{◌≡◌, None, Ok, Err, MatchResult, max, IfOk, IfSome, OnErr, OnOk, is_some};
 ghost use Rattle.press_callbacks.specs.Kits.{kit_view, plugin_of, plugins_in};
 ghost use Rattle.press_site.specs.Effects.{effect_on};
 ghost use Rattle.press_site.specs.Open.{begun_of};
@@ -9,8 +9,9 @@ ghost use Rattle.press_apply.specs.Apply.{alone, applied, applied_where, at_mome
 ghost use Rattle.press_apply.specs.Apply.{deletes, does, inserts, ticks, trashes, untrashes};
 ghost use Rattle.press_apply.specs.Apply.{updates, with_kept, work_of};
 ghost use Rattle.press_apply.specs.Faults.{apply_fault_number};
-ghost use Rattle.press_apply.specs.Works.{Refuses, TakesNone, Works, meaning_in};
+ghost use Rattle.press_apply.specs.Works.{GrowsBehind, Refuses, TakesMemory, TakesNone, Works, meaning_in};
 
+use crate::checks::is_active;
 use crate::command::{Command, Stamped};
 use crate::edit::{Edit, Setting};
 use crate::fault::ApplyFault;
@@ -18,7 +19,7 @@ use crate::value::Value;
 use crate::work::Work;
 use press_callbacks::Kit;
 use press_posts::Draft;
-use press_site::{Effect, OpenSite, Outcome, Site, Token};
+use press_site::{Effect, OpenSite, Outcome, Site, SiteFault, Token};
 use press_text::{Copied, Moment, Name};
 use std::alloc::{AllocError, Global};
 use std::mem;
@@ -190,7 +191,9 @@ fn work(
     site: OpenSite,
     command: &Command,
 ) -> (OpenSite, Result<u64, ApplyFault>)
-    ensures { Works (work_of (kit_view kit.now) site.site command.now) site result }
+    ensures works { Works (work_of (kit_view kit.now) site.site command.now) site result }
+    ensures memory { result.1 ≡ Err ApplyFault.NoMemory →
+        TakesMemory (kit_view kit.now) site.site command.now }
 {
     match command {
         Command::Insert(draft) => insert(alloc, kit, site, draft),
@@ -326,11 +329,16 @@ fn activate(
     site: OpenSite,
     plugin: &Name,
 ) -> (OpenSite, Result<u64, ApplyFault>)
-    ensures { Works (work_of (kit_view kit.now) site.site (Command.Activate plugin.now))
+    ensures works { Works (work_of (kit_view kit.now) site.site (Command.Activate plugin.now))
         site result }
+    ensures memory { GrowsBehind result.1
+        (work_of (kit_view kit.now) site.site (Command.Activate plugin.now)) }
 {
     if !has_plugin(kit, plugin) {
         return (site, Err(ApplyFault::NoSuchPlugin));
+    }
+    if is_active(site.site().active(), plugin) {
+        return (site, Err(ApplyFault::Site(SiteFault::AlreadyActive)));
     }
     match plugin.copy(alloc) {
         Ok(plugin) => alone(site, Effect::Activate { plugin }),
@@ -339,8 +347,13 @@ fn activate(
 }
 
 fn deactivate(alloc: Global, site: OpenSite, plugin: &Name) -> (OpenSite, Result<u64, ApplyFault>)
-    ensures { Works (alone (effect_on site.site (Effect.Deactivate plugin.now))) site result }
+    ensures works { Works (alone (effect_on site.site (Effect.Deactivate plugin.now))) site result }
+    ensures memory { GrowsBehind result.1
+        (alone (effect_on site.site (Effect.Deactivate plugin.now))) }
 {
+    if !is_active(site.site().active(), plugin) {
+        return (site, Err(ApplyFault::Site(SiteFault::NotActive)));
+    }
     match plugin.copy(alloc) {
         Ok(plugin) => alone(site, Effect::Deactivate { plugin }),
         Err(_) => (site, Err(ApplyFault::NoMemory)),
@@ -355,7 +368,8 @@ fn has_plugin(kit: &Kit, plugin: &Name) -> bool
 
 // A change that boots nothing and runs no hook.
 fn alone(mut site: OpenSite, effect: Effect) -> (OpenSite, Result<u64, ApplyFault>)
-    ensures { Works (alone (effect_on site.site effect)) site result }
+    ensures works { Works (alone (effect_on site.site effect)) site result }
+    ensures memory { GrowsBehind result.1 (alone (effect_on site.site effect)) }
 {
     let id = changed(&mut site, effect);
     (site, id)
@@ -367,6 +381,7 @@ fn changed(site: &mut OpenSite, effect: Effect) -> Result<u64, ApplyFault>
         (λ id. alone (effect_on site.old.site effect) ≡ Ok (site.new.site, id))
         (λ fault. Refuses fault (alone (effect_on site.old.site effect))) }
     ensures back { begun_of site.new ≡ begun_of site.old }
+    ensures memory { GrowsBehind result (alone (effect_on site.old.site effect)) }
 {
     let changed = site.effect(effect)?;
     Ok(changed.id)

@@ -1,10 +1,12 @@
-//! What a command is refused for before its filters run.
+//! What a command is refused for before anything runs.
 
 ghost use Rattle.std.specs.Prelude.{◌≡◌, option_map};
+ghost use Rattle.press_site.specs.Plugins.{is_active};
 ghost use Rattle.press_apply.specs.Apply.{wanted_fault, update_fault, move_fault, delete_fault};
 
 use press_posts::{Move, Post, Status};
 use press_site::SiteFault;
+use press_text::Name;
 
 /// Nothing is put into the trash by an insert.
 pub fn wanted_fault(status: Status) -> Option<SiteFault>
@@ -57,4 +59,11 @@ pub fn delete_fault(post: Option<&Post>) -> Option<SiteFault>
             }
         }
     }
+}
+
+/// Whether a plugin is among the active ones.
+pub fn is_active(active: &[Name], plugin: &Name) -> bool
+    ensures { result ≡ is_active plugin.now active.now }
+{
+    active.iter().any(|name| plugin.is(name))
 }

@@ -1,14 +1,16 @@
 //! The work of a command, after a boot of its own.
 
-ghost use Rattle.std.specs.Prelude.{◌≡◌, None, Ok, codes};
+ghost use Rattle.std.specs.Prelude.{◌≡◌, ◌≢◌, None, Ok, Err, codes};
 ghost use Rattle.press_text.specs.Names.{name_fault};
 ghost use Rattle.press_callbacks.specs.Kits.{kit_view, plugins_in};
 ghost use Rattle.press_events.specs.DueEvents.{due};
+ghost use Rattle.press_posts.specs.PostChange.{post_at};
 ghost use Rattle.press_run.specs.Boot.{boot_actions};
-ghost use Rattle.press_apply.specs.Apply.{between, boots, changes, deletes, does, filtered, fires};
+ghost use Rattle.press_apply.specs.Apply.{between, boots, changes, delete_fault, deletes, does};
+ghost use Rattle.press_apply.specs.Apply.{filtered, fires, move_fault, update_fault, wanted_fault};
 ghost use Rattle.press_apply.specs.Apply.{inserts, passes, prepared, takes, takes_all, ticks, trashes};
 ghost use Rattle.press_apply.specs.Apply.{untrashes, updates};
-ghost use Rattle.press_apply.specs.Works.{Boots, GoesBack, Steps, meaning_in, state_in};
+ghost use Rattle.press_apply.specs.Works.{Boots, GoesBack, GrowsBehind, Steps, meaning_in, state_in};
 
 use crate::actions::{about, event_fires};
 use crate::checks::{delete_fault, move_fault, update_fault, wanted_fault};
@@ -43,7 +45,8 @@ struct Hooks<'a> {
 }
 
 fn passes(fault: Option<SiteFault>) -> Result<(), ApplyFault>
-    ensures { passes fault ≡ result }
+    ensures answer { passes fault ≡ result }
+    ensures memory { result ≢ Err ApplyFault.NoMemory }
 {
     match fault {
         None => Ok(()),
@@ -120,6 +123,7 @@ impl Work {
         ensures steps { Steps (λ s changed. (s, changed)) (changes effect (state_in self.old))
             self.new result }
         ensures back { GoesBack self.old self.new }
+        ensures memory { GrowsBehind result (changes effect (state_in self.old)) }
     {
         Ok(self.stage.site.effect(effect)?)
     }
@@ -130,6 +134,7 @@ impl Work {
         ensures steps { Steps (λ s id. (s, id)) (does (meaning_in kit.now) effect (state_in self.old))
             self.new result }
         ensures back { GoesBack self.old self.new }
+        ensures memory { GrowsBehind result (changes effect (state_in self.old)) }
     {
         let Changed { id, fires, .. } = self.change(effect)?;
         self.fires(kit, fires)?;
@@ -142,6 +147,7 @@ impl Work {
         ensures steps { Steps (λ s id. (s, id))
             (inserts (meaning_in kit.now) draft.now (state_in self.old)) self.new result }
         ensures back { GoesBack self.old self.new }
+        ensures memory { GrowsBehind result (passes (wanted_fault draft.now.status)) }
     {
         passes(wanted_fault(draft.status))?;
         let draft = self.prepared(kit, draft)?;
@@ -155,6 +161,8 @@ impl Work {
             (updates (meaning_in kit.now) edit.entry.id edit.entry.draft.now (state_in self.old))
             self.new result }
         ensures back { GoesBack self.old self.new }
+        ensures memory { GrowsBehind result (passes (update_fault edit.entry.draft.now.status
+            (post_at self.old.stage.site.site.posts edit.entry.id))) }
     {
         let Edit { id, draft } = edit;
         passes(update_fault(draft.status, self.stage.site.site().post(id)))?;
@@ -205,6 +213,8 @@ impl Work {
         ensures steps { Steps (λ s id. (s, id)) (trashes (meaning_in kit.now) id (state_in self.old))
             self.new result }
         ensures back { GoesBack self.old self.new }
+        ensures memory { GrowsBehind result (passes (move_fault Move.Trash
+            (post_at self.old.stage.site.site.posts id))) }
     {
         passes(move_fault(Move::Trash, self.stage.site.site().post(id)))?;
         let (before, after) = ("wp_trash_post", "trashed_post");
@@ -220,6 +230,8 @@ impl Work {
         ensures steps { Steps (λ s id. (s, id)) (untrashes (meaning_in kit.now) id (state_in self.old))
             self.new result }
         ensures back { GoesBack self.old self.new }
+        ensures memory { GrowsBehind result (passes (move_fault Move.Untrash
+            (post_at self.old.stage.site.site.posts id))) }
     {
         passes(move_fault(Move::Untrash, self.stage.site.site().post(id)))?;
         let (before, after) = ("untrash_post", "untrashed_post");
@@ -235,6 +247,8 @@ impl Work {
         ensures steps { Steps (λ s id. (s, id)) (deletes (meaning_in kit.now) id (state_in self.old))
             self.new result }
         ensures back { GoesBack self.old self.new }
+        ensures memory { GrowsBehind result (passes (delete_fault
+            (post_at self.old.stage.site.site.posts id))) }
     {
         passes(delete_fault(self.stage.site.site().post(id)))?;
         let (before, after) = ("before_delete_post", "deleted_post");
