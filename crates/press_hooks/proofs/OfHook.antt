@@ -143,7 +143,7 @@ group_ahead t es p k =
 
 module _ (rows : List Row) (run : OpenRun) (es ahead : List Entry) (h : filter (is_of_hook run.hook) rows ≡ map (row_of run.hook) es) (o : IsByPriority es)
     (a : ahead ≡ filter (λ (e : Entry). is_past run.reached e.priority) es) (done : run.rest ≡ []) where
-  next_is : next_priority rows run ≡ option_map (λ (e : Entry). e.priority) (first_of ahead)
+  pub next_is : next_priority rows run ≡ option_map (λ (e : Entry). e.priority) (first_of ahead)
   next_is = ahead_is run.hook rows es h o run.reached ∙ ap (λ xs. option_map (λ (e : Entry). e.priority) (first_of xs)) (sym a)
 
   pub ended : option_map (λ (e : Entry). e.priority) (first_of ahead) ≡ None → refilled rows run ≡ run

@@ -1,6 +1,6 @@
 -- The group that is at the cursor of a run is the next one of its hook.
 use Rattle.std.proofs.Common.{◌≡◌, refl, sym, ◌∙◌, ap, subst, ℕ, zero, suc, ◌+◌, ◌<◌, ◌≤◌, nat_eq, Bool, true, false, not, List, [], ◌∷◌, ◌++◌, map, filter, length, get_or, drop, Some, int_eq, arith}
-use Rattle.std.specs.Prelude.{option_map}
+use Rattle.std.specs.Prelude.{◌&&◌, is_some, option_map}
 use Rattle.std.specs.List.{list_any}
 use Rattle.std.proofs.lemmas.Bool.{eqb-true}
 use Rattle.press_hooks.specs.declared.row.Row.{Row}
@@ -8,12 +8,12 @@ use Rattle.press_hooks.specs.declared.entry.Entry.{Entry}
 use Rattle.press_hooks.specs.declared.member.Member.{Member}
 use Rattle.press_hooks.specs.declared.open_run.OpenRun.{OpenRun}
 use Rattle.press_hooks.specs.HookRows.{is_of_hook}
-use Rattle.press_hooks.specs.NextEntry.{is_past, first_of, refilled}
+use Rattle.press_hooks.specs.NextEntry.{is_past, first_of, refilled, next_priority, is_done, moves_on}
 use Rattle.press_hooks.specs.Members.{entry_at}
 use Rattle.press_hooks.specs.Hooked.{Grouped, group_entries, entries_of, row_of, AreGroups, up_to}
 use Rattle.press_hooks.specs.Placed.{at_group}
 use Rattle.press_hooks.proofs.ByPriority.{order_entries, order_drop, ahead_entries, first_priority, first_entries, next_up_to}
-use Rattle.press_hooks.proofs.OfHook.{ended, moved}
+use Rattle.press_hooks.proofs.OfHook.{next_is, ended, moved}
 
 drop_at : (gs : List Grouped) (i : ℕ) (d : Grouped) → i < length gs → drop i gs ≡ get_or gs i d ∷ drop (i + 1) gs
 drop_at [] i d lt = absurd (omega arith)
@@ -34,14 +34,26 @@ module _ (rows : List Row) (run : OpenRun) (gs : List Grouped) (i : ℕ) (h : fi
   no_group le =
       sym (ended rows run (entries_of gs) (entries_of (drop i gs)) h (order_entries gs o) ahead done (ap (λ fs. option_map (λ (e : Entry). e.priority) (first_of (entries_of fs))) (drop_past gs i le)))
 
-  pub next_group : (g : Grouped) → i < length gs → g ≡ get_or gs i g → at_group g run ≡ refilled rows run
-  next_group g lt is =
-      let split : drop i gs ≡ g ∷ drop (i + 1) gs = drop_at gs i g lt ∙ ap (λ (f : Grouped). f ∷ drop (i + 1) gs) (sym is) in
-      let order : AreGroups (g ∷ drop (i + 1) gs) = subst AreGroups split (order_drop gs i o) in
-      let first : option_map (λ (e : Entry). e.priority) (first_of (entries_of (drop i gs))) ≡ Some g.priority = ap (λ fs. option_map (λ (e : Entry). e.priority) (first_of (entries_of fs))) split ∙ first_priority g (drop (i + 1) gs) order in
-      let mine : filter (λ (e : Entry). int_eq e.priority g.priority) (entries_of (drop i gs)) ≡ group_entries g = ap (λ fs. filter (λ (e : Entry). int_eq e.priority g.priority) (entries_of fs)) split ∙ first_entries g (drop (i + 1) gs) order in
-      let at_entries : List Entry → OpenRun = λ es. record { hook = run.hook; reached = Some g.priority; rest = es } in
-      sym (moved rows run (entries_of gs) (entries_of (drop i gs)) h (order_entries gs o) ahead done g.priority first ∙ ap at_entries mine)
+  module _ (g : Grouped) (lt : i < length gs) (is : g ≡ get_or gs i g) where
+    split : drop i gs ≡ g ∷ drop (i + 1) gs
+    split = drop_at gs i g lt ∙ ap (λ (f : Grouped). f ∷ drop (i + 1) gs) (sym is)
+
+    order : AreGroups (g ∷ drop (i + 1) gs)
+    order = subst AreGroups split (order_drop gs i o)
+
+    first : option_map (λ (e : Entry). e.priority) (first_of (entries_of (drop i gs))) ≡ Some g.priority
+    first = ap (λ fs. option_map (λ (e : Entry). e.priority) (first_of (entries_of fs))) split ∙ first_priority g (drop (i + 1) gs) order
+
+    pub next_group : at_group g run ≡ refilled rows run
+    next_group =
+        let mine : filter (λ (e : Entry). int_eq e.priority g.priority) (entries_of (drop i gs)) ≡ group_entries g = ap (λ fs. filter (λ (e : Entry). int_eq e.priority g.priority) (entries_of fs)) split ∙ first_entries g (drop (i + 1) gs) order in
+        let at_entries : List Entry → OpenRun = λ es. record { hook = run.hook; reached = Some g.priority; rest = es } in
+        sym (moved rows run (entries_of gs) (entries_of (drop i gs)) h (order_entries gs o) ahead done g.priority first ∙ ap at_entries mine)
+
+    pub next_moves_on : moves_on rows run ≡ true
+    next_moves_on =
+        let some : next_priority rows run ≡ Some g.priority = next_is rows run (entries_of gs) (entries_of (drop i gs)) h (order_entries gs o) ahead done ∙ first in
+        ap (λ es. is_done es && is_some (next_priority rows run)) done ∙ ap (λ p. is_some p) some
 
 -- the cursor behind the group reached
 pub behind_group : (gs : List Grouped) (i : ℕ) (g : Grouped) → AreGroups gs → i < length gs → g ≡ get_or gs i g → i + 1 ≡ up_to (Some g.priority) gs

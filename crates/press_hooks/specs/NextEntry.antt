@@ -1,7 +1,7 @@
 -- An open run is a hook, the priority last reached (or none) and a rest. Where the rest is empty, it becomes all entries of the hook
 -- at the least priority greater than the one reached, in the order in which they were added, as they are now (`WP_Hook::apply_filters`).
 -- A rest belongs to its run alone: no edit changes it.
-use Rattle.std.specs.Prelude.{ℕ, ℤ, List, [], ◌∷◌, length, Bool, true, false, ◌&&◌, nat_eq, int_lt, Option, Some, None, filter, map}
+use Rattle.std.specs.Prelude.{ℕ, ℤ, List, [], ◌∷◌, length, Bool, true, false, ◌&&◌, nat_eq, int_lt, Option, Some, None, is_some, filter, map}
 use Rattle.press_hooks.specs.declared.row.Row.{Row}
 use Rattle.press_hooks.specs.declared.entry.Entry.{Entry}
 use Rattle.press_hooks.specs.declared.open_run.OpenRun.{OpenRun}
@@ -57,6 +57,10 @@ abbrev pub is_done : List Entry → Bool
 is_done [] = true
 is_done (e ∷ es) = false
 
+-- whether the next entry is of another priority than the one reached: of that nothing is left, and there is a greater one
+abbrev pub moves_on : List Row → OpenRun → Bool
+moves_on rows run = is_done run.rest && is_some (next_priority rows run)
+
 pub record Table : Type 0 where
   pub rows : List Row
   pub open_runs : List OpenRun
@@ -91,6 +95,11 @@ entry_next rows (r ∷ rs) = next_entry rows r
 abbrev pub runs_next : List Row → List OpenRun → List OpenRun
 runs_next rows [] = []
 runs_next rows (r ∷ rs) = next_run rows r ∷ rs
+
+-- whether the innermost run gets to another priority
+abbrev pub innermost_moves_on : List Row → List OpenRun → Bool
+innermost_moves_on rows [] = false
+innermost_moves_on rows (r ∷ rs) = moves_on rows r
 
 abbrev pub run_advanced : Table → Table
 run_advanced t = record t { open_runs = runs_next t.rows t.open_runs }

@@ -1,5 +1,5 @@
-ghost use Rattle.std.specs.Prelude.{◌≡◌, [], true, map, IfOk, OnOk, OnErr};
-ghost use Rattle.press_hooks.specs.NextEntry.{begun, refilled, next_entry, next_run, first_of, without_first, is_done};
+ghost use Rattle.std.specs.Prelude.{◌≡◌, [], true, map, IfOk, OnOk, OnErr, IsTrue};
+ghost use Rattle.press_hooks.specs.NextEntry.{begun, refilled, next_entry, next_run, first_of, without_first, is_done, moves_on};
 ghost use Rattle.press_hooks.specs.Hooked.{group_entries, table_rows};
 ghost use Rattle.press_hooks.specs.Placed.{at_group, one_taken, IsInPlace, mended};
 
@@ -176,6 +176,7 @@ impl PlacedRun {
             ≡ next_run (table_rows rows.now) self.old.run) }
         ensures place { IsInPlace rows.now self.new }
         ensures refused { OnErr result (self.new ≡ self.old) }
+        ensures memory { OnErr result (IsTrue (moves_on (table_rows rows.now) self.old.run)) }
     {
         self.fill(rows)?;
         Ok(self.run.take_next())
@@ -187,6 +188,7 @@ impl PlacedRun {
         ensures filled { OnOk result (self.new.run ≡ refilled (table_rows rows.now) self.old.run) }
         ensures place { IsInPlace rows.now self.new }
         ensures refused { OnErr result (self.new ≡ self.old) }
+        ensures memory { OnErr result (IsTrue (moves_on (table_rows rows.now) self.old.run)) }
     {
         if self.run.is_done() {
             return self.move_on(rows);
@@ -200,6 +202,7 @@ impl PlacedRun {
         ensures moved { OnOk result (self.new.run ≡ refilled (table_rows rows.now) self.old.run) }
         ensures place { IsInPlace rows.now self.new }
         ensures refused { OnErr result (self.new ≡ self.old) }
+        ensures memory { OnErr result (IsTrue (moves_on (table_rows rows.now) self.old.run)) }
     {
         let groups = rows.groups_of(&self.run.hook);
         if self.cursor < groups.len() {

@@ -1,4 +1,4 @@
-ghost use Rattle.std.specs.Prelude.{◌≡◌, ◌<◌, [], false, ltb, Some, None, IsOk, IfOk, OnOk, OnErr, length, map, filter, not};
+ghost use Rattle.std.specs.Prelude.{◌≡◌, ◌<◌, [], true, false, ltb, Some, None, IsOk, IfOk, OnOk, OnErr, length, map, filter, not};
 ghost use Rattle.std.specs.List.{list_any};
 ghost use Rattle.press_hooks.specs.HookRows.{is_row, is_of_hook, accepted_as, most_rows, put_row, add_row, adds_row, remove_row, remove_rows};
 ghost use Rattle.press_hooks.specs.Hooked.{AreGroups, KeepsOthers, entries_of, groups_named, row_of, table_rows, is_row_named};
@@ -83,6 +83,8 @@ impl Rows {
             (table_rows self.old)) }
         ensures others { OnOk result (KeepsOthers hook.now self.old self.new) }
         ensures refused { OnErr result (self.new ≡ self.old) }
+        ensures kept { list_any (is_row hook.now e.now.priority e.now.callback)
+            (table_rows self.old) ≡ true → IsOk result }
         ensures full { adds_row hook.now e.now.callback e.now.priority (table_rows self.old)
             ≡ false → IsOk result }
     {

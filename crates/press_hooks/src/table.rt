@@ -1,7 +1,7 @@
-ghost use Rattle.std.specs.Prelude.{◌≡◌, false, IsOk, IfOk, OnErr, IsTrue, length};
+ghost use Rattle.std.specs.Prelude.{◌≡◌, true, false, IsOk, IfOk, OnErr, IsTrue, length};
 ghost use Rattle.std.specs.List.{list_any};
 ghost use Rattle.press_hooks.specs.HookRows.{is_row, add_row, adds_row, remove_row, remove_rows, has_rows, priority_of};
-ghost use Rattle.press_hooks.specs.NextEntry.{no_rows, with_rows, is_innermost, run_begun, run_ended, entry_next, run_advanced};
+ghost use Rattle.press_hooks.specs.NextEntry.{no_rows, with_rows, is_innermost, run_begun, run_ended, entry_next, run_advanced, innermost_moves_on};
 
 use crate::entry::Entry;
 use crate::groups;
@@ -85,7 +85,7 @@ impl HookTable {
     }
 
     /// Adds an entry, or sets `accepted` of the one that is there already, which keeps its place (`add_filter`).
-    /// False, and no change, where a new entry would be the 1,025th; that takes no memory.
+    /// False, and no change, where a new entry would be the 1,025th. Takes memory only for a new entry.
     pub fn add(
         &mut self,
         hook: &HookName,
@@ -97,6 +97,8 @@ impl HookTable {
         ensures rows { IfOk result (λ b. self.new
             ≡ with_rows (add_row hook.now callback priority accepted self.old.rows) self.old) }
         ensures refused { OnErr result (self.new ≡ self.old) }
+        ensures kept { list_any (is_row hook.now priority callback) self.old.rows ≡ true
+            → IsOk result }
         ensures full { adds_row hook.now callback priority self.old.rows ≡ false → IsOk result }
     {
         let entry = Entry {
@@ -162,6 +164,8 @@ impl HookTable {
         ensures given { IfOk result (λ e. e ≡ entry_next self.old.rows self.old.open_runs) }
         ensures advanced { IfOk result (λ e. self.new ≡ run_advanced self.old) }
         ensures refused { OnErr result (self.new ≡ self.old) }
+        ensures memory { OnErr result (IsTrue
+            (innermost_moves_on self.old.rows self.old.open_runs)) }
     {
         let open = &mut self.runs[run.depth];
         open.advance(&self.rows)
