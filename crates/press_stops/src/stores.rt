@@ -16,6 +16,10 @@ pub enum Base {
     Files,
     /// In memory, over tables that another has made, which take any value, with a text for the round of slot 1.
     Loose,
+    /// In memory, over the tables of a store of another version.
+    Later,
+    /// In memory, over one table of the two.
+    Half,
 }
 
 const LOOSE: &str =
@@ -23,6 +27,15 @@ const LOOSE: &str =
     CREATE TABLE meta (name TEXT PRIMARY KEY, n INTEGER NOT NULL) STRICT;
     INSERT INTO meta VALUES ('version', 1), ('last_round', 4);
     INSERT INTO promise (slot, round, node) VALUES (1, 'x', 1)";
+
+const LATER: &str =
+    "CREATE TABLE promise (slot INTEGER PRIMARY KEY, round INTEGER, node INTEGER, vround INTEGER, vnode INTEGER, value BLOB);
+    CREATE TABLE meta (name TEXT PRIMARY KEY, n INTEGER NOT NULL) STRICT;
+    INSERT INTO meta VALUES ('version', 2), ('last_round', 4)";
+
+const HALF: &str =
+    "CREATE TABLE meta (name TEXT PRIMARY KEY, n INTEGER NOT NULL) STRICT;
+    INSERT INTO meta VALUES ('version', 1), ('last_round', 4)";
 
 /// The words of a store from one adoption to the next.
 pub type Session<'w> = Vec<&'w str>;
@@ -62,18 +75,20 @@ fn sessions<D: Alter>(
     (conn, Ok(()))
 }
 
-fn loosened(conn: &mut Connection<MemStore>) -> anyhow::Result<()> {
-    conn.execute_batch(LOOSE)?;
+// The tables that stand before a store is made.
+fn prepared(conn: &mut Connection<MemStore>, base: Base) -> anyhow::Result<()> {
+    match base {
+        Base::Memory | Base::Files => {}
+        Base::Loose => conn.execute_batch(LOOSE)?,
+        Base::Later => conn.execute_batch(LATER)?,
+        Base::Half => conn.execute_batch(HALF)?,
+    }
     Ok(())
 }
 
 fn play_in_memory(rt: &HostRuntime, base: Base, all: &[Session<'_>]) -> anyhow::Result<()> {
     let mut conn = Connection::open_in_memory(rt.alloc())?;
-    let made = if base == Base::Loose {
-        loosened(&mut conn)
-    } else {
-        Ok(())
-    };
+    let made = prepared(&mut conn, base);
     let (conn, done) = sessions(rt, conn, all);
     drop(conn.into_store());
     made?;
@@ -119,11 +134,21 @@ fn play_over_files(rt: &HostRuntime, all: &[Session<'_>]) -> anyhow::Result<()> 
     Ok(())
 }
 
+// Why no store was made, where none should be.
+fn show_refusal(rt: &HostRuntime, played: anyhow::Result<()>) -> anyhow::Result<()> {
+    match played {
+        Ok(()) => println!(rt; "a store was made")?,
+        Err(error) => println!(rt; "{error}")?,
+    }
+    Ok(())
+}
+
 /// Plays each session on the store, the first on a new one.
 pub fn play_store(rt: &HostRuntime, base: Base, all: &[Session<'_>]) -> anyhow::Result<()> {
     match base {
         Base::Memory | Base::Loose => play_in_memory(rt, base, all),
         Base::Files => play_over_files(rt, all),
+        Base::Later | Base::Half => show_refusal(rt, play_in_memory(rt, base, all)),
     }
 }
 

@@ -24,6 +24,8 @@ impl Start {
             "store" => Some(Start::Store(Base::Memory)),
             "store-over-files" => Some(Start::Store(Base::Files)),
             "store-loose" => Some(Start::Store(Base::Loose)),
+            "store-later" => Some(Start::Store(Base::Later)),
+            "store-half" => Some(Start::Store(Base::Half)),
             "stops-of-log" => Some(Start::Stop(Work::Saves, Stops::Log)),
             "stops-of-file" => Some(Start::Stop(Work::Saves, Stops::Database)),
             "command-stops-of-log" => Some(Start::Stop(Work::Command, Stops::Log)),
