@@ -1,6 +1,6 @@
 -- Numbers in order, and that they cover events.
 use Rattle.std.proofs.Common.{◌≡◌, refl, sym, ◌∙◌, ap, ap₂, subst, ℕ, suc, ◌+◌, ◌-◌, ◌<◌, ◌≤◌, List, [], ◌∷◌, length, get_or, Bool, true, false, not, cond, nat_lt, arith, inl, inr}
-use Rattle.std.specs.Prelude.{◌&&◌, ◌||◌, nat_eq, insert, remove, bytes_eq, Ok, Err}
+use Rattle.std.specs.Prelude.{◌&&◌, ◌||◌, nat_eq, nat_le, insert, remove, bytes_eq, Ok, Err}
 use Rattle.std.specs.List.{count_by}
 use Rattle.std.specs.List.Sorted.{IsBinarySearchResult, IsNonDecreasing}
 use Rattle.std.specs.Ordering.{nat_cmp}
@@ -12,7 +12,7 @@ use Rattle.std.proofs.lemmas.List.Sums.{sum_by-cons, sum_by-insert, sum_by-remov
 use Rattle.std.proofs.lemmas.Slice.Eq.{bytes_eq-Decides}
 use Rattle.press_events.specs.declared.event.Event.{Event}
 use Rattle.press_events.specs.DueEvents.{is_of, cancelled, cancels, stands, scheduled, put_again, place_in}
-use Rattle.press_events.specs.Marks.{Covers, count_of, mark, one}
+use Rattle.press_events.specs.Marks.{Covers, IsTwice, count_of, mark, one}
 
 pub same_one : (x : ℕ) → one x x ≡ 1
 same_one x = grind (arith, nat_tests)
@@ -200,6 +200,12 @@ none_covered hook arg es ms m b c e h f =
 
 -- ---- a number that others stand beside
 
+few : (n : ℕ) → n ≤ 1 → true ≡ nat_le n 1
+few n h = grind (arith, nat_tests)
+
+many : (n : ℕ) → 2 ≤ n → false ≡ nat_le n 1
+many n h = grind (arith, nat_tests)
+
 module _ (xs : List ℕ) (i : ℕ) (up : IsNonDecreasing xs) (lt : i < length xs) where
   pub single : (x : ℕ) → get_or xs i 0 ≡ x → (0 < i → (d : ℕ) → get_or xs (i - 1) d ≡ get_or xs i d → ⊥) → (i + 1 < length xs → (d : ℕ) → get_or xs (i + 1) d ≡ get_or xs i d → ⊥) → count_of x xs ≤ 1
   single x at before behind =
@@ -224,3 +230,28 @@ module _ (xs : List ℕ) (i : ℕ) (up : IsNonDecreasing xs) (lt : i < length xs
             let high = up (i + 1) (k + 1) 0 (omega arith) (omega (arith, less)) in
             behind (omega (arith, less)) 0 (omega arith)
       ]
+
+  twice : (x : ℕ) → get_or xs i 0 ≡ x → IsTwice xs i 0 → 2 ≤ count_of x xs
+  twice x at t = by t
+    where
+      all : count_of x (remove xs i) + one x (get_or xs i 0) ≡ count_of x xs
+      all = sum_by-remove (one x) xs i 0 lt
+
+      less : length (remove xs i) + 1 ≡ length xs
+      less = length-remove xs i lt
+
+      beside : (k : ℕ) → k < length (remove xs i) → get_or (remove xs i) k 0 ≡ get_or xs i 0 → 2 ≤ count_of x xs
+      beside k within e =
+          let more : one x (get_or (remove xs i) k 0) ≤ count_of x (remove xs i) = get_or-le-sum_by (one x) (remove xs i) k 0 within in
+          let here : one x (get_or xs i 0) ≡ 1 = rw at (same_one x) in
+          let there : one x (get_or (remove xs i) k 0) ≡ 1 = rw (e, at) (same_one x) in
+          omega (arith, all, more, here, there)
+
+      by : IsTwice xs i 0 → 2 ≤ count_of x xs
+      by (inl p) = beside (i - 1) (omega (arith, less)) (get_or-remove_below xs i 0 (i - 1) (omega arith) lt ∙ p.1)
+      by (inr p) = beside i (omega (arith, less)) (get_or-remove_above xs i 0 i (omega arith) lt ∙ p.1)
+
+  pub told_single : (x : ℕ) → get_or xs i 0 ≡ x → (b : Bool) → (b ≡ true → 0 < i → (d : ℕ) → get_or xs (i - 1) d ≡ get_or xs i d → ⊥) → (b ≡ true → i + 1 < length xs → (d : ℕ) → get_or xs (i + 1) d ≡ get_or xs i d → ⊥)
+      → (b ≡ false → (d : ℕ) → IsTwice xs i d) → b ≡ nat_le (count_of x xs) 1
+  told_single x at true before behind t = few (count_of x xs) (single x at (before refl) (behind refl))
+  told_single x at false before behind t = many (count_of x xs) (twice x at (t refl 0))

@@ -1,7 +1,8 @@
 -- A change of events is taken back by its way back.
-use Rattle.std.proofs.Common.{◌≡◌, refl, sym, ◌∙◌, ap, subst, ℕ, zero, suc, ◌<◌, ◌≤◌, List, [], ◌∷◌, length, get_or, Bool, true, false, not, cond, Option, Some, None, arith}
-use Rattle.std.specs.Prelude.{◌&&◌, ◌||◌, nat_eq, insert, remove, bytes_eq, IfSome}
+use Rattle.std.proofs.Common.{◌≡◌, refl, sym, ◌∙◌, ap, ap₂, subst, ℕ, zero, suc, ◌<◌, ◌≤◌, List, [], ◌∷◌, length, get_or, Bool, true, false, not, cond, Option, Some, None, arith}
+use Rattle.std.specs.Prelude.{◌&&◌, ◌||◌, nat_eq, nat_le, insert, remove, bytes_eq, is_some, IfSome}
 use Rattle.std.specs.List.{slice_get}
+use Rattle.std.proofs.lemmas.Bool.Decides.{nat_tests}
 use Rattle.std.proofs.lemmas.List.Edits.{length-insert, length-remove}
 use Rattle.std.proofs.lemmas.List.Quantifiers.{position-Some}
 use Rattle.std.proofs.lemmas.List.Sums.{sum_by-cons, sum_by-insert, sum_by-remove, get_or-le-sum_by}
@@ -11,7 +12,8 @@ use Rattle.press_events.specs.declared.event.Event.{Event}
 use Rattle.press_events.specs.declared.shift.Shift.TheVariants.{Came, Moved}
 use Rattle.press_events.specs.DueEvents.{IsByTime, again, cancelled, cancels, is_of, is_same, moment_next, place_of, put_again, scheduled, stands, take_event, taken_at}
 use Rattle.press_events.specs.Marks.{Covers, count_of, mark}
-use Rattle.press_events.specs.Shifts.{IsOnly, ShiftsBack, event_at, put_at, shift_back}
+use Rattle.press_events.specs.Shifts.{IsOnly, ShiftsBack, comes_at, event_at, put_at, shift_back}
+use Rattle.press_events.proofs.Halves.{stands_is}
 use Rattle.press_events.proofs.Once.{none_remove}
 use Rattle.press_events.proofs.Numbers.{mark_one, marked, none_has, one_of_it, same_one}
 
@@ -111,6 +113,19 @@ one_out hook arg (e ∷ es) (suc i) d lt t n = by (is_of hook arg e) refl (λ (f
         absurd (omega (arith, sum_by-cons (mark_one (mark arg)) e es, get_or-le-sum_by (mark_one (mark arg)) es i d (omega arith)))
     by false h rest = ap (λ (xs : List Event). e ∷ xs) (rest (omega (arith, sum_by-cons (mark_one (mark arg)) e es)))
 
+pub at_most : (n : ℕ) → nat_le n 1 ≡ true → n ≤ 1
+at_most n h = grind (arith, nat_tests)
+
+pub not_many : (n k : ℕ) → n ≤ k → nat_le n k ≡ true
+not_many n k h = grind (arith, nat_tests)
+
+pub beside_like : (a b c : Bool) → b ≡ false → false ≡ (a && (b && c))
+beside_like true b c e = rw e refl
+beside_like false b c e = refl
+
+pub by_place : (a b c d : Bool) → a ≡ true → b ≡ true → d ≡ c → d ≡ (a && (b && c))
+by_place a b c d e f g = rw (e, f) g
+
 pub only : (time : ℕ) (hook arg : List ℕ) (es : List Event) (ms : List ℕ) (place : Option ℕ) → place ≡ place_of (event_at time hook arg) es → Covers ms es → count_of (mark arg) ms ≤ 1 → length es ≤ 4096 → IfSome place (λ i. IsOnly hook arg i es)
 only time hook arg es ms None is c n few = tt
 only time hook arg es ms (Some i) is c n few =
@@ -141,3 +156,9 @@ taken_where place i event time now es p m s =
 pub taken_again : (i : ℕ) (event : Event) (time now : ℕ) (es : List Event) → place_of event es ≡ Some i → moment_next now (get_or es i event) ≡ Some time → stands (record (get_or es i event) { time = time }) es ≡ false
     → scheduled (record (get_or es i event) { time = time }) (remove es i) ≡ take_event event now es
 taken_again i event time now es p m s = taken_where (place_of event es) i event time now es p m s
+
+pub stood_at : (es : List Event) (time : ℕ) (hook arg : List ℕ) (e : Event) (place : Option ℕ) (some : Bool) → hook ≡ e.hook → arg ≡ e.arg → place ≡ place_of (event_at time hook arg) es → some ≡ is_some place → stands (record e { time = time }) es ≡ some
+stood_at es time hook arg e place some h a p s = ap₂ (λ (x y : List ℕ). stands (event_at time x y) es) (sym h) (sym a) ∙ sym (stands_is (event_at time hook arg) es) ∙ sym (ap is_some p) ∙ sym s
+
+pub comes_told : (es : List Event) (e : Event) (time now : ℕ) (b : Bool) → moment_next now e ≡ Some time → stands (record e { time = time }) es ≡ b → not b ≡ comes_at (moment_next now e) e es
+comes_told es e time now b m s = sym (ap (λ (o : Option ℕ). comes_at o e es) m ∙ ap not s)

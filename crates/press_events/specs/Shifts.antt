@@ -1,14 +1,15 @@
 -- Changes of events, and the way back: an event that came in goes out, one that was moved goes to its old place, or all that stood come back (own).
 use Rattle.press_text.specs.Gives.{GivesOrStays}
-use Rattle.std.specs.Prelude.{◌≡◌, ℕ, ◌<◌, ◌≤◌, List, length, insert, remove, slice_index_or, Bool, true, Option, Some, None, is_some, Result, Ok}
-use Rattle.std.specs.List.{slice_get}
+use Rattle.std.specs.Prelude.{◌≡◌, ℕ, ◌<◌, ◌≤◌, List, length, insert, remove, slice_index_or, Bool, true, false, not, ◌&&◌, nat_eq, nat_le, Option, Some, None, is_some, Result, Ok}
+use Rattle.std.specs.List.{count_by, slice_get}
 use Rattle.press_text.specs.declared.every.Every.{Every}
 use Rattle.press_text.specs.declared.every.Every.TheVariants.{Once}
 use Rattle.press_events.specs.declared.event.Event.{Event}
 use Rattle.press_events.specs.declared.fault.EventFault.{EventFault}
 use Rattle.press_events.specs.declared.shift.Shift.{Shift}
 use Rattle.press_events.specs.declared.shift.Shift.TheVariants.{Came, Moved, All}
-use Rattle.press_events.specs.DueEvents.{IsByTime, Refuses, cancelled, is_of}
+use Rattle.press_events.specs.Marks.{mark}
+use Rattle.press_events.specs.DueEvents.{IsByTime, Refuses, cancelled, is_of, moment_next, place_of, stands}
 
 -- ---- the way back
 
@@ -42,11 +43,28 @@ MayGoBack (Some shift) new old = ShiftsBack shift new old
 abbrev pub Enters : Result (Option Shift) EventFault → Result (List Event × Bool) EventFault → List Event → List Event → Type 0
 Enters result meant old new = GivesOrStays Refuses (λ shift. Ok (new, is_some shift)) result meant old new
 
+-- ---- whether an event comes again once it is taken
+
+abbrev pub comes_at : Option ℕ → Event → List Event → Bool
+comes_at None e events = false
+comes_at (Some time) e events = not (stands (record e { time = time }) events)
+
+abbrev pub comes_of : Option ℕ → Event → ℕ → List Event → Bool
+comes_of None event now events = false
+comes_of (Some i) event now events = let e = slice_index_or events i event in comes_at (moment_next now e) e events
+
+abbrev pub comes_again : Event → ℕ → List Event → Bool
+comes_again event now events = comes_of (place_of event events) event now events
+
 -- ---- one event of a hook and argument
 
 -- an event of that identity
 abbrev pub event_at : ℕ → List ℕ → List ℕ → Event
 event_at time hook arg = record { time = time; hook = hook; arg = arg; every = Once }
+
+-- whether one stands, no other has an argument of its argument's number, and not too many stand
+abbrev pub stands_alone : ℕ → List ℕ → List ℕ → List Event → Bool
+stands_alone time hook arg events = nat_le (length events) 4096 && (nat_le (count_by (λ e. nat_eq (mark arg) (mark e.arg)) events) 1 && is_some (place_of (event_at time hook arg) events))
 
 -- whether the event at a place is the only one of its hook and argument, and not too many stand
 pub record IsOnly (hook arg : List ℕ) (place : ℕ) (events : List Event) : Type 0 where

@@ -3,7 +3,7 @@
 ghost use Rattle.std.specs.Prelude.{◌≡◌, [], ◌<◌, ◌≤◌, length, take, true, false, IfOk, IfErr, OnOk, OnErr, IfSome, IfNone, Some, remove, slice_index_or, is_some, not, vec_len, vec_capacity};
 ghost use Rattle.std.specs.List.Sorted.{IsPartitionPoint};
 ghost use Rattle.press_events.specs.DueEvents.{is_earlier, is_later, place_of, stands, place_in, IsByTime, Adds, add_event, cancelled, cancels, is_full_without, fault_of, due, take_event, put_again, scheduled, is_of, moment_next};
-ghost use Rattle.press_events.specs.Shifts.{Enters, IsOnly, MayGoBack, MayShiftBack, ShiftsBack, event_at, shift_back};
+ghost use Rattle.press_events.specs.Shifts.{comes_again, comes_at, Enters, IsOnly, MayGoBack, MayShiftBack, ShiftsBack, event_at, shift_back, stands_alone};
 ghost use Rattle.press_events.specs.declared.fault.EventFault.TheVariants.{NoMemory};
 ghost use Rattle.press_events.specs.declared.shift.Shift.TheVariants.{Moved};
 
@@ -109,6 +109,7 @@ impl Events {
     /// Takes an event as `take` does, where it comes again; what takes that back. None, and no change, where it isn't scheduled or
     /// goes. Takes no memory.
     pub fn take_again(&mut self, event: &Event, now: Moment) -> Option<Shift>
+        ensures told { is_some result ≡ comes_again event.now now self.old }
         ensures did { IfSome result (λ _. is_some (place_of event.now self.old) ≡ true) }
         ensures after { IfSome result (λ _. self.new ≡ take_event event.now now self.old) }
         ensures back { IfSome result (λ s. ShiftsBack s self.new self.old) }
@@ -119,10 +120,11 @@ impl Events {
         Some(self.give_time(place, time))
     }
 
-    /// The place of the event of that time, hook and argument, where no other has that hook and argument. No other is looked at, so
-    /// it may be missed where others have the number of that argument.
+    /// The place of the event of that time, hook and argument, where no other has that hook and argument. None also where another
+    /// argument has the number of that one, since no other event is looked at.
     pub fn only_place(&self, time: Moment, hook: &str, arg: &str) -> Option<usize>
-        ensures { IfSome result (λ place. IsOnly hook.now arg.now place self.now) }
+        ensures told { is_some result ≡ stands_alone time hook.now arg.now self.now }
+        ensures place { IfSome result (λ place. IsOnly hook.now arg.now place self.now) }
     {
         if self.events.len() > MOST_EVENTS {
             return None;
@@ -354,6 +356,9 @@ fn place_among(events: &[Event], time: Moment, hook: &str, arg: &str) -> Option<
 fn time_again(events: &[Event], place: usize, now: Moment) -> Option<Moment>
     requires order { IsByTime events.now }
     requires within { place < length events.now }
+    ensures told { (d : Event) → is_some result ≡ comes_at
+        (moment_next now (slice_index_or events.now place d))
+        (slice_index_or events.now place d) events.now }
     ensures next { IfSome result (λ time. (d : Event)
         → moment_next now (slice_index_or events.now place d) ≡ Some time) }
     ensures free { IfSome result (λ time. (d : Event)

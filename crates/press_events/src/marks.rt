@@ -1,8 +1,8 @@
 //! Numbers of the arguments that events have.
 
-ghost use Rattle.std.specs.Prelude.{◌≡◌, ◌<◌, ◌≤◌, ℕ, [], ◌+◌, ◌-◌, cond, length, nat_eq, nat_lt, slice_index_or, true, IfOk, OnOk, OnErr};
+ghost use Rattle.std.specs.Prelude.{◌≡◌, ◌<◌, ◌≤◌, ℕ, [], ◌+◌, ◌-◌, cond, length, nat_eq, nat_lt, slice_index_or, true, false, nat_le, IfOk, OnOk, OnErr};
 ghost use Rattle.std.specs.List.Sorted.{IsNonDecreasing};
-ghost use Rattle.press_events.specs.Marks.{count_of, mark, one};
+ghost use Rattle.press_events.specs.Marks.{IsTwice, count_of, mark, one};
 
 use std::alloc::{AllocError, Global};
 use std::marker::Model;
@@ -58,9 +58,9 @@ impl Marks {
         }
     }
 
-    /// True only where the number is there once at most.
+    /// Whether the number is there once at most.
     pub fn is_single(&self, mark: u64) -> bool
-        ensures { result ≡ true → count_of mark self.now ≤ 1 }
+        ensures { result ≡ nat_le (count_of mark self.now) 1 }
     {
         match self.marks.binary_search(&mark) {
             Ok(place) => is_alone(&self.marks, place),
@@ -106,6 +106,7 @@ fn is_alone(marks: &[u64], place: usize) -> bool
         → slice_index_or marks.now (place - 1) d ≡ slice_index_or marks.now place d → ⊥ }
     ensures behind { result ≡ true → place + 1 < length marks.now → (d : ℕ)
         → slice_index_or marks.now (place + 1) d ≡ slice_index_or marks.now place d → ⊥ }
+    ensures twice { result ≡ false → (d : ℕ) → IsTwice marks.now place d }
 {
     if place > 0 && marks[place - 1] == marks[place] {
         return false;
