@@ -1,5 +1,6 @@
-ghost use Rattle.std.specs.Prelude.{◌≡◌};
+ghost use Rattle.std.specs.Prelude.{◌≡◌, Ok, Some};
 ghost use Rattle.press_site.specs.Becomes.{Becomes};
+ghost use Rattle.press_run.specs.Links.{no_change, read_only};
 
 use press_site::{Changed, Effect, OpenSite, Site, SiteFault};
 use press_text::Items;
@@ -87,7 +88,13 @@ impl<'a> SiteLink for Read<'a> {
         self.0
     }
 
-    fn change(&mut self, alloc: Global, _effect: Effect) -> Result<Changed, SiteFault> {
+    /// Takes no memory.
+    fn change(&mut self, alloc: Global, _effect: Effect) -> Result<Changed, SiteFault>
+        ensures changes { Becomes result (read_only self.old.0.now _effect)
+            self.old.0.now self.new.0.now }
+        ensures fixed { Some (self.new.0.now) ≡ Some (self.old.0.now) }
+        ensures answer { result ≡ Ok no_change }
+    {
         let (id, did, fires) = (0, false, Items::new(alloc));
         Ok(Changed { id, did, fires })
     }
