@@ -1,6 +1,6 @@
 //! Posts and events as one: each change of a post takes its event of `publish_future_post` along.
 
-ghost use Rattle.std.specs.Prelude.{◌≡◌, ℕ, Bool, [], IfOk, None, Some, Ok, true, false, length, nat_le, if◌then◌else◌, codes, decimal, option_map, take, IfSome, IfErr, OnOk};
+ghost use Rattle.std.specs.Prelude.{◌≡◌, ◌<◌, OnErr, ℕ, Bool, [], IfOk, None, Some, Ok, true, false, length, nat_le, if◌then◌else◌, codes, decimal, option_map, take, IfSome, IfErr, OnOk};
 ghost use Rattle.press_events.specs.DueEvents.{due, cancels};
 ghost use Rattle.press_events.specs.Shifts.{IsOnly, MayGoBack, MayShiftBack, shift_back};
 ghost use Rattle.press_events.specs.declared.shift.Shift.TheVariants.{All};
@@ -90,7 +90,8 @@ impl Content {
 
     /// The events whose time has come.
     pub fn due(&self, now: Moment) -> Result<Items<Event>, AllocError>
-        ensures { IfOk result (λ es. es ≡ due now self.now.events) }
+        ensures events { IfOk result (λ es. es ≡ due now self.now.events) }
+        ensures memory { OnErr result (0 < length (due now self.now.events)) }
     {
         self.events.due(now)
     }

@@ -1,6 +1,6 @@
 //! The whole site as one value.
 
-ghost use Rattle.std.specs.Prelude.{Bool, ◌≡◌, [], false, None, Some, Ok, true, IfOk, OnOk, OnErr, option_map, take};
+ghost use Rattle.std.specs.Prelude.{Bool, ◌≡◌, ◌<◌, length, [], false, None, Some, Ok, true, IfOk, OnOk, OnErr, option_map, take};
 ghost use Rattle.press_posts.specs.PostChange.{post_at};
 ghost use Rattle.press_posts.specs.Published.{published};
 ghost use Rattle.press_events.specs.DueEvents.{due};
@@ -145,9 +145,10 @@ impl Site {
         self.content.newest(most)
     }
 
-    /// The events whose time has come, by time, then in the order in which they were scheduled.
+    /// The events whose time has come, by time, then in the order in which they were scheduled. Where there is none, this takes no memory.
     pub fn due(&self) -> Result<Items<Event>, AllocError>
-        ensures { IfOk result (λ es. es ≡ due self.now.moment self.now.events) }
+        ensures events { IfOk result (λ es. es ≡ due self.now.moment self.now.events) }
+        ensures memory { OnErr result (0 < length (due self.now.moment self.now.events)) }
     {
         self.content.due(self.moment)
     }
