@@ -1,5 +1,6 @@
 pub mod BodyReads
 pub mod Digits
+pub mod Editors
 pub mod Fronts
 pub mod HeadReads
 pub mod Joined

@@ -9,6 +9,7 @@ use Rattle.matchit.specs.Router.{RouteOf, route_from}
 use Rattle.matchit.specs.Order.{placed}
 use Rattle.matchit.specs.declared.error.InsertError.{InsertError}
 use Rattle.press_text.specs.Decimals.{decimal_in}
+use Rattle.press_text.specs.Names.{is_name}
 use Rattle.press_site.specs.declared.token.Token.{Token}
 use Rattle.press_page.specs.declared.reply.Target.{Target}
 use Rattle.press_page.specs.declared.reply.Target.TheVariants as target
@@ -22,7 +23,7 @@ use Rattle.press_http.specs.declared.asked.Asked.{Asked}
 use Rattle.press_http.specs.declared.asked.Asked.TheVariants.{Page, Command, Peer}
 use Rattle.press_http.specs.declared.place.Place.{Place}
 use Rattle.press_http.specs.declared.place.Place.TheVariants as place
-use Rattle.press_http.specs.Forms.{first_named, name_in, command_in, LacksPlainly}
+use Rattle.press_http.specs.Forms.{first_named, command_in, LacksPlainly}
 use Rattle.press_http.specs.Meanings.{◌>>=◌, or_fault, made}
 
 -- ---- the target
@@ -91,6 +92,9 @@ behind (suc n) path = behind n (after_first (λ b. b == 47) path)
 
 abbrev pub post_of : List ℕ → Result Target HttpFault
 post_of path = made target.Json (or_missing (decimal_in (behind 5 path)))
+
+abbrev pub name_in : List ℕ → Option (List ℕ)
+name_in bytes = if is_name 32 bytes then Some bytes else None
 
 abbrev pub editor_in : List ℕ → Result (List ℕ) HttpFault
 editor_in text = or_missing (name_in text)

@@ -5,7 +5,6 @@
 
 mod asked;
 mod body;
-mod command;
 mod fault;
 mod fields;
 mod form;
@@ -20,8 +19,8 @@ mod start;
 mod streams;
 
 pub use asked::Asked;
-pub use command::form_command;
 pub use fault::HttpFault;
+pub use form::form_command;
 pub use pieces::Pieces;
 pub use reading::{read_pieces, read_request};
 pub use reply::{write_fault, write_reply};

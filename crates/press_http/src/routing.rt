@@ -9,9 +9,8 @@ ghost use Rattle.press_http.specs.Routes as spec;
 ghost use Rattle.press_wire.specs.Memory.{editor_of_message};
 
 use crate::asked::Asked;
-use crate::command::form_command;
 use crate::fault::HttpFault;
-use crate::form::Form;
+use crate::form::{first_value, form_command};
 use crate::place::Place;
 use crate::request::Request;
 use press_page::Target;
@@ -72,11 +71,8 @@ fn front(alloc: Global, query: &str) -> Result<Target, HttpFault>
     ensures target { Gives Refuses Ok result (spec.front_of query.now) }
     ensures memory { LacksPlainly (codes "p") query.now → result ≡ Ok Target.Front }
 {
-    let form = Form {
-        alloc,
-        bytes: query.as_bytes(),
-    };
-    match form.found("p")? {
+    let found = first_value(alloc, query.as_bytes(), "p")?;
+    match found {
         None => Ok(Target::Front),
         Some(id) => match dec_u64(id.as_str()) {
             Some(id) => Ok(Target::Post(id)),

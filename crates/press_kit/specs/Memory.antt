@@ -1,15 +1,13 @@
 -- What an object has to have before memory is taken for what it gives: the first of its names and texts (own).
 -- The value of the file's JSON is there before, with its memory.
-use Rattle.std.specs.Prelude.{◌≡◌, ℕ, List, Result, Ok, Err, IsOk, codes}
+use Rattle.std.specs.Prelude.{◌≡◌, ℕ, List, Result, Err, IsOk, codes}
 use Rattle.serde_json.specs.Data.{Data}
-use Rattle.press_apply.specs.declared.kind.CommandKind.{CommandKind}
-use Rattle.press_apply.specs.declared.kind.CommandKind.TheVariants as kind
 use Rattle.press_kit.specs.declared.fault.KitFileFault.{KitFileFault}
 use Rattle.press_kit.specs.declared.fault.KitFileFault.TheVariants.{NoMemory}
 use Rattle.press_kit.specs.declared.place.Place.{Place}
 use Rattle.press_kit.specs.declared.place.Place.TheVariants as place
 use Rattle.press_kit.specs.declared.play_file.PlayKind.{PlayKind}
-use Rattle.press_kit.specs.Fields.{◌>>=◌, or_bad, only, text_at, name_at, number_at, list_at}
+use Rattle.press_kit.specs.Fields.{◌>>=◌, or_bad, only, name_at, list_at}
 use Rattle.press_kit.specs.KitFile.{hook_load_keys, tag_load_keys, hook_at}
 use Rattle.press_kit.specs.PlayFile.{hook_key, keys_of}
 use Rattle.press_kit.specs.SiteFile.{few}
@@ -28,22 +26,6 @@ few_at d = do
 
 abbrev pub editor_at : Place → Data → Result (List ℕ) Place
 editor_at at d = name_at 32 at (codes "editor") d
-
-unfoldable pub title_behind_id : Place → Data → Result (List ℕ) Place
-title_behind_id at d = do
-  id ← number_at at (codes "id") d
-  text_at at (codes "title") d
-
-unfoldable pub first_of : CommandKind → Place → Data → Result (List ℕ) Place
-first_of kind.Insert at d = text_at at (codes "title") d
-first_of kind.Update at d = title_behind_id at d
-first_of kind.Trash at d = Err at
-first_of kind.Untrash at d = Err at
-first_of kind.Delete at d = Err at
-first_of kind.SetOption at d = name_at 32 at (codes "name") d
-first_of kind.Activate at d = name_at 32 at (codes "plugin") d
-first_of kind.Deactivate at d = name_at 32 at (codes "plugin") d
-first_of kind.Tick at d = Err at
 
 -- ---- loads and plays
 
