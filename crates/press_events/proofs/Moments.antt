@@ -1,5 +1,5 @@
 -- The moment at which a recurring event comes again is the least, and after its time.
-use Rattle.std.proofs.Common.{◌≡◌, refl, ℕ, Bool, true, false, cond, Some, None, Option, ◌+◌, ◌-◌, ◌*◌, ◌/◌, ◌<◌, ◌≤◌, ◌^◌, arith, inl, inr}
+use Rattle.std.proofs.Common.{◌≡◌, refl, ℕ, Bool, true, false, cond, Some, None, ◌+◌, ◌-◌, ◌*◌, ◌/◌, ◌<◌, ◌≤◌, ◌^◌, arith, inl, inr}
 use Rattle.std.specs.Prelude.{nat_le}
 use Rattle.press_text.specs.Moments.{moment_of}
 use Rattle.press_text.specs.declared.every.Every.{Every}

@@ -131,6 +131,27 @@ pub beside_like : (a b c : Bool) → b ≡ false → false ≡ (a && (b && c))
 beside_like true b c e = rw e refl
 beside_like false b c e = refl
 
+pub none_stands : (a b c : Bool) → c ≡ false → false ≡ (a && (b && c))
+none_stands true true c e = sym e
+none_stands true false c e = refl
+none_stands false b c e = refl
+
+and_none : (a b : Bool) → b ≡ false → (a && b) ≡ false
+and_none true b e = e
+and_none false b e = refl
+
+none_of : (time : ℕ) (hook arg : List ℕ) (es : List Event) → cancels hook arg es ≡ false → stands (event_at time hook arg) es ≡ false
+none_of time hook arg [] n = refl
+none_of time hook arg (e ∷ es) n = by (is_of hook arg e) refl n (none_of time hook arg es)
+  where
+    by : (b : Bool) → is_of hook arg e ≡ b → (b || cancels hook arg es) ≡ false → (cancels hook arg es ≡ false → stands (event_at time hook arg) es ≡ false)
+        → (is_same e (event_at time hook arg) || stands (event_at time hook arg) es) ≡ false
+    by true i n rest = absurd (cc)
+    by false i n rest = rw (and_none (nat_eq e.time time) (is_of hook arg e) i) (rest n)
+
+pub no_place : (time : ℕ) (hook arg : List ℕ) (es : List Event) → cancels hook arg es ≡ false → is_some (place_of (event_at time hook arg) es) ≡ false
+no_place time hook arg es n = stands_is (event_at time hook arg) es ∙ none_of time hook arg es n
+
 pub by_place : (a b c d : Bool) → a ≡ true → b ≡ true → d ≡ c → d ≡ (a && (b && c))
 by_place a b c d e f g = rw (e, f) g
 

@@ -129,7 +129,11 @@ impl Events {
         if self.events.len() > MOST_EVENTS {
             return None;
         }
-        if !self.marks.is_single(mark(arg)) {
+        let mark = mark(arg);
+        if !self.marks.has(mark) {
+            return None;
+        }
+        if !self.marks.is_single(mark) {
             return None;
         }
         place_at(&self.events, time, hook, arg)

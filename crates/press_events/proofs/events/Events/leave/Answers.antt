@@ -1,4 +1,4 @@
-use Rattle.std.proofs.Common.{◌≡◌, ◌∙◌, ◌<◌, ap, sym, subst, arith, length, List, ℕ}
+use Rattle.std.proofs.Common.{◌∙◌, ◌<◌, ap, sym, subst, arith, length, List, ℕ}
 use Rattle.std.specs.Prelude.{remove, vec_capacity}
 use Rattle.std.proofs.lemmas.List.Edits.{length-remove}
 use Rattle.press_events.specs.Marks.{Covers, mark}
