@@ -1,7 +1,7 @@
 -- A change of events is taken back by its way back.
 use Rattle.std.proofs.Common.{◌≡◌, refl, sym, ◌∙◌, ap, ap₂, subst, ℕ, zero, suc, ◌<◌, ◌≤◌, List, [], ◌∷◌, length, get_or, Bool, true, false, not, cond, Option, Some, None, arith}
 use Rattle.std.specs.Prelude.{◌&&◌, ◌||◌, nat_eq, nat_le, insert, remove, bytes_eq, is_some, IfSome}
-use Rattle.std.specs.List.{slice_get}
+use Rattle.std.specs.List.{list_any, slice_get}
 use Rattle.std.proofs.lemmas.Bool.Decides.{nat_tests}
 use Rattle.std.proofs.lemmas.List.Edits.{length-insert, length-remove}
 use Rattle.std.proofs.lemmas.List.Quantifiers.{position-Some}
@@ -12,8 +12,9 @@ use Rattle.press_events.specs.declared.event.Event.{Event}
 use Rattle.press_events.specs.declared.shift.Shift.TheVariants.{Came, Moved}
 use Rattle.press_events.specs.DueEvents.{IsByTime, again, cancelled, cancels, is_of, is_same, moment_next, place_of, put_again, scheduled, stands, take_event, taken_at}
 use Rattle.press_events.specs.Marks.{Covers, count_of, mark}
-use Rattle.press_events.specs.Shifts.{IsOnly, ShiftsBack, comes_at, event_at, put_at, shift_back}
+use Rattle.press_events.specs.Shifts.{FitsIn, IsOnly, ShiftsBack, comes_again, comes_at, comes_of, event_at, put_at, shift_back}
 use Rattle.press_events.proofs.Halves.{stands_is}
+use Rattle.press_events.proofs.Moments.{next_behind}
 use Rattle.press_events.proofs.Once.{none_remove}
 use Rattle.press_events.proofs.Numbers.{mark_one, marked, none_has, one_of_it, same_one}
 
@@ -25,7 +26,7 @@ out_again [] (suc i) e le = absurd (omega arith)
 out_again (x ∷ xs) zero e le = refl
 out_again (x ∷ xs) (suc i) e le = ap (λ (ys : List Event). x ∷ ys) (out_again xs i e (omega arith))
 
-in_again : (es : List Event) (i : ℕ) (e : Event) → i < length es → e ≡ get_or es i e → insert (remove es i) i e ≡ es
+pub in_again : (es : List Event) (i : ℕ) (e : Event) → i < length es → e ≡ get_or es i e → insert (remove es i) i e ≡ es
 in_again [] i e lt at = absurd (omega arith)
 in_again (x ∷ []) zero e lt at = ap (λ (y : Event). y ∷ []) at
 in_again (x ∷ y ∷ ys) zero e lt at = ap (λ (z : Event). z ∷ y ∷ ys) at
@@ -82,6 +83,13 @@ moved es i to old e lt le at s o =
 pub back_at : (es : List Event) (to from time : ℕ) (every : Every) (e : Event) → to < length es → e ≡ get_or es to e → insert (remove es to) from (record e { time = time; every = every }) ≡ shift_back (Moved to from time every) es
 back_at es to from time every e lt at = ap (λ x. put_at x from time every (remove es to)) (sym (got es to e lt at))
 
+-- one that went, put in again
+pub went_fits : (es : List Event) (i : ℕ) (e : Event) → i < length es → e ≡ get_or es i e → IsByTime es → FitsIn i e (remove es i)
+went_fits es i e lt at o = (omega (arith, length-remove es i lt), subst IsByTime (sym (in_again es i e lt at)) o)
+
+pub went_covers : (es : List Event) (i : ℕ) (e : Event) (ms : List ℕ) → i < length es → e ≡ get_or es i e → Covers ms es → Covers ms (insert (remove es i) i e)
+went_covers es i e ms lt at c = subst (Covers ms) (sym (in_again es i e lt at)) c
+
 -- an event with its argument, put in where another went
 pub covers_moved : (es : List Event) (i to : ℕ) (e new : Event) (ms : List ℕ) → i < length es → e ≡ get_or es i e → new.arg ≡ e.arg → Covers ms es → Covers ms (insert (remove es i) to new)
 covers_moved es i to e new ms lt at same c x =
@@ -123,6 +131,27 @@ pub beside_like : (a b c : Bool) → b ≡ false → false ≡ (a && (b && c))
 beside_like true b c e = rw e refl
 beside_like false b c e = refl
 
+pub none_stands : (a b c : Bool) → c ≡ false → false ≡ (a && (b && c))
+none_stands true true c e = sym e
+none_stands true false c e = refl
+none_stands false b c e = refl
+
+and_none : (a b : Bool) → b ≡ false → (a && b) ≡ false
+and_none true b e = e
+and_none false b e = refl
+
+none_of : (time : ℕ) (hook arg : List ℕ) (es : List Event) → cancels hook arg es ≡ false → stands (event_at time hook arg) es ≡ false
+none_of time hook arg [] n = refl
+none_of time hook arg (e ∷ es) n = by (is_of hook arg e) refl n (none_of time hook arg es)
+  where
+    by : (b : Bool) → is_of hook arg e ≡ b → (b || cancels hook arg es) ≡ false → (cancels hook arg es ≡ false → stands (event_at time hook arg) es ≡ false)
+        → (is_same e (event_at time hook arg) || stands (event_at time hook arg) es) ≡ false
+    by true i n rest = absurd (cc)
+    by false i n rest = rw (and_none (nat_eq e.time time) (is_of hook arg e) i) (rest n)
+
+pub no_place : (time : ℕ) (hook arg : List ℕ) (es : List Event) → cancels hook arg es ≡ false → is_some (place_of (event_at time hook arg) es) ≡ false
+no_place time hook arg es n = stands_is (event_at time hook arg) es ∙ none_of time hook arg es n
+
 pub by_place : (a b c d : Bool) → a ≡ true → b ≡ true → d ≡ c → d ≡ (a && (b && c))
 by_place a b c d e f g = rw (e, f) g
 
@@ -162,3 +191,50 @@ stood_at es time hook arg e place some h a p s = ap₂ (λ (x y : List ℕ). sta
 
 pub comes_told : (es : List Event) (e : Event) (time now : ℕ) (b : Bool) → moment_next now e ≡ Some time → stands (record e { time = time }) es ≡ b → not b ≡ comes_at (moment_next now e) e es
 comes_told es e time now b m s = sym (ap (λ (o : Option ℕ). comes_at o e es) m ∙ ap not s)
+
+-- ---- an event that goes
+
+right_of : (a b : Bool) → (a || b) ≡ true → a ≡ false → b ≡ true
+right_of true b s n = absurd (cc)
+right_of false b s n = s
+
+or_still : (a b c : Bool) → (a || b) ≡ true → (b ≡ true → c ≡ true) → (a || c) ≡ true
+or_still true b c s k = refl
+or_still false b c s k = k s
+
+some_remove : (p : Event → Bool) (d : Event) (es : List Event) (i : ℕ) → p (get_or es i d) ≡ false → list_any p es ≡ true → list_any p (remove es i) ≡ true
+some_remove p d [] zero n s = s
+some_remove p d [] (suc i) n s = s
+some_remove p d (x ∷ xs) zero n s = right_of (p x) (list_any p xs) s n
+some_remove p d (x ∷ xs) (suc i) n s = or_still (p x) (list_any p xs) (list_any p (remove xs i)) s (λ k. some_remove p d xs i n k)
+
+put_none : (e : Event) (es : List Event) → stands e es ≡ true → put_again e es ≡ es
+put_none e es s = rw s refl
+
+differ : (m n : ℕ) → m < n → nat_eq m n ≡ false
+differ m n h = grind (arith, nat_tests)
+
+and_left : (a b : Bool) → a ≡ false → (a && b) ≡ false
+and_left a b e = rw e refl
+
+not_false : (b : Bool) → not b ≡ false → b ≡ true
+not_false true e = refl
+not_false false e = absurd (cc)
+
+gone_at : (m : Option ℕ) (i : ℕ) (event : Event) (es : List Event) → i < length es → ((t : ℕ) → m ≡ Some t → (get_or es i event).time < t) → comes_at m (get_or es i event) es ≡ false → again m (get_or es i event) (remove es i) ≡ remove es i
+gone_at None i event es lt late c = refl
+gone_at (Some t) i event es lt late c =
+    let e : Event = get_or es i event in
+    let new : Event = record e { time = t } in
+    let other : is_same e new ≡ false = and_left (nat_eq e.time t) (is_of e.hook e.arg e) (differ e.time t (late t refl)) in
+    let here : is_same (get_or es i new) new ≡ false = ap (λ (x : Event). is_same x new) (any_default es i new event lt) ∙ other in
+    put_none new (remove es i) (some_remove (λ x. is_same x new) new es i here (not_false (stands new es) c))
+
+gone_of : (place : Option ℕ) (i : ℕ) (event : Event) (now : ℕ) (es : List Event) → place ≡ Some i → i < length es → comes_of place event now es ≡ false → taken_at place event now es ≡ remove es i
+gone_of place i event now es p lt c =
+    let e : Event = get_or es i event in
+    ap (λ (o : Option ℕ). taken_at o event now es) p
+    ∙ gone_at (moment_next now e) i event es lt (λ t m. next_behind e.every e.time now t m) (ap (λ (o : Option ℕ). comes_of o event now es) (sym p) ∙ c)
+
+pub gone : (i : ℕ) (event : Event) (now : ℕ) (es : List Event) → place_of event es ≡ Some i → i < length es → comes_again event now es ≡ false → take_event event now es ≡ remove es i
+gone i event now es p lt c = gone_of (place_of event es) i event now es p lt c

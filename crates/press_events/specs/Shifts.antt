@@ -1,14 +1,15 @@
--- Changes of events, and the way back: an event that came in goes out, one that was moved goes to its old place, or all that stood come back (own).
+-- Changes of events, and the way back: an event that came in goes out, one that was moved goes to its old place, one that went comes in there, or all that stood
+-- come back (own).
 use Rattle.press_text.specs.Gives.{GivesOrStays}
-use Rattle.std.specs.Prelude.{◌≡◌, ℕ, ◌<◌, ◌≤◌, List, length, insert, remove, slice_index_or, Bool, true, false, not, ◌&&◌, nat_eq, nat_le, Option, Some, None, is_some, Result, Ok}
+use Rattle.std.specs.Prelude.{◌≡◌, ℕ, ◌<◌, ◌≤◌, List, [], length, insert, remove, slice_index_or, Bool, true, false, not, ◌&&◌, nat_eq, nat_le, Option, Some, None, is_some, Result, Ok, vec_capacity}
 use Rattle.std.specs.List.{count_by, slice_get}
 use Rattle.press_text.specs.declared.every.Every.{Every}
 use Rattle.press_text.specs.declared.every.Every.TheVariants.{Once}
 use Rattle.press_events.specs.declared.event.Event.{Event}
 use Rattle.press_events.specs.declared.fault.EventFault.{EventFault}
 use Rattle.press_events.specs.declared.shift.Shift.{Shift}
-use Rattle.press_events.specs.declared.shift.Shift.TheVariants.{Came, Moved, All}
-use Rattle.press_events.specs.Marks.{mark}
+use Rattle.press_events.specs.declared.shift.Shift.TheVariants.{Came, Moved, Went, All}
+use Rattle.press_events.specs.Marks.{Covers, mark}
 use Rattle.press_events.specs.DueEvents.{IsByTime, Refuses, cancelled, is_of, moment_next, place_of, stands}
 
 -- ---- the way back
@@ -21,12 +22,18 @@ put_at (Some e) from time every events = insert events from (record e { time = t
 abbrev pub shift_back : Shift → List Event → List Event
 shift_back (Came place) events = remove events place
 shift_back (Moved to from time every) events = put_at (slice_get events to) from time every (remove events to)
+shift_back (Went place event room marks) events = insert events place event
 shift_back (All stood) events = stood
 
--- where there is such a way
+-- an event that went, where it comes in again
+abbrev pub FitsIn : ℕ → Event → List Event → Type 0
+FitsIn place event events = (place ≤ length events) × IsByTime (insert events place event)
+
+-- where there is such a way; one that went has room for all
 abbrev pub MayShiftBack : Shift → List Event → Type 0
 MayShiftBack (Came place) events = place < length events
 MayShiftBack (Moved to from time every) events = (to < length events) × (from < length events) × IsByTime (shift_back (Moved to from time every) events)
+MayShiftBack (Went place event room marks) events = FitsIn place event events × (room.items ≡ []) × (length events < vec_capacity room) × Covers marks (insert events place event)
 MayShiftBack (All stood) events = Unit {0}
 
 -- by it a change is taken back

@@ -1,11 +1,11 @@
 //! The scheduled events.
 
-ghost use Rattle.std.specs.Prelude.{◌≡◌, [], ◌<◌, ◌≤◌, length, take, true, false, IfOk, IfErr, OnOk, OnErr, IfSome, IfNone, Some, remove, slice_index_or, is_some, not, vec_len, vec_capacity};
+ghost use Rattle.std.specs.Prelude.{◌≡◌, ℕ, [], ◌<◌, ◌≤◌, length, take, true, false, IfOk, IfErr, OnOk, OnErr, IfSome, IfNone, Some, insert, remove, slice_index_or, is_some, not, vec_len, vec_capacity};
 ghost use Rattle.std.specs.List.Sorted.{IsPartitionPoint};
 ghost use Rattle.press_events.specs.DueEvents.{is_earlier, is_later, place_of, stands, place_in, IsByTime, Adds, add_event, cancelled, cancels, is_full_without, fault_of, due, take_event, put_again, scheduled, is_of, moment_next};
 ghost use Rattle.press_events.specs.Shifts.{comes_again, comes_at, Enters, IsOnly, MayGoBack, MayShiftBack, ShiftsBack, event_at, shift_back, stands_alone};
 ghost use Rattle.press_events.specs.declared.fault.EventFault.TheVariants.{NoMemory};
-ghost use Rattle.press_events.specs.declared.shift.Shift.TheVariants.{Moved};
+ghost use Rattle.press_events.specs.declared.shift.Shift.TheVariants.{Moved, Went};
 
 use crate::event::Event;
 use crate::fault::EventFault;
@@ -129,7 +129,11 @@ impl Events {
         if self.events.len() > MOST_EVENTS {
             return None;
         }
-        if !self.marks.is_single(mark(arg)) {
+        let mark = mark(arg);
+        if !self.marks.has(mark) {
+            return None;
+        }
+        if !self.marks.is_single(mark) {
             return None;
         }
         place_at(&self.events, time, hook, arg)
@@ -153,6 +157,40 @@ impl Events {
         }
     }
 
+    /// Takes out the event at a place; what takes that back, for which there is room then.
+    pub fn leave(&mut self, place: usize) -> Result<Shift, AllocError>
+        requires { place < length self.old }
+        ensures ok { OnOk result (self.new ≡ remove self.old place) }
+        ensures back { IfOk result (λ s. ShiftsBack s self.new self.old) }
+        ensures err { OnErr result (self.new ≡ self.old) }
+    {
+        let room = Vec::with_capacity(self.alloc, self.events.len())?;
+        let marks = self.marks.copy()?;
+        let event = self.events.remove(place);
+        self.marks.remove(mark(event.arg.as_str()));
+        Ok(Shift::Went {
+            place,
+            event,
+            room,
+            marks,
+        })
+    }
+
+    /// Takes an event that doesn't come again; what takes that back. None, and no change, where it isn't scheduled.
+    pub fn take_away(&mut self, event: &Event) -> Result<Option<Shift>, AllocError>
+        ensures told { IfOk result (λ s. is_some s ≡ is_some (place_of event.now self.old)) }
+        ensures after { OnOk result ((now : ℕ) → comes_again event.now now self.old ≡ false
+            → self.new ≡ take_event event.now now self.old) }
+        ensures back { IfOk result (λ s. MayGoBack s self.new self.old) }
+        ensures err { OnErr result (self.new ≡ self.old) }
+    {
+        let Some(place) = place_of(&self.events, event) else {
+            return Ok(None);
+        };
+        let went = self.leave(place)?;
+        Ok(Some(went))
+    }
+
     /// Takes a change back. Takes no memory.
     pub fn go_back(&mut self, shift: Shift)
         requires { MayShiftBack shift self.old }
@@ -166,6 +204,12 @@ impl Events {
                 time,
                 every,
             } => self.move_back(to, from, time, every),
+            Shift::Went {
+                place,
+                event,
+                room,
+                marks,
+            } => self.come_back(place, event, room, marks),
             Shift::All(stood) => *self = stood,
         }
     }
@@ -281,6 +325,22 @@ impl Events {
         let Ok(()) = self.events.insert(from, event) else {
             unreachable!()
         };
+    }
+
+    // Puts the event that went in again: all move into the room that was kept for them.
+    fn come_back(&mut self, place: usize, event: Event, room: Vec<Event>, marks: Marks)
+        requires { MayShiftBack (Went place event room marks) self.old }
+        ensures { self.new ≡ insert self.old place event }
+    {
+        let mut room = room;
+        let Ok(()) = room.append(&mut self.events) else {
+            unreachable!()
+        };
+        let Ok(()) = room.insert(place, event) else {
+            unreachable!()
+        };
+        self.events = room;
+        self.marks = marks;
     }
 
     /// A copy of the events. Without an event this takes no memory.

@@ -1,4 +1,6 @@
+use crate::event::Event;
 use crate::events::Events;
+use crate::marks::Marks;
 use press_text::{Every, Moment};
 
 /// What takes a change of events back.
@@ -14,6 +16,13 @@ pub enum Shift {
         from: usize,
         time: Moment,
         every: Every,
+    },
+    /// The event at that place went; with room for it and all others, and the numbers of arguments that stood.
+    Went {
+        place: usize,
+        event: Event,
+        room: Vec<Event>,
+        marks: Marks,
     },
     /// All these stood.
     All(Events),

@@ -3,7 +3,7 @@ use Rattle.std.proofs.Common.{◌≡◌, refl, sym, ◌∙◌, ap, ap₂, subst,
 use Rattle.std.specs.Prelude.{Result, Ok, Err, IfOk, ◌||◌, is_none, is_some, unwrap_or}
 use Rattle.press_events.specs.declared.event.Event.{Event}
 use Rattle.press_events.specs.declared.shift.Shift.{Shift}
-use Rattle.press_events.specs.declared.shift.Shift.TheVariants.{Came, Moved, All}
+use Rattle.press_events.specs.declared.shift.Shift.TheVariants.{Came, Moved, Went, All}
 use Rattle.press_posts.specs.declared.post.Post.{Post}
 use Rattle.press_site.specs.Back.{Does, GoesBack, Keeps, MayEventBack, MayEventsGoBack, MayPostsGoBack, event_back, events_back, options_back, posts_back, site_back}
 use Rattle.press_site.specs.Becomes.{Becomes, MayGrow}
@@ -44,6 +44,7 @@ events_same (Some stood) ws shift b new old e = refl
 events_same None ws None b new old e = ap (events_back ws) (e refl)
 events_same None ws (Some (Came place)) b new old e = events_pushed ws (Came place) new ∙ ap (events_back ws) (e refl)
 events_same None ws (Some (Moved to from time every)) b new old e = events_pushed ws (Moved to from time every) new ∙ ap (events_back ws) (e refl)
+events_same None ws (Some (Went place event room marks)) b new old e = events_pushed ws (Went place event room marks) new ∙ ap (events_back ws) (e refl)
 events_same None ws (Some (All stood)) b new old e = ap (events_back ws) (e refl)
 
 may_events : (kept : Option (List Event)) (ws : List Shift) (shift : Option Shift) (b : Bool) (new old : List Event) → MayEventBack shift new → ((is_none kept || b) ≡ true → event_back shift new ≡ old)
@@ -52,6 +53,7 @@ may_events (Some stood) ws shift b new old m e h = h
 may_events None ws None b new old m e h = subst (MayEventsGoBack ws) (sym (e refl)) h
 may_events None ws (Some (Came place)) b new old m e h = may_shift_push ws (Came place) new m (subst (MayEventsGoBack ws) (sym (e refl)) h)
 may_events None ws (Some (Moved to from time every)) b new old m e h = may_shift_push ws (Moved to from time every) new m (subst (MayEventsGoBack ws) (sym (e refl)) h)
+may_events None ws (Some (Went place event room marks)) b new old m e h = may_shift_push ws (Went place event room marks) new m (subst (MayEventsGoBack ws) (sym (e refl)) h)
 may_events None ws (Some (All stood)) b new old m e h = subst (MayEventsGoBack ws) (sym (e refl)) h
 
 same_site : (a b : SiteView) → a.moment ≡ b.moment → a.posts ≡ b.posts → a.events ≡ b.events → a.options ≡ b.options → a.active ≡ b.active → a.outcomes ≡ b.outcomes → a ≡ b

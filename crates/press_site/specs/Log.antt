@@ -3,7 +3,7 @@
 use Rattle.std.specs.Prelude.{ℕ, List, [], ◌∷◌, ◌++◌, Option, None, Some}
 use Rattle.press_events.specs.declared.event.Event.{Event}
 use Rattle.press_events.specs.declared.shift.Shift.{Shift}
-use Rattle.press_events.specs.declared.shift.Shift.TheVariants.{Came, Moved, All}
+use Rattle.press_events.specs.declared.shift.Shift.TheVariants.{Came, Moved, Went, All}
 use Rattle.press_site.specs.declared.stood.Stood.{Stood}
 use Rattle.press_site.specs.declared.stood.Undone.{Undone}
 
@@ -35,12 +35,14 @@ abbrev pub with_shift : Option Shift → List Shift → List Shift
 with_shift None ws = ws
 with_shift (Some (Came place)) ws = ws ++ Came place ∷ []
 with_shift (Some (Moved to from time every)) ws = ws ++ Moved to from time every ∷ []
+with_shift (Some (Went place event room marks)) ws = ws ++ Went place event room marks ∷ []
 with_shift (Some (All stood)) ws = ws
 
 abbrev pub all_of : Option Shift → Option (List Event)
 all_of None = None
 all_of (Some (Came place)) = None
 all_of (Some (Moved to from time every)) = None
+all_of (Some (Went place event room marks)) = None
 all_of (Some (All stood)) = Some stood
 
 -- nothing more of them is kept once all are

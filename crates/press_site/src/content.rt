@@ -3,7 +3,6 @@
 ghost use Rattle.std.specs.Prelude.{◌≡◌, ◌<◌, OnErr, ℕ, Bool, [], IfOk, None, Some, Ok, true, false, length, nat_le, if◌then◌else◌, codes, decimal, option_map, take, IfSome, IfErr, OnOk};
 ghost use Rattle.press_events.specs.DueEvents.{due, cancels};
 ghost use Rattle.press_events.specs.Shifts.{IsOnly, MayGoBack, MayShiftBack, shift_back};
-ghost use Rattle.press_events.specs.declared.shift.Shift.TheVariants.{All};
 ghost use Rattle.press_posts.specs.PostChange.{comes, post_at};
 ghost use Rattle.press_posts.specs.PostChange.Change.{Insert, Edit, Moves, Delete};
 ghost use Rattle.press_posts.specs.Published.{published};
@@ -156,7 +155,8 @@ impl Content {
         if !post.status.is_trash() {
             return Err(SiteFault::NotTrashed);
         }
-        let beside = self.beside_none(id)?;
+        let near = post.date;
+        let beside = self.beside_none(id, near)?;
         let stood = self.standing(id)?;
         self.posts.delete(id)?;
         changes_are_taken_back();
@@ -173,7 +173,7 @@ impl Content {
         Ok(done_alone(self.alloc, came.is_some(), came))
     }
 
-    /// Takes an event. Where it goes, all events that stood are told if they are wanted; nothing else takes memory.
+    /// Takes an event. Where it goes, the way back is told if it is wanted; nothing else takes memory.
     pub fn take(&mut self, event: &Event, now: Moment, wants: bool) -> Result<Done, SiteFault>
         ensures does { Does result (Ok (taking self.old event.now now)) self.old self.new }
         ensures back { IfOk result (λ d. ContentGoesBack wants d.undone self.new self.old) }
@@ -181,9 +181,12 @@ impl Content {
         if let Some(shift) = self.events.take_again(event, now) {
             return Ok(done_alone(self.alloc, true, Some(shift)));
         }
-        let stood = self.events_if(wants)?;
+        if wants {
+            let went = self.events.take_away(event)?;
+            return Ok(done_alone(self.alloc, went.is_some(), went));
+        }
         let did = self.events.take(event, now);
-        Ok(done_alone(self.alloc, did, stood))
+        Ok(done_alone(self.alloc, did, None))
     }
 
     /// Puts what stood at a post's place there again.
@@ -276,6 +279,7 @@ impl Content {
             Beside::Same => Ok(None),
             Beside::Came(event) => Ok(Some(self.events.put_in(event)?)),
             Beside::Moved { place, event } => Ok(Some(self.events.move_to(place, event))),
+            Beside::Gone { place } => Ok(Some(self.events.leave(place)?)),
             Beside::Others(events) => Ok(Some(Shift::All(mem::replace(&mut self.events, events)))),
         }
     }
@@ -287,16 +291,6 @@ impl Content {
         match self.posts.get(id) {
             Some(post) => Ok(Some(post.copied(self.alloc)?)),
             None => Ok(None),
-        }
-    }
-
-    fn events_if(&self, wants: bool) -> Result<Option<Shift>, AllocError>
-        ensures { IfOk result (λ s. s ≡ (if wants then Some (All self.now.events) else None)) }
-    {
-        if wants {
-            Ok(Some(Shift::All(self.events.copy()?)))
-        } else {
-            Ok(None)
         }
     }
 
@@ -330,17 +324,20 @@ impl Content {
         if status.is_future() {
             self.beside_own(id, date, near)
         } else {
-            Ok(self.beside_none(id)?)
+            Ok(self.beside_none(id, near)?)
         }
     }
 
-    // The events beside a post that none is for; they stay where none was.
+    // The events beside a post that none is for; they stay where none was, and its own goes where it is the only one.
     #[tactic(auto, using(crate::proofs::Beside::none_out))]
-    fn beside_none(&self, id: u64) -> Result<Beside, AllocError>
+    fn beside_none(&self, id: u64, near: Moment) -> Result<Beside, AllocError>
         ensures does { IfOk result (λ b. events_beside b self.now.events
             ≡ events_without id self.now.events) }
         ensures may { IfOk result (λ b. MayStandBeside b self.now.events) }
     {
+        if let Some(place) = self.own_place(id, near) {
+            return Ok(Beside::Gone { place });
+        }
         if self.has_event(id) {
             Ok(Beside::Others(self.events_without(id)?))
         } else {
@@ -435,6 +432,8 @@ enum Beside {
     Came(Event),
     // An event comes in place of the one at that place.
     Moved { place: usize, event: Event },
+    // The event at that place goes.
+    Gone { place: usize },
     // These come in place of all.
     Others(Events),
 }

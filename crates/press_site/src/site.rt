@@ -194,7 +194,7 @@ impl Site {
         Ok(changed)
     }
 
-    /// The same, with what takes it back. All events that stood are told beside a post's change, and else where they are wanted.
+    /// The same, with what takes it back. That of the events is told beside a post's change, and else where it is wanted.
     pub(crate) fn change(&mut self, effect: Effect, wants: bool) -> Result<Done, SiteFault>
         ensures does { Does result (effect_on self.old effect) self.old self.new }
         ensures back { IfOk result (λ d. GoesBack wants d.undone self.new self.old) }
