@@ -33,8 +33,7 @@ const LATER: &str =
     CREATE TABLE meta (name TEXT PRIMARY KEY, n INTEGER NOT NULL) STRICT;
     INSERT INTO meta VALUES ('version', 2), ('last_round', 4)";
 
-const HALF: &str =
-    "CREATE TABLE meta (name TEXT PRIMARY KEY, n INTEGER NOT NULL) STRICT;
+const HALF: &str = "CREATE TABLE meta (name TEXT PRIMARY KEY, n INTEGER NOT NULL) STRICT;
     INSERT INTO meta VALUES ('version', 1), ('last_round', 4)";
 
 /// The words of a store from one adoption to the next.
