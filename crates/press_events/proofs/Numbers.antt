@@ -7,7 +7,7 @@ use Rattle.std.specs.Ordering.{nat_cmp}
 use Rattle.std.proofs.lemmas.Bool.{cases_eq, cases_lt}
 use Rattle.std.proofs.lemmas.Bool.Decides.{nat_tests}
 use Rattle.std.proofs.lemmas.List.Edits.{length-remove, get_or-remove_below, get_or-remove_above}
-use Rattle.std.proofs.lemmas.List.Sorted.{searched}
+use Rattle.std.proofs.lemmas.List.Sorted.{IsNonDecreasingBy-insert, searched}
 use Rattle.std.proofs.lemmas.List.Sums.{sum_by-cons, sum_by-insert, sum_by-remove, get_or-le-sum_by}
 use Rattle.std.proofs.lemmas.Slice.Eq.{bytes_eq-Decides}
 use Rattle.press_events.specs.declared.event.Event.{Event}
@@ -87,6 +87,11 @@ rises_without xs i lt up a b d le within =
       | inr g ↦ rw (get_or-remove_above xs i d a g lt, get_or-remove_above xs i d b (omega arith) lt) (up (a + 1) (b + 1) d (omega arith) (omega arith))
     ]
 
+pub rises_with : (xs zs ys : List ℕ) (i m : ℕ) → zs ≡ xs → ys ≡ zs → IsNonDecreasing xs → i ≤ length ys → ((k d : ℕ) → k < i → get_or ys k d ≤ m)
+    → ((k d : ℕ) → i ≤ k → k < length ys → m ≤ get_or ys k d) → IsNonDecreasing (insert zs i m)
+rises_with xs zs ys i m e f up le below above =
+    subst (λ (ws : List ℕ). IsNonDecreasing (insert ws i m)) f (IsNonDecreasingBy-insert (λ (x : ℕ). x) ys i m (subst IsNonDecreasing (sym (f ∙ e)) up) le below above)
+
 -- ---- events
 
 abbrev pub marked : ℕ → List Event → ℕ
@@ -127,6 +132,35 @@ stays_out es new b p f = by (stands new es) (sym p ∙ f)
     by : (s : Bool) → not s ≡ false → cond s es (scheduled new es) ≡ es
     by true h = refl
     by false h = absurd (cc)
+
+-- ---- as many numbers as events
+
+-- the place of a number that is there
+found : (x : ℕ) (ms : List ℕ) → 0 < count_of x ms → (i : ℕ) × (i < length ms) × (get_or ms i 0 ≡ x)
+found x [] more = absurd (omega arith)
+found x (m ∷ ms) more = elim (cases_eq x m) [
+  | inl e ↦ (0, omega arith, sym e)
+  | inr d ↦
+      let behind = found x ms (let no : one x m ≡ 0 = other_one x m d in omega (arith, sum_by-cons (one x) m ms)) in
+      (suc behind.0, omega (arith, behind.1), behind.2)
+]
+
+without_first : (e : Event) (es : List Event) (ms : List ℕ) (i : ℕ) → i < length ms → get_or ms i 0 ≡ mark e.arg → Covers ms (e ∷ es) → Covers (remove ms i) es
+without_first e es ms i lt at c x =
+    let out : count_of x (remove ms i) ≡ count_of x ms - mark_one x e = taken_out (mark e.arg) x ms i lt at in
+    omega (arith, sum_by-cons (mark_one x) e es, c x, out)
+
+pub as_many : (es : List Event) (ms : List ℕ) → Covers ms es → length ms ≡ length es
+as_many [] [] c = refl
+as_many [] (m ∷ ms) c =
+    let none : 0 ≡ count_of m (m ∷ ms) = c m in
+    let of_it : one m m ≡ 1 = same_one m in
+    absurd (omega (arith, sum_by-cons (one m) m ms))
+as_many (e ∷ es) ms c =
+    let of_it : mark_one (mark e.arg) e ≡ 1 = same_one (mark e.arg) in
+    let at = found (mark e.arg) ms (omega (arith, c (mark e.arg), sum_by-cons (mark_one (mark e.arg)) e es)) in
+    let rest : length (remove ms at.0) ≡ length es = as_many es (remove ms at.0) (without_first e es ms at.0 at.1 at.2 c) in
+    omega (arith, length-remove ms at.0 at.1)
 
 -- ---- cancelled
 

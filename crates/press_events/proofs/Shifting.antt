@@ -87,9 +87,6 @@ back_at es to from time every e lt at = ap (λ x. put_at x from time every (remo
 pub went_fits : (es : List Event) (i : ℕ) (e : Event) → i < length es → e ≡ get_or es i e → IsByTime es → FitsIn i e (remove es i)
 went_fits es i e lt at o = (omega (arith, length-remove es i lt), subst IsByTime (sym (in_again es i e lt at)) o)
 
-pub went_covers : (es : List Event) (i : ℕ) (e : Event) (ms : List ℕ) → i < length es → e ≡ get_or es i e → Covers ms es → Covers ms (insert (remove es i) i e)
-went_covers es i e ms lt at c = subst (Covers ms) (sym (in_again es i e lt at)) c
-
 -- an event with its argument, put in where another went
 pub covers_moved : (es : List Event) (i to : ℕ) (e new : Event) (ms : List ℕ) → i < length es → e ≡ get_or es i e → new.arg ≡ e.arg → Covers ms es → Covers ms (insert (remove es i) to new)
 covers_moved es i to e new ms lt at same c x =

@@ -2,6 +2,7 @@
 -- come back (own).
 use Rattle.press_text.specs.Gives.{GivesOrStays}
 use Rattle.std.specs.Prelude.{◌≡◌, ℕ, ◌<◌, ◌≤◌, List, [], length, insert, remove, slice_index_or, Bool, true, false, not, ◌&&◌, nat_eq, nat_le, Option, Some, None, is_some, Result, Ok, vec_capacity}
+use Rattle.std.specs.Global.{Vec}
 use Rattle.std.specs.List.{count_by, slice_get}
 use Rattle.press_text.specs.declared.every.Every.{Every}
 use Rattle.press_text.specs.declared.every.Every.TheVariants.{Once}
@@ -9,7 +10,7 @@ use Rattle.press_events.specs.declared.event.Event.{Event}
 use Rattle.press_events.specs.declared.fault.EventFault.{EventFault}
 use Rattle.press_events.specs.declared.shift.Shift.{Shift}
 use Rattle.press_events.specs.declared.shift.Shift.TheVariants.{Came, Moved, Went, All}
-use Rattle.press_events.specs.Marks.{Covers, mark}
+use Rattle.press_events.specs.Marks.{mark}
 use Rattle.press_events.specs.DueEvents.{IsByTime, Refuses, cancelled, is_of, moment_next, place_of, stands}
 
 -- ---- the way back
@@ -29,11 +30,15 @@ shift_back (All stood) events = stood
 abbrev pub FitsIn : ℕ → Event → List Event → Type 0
 FitsIn place event events = (place ≤ length events) × IsByTime (insert events place event)
 
+-- room for one more than so many, with nothing in it
+abbrev pub HasRoom : {T : Type 0} → Vec T → ℕ → Type 0
+HasRoom room n = (room.items ≡ []) × (n < vec_capacity room)
+
 -- where there is such a way; one that went has room for all
 abbrev pub MayShiftBack : Shift → List Event → Type 0
 MayShiftBack (Came place) events = place < length events
 MayShiftBack (Moved to from time every) events = (to < length events) × (from < length events) × IsByTime (shift_back (Moved to from time every) events)
-MayShiftBack (Went place event room marks) events = FitsIn place event events × (room.items ≡ []) × (length events < vec_capacity room) × Covers marks (insert events place event)
+MayShiftBack (Went place event room marks) events = FitsIn place event events × HasRoom room (length events) × HasRoom marks (length events)
 MayShiftBack (All stood) events = Unit {0}
 
 -- by it a change is taken back

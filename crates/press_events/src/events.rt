@@ -165,7 +165,7 @@ impl Events {
         ensures err { OnErr result (self.new ≡ self.old) }
     {
         let room = Vec::with_capacity(self.alloc, self.events.len())?;
-        let marks = self.marks.copy()?;
+        let marks = Vec::with_capacity(self.alloc, self.events.len())?;
         let event = self.events.remove(place);
         self.marks.remove(mark(event.arg.as_str()));
         Ok(Shift::Went {
@@ -183,6 +183,7 @@ impl Events {
             → self.new ≡ take_event event.now now self.old) }
         ensures back { IfOk result (λ s. MayGoBack s self.new self.old) }
         ensures err { OnErr result (self.new ≡ self.old) }
+        ensures memory { OnErr result (is_some (place_of event.now self.old) ≡ true) }
     {
         let Some(place) = place_of(&self.events, event) else {
             return Ok(None);
@@ -328,10 +329,11 @@ impl Events {
     }
 
     // Puts the event that went in again: all move into the room that was kept for them.
-    fn come_back(&mut self, place: usize, event: Event, room: Vec<Event>, marks: Marks)
+    fn come_back(&mut self, place: usize, event: Event, room: Vec<Event>, marks: Vec<u64>)
         requires { MayShiftBack (Went place event room marks) self.old }
         ensures { self.new ≡ insert self.old place event }
     {
+        self.marks.add_in(mark(event.arg.as_str()), marks);
         let mut room = room;
         let Ok(()) = room.append(&mut self.events) else {
             unreachable!()
@@ -340,7 +342,6 @@ impl Events {
             unreachable!()
         };
         self.events = room;
-        self.marks = marks;
     }
 
     /// A copy of the events. Without an event this takes no memory.

@@ -1,6 +1,6 @@
 //! Numbers of the arguments that events have.
 
-ghost use Rattle.std.specs.Prelude.{◌≡◌, ◌<◌, ◌≤◌, ℕ, [], ◌+◌, ◌-◌, cond, length, nat_eq, nat_lt, slice_index_or, true, false, nat_le, IfOk, OnOk, OnErr};
+ghost use Rattle.std.specs.Prelude.{◌≡◌, ◌<◌, ◌≤◌, ℕ, [], ◌+◌, ◌-◌, cond, length, nat_eq, nat_lt, slice_index_or, true, false, nat_le, vec_capacity, IfOk, OnOk, OnErr};
 ghost use Rattle.std.specs.List.Sorted.{IsNonDecreasing};
 ghost use Rattle.press_events.specs.Marks.{IsTwice, count_of, mark, one};
 
@@ -77,6 +77,23 @@ impl Marks {
         let place = place_in(&self.marks, mark);
         self.marks.insert(place, mark)?;
         Ok(())
+    }
+
+    /// Puts the number in once more, in room for one more than all: they move there.
+    pub fn add_in(&mut self, mark: u64, room: Vec<u64>)
+        requires empty { room.items ≡ [] }
+        requires room { length self.old < vec_capacity room }
+        ensures { (x : ℕ) → count_of x self.new ≡ count_of x self.old + one x mark }
+    {
+        let mut marks = room;
+        let Ok(()) = marks.append(&mut self.marks) else {
+            unreachable!()
+        };
+        let place = place_in(&marks, mark);
+        let Ok(()) = marks.insert(place, mark) else {
+            unreachable!()
+        };
+        self.marks = marks;
     }
 
     /// Takes the number out once, if it is there.

@@ -1,6 +1,5 @@
 use crate::event::Event;
 use crate::events::Events;
-use crate::marks::Marks;
 use press_text::{Every, Moment};
 
 /// What takes a change of events back.
@@ -17,12 +16,12 @@ pub enum Shift {
         time: Moment,
         every: Every,
     },
-    /// The event at that place went; with room for it and all others, and the numbers of arguments that stood.
+    /// The event at that place went; with room for it and all others, and for the numbers of their arguments.
     Went {
         place: usize,
         event: Event,
         room: Vec<Event>,
-        marks: Marks,
+        marks: Vec<u64>,
     },
     /// All these stood.
     All(Events),

@@ -1,4 +1,4 @@
-ghost use Rattle.std.specs.Prelude.{◌≡◌, IsTrue, ◌↔◌, Contains, [], false, IsOk, IfOk, OnOk, OnErr, length, map};
+ghost use Rattle.std.specs.Prelude.{◌≡◌, ◌<◌, IsTrue, ◌↔◌, Contains, [], false, true, IsOk, IfOk, OnOk, OnErr, length, map};
 ghost use Rattle.std.specs.List.{list_any};
 ghost use Rattle.press_text.specs.Names.{is_name};
 ghost use Rattle.press_scan.specs.Tags.{is_tag, answered_by, add_tag, adds_tag, remove_tag, callback_of, names_of};
@@ -46,10 +46,14 @@ impl TagTable {
         }
     }
 
-    /// A copy of the table.
+    /// A copy of the table. Without a tag this takes no memory.
     pub fn copy(&self) -> Result<TagTable, AllocError>
-        ensures { IfOk result (λ t. t ≡ self.now) }
+        ensures same { IfOk result (λ t. t ≡ self.now) }
+        ensures memory { OnErr result (0 < length self.now) }
     {
+        if self.rows.is_empty() {
+            return Ok(TagTable::new(self.alloc));
+        }
         let rows = copied_all(self.alloc, self.rows.as_slice())?;
         Ok(TagTable {
             alloc: self.alloc,
@@ -57,13 +61,14 @@ impl TagTable {
         })
     }
 
-    /// Adds a tag; one that is registered gets the new callback and keeps its place (`add_shortcode`).
+    /// Adds a tag; one that is registered gets the new callback and keeps its place, without memory (`add_shortcode`).
     /// False, and no change, where a new tag would be the 129th or is no name of a tag; that takes no memory.
     pub fn add(&mut self, tag: &str, callback: CallbackId) -> Result<bool, AllocError>
         ensures answer { IfOk result (λ b. b ≡ adds_tag tag.now self.old) }
         ensures tags { IfOk result (λ b. self.new ≡ add_tag tag.now callback self.old) }
         ensures refused { OnErr result (self.new ≡ self.old) }
         ensures full { adds_tag tag.now self.old ≡ false → IsOk result }
+        ensures kept { list_any (is_tag tag.now) self.old ≡ true → IsOk result }
     {
         add_row(self.alloc, &mut self.rows, tag, callback)
     }
@@ -147,6 +152,7 @@ fn add_row(
     ensures tags { OnOk result (rows.new.items ≡ add_tag tag.now callback rows.old.items) }
     ensures refused { OnErr result (rows.new.items ≡ rows.old.items) }
     ensures full { adds_tag tag.now rows.old.items ≡ false → IsOk result }
+    ensures kept { list_any (is_tag tag.now) rows.old.items ≡ true → IsOk result }
 {
     if has_row(rows, tag.as_bytes()) {
         answer_row(rows, tag.as_bytes(), callback);

@@ -8,5 +8,6 @@ mod Joined
 mod Lifted
 mod Noted
 mod PutBack
+mod Unchanged
 mod Undoing
 mod Vectors

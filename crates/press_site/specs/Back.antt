@@ -1,5 +1,5 @@
 -- The way back: what was kept is put back, the last change first.
-use Rattle.std.specs.Prelude.{◌≡◌, List, [], ◌∷◌, Bool, true, ◌||◌, is_none, is_some, unwrap_or, Option, None, Some, Result, Ok, IfOk}
+use Rattle.std.specs.Prelude.{◌≡◌, List, [], ◌∷◌, Bool, true, false, ◌||◌, is_none, is_some, unwrap_or, Option, None, Some, Result, Ok, Err, IfOk}
 use Rattle.press_events.specs.declared.event.Event.{Event}
 use Rattle.press_events.specs.declared.shift.Shift.{Shift}
 use Rattle.press_events.specs.Shifts.{MayShiftBack, shift_back}
@@ -12,7 +12,9 @@ use Rattle.press_site.specs.declared.stood.Stood.{Stood}
 use Rattle.press_site.specs.declared.stood.Stood.TheVariants.{OfPost, OfOption}
 use Rattle.press_site.specs.declared.stood.Undone.{Undone}
 use Rattle.press_site.specs.declared.fault.SiteFault.{SiteFault}
+use Rattle.press_site.specs.declared.fault.SiteFault.TheVariants.{NoMemory}
 use Rattle.press_site.specs.Becomes.{Becomes, Refuses}
+use Rattle.press_site.specs.Contents.{ChangesSome}
 use Rattle.press_site.specs.ContentView.{ContentView}
 use Rattle.press_site.specs.Log.{Log, told}
 use Rattle.press_site.specs.Options.{Values, put_back}
@@ -121,4 +123,9 @@ pub record Keeps (old : Log) (before : SiteView) (new : Log) (after : SiteView) 
 abbrev pub Notes : Result Done SiteFault → Result Changed SiteFault → SiteView → SiteView → Log → Log → Type 0
 Notes done result given site old new =
     (meant : Result (SiteView × Changed) SiteFault) (before : SiteView) → Does done meant before given → IfOk done (λ d. GoesBack (is_none old.events) d.undone given before) →
-    Becomes result meant before site × Keeps old before new site
+    IfOk done (λ d. d.changed.did ≡ false → given ≡ before) → Becomes result meant before site × Keeps old before new site
+
+-- and when out of memory comes of it
+abbrev pub NotesSome : Result Done SiteFault → Result Changed SiteFault → SiteView → Type 0
+NotesSome done result given =
+    (meant : Result (SiteView × Changed) SiteFault) (before : SiteView) → Does done meant before given → (done ≡ Err NoMemory → ChangesSome meant) → result ≡ Err NoMemory → ChangesSome meant

@@ -1,6 +1,6 @@
 -- Changes of posts and events. Each change of a post takes out the events of `publish_future_post` with its id as argument, and where its new status is
 -- future, one at its date comes (`_future_post_hook`, `check_and_publish_future_post`; limits and the order of refusals are own).
-use Rattle.std.specs.Prelude.{ℕ, List, [], length, Bool, true, false, nat_le, if◌then◌else◌, codes, decimal, Option, Some, None, is_some, Result, Ok, Err}
+use Rattle.std.specs.Prelude.{◌≡◌, ℕ, List, [], length, Bool, true, false, nat_le, if◌then◌else◌, codes, decimal, Option, Some, None, is_some, Result, Ok, Err}
 use Rattle.press_text.specs.declared.every.Every.TheVariants.{Once}
 use Rattle.press_events.specs.declared.event.Event.{Event}
 use Rattle.press_events.specs.declared.fault.EventFault.{EventFault}
@@ -57,6 +57,17 @@ beside_status (Err fault) date id events = Err (of_posts fault)
 abbrev pub beside_move : Option Post → Move → ℕ → List Event → Result (Option (List Event)) SiteFault
 beside_move None to id events = Err NoSuchPost
 beside_move (Some p) to id events = beside_status (post.status_moved to p) p.date id events
+
+-- whether the move changes it
+abbrev pub MovesPost : Result (Option (List Event)) SiteFault → Type 0
+MovesPost (Ok (Some events)) = Unit {0}
+MovesPost (Ok None) = ⊥
+MovesPost (Err fault) = ⊥
+
+-- whether a change changes anything; what changes nothing takes no memory
+abbrev pub ChangesSome : {S : Type 0} → Result (S × Changed) SiteFault → Type 0
+ChangesSome (Ok after) = after.1.did ≡ true
+ChangesSome (Err fault) = ⊥
 
 -- ---- events alone: whether one was put in or taken
 

@@ -1,6 +1,6 @@
 -- A change of a site: the site after it, and the id, whether anything changed and what is fired; or its first refusal
 -- (Plugin Handbook, Posts, Cron, Activation; Options API; ids, limits, arguments and the order of refusals are own).
-use Rattle.std.specs.Prelude.{ℕ, [], List, true, false, Option, Some, None, Result, Ok, Err}
+use Rattle.std.specs.Prelude.{ℕ, ◌+◌, length, [], List, true, false, Option, Some, None, Result, Ok, Err}
 use Rattle.press_posts.specs.PostChange.Change.{Insert as PostInsert, Edit as PostEdit, Moves as PostMoves, Delete as PostDelete}
 use Rattle.press_posts.specs.declared.fire.Fire.{Fire}
 use Rattle.press_site.specs.declared.changed.Changed.{Changed}
@@ -15,6 +15,10 @@ use Rattle.press_site.specs.SiteView.{SiteView}
 
 abbrev pub no_site : SiteView
 no_site = record { moment = 0; posts = []; events = []; options = []; active = []; outcomes = [] }
+
+-- how much a site holds
+abbrev pub size : SiteView → ℕ
+size s = length s.posts + (length s.events + (length s.options + (length s.active + length s.outcomes)))
 
 abbrev pub content_of : SiteView → ContentView
 content_of s = record { posts = s.posts; events = s.events }

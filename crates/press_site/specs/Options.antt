@@ -1,5 +1,5 @@
 -- Options by name, in the order of their names (Options API: `add_option_{name}`, `update_option_{name}`, `update_option`; arguments and limits are own).
-use Rattle.std.specs.Prelude.{ℕ, String, List, [], ◌∷◌, ◌++◌, length, map, nat_lt, nat_le, bytes_eq, if◌then◌else◌, codes, string_bytes, Option, Some, None, Result, Ok, Err}
+use Rattle.std.specs.Prelude.{◌≡◌, true, is_some, ℕ, String, List, [], ◌∷◌, ◌++◌, length, map, nat_lt, nat_le, bytes_eq, if◌then◌else◌, codes, string_bytes, Option, Some, None, Result, Ok, Err}
 use Rattle.std.specs.BTreeMap.{insert_entry, is_at}
 use Rattle.std.specs.Cmp.Lexicographic.{slice_cmp}
 use Rattle.std.specs.Map.{lookup, remove_entry, set_value}
@@ -50,3 +50,8 @@ set_over None name value values =
 
 abbrev pub set_option : List ℕ → List ℕ → Values → Result (Values × Option (List Fire)) SiteFault
 set_option name value values = if nat_lt 4096 (length value) then Err TooLong else set_over (option_of name values) name value values
+
+-- whether that sets anything
+abbrev pub SetsSome : Result (Values × Option (List Fire)) SiteFault → Type 0
+SetsSome (Ok after) = is_some after.1 ≡ true
+SetsSome (Err fault) = ⊥

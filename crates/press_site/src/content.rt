@@ -1,7 +1,7 @@
 //! Posts and events as one: each change of a post takes its event of `publish_future_post` along.
 
-ghost use Rattle.std.specs.Prelude.{◌≡◌, ◌<◌, OnErr, ℕ, Bool, [], IfOk, None, Some, Ok, true, false, length, nat_le, if◌then◌else◌, codes, decimal, option_map, take, IfSome, IfErr, OnOk};
-ghost use Rattle.press_events.specs.DueEvents.{due, cancels};
+ghost use Rattle.std.specs.Prelude.{◌≡◌, ◌<◌, ◌+◌, OnErr, ℕ, Bool, [], IfOk, None, Some, Ok, Err, is_some, true, false, length, nat_le, if◌then◌else◌, codes, decimal, option_map, take, IfSome, IfErr, OnOk};
+ghost use Rattle.press_events.specs.DueEvents.{due, cancels, place_of};
 ghost use Rattle.press_events.specs.Shifts.{IsOnly, MayGoBack, MayShiftBack, shift_back};
 ghost use Rattle.press_posts.specs.PostChange.{comes, post_at};
 ghost use Rattle.press_posts.specs.PostChange.Change.{Insert, Edit, Moves, Delete};
@@ -13,7 +13,7 @@ ghost use Rattle.press_site.specs.declared.fault.SiteFault.TheVariants.{NoMemory
 ghost use Rattle.press_site.specs.Becomes.{Refuses};
 ghost use Rattle.press_site.specs.Beside.{MayStandBeside, events_beside};
 ghost use Rattle.press_text.specs.Gives.{Gives};
-ghost use Rattle.press_site.specs.Contents.{beside_move, events_of, events_without, post_effect, publish_event, scheduling, taking};
+ghost use Rattle.press_site.specs.Contents.{ChangesSome, MovesPost, beside_move, events_of, events_without, post_effect, publish_event, scheduling, taking};
 
 use crate::changed::Changed;
 use crate::fault::SiteFault;
@@ -75,14 +75,16 @@ impl Content {
 
     /// The published posts, newest date first, then greatest id.
     pub fn published(&self) -> Result<Items<u64>, AllocError>
-        ensures { IfOk result (λ ids. ids ≡ published self.now.posts) }
+        ensures posts { IfOk result (λ ids. ids ≡ published self.now.posts) }
+        ensures memory { OnErr result (0 < length (published self.now.posts)) }
     {
         self.posts.published()
     }
 
     /// The first `most` of them.
     pub fn newest(&self, most: usize) -> Result<Items<u64>, AllocError>
-        ensures { IfOk result (λ ids. ids ≡ take most (published self.now.posts)) }
+        ensures posts { IfOk result (λ ids. ids ≡ take most (published self.now.posts)) }
+        ensures memory { OnErr result (0 < length (take most (published self.now.posts))) }
     {
         self.posts.newest(most)
     }
@@ -136,6 +138,8 @@ impl Content {
         ensures does { (now : ℕ) → Does result (post_effect self.old (Moves id to) now) self.old
             self.new }
         ensures back { IfOk result (λ d. ContentGoesBack true d.undone self.new self.old) }
+        ensures memory { (now : ℕ) → result ≡ Err NoMemory
+            → ChangesSome (post_effect self.old (Moves id to) now) }
     {
         let wanted = to;
         let Some(beside) = self.beside_move(id, wanted)? else {
@@ -168,6 +172,7 @@ impl Content {
     pub fn schedule(&mut self, event: Event) -> Result<Done, SiteFault>
         ensures does { Does result (scheduling self.old event) self.old self.new }
         ensures back { IfOk result (λ d. ContentGoesBack true d.undone self.new self.old) }
+        ensures memory { result ≡ Err NoMemory → ChangesSome (scheduling self.old event) }
     {
         let came = self.events.enter(event)?;
         Ok(done_alone(self.alloc, came.is_some(), came))
@@ -177,6 +182,7 @@ impl Content {
     pub fn take(&mut self, event: &Event, now: Moment, wants: bool) -> Result<Done, SiteFault>
         ensures does { Does result (Ok (taking self.old event.now now)) self.old self.new }
         ensures back { IfOk result (λ d. ContentGoesBack wants d.undone self.new self.old) }
+        ensures memory { OnErr result (is_some (place_of event.now self.old.events) ≡ true) }
     {
         if let Some(shift) = self.events.take_again(event, now) {
             return Ok(done_alone(self.alloc, true, Some(shift)));
@@ -214,7 +220,8 @@ impl Content {
 
     /// A copy of the posts and events.
     pub fn copy(&self) -> Result<Content, AllocError>
-        ensures { IfOk result (λ c. c ≡ self.now) }
+        ensures same { IfOk result (λ c. c ≡ self.now) }
+        ensures memory { OnErr result (0 < length self.now.posts + length self.now.events) }
     {
         Ok(Content {
             alloc: self.alloc,
@@ -299,6 +306,8 @@ impl Content {
         ensures does { Gives Refuses (λ o. Ok (option_map (λ b. events_beside b self.now.events) o))
             result (beside_move (post_at self.now.posts id) to id self.now.events) }
         ensures may { IfOk result (λ o. IfSome o (λ b. MayStandBeside b self.now.events)) }
+        ensures memory { result ≡ Err NoMemory
+            → MovesPost (beside_move (post_at self.now.posts id) to id self.now.events) }
     {
         let Some(post) = self.posts.get(id) else {
             return Err(SiteFault::NoSuchPost);

@@ -1,12 +1,14 @@
 //! A site at work, which can go back.
 
-ghost use Rattle.std.specs.Prelude.{◌≡◌, None, IfOk, IfErr};
-ghost use Rattle.press_site.specs.Back.{MayEventBack, MayPostsGoBack, Notes};
+ghost use Rattle.std.specs.Prelude.{◌≡◌, None, Err, IfOk, IfErr};
+ghost use Rattle.press_site.specs.Back.{MayEventBack, MayPostsGoBack, Notes, NotesSome};
 ghost use Rattle.press_site.specs.Becomes.{Becomes};
+ghost use Rattle.press_site.specs.Contents.{ChangesSome};
 ghost use Rattle.press_site.specs.Effects.{effect_on};
 ghost use Rattle.press_site.specs.Log.{told};
 ghost use Rattle.press_site.specs.Open.{begun_of};
 ghost use Rattle.press_site.specs.Outcomes.{outcome_of, with_outcome};
+ghost use Rattle.press_site.specs.declared.fault.SiteFault.TheVariants.{NoMemory};
 
 use crate::changed::Changed;
 use crate::effect::Effect;
@@ -58,11 +60,13 @@ impl OpenSite {
         &self.site
     }
 
-    /// Makes a change, as `Site::effect` does, and records first how it is taken back; without memory for that nothing is changed.
+    /// Makes a change, as `Site::effect` does, and records how it is taken back; without memory for that nothing is changed. What changes
+    /// nothing takes no memory.
     pub fn effect(&mut self, effect: Effect) -> Result<Changed, SiteFault>
         ensures does { Becomes result (effect_on self.old.site effect)
             self.old.site self.new.site }
         ensures begun { begun_of self.new ≡ begun_of self.old }
+        ensures memory { result ≡ Err NoMemory → ChangesSome (effect_on self.old.site effect) }
     {
         let wants = self.undo.wants_events();
         let done = self.site.change(effect, wants);
@@ -114,9 +118,14 @@ fn noted(
 ) -> Result<Changed, SiteFault>
     requires { IfOk done (λ d. MayPostsGoBack (told d.undone) site.old.posts
         × MayEventBack d.undone.shift site.old.events) }
-    ensures { Notes done result site.old site.new undo.old undo.new }
+    ensures notes { Notes done result site.old site.new undo.old undo.new }
+    ensures memory { NotesSome done result site.old }
 {
     let Done { changed, undone } = done?;
+    if !changed.did {
+        drop(undone);
+        return Ok(changed);
+    }
     match undo.note(undone) {
         Ok(()) => Ok(changed),
         Err(undone) => {

@@ -1,6 +1,6 @@
-ghost use Rattle.std.specs.Prelude.{◌≡◌, [], ◌∷◌, ◌<◌, ◌++◌, length, None, Some, Ok, IfOk, IfErr, OnOk, OnErr, option_map, codes, string_bytes};
+ghost use Rattle.std.specs.Prelude.{◌≡◌, [], ◌∷◌, ◌<◌, ◌++◌, length, None, Some, Ok, Err, false, bytes_eq, IfOk, IfErr, OnOk, OnErr, option_map, codes, string_bytes};
 ghost use Rattle.press_site.specs.Sets.{Changes, Sets, set_back};
-ghost use Rattle.press_site.specs.Options.{option_of, put_back, put_option, set_option, set_over, added_fire, updated_fire, added_name, updated_name};
+ghost use Rattle.press_site.specs.Options.{SetsSome, option_of, put_back, put_option, set_option, set_over, added_fire, updated_fire, added_name, updated_name};
 ghost use Rattle.press_site.specs.declared.fault.SiteFault.TheVariants.{NoMemory};
 
 use crate::fault::SiteFault;
@@ -58,10 +58,14 @@ impl Options {
         }
     }
 
-    /// A copy of the options.
+    /// A copy of the options. Without one this takes no memory.
     pub fn copy(&self) -> Result<Options, AllocError>
-        ensures { IfOk result (λ o. o ≡ self.now) }
+        ensures same { IfOk result (λ o. o ≡ self.now) }
+        ensures memory { OnErr result (0 < length self.now) }
     {
+        if self.values.is_empty() {
+            return Ok(Options::new(self.alloc));
+        }
         let values = self.values.clone()?;
         Ok(Options {
             alloc: self.alloc,
@@ -84,6 +88,7 @@ impl Options {
     pub fn set(&mut self, name: &OptName, value: Text) -> Result<Option<SetDone>, SiteFault>
         ensures does { Sets result (set_option name.now value self.old) self.old self.new }
         ensures back { IfOk result (λ s. set_back name.now s self.new ≡ self.old) }
+        ensures memory { result ≡ Err NoMemory → SetsSome (set_option name.now value self.old) }
     {
         if value.len() > MOST_VALUE {
             return Err(SiteFault::TooLong);
@@ -162,6 +167,7 @@ fn change(
 ) -> Result<Option<SetDone>, SiteFault>
     ensures ok { IfOk result (λ s. Changes name.now value s stands.old stands.new) }
     ensures err { IfErr result (λ f. (f ≡ NoMemory) × (stands.new ≡ stands.old)) }
+    ensures memory { OnErr result (bytes_eq stands.old value ≡ false) }
 {
     if stands.as_str() == value.as_str() {
         return Ok(None);

@@ -1,4 +1,4 @@
-ghost use Rattle.std.specs.Prelude.{◌≡◌, [], None, IfOk, OnOk, OnErr};
+ghost use Rattle.std.specs.Prelude.{◌≡◌, ◌<◌, [], length, None, IfOk, OnOk, OnErr};
 ghost use Rattle.press_site.specs.Outcomes.{outcome_of, with_outcome};
 
 use crate::token::{Outcome, Token};
@@ -9,12 +9,13 @@ use std::marker::Model;
 /// What became of each command, by its token.
 #[derive(Debug)]
 pub struct Outcomes {
+    alloc: Global,
     kept: BTreeMap<Token, Outcome>,
 }
 
 impl Drop for Outcomes {
     fn drop(self) {
-        let Outcomes { kept: _ } = self;
+        let Outcomes { alloc: _, kept: _ } = self;
     }
 }
 
@@ -34,16 +35,24 @@ impl Outcomes {
         ensures { result ≡ [] }
     {
         Outcomes {
+            alloc,
             kept: BTreeMap::new(alloc),
         }
     }
 
-    /// A copy of the outcomes.
+    /// A copy of the outcomes. Without one this takes no memory.
     pub fn copy(&self) -> Result<Outcomes, AllocError>
-        ensures { IfOk result (λ o. o ≡ self.now) }
+        ensures same { IfOk result (λ o. o ≡ self.now) }
+        ensures memory { OnErr result (0 < length self.now) }
     {
+        if self.kept.is_empty() {
+            return Ok(Outcomes::new(self.alloc));
+        }
         let kept = self.kept.clone()?;
-        Ok(Outcomes { kept })
+        Ok(Outcomes {
+            alloc: self.alloc,
+            kept,
+        })
     }
 
     /// What became of the command with that token.

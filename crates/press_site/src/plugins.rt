@@ -1,4 +1,4 @@
-ghost use Rattle.std.specs.Prelude.{◌≡◌, [], ◌≤◌, length, true, false, not, insert, IfOk, OnOk, OnErr};
+ghost use Rattle.std.specs.Prelude.{◌≡◌, [], ◌<◌, ◌≤◌, length, true, false, not, insert, IfOk, OnOk, OnErr};
 ghost use Rattle.std.specs.List.Sorted.{IsPartitionPoint};
 ghost use Rattle.press_site.specs.InOrder.{in_order};
 ghost use Rattle.press_site.specs.Becomes.{Turns};
@@ -14,12 +14,13 @@ use std::mem;
 /// The active plugins, in the order of their names.
 #[derive(Debug)]
 pub struct Plugins {
+    alloc: Global,
     names: Vec<Name>,
 }
 
 impl Drop for Plugins {
     fn drop(self) {
-        let Plugins { names: _ } = self;
+        let Plugins { alloc: _, names: _ } = self;
     }
 }
 
@@ -40,16 +41,24 @@ impl Plugins {
         ensures { result ≡ [] }
     {
         Plugins {
+            alloc,
             names: Vec::new(alloc),
         }
     }
 
-    /// A copy of the plugins.
+    /// A copy of the plugins. Without one this takes no memory.
     pub fn copy(&self) -> Result<Plugins, AllocError>
-        ensures { IfOk result (λ p. p ≡ self.now) }
+        ensures same { IfOk result (λ p. p ≡ self.now) }
+        ensures memory { OnErr result (0 < length self.now) }
     {
+        if self.names.is_empty() {
+            return Ok(Plugins::new(self.alloc));
+        }
         let names = self.names.clone()?;
-        Ok(Plugins { names })
+        Ok(Plugins {
+            alloc: self.alloc,
+            names,
+        })
     }
 
     pub fn as_slice(&self) -> &[Name]

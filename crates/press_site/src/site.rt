@@ -1,18 +1,19 @@
 //! The whole site as one value.
 
-ghost use Rattle.std.specs.Prelude.{Bool, ◌≡◌, ◌<◌, length, [], false, None, Some, Ok, true, IfOk, OnOk, OnErr, option_map, take};
+ghost use Rattle.std.specs.Prelude.{Bool, ◌≡◌, ◌<◌, length, [], false, None, Some, Ok, Err, true, IfOk, OnOk, OnErr, option_map, take};
 ghost use Rattle.press_posts.specs.PostChange.{post_at};
 ghost use Rattle.press_posts.specs.Published.{published};
 ghost use Rattle.press_events.specs.DueEvents.{due};
 ghost use Rattle.press_site.specs.Back.{Does, GoesBack, MayEventBack, MayLogGoBack, MayPostsGoBack};
 ghost use Rattle.press_site.specs.Back.{log_back, site_back};
 ghost use Rattle.press_site.specs.Becomes.{Becomes};
-ghost use Rattle.press_site.specs.Contents.{no_post};
-ghost use Rattle.press_site.specs.Effects.{no_site, effect_on};
+ghost use Rattle.press_site.specs.Contents.{ChangesSome, no_post};
+ghost use Rattle.press_site.specs.Effects.{no_site, effect_on, size};
 ghost use Rattle.press_site.specs.Log.{told};
 ghost use Rattle.press_site.specs.Options.{option_of};
 ghost use Rattle.press_site.specs.Open.{begun_of};
 ghost use Rattle.press_site.specs.Outcomes.{outcome_of, with_outcome};
+ghost use Rattle.press_site.specs.declared.fault.SiteFault.TheVariants.{NoMemory};
 ghost use Rattle.press_site.specs.declared.stood.Stood.TheVariants.{OfOption};
 
 use crate::changed::Changed;
@@ -82,9 +83,10 @@ impl Site {
     }
 
     /// A copy of the site. What it takes grows with posts, events, options, plugins and outcomes, and hardly with their
-    /// texts, which are shared.
+    /// texts, which are shared; of a site that holds nothing it takes no memory.
     pub fn copy(&self) -> Result<Site, AllocError>
-        ensures { IfOk result (λ s. s ≡ self.now) }
+        ensures same { IfOk result (λ s. s ≡ self.now) }
+        ensures memory { OnErr result (0 < size self.now) }
     {
         Ok(Site {
             alloc: self.alloc,
@@ -133,14 +135,16 @@ impl Site {
 
     /// The published posts, newest date first, then greatest id.
     pub fn published(&self) -> Result<Items<u64>, AllocError>
-        ensures { IfOk result (λ ids. ids ≡ published self.now.posts) }
+        ensures posts { IfOk result (λ ids. ids ≡ published self.now.posts) }
+        ensures memory { OnErr result (0 < length (published self.now.posts)) }
     {
         self.content.published()
     }
 
     /// The first `most` published posts. It looks at no others.
     pub fn newest(&self, most: usize) -> Result<Items<u64>, AllocError>
-        ensures { IfOk result (λ ids. ids ≡ take most (published self.now.posts)) }
+        ensures posts { IfOk result (λ ids. ids ≡ take most (published self.now.posts)) }
+        ensures memory { OnErr result (0 < length (take most (published self.now.posts))) }
     {
         self.content.newest(most)
     }
@@ -185,9 +189,10 @@ impl Site {
         OpenSite::of(self.alloc, self)
     }
 
-    /// Makes a change: what it did and what is to be fired. After a refusal the site is as it was.
+    /// Makes a change: what it did and what is to be fired. After a refusal the site is as it was. What changes nothing takes no memory.
     pub fn effect(&mut self, effect: Effect) -> Result<Changed, SiteFault>
-        ensures { Becomes result (effect_on self.old effect) self.old self.new }
+        ensures does { Becomes result (effect_on self.old effect) self.old self.new }
+        ensures memory { result ≡ Err NoMemory → ChangesSome (effect_on self.old effect) }
     {
         let Done { changed, undone } = self.change(effect, false)?;
         drop(undone);
@@ -198,6 +203,7 @@ impl Site {
     pub(crate) fn change(&mut self, effect: Effect, wants: bool) -> Result<Done, SiteFault>
         ensures does { Does result (effect_on self.old effect) self.old self.new }
         ensures back { IfOk result (λ d. GoesBack wants d.undone self.new self.old) }
+        ensures memory { result ≡ Err NoMemory → ChangesSome (effect_on self.old effect) }
     {
         match effect {
             Effect::Insert(draft) => self.insert(draft),
@@ -268,6 +274,8 @@ impl Site {
             self.old self.new }
         ensures back { (wants : Bool) → IfOk result
             (λ d. GoesBack wants d.undone self.new self.old) }
+        ensures memory { result ≡ Err NoMemory
+            → ChangesSome (effect_on self.old (Effect.Move id to)) }
     {
         self.content.set_status(id, to)
     }
@@ -286,6 +294,8 @@ impl Site {
             self.old self.new }
         ensures back { (wants : Bool) → IfOk result
             (λ d. GoesBack wants d.undone self.new self.old) }
+        ensures memory { result ≡ Err NoMemory
+            → ChangesSome (effect_on self.old (Effect.Schedule event)) }
     {
         self.content.schedule(event)
     }
@@ -294,6 +304,8 @@ impl Site {
         ensures does { Does result (effect_on self.old (Effect.Take event.now))
             self.old self.new }
         ensures back { IfOk result (λ d. GoesBack wants d.undone self.new self.old) }
+        ensures memory { result ≡ Err NoMemory
+            → ChangesSome (effect_on self.old (Effect.Take event.now)) }
     {
         let now = self.moment;
         self.content.take(event, now, wants)
@@ -304,6 +316,8 @@ impl Site {
             self.old self.new }
         ensures back { (wants : Bool) → IfOk result
             (λ d. GoesBack wants d.undone self.new self.old) }
+        ensures memory { result ≡ Err NoMemory
+            → ChangesSome (effect_on self.old (Effect.SetOption name value)) }
     {
         match self.options.set(&name, value)? {
             Some(SetDone { fires, stood }) => Ok(option_done(name, fires, stood)),

@@ -6,8 +6,8 @@ use Rattle.press_site.specs.declared.stood.Done.{Done}
 use Rattle.press_site.proofs.Noted.{done_well}
 use Rattle.press_site.proofs.open.noted.Goals as goal
 
-pub returns-in-Ok : goal.returns-in-Ok
-returns-in-Ok c = λ meant before d g.
+pub returns-in-Ok-clause-notes : goal.returns-in-Ok-clause-notes
+returns-in-Ok-clause-notes c = λ meant before d g s.
     let x : Done = c.in_ok-changed.field-0 in
     let is : c.args.done ≡ Ok x = c.in_ok-changed.was in
     done_well meant before c.args.site.now c.args.undo.now x c.note.new.self c.in-Ok.ensures.ok
