@@ -1,4 +1,5 @@
 pub mod Apply
+pub mod Copies
 pub mod Faults
 pub mod Kinds
 pub mod Same

@@ -1,6 +1,7 @@
 //! Commands, and the stamp that each carries.
 
-ghost use Rattle.std.specs.Prelude.{◌≡◌, IfOk};
+ghost use Rattle.std.specs.Prelude.{◌≡◌, true, IfOk, OnErr};
+ghost use Rattle.press_apply.specs.Copies.{has_text};
 
 use press_posts::Draft;
 use press_site::Token;
@@ -18,7 +19,7 @@ pub enum Command {
     SetOption { name: OptName, value: Text },
     Activate { plugin: Name },
     Deactivate { plugin: Name },
-    /// Does what is due at the command's moment.
+    /// Does what is due at the site's moment, which is never before the command's.
     Tick,
 }
 
@@ -41,9 +42,10 @@ impl Drop for Stamped {
 }
 
 impl Command {
-    /// A copy of the command.
+    /// A copy of the command. Of one that has no text this takes no memory.
     pub fn copy(&self, alloc: Global) -> Result<Command, AllocError>
-        ensures { IfOk result (λ c. c ≡ self.now) }
+        ensures same { IfOk result (λ c. c ≡ self.now) }
+        ensures memory { OnErr result (has_text self.now ≡ true) }
     {
         match self {
             Command::Insert(draft) => Ok(Command::Insert(draft.copy(alloc)?)),

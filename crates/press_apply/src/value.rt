@@ -1,6 +1,7 @@
 //! What is applied to a site.
 
-ghost use Rattle.std.specs.Prelude.{◌≡◌, IfOk};
+ghost use Rattle.std.specs.Prelude.{◌≡◌, true, IfOk, OnErr};
+ghost use Rattle.press_apply.specs.Copies.{is_command};
 
 use crate::command::Stamped;
 use press_text::{Copied, Moment};
@@ -14,9 +15,10 @@ pub enum Value {
 }
 
 impl Value {
-    /// A copy of the value.
+    /// A copy of the value. Of nothing but a moment this takes no memory.
     pub fn copy(&self, alloc: Global) -> Result<Value, AllocError>
-        ensures { IfOk result (λ v. v ≡ self.now) }
+        ensures same { IfOk result (λ v. v ≡ self.now) }
+        ensures memory { OnErr result (is_command self.now ≡ true) }
     {
         match self {
             Value::Noop { at } => Ok(Value::Noop { at: *at }),

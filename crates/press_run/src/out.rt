@@ -1,4 +1,4 @@
-ghost use Rattle.std.specs.Prelude.{◌≡◌, [], IfOk, string_bytes};
+ghost use Rattle.std.specs.Prelude.{◌≡◌, ◌<◌, [], length, IfOk, OnErr, string_bytes};
 ghost use Rattle.press_run.specs.Outcome.{Pushes};
 
 use crate::run_fault::RunFault;
@@ -40,10 +40,14 @@ impl Out {
         }
     }
 
-    /// A copy of the output.
+    /// A copy of the output. Of an empty one this takes no memory.
     pub fn copy(&self, alloc: Global) -> Result<Out, AllocError>
-        ensures { IfOk result (λ o. o ≡ self.now) }
+        ensures same { IfOk result (λ o. o ≡ self.now) }
+        ensures memory { OnErr result (0 < length self.now) }
     {
+        if self.text.is_empty() {
+            return Ok(Out::new(alloc));
+        }
         Ok(Out {
             text: String::from_str(alloc, self.text.as_str())?,
         })

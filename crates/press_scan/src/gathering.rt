@@ -50,6 +50,7 @@ impl Gathering {
     fn new(alloc: Global, bytes: usize) -> Result<Gathering, AllocError>
         ensures atts { IfOk result (λ found. found.atts ≡ []) }
         ensures next { IfOk result (λ found. found.next ≡ 0) }
+        ensures memory { OnErr result (64 < bytes) }
     {
         let kept = if bytes <= FEW_BYTES {
             Kept::Listed(Vec::new(alloc))
@@ -188,11 +189,12 @@ fn token_of(text: &str, place: usize) -> Token
     token
 }
 
-/// The attributes of an attribute text.
+/// The attributes of an attribute text. Of an empty one this takes no memory.
 pub fn attributes(alloc: Global, text: &str) -> Result<Atts, AllocError>
     requires { length text.now < 2 ^ 32 }
     ensures computed { IfOk result (λ atts. atts ≡ attributes_of text.now) }
     ensures list { IfOk result (λ atts. IsAttributes text.now atts) }
+    ensures memory { OnErr result (0 < length text.now) }
 {
     let mut found = Gathering::new(alloc, text.len())?;
     let mut at = 0;

@@ -259,17 +259,19 @@ impl Scan {
     }
 
     /// Takes the front up to the next shortcode, an escape, or the shortcode itself, under the tags that are registered now.
-    /// A Text takes in at least one byte. If memory runs out, nothing has changed. No answer may be awaited: `put` comes first.
+    /// A Text takes in at least one byte. If memory runs out, nothing has changed; at the end of the text none is taken. No answer may
+    /// be awaited: `put` comes first.
     pub fn step(&mut self, tags: &TagTable) -> Result<ScanStep, AllocError>
         requires { self.old.waiting ≡ None }
-        ensures { StepGives result (names_of tags.now) self.old self.new }
+        ensures steps { StepGives result (names_of tags.now) self.old self.new }
+        ensures memory { OnErr result (self.old.at < length self.old.text) }
     {
-        if let Some(shortcode) = self.found_here(tags) {
-            return self.take(tags, shortcode);
-        }
         let end = self.end();
         if self.place() == end {
             return Ok(ScanStep::End);
+        }
+        if let Some(shortcode) = self.found_here(tags) {
+            return self.take(tags, shortcode);
         }
         let opening = match self.opening(tags) {
             Some(opening) => opening,

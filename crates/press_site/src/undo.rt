@@ -71,7 +71,7 @@ impl Undo {
         if undone.stood.is_some() && !has_room(&mut self.stood) {
             return Err(undone);
         }
-        if wants && !has_room(&mut self.shifts) {
+        if wants && undone.shift.is_some() && !has_room(&mut self.shifts) {
             return Err(undone);
         }
         let Undone {
@@ -146,7 +146,7 @@ fn push(list: &mut Vec<Stood>, stood: Option<Stood>)
 
 // Keeps the way back of events: behind the others, or all that stood.
 fn keep_events(shifts: &mut Vec<Shift>, events: &mut Option<Events>, shift: Option<Shift>)
-    requires room { vec_len shifts.old < vec_capacity shifts.old }
+    requires room { is_some shift ≡ true → vec_len shifts.old < vec_capacity shifts.old }
     requires none { events.old ≡ None }
     ensures shifts { shifts.new.items ≡ with_shift shift shifts.old.items }
     ensures events { events.new ≡ all_of shift }

@@ -1,4 +1,5 @@
 pub mod Ballots
+pub mod Copies
 pub mod Faults
 pub mod Fields
 pub mod Held

@@ -1,4 +1,5 @@
-ghost use Rattle.std.specs.Prelude.{◌≡◌, IfOk, option_map};
+ghost use Rattle.std.specs.Prelude.{◌≡◌, true, IfOk, OnErr, option_map};
+ghost use Rattle.press_wire.specs.Copies.{has_command, votes_command};
 ghost use Rattle.press_wire.specs.Spelling.{value_of};
 
 use crate::ballot::Ballot;
@@ -37,9 +38,10 @@ pub enum Body {
 }
 
 impl Message {
-    /// A copy of the message.
+    /// A copy of the message. Of one without a command this takes no memory.
     pub fn copy(&self, alloc: Global) -> Result<Message, AllocError>
-        ensures { IfOk result (λ m. m ≡ self.now) }
+        ensures same { IfOk result (λ m. m ≡ self.now) }
+        ensures memory { OnErr result (has_command self.now.body ≡ true) }
     {
         Ok(Message {
             from: self.from,
@@ -66,9 +68,10 @@ impl Body {
         }
     }
 
-    /// A copy of the body.
+    /// A copy of the body. Of one without a command this takes no memory.
     pub fn copy(&self, alloc: Global) -> Result<Body, AllocError>
-        ensures { IfOk result (λ b. b ≡ self.now) }
+        ensures same { IfOk result (λ b. b ≡ self.now) }
+        ensures memory { OnErr result (has_command self.now ≡ true) }
     {
         match self {
             Body::Prepare { round } => Ok(Body::Prepare { round: *round }),
@@ -99,7 +102,8 @@ impl Copied for Message {
 }
 
 fn copied_vote(alloc: Global, vote: &Option<Vote>) -> Result<Option<Vote>, AllocError>
-    ensures { IfOk result (λ v. v ≡ vote.now) }
+    ensures same { IfOk result (λ v. v ≡ vote.now) }
+    ensures memory { OnErr result (votes_command vote.now ≡ true) }
 {
     match vote {
         Some(vote) => Ok(Some(vote.copy(alloc)?)),

@@ -1,4 +1,5 @@
-ghost use Rattle.std.specs.Prelude.{◌≡◌, IfOk};
+ghost use Rattle.std.specs.Prelude.{◌≡◌, true, IfOk, OnErr};
+ghost use Rattle.press_apply.specs.Copies.{is_command};
 
 use crate::ballot::Ballot;
 use press_apply::Value;
@@ -22,9 +23,10 @@ impl Drop for Vote {
 }
 
 impl Vote {
-    /// A copy of the vote.
+    /// A copy of the vote. Of one for a value without a command this takes no memory.
     pub fn copy(&self, alloc: Global) -> Result<Vote, AllocError>
-        ensures { IfOk result (λ v. v ≡ self.now) }
+        ensures same { IfOk result (λ v. v ≡ self.now) }
+        ensures memory { OnErr result (is_command self.now.value ≡ true) }
     {
         Ok(Vote {
             ballot: self.ballot,
