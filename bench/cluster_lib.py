@@ -12,10 +12,10 @@ def free_port():
         return it.getsockname()[1]
 
 
-def ask(port, text, seconds=5):
-    """The status and the body of the reply."""
+def ask(port, text, seconds=5, source=None):
+    """The status and the body of the reply; `source` is the address that asks."""
     try:
-        with socket.create_connection(("127.0.0.1", port), timeout=seconds) as conn:
+        with socket.create_connection(("127.0.0.1", port), timeout=seconds, source_address=source and (source, 0)) as conn:
             conn.settimeout(seconds)
             conn.sendall(text)
             reply = b""
@@ -38,6 +38,11 @@ def insert(port, editor, seq):
     fields = dict(editor=editor, seq=seq, at=seq, kind="insert", title=f"{editor}-{seq}", content="some content", status="publish")
     body = urllib.parse.urlencode(fields).encode()
     return ask(port, b"POST /command HTTP/1.1\r\nContent-Type: application/x-www-form-urlencoded\r\nContent-Length: %d\r\n\r\n%s" % (len(body), body))
+
+
+def send_message(port, message, source=None):
+    """A message of a node, from that address."""
+    return ask(port, b"POST /peer HTTP/1.1\r\nContent-Length: %d\r\n\r\n%s" % (len(message), message), source=source)
 
 
 class Relay:

@@ -1,11 +1,32 @@
 """What a run of a built program takes."""
 
+import os
+import pathlib
 import shutil
 import statistics
 import subprocess
 import time
 
 RUNS = 5
+
+CRATES = pathlib.Path(__file__).resolve().parent.parent / "crates"
+
+# A clone in which a gate built the programs, so that none is built here.
+BUILT = os.environ.get("BUILT")
+
+
+def program_of(crate):
+    """Where the crate's program is, once it is built."""
+    crates = pathlib.Path(BUILT).resolve() / "crates" if BUILT else CRATES
+    return crates / crate / "out" / crate
+
+
+def build(crate, *words):
+    """Builds the crate's program, unless a gate did."""
+    if not BUILT:
+        given = CRATES / crate / "stdin"
+        with open(given if given.exists() else os.devnull, encoding="utf-8") as stdin:
+            subprocess.run(["rt", "run", *(["--", *words] if words else [])], cwd=CRATES / crate, stdin=stdin, check=True, stdout=subprocess.DEVNULL)
 
 
 def seconds(program, *words, cwd=None):
