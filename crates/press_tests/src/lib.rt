@@ -1,4 +1,4 @@
-//! Tests over the libraries: what only typed calls show, and that each call which takes memory succeeds where there is enough.
+//! Tests over the libraries: what no stored file shows, since it takes a closure, a typed value or ten thousand posts.
 #![tactic(auto)]
 
 #[cfg(test)]

@@ -1,15 +1,11 @@
-mod acceptor;
 mod callbacks;
-mod events;
 mod hooks;
 mod learner;
 mod lints;
 mod posts;
 mod proposer;
 mod runs;
-mod scans;
 mod scripts;
-mod site;
 mod synod;
 mod texts;
 mod twin;

@@ -6,15 +6,6 @@ use std::cell::Cell;
 use std::test::Fail;
 
 #[test]
-fn scripts_have_turns(rt: HostRuntime) -> Result<(), Fail> {
-    let alloc = rt.alloc();
-    let script = appending(alloc, "q")?;
-    let call = called(alloc, 0)?;
-    assert!(rt; goes_on(script_turn(alloc, &script, &call), "vq"));
-    Ok(())
-}
-
-#[test]
 fn a_closure_in_no_box_is_called(rt: HostRuntime) -> Result<(), Fail> {
     let alloc = rt.alloc();
     let script = appending(alloc, "q")?;

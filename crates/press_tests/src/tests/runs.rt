@@ -1,6 +1,6 @@
 use super::scripts::{appending, fails_once, plugin};
 use press_callbacks::{BoxedTurns, CallIn, Kit, Stored, script_turn};
-use press_run::{Job, Out, RunFault, Stage};
+use press_run::{Job, RunFault, Stage};
 use press_site::{Effect, Site};
 use press_text::{CallbackId, HookName, Name, Text, Texts};
 use std::alloc::Global;
@@ -36,19 +36,6 @@ fn filtered(alloc: Global, kit: &Kit, site: Site, job: Job) -> Result<String, Ru
     stage.run(kit, job)
 }
 
-#[test]
-fn a_filter_runs(rt: HostRuntime) -> Result<(), Fail> {
-    let alloc = rt.alloc();
-    let script = appending(alloc, "q")?;
-    let own = appending(alloc, "q")?;
-    let call: BoxedTurns = Box::new(alloc, move |i: &CallIn| script_turn(alloc, &own, i))?;
-    let kit = kit_of(alloc, Stored::new(CallbackId::new("add_q")?, script, call))?;
-    let site = site_of(alloc)?;
-    let text = filtered(alloc, &kit, site, filter_of(alloc, "x")?)?;
-    assert_eq!(rt; text.as_str(), "xq");
-    Ok(())
-}
-
 // The script has two turns, and its closure runs out of memory at its second call.
 #[test]
 fn a_closure_wants_memory(rt: HostRuntime) -> Result<(), Fail> {
@@ -61,14 +48,5 @@ fn a_closure_wants_memory(rt: HostRuntime) -> Result<(), Fail> {
     let site = site_of(alloc)?;
     let text = filtered(alloc, &kit, site, filter_of(alloc, "x")?);
     assert_eq!(rt; text.err(), Some(RunFault::NoMemory));
-    Ok(())
-}
-
-#[test]
-fn an_output_grows(rt: HostRuntime) -> Result<(), Fail> {
-    let mut out = Out::new(rt.alloc());
-    out.push("a")?;
-    out.push("é")?;
-    assert_eq!(rt; out.into_text().as_str(), "aé");
     Ok(())
 }
