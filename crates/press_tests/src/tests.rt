@@ -6,6 +6,7 @@ mod posts;
 mod proposer;
 mod runs;
 mod scripts;
+mod site;
 mod synod;
 mod texts;
 mod twin;

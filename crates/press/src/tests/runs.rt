@@ -2,6 +2,8 @@ use crate::tests::fakes::{Endless, Failing, Narrow};
 use crate::tests::fixtures::{LETTERS, ran};
 use press_kit::FILE_LIMIT;
 use press_program::run;
+use std::alloc::Global;
+use std::test::Fail;
 
 const LETTERS_PAGE: &str =
     "<!DOCTYPE html>\n<html>\n<head>\n<title>Press</title>\n</head>\n<body>\n<h1>Press</h1>\n<article id=\"post-1\">\n<h2><a href=\"/?p=1\">xcab</a></h2>\nHello\n</article>\n</body>\n</html>\n";
@@ -9,11 +11,65 @@ const LETTERS_PAGE: &str =
 const NOT_FOUND: &str =
     "<!DOCTYPE html>\n<html>\n<body>\n<h1>404 Not Found</h1>\n</body>\n</html>\n";
 
+const FAILED: &str =
+    "<!DOCTYPE html>\n<html>\n<body>\n<h1>500 Internal Server Error</h1>\n</body>\n</html>\n";
+
 #[test]
 fn runs_end(rt: HostRuntime) {
     assert!(rt; ran(&rt, LETTERS).left(0, LETTERS_PAGE, ""));
     assert!(rt; ran(&rt, b"{\"commands\":[]}").left(1, NOT_FOUND, ""));
     assert!(rt; ran(&rt, b"{}").left(2, "", "press: fault 72\n"));
+}
+
+// The file without its activation, with `grow` in its place, and a content of nested tags.
+#[test]
+fn other_plugins_make_other_pages(rt: HostRuntime) -> Result<(), Fail> {
+    for (plugin, title, content, shown) in [
+        ("none", "x", "Hello", "Hello"),
+        ("grow", "xae", "Hello", "Hello"),
+        (
+            "tags",
+            "x",
+            "[box]a [greet name=Bo] b[/box]",
+            "<div>a Hello Bo b</div>",
+        ),
+    ] {
+        let file = file_of(rt.alloc(), plugin, content)?;
+        let page = page_of(rt.alloc(), title, shown)?;
+        assert!(rt;
+            ran(&rt, file.as_bytes()).left(0, page.as_str(), ""),
+            "at {plugin}"
+        );
+    }
+    Ok(())
+}
+
+// A plugin that the kit lacks is refused, as if the command weren't there.
+fn file_of(alloc: Global, plugin: &str, content: &str) -> Result<String, Fail> {
+    Ok(format!(in alloc;
+        "{{\"commands\":[{{\"editor\":\"ann\",\"seq\":1,\"at\":10,\"kind\":\"activate\",\"plugin\":\"{plugin}\"}},{{\"editor\":\"ann\",\"seq\":2,\"at\":10,\"kind\":\"insert\",\"title\":\"x\",\"content\":\"{content}\",\"status\":\"publish\",\"date\":10}}]}}"
+    )?)
+}
+
+fn page_of(alloc: Global, title: &str, content: &str) -> Result<String, Fail> {
+    Ok(format!(in alloc;
+        "<!DOCTYPE html>\n<html>\n<head>\n<title>Press</title>\n</head>\n<body>\n<h1>Press</h1>\n<article id=\"post-1\">\n<h2><a href=\"/?p=1\">{title}</a></h2>\n{content}\n</article>\n</body>\n</html>\n"
+    )?)
+}
+
+// 5,000 boxes play 10,000 turns, beside the one of `do_shortcode`.
+#[test]
+fn too_many_turns_fail(rt: HostRuntime) -> Result<(), Fail> {
+    let mut file = String::from_str(
+        rt.alloc(),
+        r#"{"commands":[{"editor":"ann","seq":1,"at":10,"kind":"activate","plugin":"tags"},{"editor":"ann","seq":2,"at":10,"kind":"insert","title":"","content":""#,
+    )?;
+    for _ in 0..5000 {
+        file.push_str("[box/]")?;
+    }
+    file.push_str(r#"","status":"publish"}]}"#)?;
+    assert!(rt; ran(&rt, file.as_bytes()).left(1, FAILED, ""));
+    Ok(())
 }
 
 // A reader without end is read one byte past the limit.
