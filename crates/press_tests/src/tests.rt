@@ -2,6 +2,7 @@ mod callbacks;
 mod hooks;
 mod learner;
 mod lints;
+mod moves;
 mod posts;
 mod proposer;
 mod runs;
