@@ -1,9 +1,11 @@
 -- What the calls of an adoption leave.
-use Rattle.std.proofs.Common.{◌≡◌, [], ◌∷◌, codes, false, None, Ok, Err, Result, Vec, sym, ap, subst, ◌∙◌, inl, inr}
+use Rattle.std.proofs.Common.{◌≡◌, [], ◌∷◌, codes, length, true, false, None, Ok, Err, Result, Vec, sym, ap, subst, ◌∙◌, inl, inr, arith}
 use Rattle.std.specs.Prelude.{◌⊎◌, IsTrue, OnErr, IfErr}
 use Rattle.std.specs.declared.alloc.Global.{Global}
 use Rattle.sqlite.specs.declared.error.Error.{Error}
 use Rattle.sqlite.specs.Store.{Ghosts}
+use Rattle.sqlite.specs.Schema.{Schema}
+use Rattle.sqlite_schema.specs.Names.{same_name}
 use Rattle.sqlite.specs.Order.{Row}
 use Rattle.sqlite.specs.Tree.{Trees}
 use Rattle.sqlite.specs.Command.TheVariants.{Select}
@@ -13,16 +15,16 @@ use Rattle.sqlite.specs.Held.{Held, state}
 use Rattle.sqlite.specs.Steps.{FailsToCommit}
 use Rattle.press_acceptor.specs.StoreMap.{new_store}
 use Rattle.press_store.specs.Tables.{store_schema, no_schema}
-use Rattle.press_store.specs.Shown.{IsKept, store_in}
+use Rattle.press_store.specs.Shown.{IsKept, IsOurVersion, store_in}
 use Rattle.press_store.specs.Kept.{kept_by}
 use Rattle.press_store.specs.Attempt.{Ready, IsSettled, Queries, Stays}
 use Rattle.press_store.specs.Making.{IsFresh}
-use Rattle.press_store.specs.Adopted.{Adopts, HandsBack}
-use Rattle.press_store.specs.Adopting.{IsOneNumber, OnlyLooks}
+use Rattle.press_store.specs.Adopted.{Adopts, HandsBack, is_half}
+use Rattle.press_store.specs.Adopting.{IsOneNumber, IsOne, OnlyLooks}
 use Rattle.press_store.proofs.Texts.{check_text, check_query, c5, p5, version_query_text, version_query, c6, p6}
 use Rattle.press_store.proofs.Looked.{sees, looks_only}
 use Rattle.press_store.proofs.Saved.{after_same}
-use Rattle.press_store.proofs.Made.{checked_kept}
+use Rattle.press_store.proofs.Made.{checked_kept, checked_version}
 
 -- ---- one query
 
@@ -43,6 +45,10 @@ module _ {S : Type 0} (g : Ghosts S) (old new : Held S) (has : (state g old).now
   pub version_same : (rows : Vec Row Global) → Queries g old new version_query_text [] (Ok rows) → IsUnchanged (state g old) (state g new)
   version_same rows asked = (sees g version_query_text [] (Select (record { lets = []; body = version_query }) (codes "n" ∷ [])) c6 p6.0 p6.1 old new rows has asked).0
 
+  pub version_kept : (rows : Vec Row Global) → Queries g old new version_query_text [] (Ok rows) → IsOne rows.items → IsOurVersion (state g old).now.trees
+  version_kept rows asked one =
+      checked_version (state g old).now rows.items one (sees g version_query_text [] (Select (record { lets = []; body = version_query }) (codes "n" ∷ [])) c6 p6.0 p6.1 old new rows has asked).1
+
 -- ---- both queries
 
 -- a connection that waited for no commit is as it was
@@ -60,15 +66,30 @@ looks_then old mid new same one two = record {
   crash = λ db may. one.crash db (two.crash db may);
 }
 
+differs : {A : Type 0} → no_schema ≡ store_schema → A
+differs same =
+    let none : 0 ≡ 2 = ap (λ (s : Schema). length s.tables) same in
+    absurd (omega (arith, none))
+
+-- neither a store's own tables nor none are half of them
+pub ours_whole : {A : Type 0} (schema : Schema) → schema ≡ store_schema → is_half schema ≡ true → A
+unfolding is_half same_name
+ours_whole schema is half = absurd (let both : false ≡ true = subst (λ (s : Schema). is_half s ≡ true) is half in cc)
+
+pub empty_whole : {A : Type 0} (schema : Schema) → schema ≡ no_schema → is_half schema ≡ true → A
+unfolding is_half
+empty_whole schema is half = absurd (let none : false ≡ true = subst (λ (s : Schema). is_half s ≡ true) is half in cc)
+
 module _ {S : Type 0} (g : Ghosts S) (law : (s : S) (db : Trees) → IsTrue (g.view s).is_open → g.recovers s db → db ≡ (g.view s).committed) where
   adopts : (old new : Held S) → IsTrue (state g new).is_open
       → (((state g old).now.schema ≡ no_schema) × (kept_by (state g new) ≡ new_store)) ⊎ (((state g old).now.schema ≡ store_schema) × (kept_by (state g new) ≡ kept_by (state g old)))
+      → ((state g old).now.schema ≡ store_schema → IsOurVersion (state g old).now.trees)
       → Adopts (state g old) (state g new)
-  adopts old new up kept = record { is_open = up; kept = kept; durable = λ left may. may.2 ∙ ap store_in (law new.store may.0 up may.1) }
+  adopts old new up kept version = record { is_open = up; kept = kept; version = version; durable = λ left may. may.2 ∙ ap store_in (law new.store may.0 up may.1) }
 
   pub both_seen : (old new : Held S) → (state g old).in_transaction ≡ false → (state g old).step_limit ≡ None → IsSettled (state g old) → (state g old).now.schema ≡ store_schema → IsKept (state g old).now.trees
-      → IsUnchanged (state g old) (state g new) → OnlyLooks (state g old) (state g new) → Ready (state g new) × Adopts (state g old) (state g new)
-  both_seen old new quiet unlimited settled has kept same looks =
+      → IsOurVersion (state g old).now.trees → IsUnchanged (state g old) (state g new) → OnlyLooks (state g old) (state g new) → Ready (state g new) × Adopts (state g old) (state g new)
+  both_seen old new quiet unlimited settled has kept version same looks =
       let now = same.0.now_is in (
         record {
           autocommit = same.0.mode ∙ quiet;
@@ -77,7 +98,7 @@ module _ {S : Type 0} (g : Ghosts S) (law : (s : S) (db : Trees) → IsTrue (g.v
           kept = λ _. subst (λ (d : Database). IsKept d.trees) (sym now) kept;
           settled = λ _. now ∙ settled same.0.was_open ∙ sym same.0.committed_is;
         },
-        adopts old new same.0.is_open (inr (has, ap (λ (d : Database). store_in d.trees) same.0.committed_is)),
+        adopts old new same.0.is_open (inr (has, ap (λ (d : Database). store_in d.trees) same.0.committed_is)) (λ _. version),
       )
 
   pub new_made : (old new : Held S) → (state g old).step_limit ≡ None → (state g new).step_limit ≡ (state g old).step_limit → (state g new).in_transaction ≡ false → (state g old).now.schema ≡ no_schema
@@ -90,7 +111,7 @@ module _ {S : Type 0} (g : Ghosts S) (law : (s : S) (db : Trees) → IsTrue (g.v
       kept = λ _. h.1.kept;
       settled = λ _. h.2;
     },
-    adopts old new h.0 (inl (has, ap (λ (d : Database). store_in d.trees) (sym h.2) ∙ h.1.new)),
+    adopts old new h.0 (inl (has, ap (λ (d : Database). store_in d.trees) (sym h.2) ∙ h.1.new)) (λ ours. differs (sym has ∙ ours)),
   )
 
 -- ---- the making of the tables, taken back

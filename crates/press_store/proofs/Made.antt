@@ -38,9 +38,9 @@ use Rattle.sqlite.specs.declared.error.Error.{Error}
 use Rattle.sqlite_value.proofs.OrderLemmas.{value_cmp-Text}
 use Rattle.press_store.specs.Making.{IsBare, IsFresh}
 use Rattle.press_store.specs.Tables.{make_promise, make_meta, promise, meta, store_schema, no_schema}
-use Rattle.press_store.specs.Shown.{is_last_round, row_in, IsKept, contents_of, store_in}
-use Rattle.press_store.specs.Adopting.{IsOneNumber}
-use Rattle.press_store.proofs.Texts.{check_query, t1, t2, t3}
+use Rattle.press_store.specs.Shown.{is_last_round, is_version, row_in, IsKept, IsOurVersion, contents_of, store_in}
+use Rattle.press_store.specs.Adopting.{IsOneNumber, IsOne}
+use Rattle.press_store.proofs.Texts.{check_query, version_query, t1, t2, t3}
 use Rattle.press_store.proofs.Queries.{picked, equals_text}
 use Rattle.press_store.proofs.Rounds.{went, same_value, put_among, cast_int, in_range}
 use Rattle.press_store.proofs.Slots.{cast_null}
@@ -213,3 +213,19 @@ checked_kept db rows number h =
     let shown = one_permutation (f one.0) rows (subst (λ xs. IsPermutation (map f xs) rows) one.1 permuted) in
     let first : f one.0 ≡ number.0 = ap first_of (sym shown ∙ number.2) in
     record { row = one.0; one = one.1; id = number.1; numbered = ap (λ (r : Row). column r 0) first ∙ number.3 }
+
+-- a database whose query shows the number 1 alone has the version of these tables
+abbrev version_project : List Term
+version_project = col 1 2 ∷ []
+
+pub checked_version : (db : Database) (rows : List Row) → IsOne rows → Answers db (record { lets = []; body = version_query }) [] rows → IsOurVersion db.trees
+checked_version db rows number h =
+    let f : Row → Row = λ r. column r 2 ∷ [] in
+    let found = picked 1 (op2 (by.Compare Eq Binary) (col 1 1) (lit (Text (codes "version")))) version_project db [] rows refl h in
+    let same = ap (λ p. map f (filter p (db.trees 1))) (fun_ext (λ r. equals_text (column r 1) (codes "version"))) in
+    let permuted : IsPermutation (map f (filter is_version (db.trees 1))) rows = subst (λ xs. IsPermutation xs rows) same found in
+    let count = sym (length_permutation _ rows permuted) ∙ ap Rattle.std.proofs.Common.length number.1 in
+    let one = one_of (filter is_version (db.trees 1)) (sym (length-map (filter is_version (db.trees 1)) f) ∙ count) in
+    let shown = one_permutation (f one.0) rows (subst (λ xs. IsPermutation (map f xs) rows) one.1 permuted) in
+    let first : f one.0 ≡ number.0 = ap first_of (sym shown ∙ number.1) in
+    record { row = one.0; one = one.1; number = ap (λ (r : Row). column r 0) first ∙ number.2 }

@@ -1,11 +1,14 @@
 -- What an adoption leaves (own).
-use Rattle.std.specs.Prelude.{◌≡◌, ◌⊎◌, IsTrue}
+use Rattle.std.specs.Prelude.{◌≡◌, ◌⊎◌, ℕ, Bool, if◌then◌else◌, not, is_some, List, codes, IsTrue}
+use Rattle.sqlite.specs.Schema.{Schema}
+use Rattle.sqlite_schema.specs.Names.{table_named}
 use Rattle.sqlite.specs.Store.{Ghosts}
 use Rattle.sqlite.specs.Tree.{Trees}
 use Rattle.sqlite.specs.State.{State, HasCleanDisk}
 use Rattle.sqlite.specs.Held.{Held, state}
 use Rattle.press_acceptor.specs.StoreMap.{Only, new_store}
 use Rattle.press_store.specs.Tables.{no_schema, store_schema}
+use Rattle.press_store.specs.Shown.{IsOurVersion}
 use Rattle.press_store.specs.Kept.{kept_by, MayLeave}
 use Rattle.press_store.specs.Attempt.{Ready}
 use Rattle.press_store.specs.Making.{IsFresh}
@@ -14,10 +17,18 @@ use Rattle.press_store.specs.Making.{IsFresh}
 abbrev pub IsServed : State → Type 0
 IsServed s = (s.now.schema ≡ no_schema) ⊎ (s.now.schema ≡ store_schema)
 
--- An empty database is a new store then. One that a store made keeps what it kept. A crash leaves nothing else.
+abbrev pub has_table : Schema → List ℕ → Bool
+has_table schema name = is_some (table_named schema name)
+
+-- one of the two tables is there without the other
+unfoldable pub is_half : Schema → Bool
+is_half schema = if has_table schema (codes "promise") then not (has_table schema (codes "meta")) else has_table schema (codes "meta")
+
+-- An empty database is a new store then. One that a store made has the version of its tables, and keeps what it kept. A crash leaves nothing else.
 pub record Adopts (old new : State) : Type 0 where
   pub is_open : IsTrue new.is_open
   pub kept : ((old.now.schema ≡ no_schema) × (kept_by new ≡ new_store)) ⊎ ((old.now.schema ≡ store_schema) × (kept_by new ≡ kept_by old))
+  pub version : old.now.schema ≡ store_schema → IsOurVersion old.now.trees
   pub durable : Only (kept_by new) (MayLeave new)
 
 -- What is returned: the database as it was. A crash leaves what it could leave before, or a new store where there was nothing.

@@ -106,6 +106,15 @@ pub record IsKept (db : Trees) : Type 0 where
   pub id : ℤ
   pub numbered : rowid row ≡ Int id
 
+abbrev pub is_version : Row → Bool
+is_version r = is_eq (value_cmp (column r 1) (Text (codes "version")))
+
+-- there is one version, and it is that of these tables
+pub record IsOurVersion (db : Trees) : Type 0 where
+  pub row : Row
+  pub one : filter is_version (db 1) ≡ row ∷ []
+  pub number : column row 2 ≡ Int (pos 1)
+
 -- one row with one value, which stands for the last round
 abbrev pub IsRoundRow : StoreMap → List Row → Type 0
 IsRoundRow store rows = (v : Value) × (rows ≡ (v ∷ []) ∷ []) × (store.last_round ≡ unwrap_or (number_in 0 most_rounds v) damaged_round)

@@ -1,18 +1,19 @@
 //! The tables of a database that is to be a store.
 
-ghost use Rattle.std.specs.Prelude.{◌≡◌, false, None, IsTrue, IfOk, OnErr};
+ghost use Rattle.std.specs.Prelude.{◌≡◌, pos, true, false, None, Err, IsTrue, IfOk, OnErr};
 ghost use Rattle.sqlite.specs.declared.types.Value.TheVariants.{Int};
 ghost use Rattle.sqlite.specs.Order.{column};
 ghost use Rattle.sqlite.specs.Held.{state};
+ghost use Rattle.press_acceptor.specs.declared.fault.StoreFault.TheVariants.{Damaged};
 ghost use Rattle.press_store.specs.Attempt.{Doubts, IsSettled};
 ghost use Rattle.press_store.specs.Tables.{no_schema, store_schema};
-ghost use Rattle.press_store.specs.Adopted.{IsServed, IsAdopted, IsHandedBack};
-ghost use Rattle.press_store.specs.Adopting.{AdoptsFrom, HandsBackFrom, HasBoth, IsOneNumber};
-ghost use Rattle.press_store.specs.Adopting.{KeepsRound, LooksAt, OnlyReads, Shows};
+ghost use Rattle.press_store.specs.Adopted.{IsServed, IsAdopted, IsHandedBack, is_half};
+ghost use Rattle.press_store.specs.Adopting.{AdoptsFrom, HandsBackFrom, HasBoth, IsOne, IsOneNumber};
+ghost use Rattle.press_store.specs.Adopting.{KeepsRound, KeepsVersion, LooksAt, OnlyReads, Shows};
 
 use crate::fault::fault_of;
 use crate::make::make;
-use crate::ours::{is_empty, is_ours};
+use crate::ours::{is_empty, is_half, is_ours};
 use crate::statement::read;
 use press_acceptor::StoreFault;
 use sqlite::types::ValueRef;
@@ -33,9 +34,17 @@ fn is_one_number(rows: &[Shown]) -> bool
     }
 }
 
-fn is_one(rows: &[Shown]) -> bool {
+fn begins_with_one(row: &Shown) -> bool
+    ensures { IsTrue result → column row.now 0 ≡ Int (pos 1) }
+{
+    matches!(row.get_ref(0), Ok(ValueRef::Int(1)))
+}
+
+fn is_one(rows: &[Shown]) -> bool
+    ensures { IsTrue result → IsOne rows.now }
+{
     match rows {
-        [row] => matches!(row.get_ref(0), Ok(ValueRef::Int(1))),
+        [row] => begins_with_one(row),
         _ => false,
     }
 }
@@ -59,6 +68,7 @@ fn has_round<D: Alter>(conn: &mut Connection<D>) -> Result<bool, Error>
 fn has_version<D: Alter>(conn: &mut Connection<D>) -> Result<bool, Error>
     ensures looks { LooksAt D.Store conn.old conn.new }
     ensures shows { Shows D.Store conn.old conn.new result }
+    ensures kept { KeepsVersion D.Store conn.old conn.new result }
     ensures clean { Doubts D.Store conn.old conn.new }
 {
     let rows = read(conn, "SELECT n FROM meta WHERE name = 'version'", &[])?;
@@ -108,20 +118,15 @@ fn prepare_empty<D: Alter>(conn: &mut Connection<D>) -> Result<(), StoreFault>
     make(conn).map_err(fault_of)
 }
 
-// Adopts a database with other tables, of which no clause speaks.
+// Adopts a database with other tables, of which no clause speaks, and with both of a store's or neither.
 fn prepare_other<D: Alter>(conn: &mut Connection<D>) -> Result<(), StoreFault>
     requires quiet { conn.old.in_transaction ≡ false }
     requires unlimited { conn.old.step_limit ≡ None }
     requires settled { IsSettled (state D.Store conn.old) }
     ensures clean { Doubts D.Store conn.old conn.new }
 {
-    let has_promise = conn.schema().table_named(b"promise").is_some();
-    let has_meta = conn.schema().table_named(b"meta").is_some();
-    if has_promise && has_meta {
+    if conn.schema().table_named(b"promise").is_some() {
         return prepare_ours(conn);
-    }
-    if has_promise || has_meta {
-        return Err(StoreFault::Damaged);
     }
     make(conn).map_err(fault_of)
 }
@@ -130,6 +135,7 @@ fn prepare_other<D: Alter>(conn: &mut Connection<D>) -> Result<(), StoreFault>
 pub fn prepare<D: Alter>(conn: &mut Connection<D>) -> Result<bool, StoreFault>
     ensures ours { IfOk result (λ is_ours. IsServed (state D.Store conn.old) → IsTrue is_ours) }
     ensures adopts { IfOk result (λ is_ours. IsTrue is_ours → IsAdopted D.Store conn.old conn.new) }
+    ensures half { is_half (state D.Store conn.old).now.schema ≡ true → result ≡ Err Damaged }
     ensures back { OnErr result (IsHandedBack D.Store conn.old conn.new) }
     ensures clean { Doubts D.Store conn.old conn.new }
 {
@@ -144,6 +150,9 @@ pub fn prepare<D: Alter>(conn: &mut Connection<D>) -> Result<bool, StoreFault>
     if is_empty(conn.schema()) {
         prepare_empty(conn)?;
         return Ok(true);
+    }
+    if is_half(conn.schema()) {
+        return Err(StoreFault::Damaged);
     }
     prepare_other(conn)?;
     Ok(false)

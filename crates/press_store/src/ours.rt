@@ -3,6 +3,7 @@
 ghost use Rattle.std.specs.Prelude.{◌≡◌, IsTrue};
 ghost use Rattle.press_store.specs.Tables.{IsBareTable, named_column, promise, meta, meta_key};
 ghost use Rattle.press_store.specs.Tables.{store_schema, no_schema};
+ghost use Rattle.press_store.specs.Adopted.{is_half};
 
 use sqlite_schema::schema::{Column, Index, Kind, Schema, Table};
 use sqlite_value::keys::Collation;
@@ -134,6 +135,16 @@ pub fn is_ours(schema: &Schema) -> bool
         }
         _ => false,
     }
+}
+
+/// Whether one of the two tables is there without the other.
+#[tactic(auto, unfolding(crate::specs::Adopted::is_half))]
+pub fn is_half(schema: &Schema) -> bool
+    ensures { result ≡ is_half schema.now }
+{
+    let has_promise = schema.table_named(b"promise").is_some();
+    let has_meta = schema.table_named(b"meta").is_some();
+    if has_promise { !has_meta } else { has_meta }
 }
 
 /// Whether the schema is empty.

@@ -1,11 +1,12 @@
 //! The store over a connection.
 
-ghost use Rattle.std.specs.Prelude.{◌≡◌, ◌<◌, ◌≤◌, IsTrue, IfOk, IfErr};
+ghost use Rattle.std.specs.Prelude.{◌≡◌, ◌<◌, ◌≤◌, true, IsTrue, IfOk, IfErr, IsErrAnd};
 ghost use Rattle.sqlite.specs.State.{HasCleanDisk};
 ghost use Rattle.sqlite.specs.Held.{state};
 ghost use Rattle.sqlite.specs.Files.{file_state};
 ghost use Rattle.sqlite.specs.WalFiles.{image_at};
-ghost use Rattle.press_store.specs.Adopted.{Adopts, IsServed, IsHandedBack};
+ghost use Rattle.press_store.specs.Adopted.{Adopts, IsServed, IsHandedBack, is_half};
+ghost use Rattle.press_acceptor.specs.declared.fault.StoreFault.TheVariants.{Damaged};
 ghost use Rattle.press_store.specs.Opened.{Finds, IsUp};
 ghost use Rattle.press_store.specs.Attempt.{IsReady};
 ghost use Rattle.press_store.specs.Kept.{seen_of};
@@ -68,6 +69,8 @@ impl<D: Alter> SqlStore<D> {
         ensures ours { IfOk result (λ store. IsServed (state D.Store conn) → IsTrue store.is_ours) }
         ensures adopts { IfOk result (λ store. HasCleanDisk (state D.Store store.conn) →
             IsTrue store.is_ours → Adopts (state D.Store conn) (state D.Store store.conn)) }
+        ensures half { is_half (state D.Store conn).now.schema ≡ true →
+            IsErrAnd result (λ refused. refused.0 ≡ Damaged) }
         ensures clean { IfOk result (λ store. HasCleanDisk (state D.Store store.conn) →
             HasCleanDisk (state D.Store conn)) }
         ensures faults { IfOk result (λ store. store.faults ≡ 0) }

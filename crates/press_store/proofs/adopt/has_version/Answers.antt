@@ -1,4 +1,6 @@
-use Rattle.press_store.proofs.Adopting.{version_looks, version_same}
+use Rattle.std.proofs.Common.{◌≡◌, subst, rules}
+use Rattle.press_store.specs.Adopting.{IsOne}
+use Rattle.press_store.proofs.Adopting.{version_looks, version_same, version_kept}
 use Rattle.press_store.proofs.adopt.has_version.Goals as goal
 
 pub returns-clause-looks : goal.returns-clause-looks
@@ -9,3 +11,8 @@ returns-in_err-rows-clause-looks g c clean has = version_looks g.D.Store c.args.
 
 pub returns-clause-shows : goal.returns-clause-shows
 returns-clause-shows g c clean has = version_same g.D.Store c.args.conn.now c.read.new.conn has c.in_ok-rows.rows (c.in_ok-rows.ensures.asked clean)
+
+pub returns-clause-kept : goal.returns-clause-kept
+returns-clause-kept g c clean has found =
+    let same : c.deref.result.now ≡ c.in_ok-rows.rows.items = search rules in
+    version_kept g.D.Store c.args.conn.now c.read.new.conn has c.in_ok-rows.rows (c.in_ok-rows.ensures.asked clean) (subst IsOne same (c.is_one.ensures found))
