@@ -2,4 +2,5 @@ mod fakes;
 mod fixtures;
 mod replays;
 mod runs;
+mod turns;
 mod words;
