@@ -131,7 +131,8 @@ impl Work {
     /// A change, and what it fires; the id of the post that it is about, or 0.
     #[tactic(auto, unfolding(crate::specs::Apply::does), using(crate::proofs::Refusals::handed_on))]
     pub fn does(&mut self, kit: &Kit, effect: Effect) -> Result<u64, ApplyFault>
-        ensures steps { Steps (λ s id. (s, id)) (does (meaning_in kit.now) effect (state_in self.old))
+        ensures steps { Steps (λ s id. (s, id))
+            (does (meaning_in kit.now) effect (state_in self.old))
             self.new result }
         ensures back { GoesBack self.old self.new }
         ensures memory { GrowsBehind result (changes effect (state_in self.old)) }
@@ -210,7 +211,8 @@ impl Work {
 
     #[tactic(auto, unfolding(crate::specs::Apply::trashes), using(crate::proofs::Refusals::handed_on))]
     pub fn trash(&mut self, kit: &Kit, id: u64) -> Result<u64, ApplyFault>
-        ensures steps { Steps (λ s id. (s, id)) (trashes (meaning_in kit.now) id (state_in self.old))
+        ensures steps { Steps (λ s id. (s, id))
+            (trashes (meaning_in kit.now) id (state_in self.old))
             self.new result }
         ensures back { GoesBack self.old self.new }
         ensures memory { GrowsBehind result (passes (move_fault Move.Trash
@@ -227,7 +229,8 @@ impl Work {
 
     #[tactic(auto, unfolding(crate::specs::Apply::untrashes), using(crate::proofs::Refusals::handed_on))]
     pub fn untrash(&mut self, kit: &Kit, id: u64) -> Result<u64, ApplyFault>
-        ensures steps { Steps (λ s id. (s, id)) (untrashes (meaning_in kit.now) id (state_in self.old))
+        ensures steps { Steps (λ s id. (s, id))
+            (untrashes (meaning_in kit.now) id (state_in self.old))
             self.new result }
         ensures back { GoesBack self.old self.new }
         ensures memory { GrowsBehind result (passes (move_fault Move.Untrash
@@ -244,7 +247,8 @@ impl Work {
 
     #[tactic(auto, unfolding(crate::specs::Apply::deletes), using(crate::proofs::Refusals::handed_on))]
     pub fn delete(&mut self, kit: &Kit, id: u64) -> Result<u64, ApplyFault>
-        ensures steps { Steps (λ s id. (s, id)) (deletes (meaning_in kit.now) id (state_in self.old))
+        ensures steps { Steps (λ s id. (s, id))
+            (deletes (meaning_in kit.now) id (state_in self.old))
             self.new result }
         ensures back { GoesBack self.old self.new }
         ensures memory { GrowsBehind result (passes (delete_fault
@@ -280,7 +284,8 @@ impl Work {
     }
 
     fn take_all(&mut self, kit: &Kit, events: &[Event]) -> Result<(), ApplyFault>
-        ensures steps { Steps (λ s _. s) (takes_all (meaning_in kit.now) events.now (state_in self.old))
+        ensures steps { Steps (λ s _. s)
+            (takes_all (meaning_in kit.now) events.now (state_in self.old))
             self.new result }
         ensures back { GoesBack self.old self.new }
     {

@@ -35,7 +35,8 @@ impl Model for Rows {
 
     ghost view = { λ r. r.hooks.items };
 
-    ghost invariant = { λ r. IsByName r.hooks.items × (r.count ≡ length (table_rows r.hooks.items)) };
+    ghost invariant = { λ r. IsByName r.hooks.items
+        × (r.count ≡ length (table_rows r.hooks.items)) };
 }
 
 impl Rows {

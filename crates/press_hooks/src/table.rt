@@ -38,7 +38,10 @@ impl Model for HookTable {
 
     ghost Value = { Table };
 
-    ghost view = { λ t. record { rows = table_rows t.rows; open_runs = open_runs_of t.runs.items } };
+    ghost view = { λ t. record {
+      rows = table_rows t.rows;
+      open_runs = open_runs_of t.runs.items;
+    } };
 
     ghost invariant = { λ t. IsEach (IsInPlace t.rows) t.runs.items };
 }

@@ -45,7 +45,9 @@ impl Model for Learner {
 
     ghost view = { λ a. kept_in a.members a.applied a.ring.items };
 
-    ghost invariant = { λ a. (a.members ≤ 7) × (a.applied ≤ 1000000) × IsWindow (kept_in a.members a.applied a.ring.items) × HasRoom a.members a.ring.items };
+    ghost invariant = { λ a. (a.members ≤ 7) × (a.applied ≤ 1000000)
+        × IsWindow (kept_in a.members a.applied a.ring.items)
+        × HasRoom a.members a.ring.items };
 }
 
 impl Learner {

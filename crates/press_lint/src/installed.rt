@@ -10,7 +10,8 @@ use press_kit::KitParts;
 pub struct Installed<'k> {
     pub kit: &'k KitParts,
     pub names: NameSet<'k>,
-    ghost named: { (q : List ℕ) → holds names q ≡ named_among (λ (p : OnePlugin). p.name) kit.now.plugins q },
+    ghost named: { (q : List ℕ) → holds names q
+        ≡ named_among (λ (p : OnePlugin). p.name) kit.now.plugins q },
 }
 
 impl Drop for Installed<'_> {

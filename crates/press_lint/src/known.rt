@@ -10,7 +10,8 @@ use press_kit::Scripted;
 pub struct Known<'k> {
     callbacks: &'k [Scripted],
     names: NameSet<'k>,
-    ghost named: { (q : List ℕ) → holds names q ≡ named_among (λ (c : Told). c.id) callbacks.now q },
+    ghost named: { (q : List ℕ) → holds names q
+        ≡ named_among (λ (c : Told). c.id) callbacks.now q },
 }
 
 impl Drop for Known<'_> {
@@ -24,7 +25,8 @@ impl Drop for Known<'_> {
 
 impl<'k> Known<'k> {
     pub fn new(callbacks: &'k [Scripted], names: NameSet<'k>) -> Known<'k>
-        requires { (q : List ℕ) → holds names q ≡ named_among (λ (c : Told). c.id) callbacks.now q }
+        requires { (q : List ℕ) → holds names q
+            ≡ named_among (λ (c : Told). c.id) callbacks.now q }
         ensures { result.callbacks.now ≡ callbacks.now }
     {
         Known { callbacks, names }

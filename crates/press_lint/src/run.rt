@@ -12,7 +12,9 @@ pub struct Run<'k> {
     pub kit: &'k KitParts,
     pub plays: &'k [Play],
     pub hooks: NameSet<'k>,
-    ghost run: { (q : List ℕ) → holds hooks q ≡ (is_run_by kit.now.callbacks q || list_any (λ (p : Played). bytes_eq p.hook q) plays.now) },
+    ghost run: { (q : List ℕ) → holds hooks q
+        ≡ (is_run_by kit.now.callbacks q
+        || list_any (λ (p : Played). bytes_eq p.hook q) plays.now) },
 }
 
 impl Drop for Run<'_> {

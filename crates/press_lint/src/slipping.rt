@@ -42,7 +42,8 @@ impl Look<'_> {
 
     fn hook_slip(&self, at: Place, hook: &HookName) -> Result<String, AllocError>
         ensures { IfOk result (λ t. string_bytes t
-            ≡ spec.hook_slip self.now.front.now self.now.run.kit.now self.now.run.plays.now at hook.now) }
+            ≡ spec.hook_slip self.now.front.now
+            self.now.run.kit.now self.now.run.plays.now at hook.now) }
     {
         if is_run(&self.run, hook) {
             return Ok(String::new(self.alloc));
@@ -52,7 +53,8 @@ impl Look<'_> {
 
     fn op_slip(&self, at: Place, op: &Op, behind: &[Op]) -> Result<String, AllocError>
         ensures { IfOk result (λ t. string_bytes t
-            ≡ spec.op_slip self.now.front.now self.now.run.kit.now self.now.run.plays.now
+            ≡ spec.op_slip self.now.front.now
+            self.now.run.kit.now self.now.run.plays.now
             at op.now behind.now) }
     {
         match op {
@@ -66,7 +68,8 @@ impl Look<'_> {
 
     fn load_slip(&self, at: Place, load: &Load) -> Result<String, AllocError>
         ensures { IfOk result (λ t. string_bytes t
-            ≡ spec.load_slip self.now.front.now self.now.run.kit.now self.now.run.plays.now at load.now) }
+            ≡ spec.load_slip self.now.front.now
+            self.now.run.kit.now self.now.run.plays.now at load.now) }
     {
         match load {
             Load::Hook { hook, .. } => self.hook_slip(at, hook),
@@ -76,7 +79,8 @@ impl Look<'_> {
 
     fn push_ops(&self, out: &mut String, callback: usize, script: &[Op]) -> Result<(), AllocError>
         ensures { OnOk result (string_bytes out.new ≡ string_bytes out.old
-            ++ spec.script_slips self.now.front.now self.now.run.kit.now self.now.run.plays.now callback script.now) }
+            ++ spec.script_slips self.now.front.now
+            self.now.run.kit.now self.now.run.plays.now callback script.now) }
     {
         for op in 0..script.len() {
             let at = Place::Op { callback, op };
@@ -88,7 +92,8 @@ impl Look<'_> {
 
     fn push_loads(&self, out: &mut String, plugin: usize, loads: &[Load]) -> Result<(), AllocError>
         ensures { OnOk result (string_bytes out.new ≡ string_bytes out.old
-            ++ spec.loads_slips self.now.front.now self.now.run.kit.now self.now.run.plays.now plugin loads.now) }
+            ++ spec.loads_slips self.now.front.now
+            self.now.run.kit.now self.now.run.plays.now plugin loads.now) }
     {
         for load in 0..loads.len() {
             let at = Place::Load { plugin, load };
@@ -100,7 +105,8 @@ impl Look<'_> {
 
     fn push_callbacks(&self, out: &mut String, callbacks: &[Scripted]) -> Result<(), AllocError>
         ensures { OnOk result (string_bytes out.new ≡ string_bytes out.old
-            ++ spec.along (spec.callback_slips self.now.front.now self.now.run.kit.now self.now.run.plays.now) 0 callbacks.now) }
+            ++ spec.along (spec.callback_slips self.now.front.now
+            self.now.run.kit.now self.now.run.plays.now) 0 callbacks.now) }
     {
         for n in 0..callbacks.len() {
             self.push_ops(out, n, callbacks[n].script.as_slice())?;
@@ -110,7 +116,8 @@ impl Look<'_> {
 
     fn push_plugins(&self, out: &mut String, plugins: &[Plugin]) -> Result<(), AllocError>
         ensures { OnOk result (string_bytes out.new ≡ string_bytes out.old
-            ++ spec.along (spec.plugin_slips self.now.front.now self.now.run.kit.now self.now.run.plays.now) 0 plugins.now) }
+            ++ spec.along (spec.plugin_slips self.now.front.now
+            self.now.run.kit.now self.now.run.plays.now) 0 plugins.now) }
     {
         for n in 0..plugins.len() {
             self.push_loads(out, n, plugins[n].load.as_slice())?;

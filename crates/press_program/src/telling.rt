@@ -68,7 +68,8 @@ pub(crate) fn refuse_kit<E: Write>(alloc: Global, file: &str, fault: &KitFault, 
     ensures status { result ≡ 2 }
     ensures told { AppendsFront (E.contents error.old) (E.contents error.new)
         (line_of_kit file.now fault.now)
-        ⊎ AppendsFront (E.contents error.old) (E.contents error.new) (fault_line ReplayFault.NoMemory) }
+        ⊎ AppendsFront (E.contents error.old) (E.contents error.new)
+        (fault_line ReplayFault.NoMemory) }
 {
     match kit_line(alloc, file, fault) {
         Ok(line) => tell(error, line.as_bytes()),

@@ -55,7 +55,13 @@ impl Model for Proposer {
 
     ghost Value = { Proposing };
 
-    ghost view = { λ p. record { id = p.id; members = p.members; queue = p.queue; phase = p.phase; nacked = p.nacked } };
+    ghost view = { λ p. record {
+      id = p.id;
+      members = p.members;
+      queue = p.queue;
+      phase = p.phase;
+      nacked = p.nacked;
+    } };
 
     ghost invariant = { λ p. p.members ≤ 7 };
 }
@@ -199,7 +205,8 @@ impl Proposer {
         ensures round { (S.seen store.new).is_honest →
             IfOk result (λ round. round ≡ next_round (S.seen store.old).kept self.now) }
         ensures left { (S.seen store.new).is_honest →
-            IfOk result (λ _. nat_lt (2 ^ 40) (next_round (S.seen store.old).kept self.now) ≡ false) }
+            IfOk result (λ _. nat_lt (2 ^ 40)
+            (next_round (S.seen store.old).kept self.now) ≡ false) }
         ensures used_up { (S.seen store.new).is_honest → result ≡ Err ProposerFault.RoundsUsedUp →
             nat_lt (2 ^ 40) (next_round (S.seen store.old).kept self.now) ≡ true }
         ensures fault { IfErr result (λ fault. fault ≢ ProposerFault.Full) }

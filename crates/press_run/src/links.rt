@@ -43,20 +43,32 @@ pub fn publishes(id: &Text, now: Moment) -> Option<Effect>
     }
 }
 
-/// The change that schedules an event that many seconds after a moment, if that is a moment.
-pub fn schedules(after: u64, every: Every, hook: HookName, arg: Text, now: Moment) -> Option<Effect>
-    ensures { result ≡ schedules after every hook arg now }
-{
-    let Some(seconds) = now.seconds().checked_add(after) else {
-        return None;
-    };
-    match Moment::new(seconds) {
-        None => None,
-        Some(time) => Some(Effect::Schedule(Event {
+/// An event that a callback asks for, so many seconds from now.
+pub struct FromNow {
+    pub after: u64,
+    pub every: Every,
+    pub hook: HookName,
+    pub arg: Text,
+}
+
+impl FromNow {
+    /// The change that schedules it, if it comes at a moment.
+    pub fn scheduled(self, now: Moment) -> Option<Effect>
+        ensures { result ≡ schedules self.after self.every self.hook self.arg now }
+    {
+        let FromNow {
+            after,
+            every,
+            hook,
+            arg,
+        } = self;
+        let seconds = now.seconds().checked_add(after)?;
+        let time = Moment::new(seconds)?;
+        Some(Effect::Schedule(Event {
             time,
             hook,
             arg,
             every,
-        })),
+        }))
     }
 }

@@ -79,7 +79,8 @@ impl<L: SiteLink + Drop> Stage<L> {
     /// the site touches.
     pub fn run(&mut self, kit: &Kit, job: Job) -> Result<String, RunFault>
         ensures gives { GivesJob
-            (job_meaning L.changes (scripts_in kit.now) job (state_of (standing L.view L.fixed self.old)))
+            (job_meaning L.changes (scripts_in kit.now) job
+            (state_of (standing L.view L.fixed self.old)))
             (around (standing L.view L.fixed self.old)) (standing L.view L.fixed self.new) result }
         ensures fixed { L.fixed self.new.site ≡ L.fixed self.old.site }
     {

@@ -59,9 +59,17 @@ impl Model for Scan {
 
     ghost Value = { Progress };
 
-    ghost view = { λ s. record { text = string_bytes s.text; at = s.at; output = string_bytes s.output; waiting = s.waiting } };
+    ghost view = { λ s. record {
+      text = string_bytes s.text;
+      at = s.at;
+      output = string_bytes s.output;
+      waiting = s.waiting;
+    } };
 
-    ghost invariant = { λ s. IsCharBoundary (string_bytes s.text) s.at × AreMissing (string_bytes s.text) s.missing.items × ((w : Shortcode) → s.waiting ≡ Some w → IsCharBoundary (string_bytes s.text) w.end) × ((f : Shortcode) → s.found ≡ Some f → IsNamed (string_bytes s.text) f) };
+    ghost invariant = { λ s. IsCharBoundary (string_bytes s.text) s.at
+        × AreMissing (string_bytes s.text) s.missing.items
+        × ((w : Shortcode) → s.waiting ≡ Some w → IsCharBoundary (string_bytes s.text) w.end)
+        × ((f : Shortcode) → s.found ≡ Some f → IsNamed (string_bytes s.text) f) };
 }
 
 // Adds a part of a text.

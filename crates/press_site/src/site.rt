@@ -64,7 +64,14 @@ impl Model for Site {
 
     ghost Value = { SiteView };
 
-    ghost view = { λ s. record { moment = s.moment; posts = s.content.posts; events = s.content.events; options = s.options; active = s.plugins; outcomes = s.outcomes } };
+    ghost view = { λ s. record {
+      moment = s.moment;
+      posts = s.content.posts;
+      events = s.content.events;
+      options = s.options;
+      active = s.plugins;
+      outcomes = s.outcomes;
+    } };
 }
 
 impl Site {

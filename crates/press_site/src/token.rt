@@ -57,9 +57,11 @@ impl Eq for Token {
 }
 
 impl PartialOrd for Token {
-    ghost partial_cmp = { as_partial_cmp (then_cmp (on (λ t. t.editor) (slice_cmp nat_cmp)) (on (λ t. t.seq) nat_cmp)) };
+    ghost partial_cmp = { as_partial_cmp (then_cmp
+        (on (λ t. t.editor) (slice_cmp nat_cmp)) (on (λ t. t.seq) nat_cmp)) };
 
-    ghost laws = { partial_order_from_own_ties (Prim.search (comparing, rules)) (Prim.search (comparing, rules)) };
+    ghost laws = { partial_order_from_own_ties
+        (Prim.search (comparing, rules)) (Prim.search (comparing, rules)) };
 
     fn partial_cmp(&self, other: &Token) -> Option<Ordering> {
         Some(self.cmp(other))

@@ -37,7 +37,12 @@ impl Model for Undo {
 
     ghost Value = { Log };
 
-    ghost view = { λ u. record { stood = u.stood.items; shifts = u.shifts.items; events = u.events; active = u.active } };
+    ghost view = { λ u. record {
+      stood = u.stood.items;
+      shifts = u.shifts.items;
+      events = u.events;
+      active = u.active;
+    } };
 }
 
 impl Undo {

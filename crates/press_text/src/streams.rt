@@ -50,8 +50,10 @@ fn read_some<R: Read>(
     room: usize,
 ) -> Result<usize, ReadLimitedFault>
     requires { 0 < room }
-    ensures took { (bytes : List ℕ) × Consumes (R.remaining reader.old) (R.remaining reader.new) bytes
-        × (length bytes ≤ room) × IfOk result (λ n. (n ≡ length bytes) × (out.new.items ≡ out.old.items ++ bytes)) }
+    ensures took { (bytes : List ℕ)
+        × Consumes (R.remaining reader.old) (R.remaining reader.new) bytes
+        × (length bytes ≤ room)
+        × IfOk result (λ n. (n ≡ length bytes) × (out.new.items ≡ out.old.items ++ bytes)) }
     ensures end { IfOk result (λ n. n ≡ 0 → IsAtEnd (R.remaining reader.new)) }
     ensures faults { IfErr result (λ e. e ≢ TooLong) }
 {

@@ -12,6 +12,8 @@ use std::alloc::Global;
 pub struct World {
     pub(crate) alloc: Global,
     pub(crate) cluster: Cluster,
-    pub(crate) ghost sound: { ∥ IsSound (stored_of cluster.seats.items cluster.sent.items cluster.trace.items) ∥₁ },
-    pub(crate) ghost members: { ∥ ((kit : KitView) × AreMembers kit (statics_of cluster.seats.items)) ∥₁ },
+    pub(crate) ghost sound: { ∥ IsSound
+        (stored_of cluster.seats.items cluster.sent.items cluster.trace.items) ∥₁ },
+    pub(crate) ghost members: { ∥ ((kit : KitView)
+        × AreMembers kit (statics_of cluster.seats.items)) ∥₁ },
 }

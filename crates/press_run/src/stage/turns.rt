@@ -9,7 +9,7 @@ use super::Stage;
 use crate::answers::one_if;
 use crate::frame::OpenCallback;
 use crate::link::SiteLink;
-use crate::links;
+use crate::links::{self, FromNow};
 use crate::run_fault::RunFault;
 use crate::step::{Kind, Step};
 use press_callbacks::Turn;
@@ -77,7 +77,13 @@ impl<L: SiteLink + Drop> Stage<L> {
                 hook,
                 arg,
             } => {
-                let effect = links::schedules(after, every, hook, arg, self.site.site().now());
+                let event = FromNow {
+                    after,
+                    every,
+                    hook,
+                    arg,
+                };
+                let effect = event.scheduled(self.site.site().now());
                 Ok(self.begin_change(room, effect)?.awaited())
             }
             Turn::Publish(id) => {
