@@ -54,6 +54,15 @@ impl CallbackId {
         &self.bytes[..self.len as usize]
     }
 
+    /// The number that eight bytes of the name spell, zeros behind it up to 32; so many words lie before them.
+    #[tactic(auto, using(crate::proofs::Words::kept_word))]
+    pub fn word(&self, i: usize) -> u64
+        requires { i < 4 }
+        ensures { result ≡ number 0 (eight (8 * i) (padded self.now)) }
+    {
+        word(&self.bytes, i)
+    }
+
     /// Whether the two names are the same, byte by byte.
     pub fn is(self, other: CallbackId) -> bool
         ensures { result ≡ bytes_eq self other }
