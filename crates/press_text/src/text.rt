@@ -1,4 +1,4 @@
-ghost use Rattle.std.specs.Prelude.{◌≡◌, ◌≤◌, [], ◌++◌, ◌==◌, length, string_bytes, OnOk, OnErr, IfOk};
+ghost use Rattle.std.specs.Prelude.{◌≡◌, ◌<◌, ◌≤◌, [], ◌++◌, ◌==◌, length, string_bytes, OnOk, OnErr, IfOk};
 ghost use Rattle.press_text.specs.Texts.{bytes_of};
 
 use crate::short::{MOST, Short};
@@ -69,7 +69,8 @@ impl Text {
 
     /// Takes memory past 22 bytes alone, and for no byte of the text.
     pub fn from_string(text: String) -> Result<Text, AllocError>
-        ensures { IfOk result (λ t. t ≡ string_bytes text) }
+        ensures value { IfOk result (λ t. t ≡ string_bytes text) }
+        ensures memory { OnErr result (22 < length (string_bytes text)) }
     {
         let alloc = *text.allocator();
         let inside = if text.len() <= MOST {
@@ -82,7 +83,8 @@ impl Text {
 
     /// Takes memory past 22 bytes alone.
     pub fn from_str(alloc: Global, text: &str) -> Result<Text, AllocError>
-        ensures { IfOk result (λ t. t ≡ text.now) }
+        ensures value { IfOk result (λ t. t ≡ text.now) }
+        ensures memory { OnErr result (22 < length text.now) }
     {
         let inside = if text.len() <= MOST {
             Held::Inline(Short::from_str(text))
@@ -131,10 +133,11 @@ impl Text {
         self.len() == 0
     }
 
-    /// Appends; if memory runs out the text stays as it was.
+    /// Appends; if memory runs out the text stays as it was. To append nothing takes none.
     pub fn push_str(&mut self, more: &str) -> Result<(), AllocError>
         ensures ok { OnOk result (self.new ≡ self.old ++ more.now) }
         ensures err { OnErr result (self.new ≡ self.old) }
+        ensures memory { OnErr result (0 < length more.now) }
     {
         if more.is_empty() {
             return Ok(());
@@ -157,12 +160,13 @@ impl Text {
         Ok(())
     }
 
-    /// Appends; an empty text then shares what the other holds. If memory runs out the text stays as it was.
+    /// Appends; an empty text then shares what the other holds. If memory runs out the text stays as it was. To append nothing takes none.
     pub fn push(&mut self, more: &Text) -> Result<(), AllocError>
         ensures ok { OnOk result (self.new ≡ self.old ++ more.now) }
         ensures err { OnErr result (self.new ≡ self.old) }
+        ensures memory { OnErr result (0 < length more.now) }
     {
-        if !self.is_empty() {
+        if !self.is_empty() || more.is_empty() {
             return self.push_str(more.as_str());
         }
         *self = more.copy(self.alloc)?;

@@ -6,4 +6,4 @@ pub returns : goal.returns
 returns g c =
     let e = c.in_ok-rendering.ensures in
     let shown = rw (c.as_str.ensures.value, c.in_ok-name.ensures, e.booted, e.site) at c.in_ok-whole_page.ensures in
-    (state_in c.whole_page.new.self, shown, sym (c.in_ok-body.ensures ∙ c.into_text.ensures))
+    (state_in c.whole_page.new.self, shown, sym (c.in_ok-body.ensures.value ∙ c.into_text.ensures))
