@@ -4,7 +4,7 @@
 //! its kind, and an opening quote is tried at most twice, after a name and where a token begins. A name is looked up
 //! among those so far by its hash; in a text of up to 64 bytes it is compared with each, which are 32 at most.
 
-ghost use Rattle.std.specs.Prelude.{◌≡◌, ◌-◌, ◌^◌, ◌+◌, ◌<◌, ◌≤◌, ◌++◌, ◌∷◌, [], IfOk, OnOk, OnErr, IsTrue, ◌↔◌, length, string_bytes, slice_range};
+ghost use Rattle.std.specs.Prelude.{◌≡◌, ◌-◌, ◌^◌, ◌+◌, ◌<◌, ◌≤◌, ◌++◌, ◌∷◌, [], IfOk, OnOk, OnErr, IsTrue, ◌↔◌, length, string_bytes, slice_range, None};
 ghost use Rattle.std.specs.Str.{str_to_ascii_lowercase};
 ghost use Rattle.std.specs.Char.{is_ascii_uppercase};
 ghost use Rattle.std.specs.List.{list_any};
@@ -98,7 +98,8 @@ fn part(alloc: Global, text: &str, span: Span) -> Result<Text, AllocError>
     requires order { span.start ≤ span.end }
     requires start { IsCharBoundary text.now span.start }
     requires end { IsCharBoundary text.now span.end }
-    ensures { IfOk result (λ t. t ≡ cut text.now span) }
+    ensures value { IfOk result (λ t. t ≡ cut text.now span) }
+    ensures memory { OnErr result (22 < length (cut text.now span)) }
 {
     Text::from_str(alloc, &text[span.start..span.end])
 }
@@ -124,11 +125,13 @@ fn lower(alloc: Global, text: &str, span: Span) -> Result<Text, AllocError>
     Text::from_str(alloc, name)
 }
 
+// Takes the token's attribute. An empty value without a name is none, and takes no memory.
 fn take(alloc: Global, text: &str, found: &mut Gathering, token: Token) -> Result<(), AllocError>
     requires token { IsCutAt text.now token }
     requires room { found.old.next < 2 ^ 32 - 1 }
-    ensures { OnOk result (Gathers found.old.atts found.old.next found.new.atts found.new.next
-        text.now token) }
+    ensures gathers { OnOk result (Gathers found.old.atts found.old.next found.new.atts
+        found.new.next text.now token) }
+    ensures memory { OnErr result (token.name ≡ None → 0 < length (cut text.now token.value)) }
 {
     match token.name {
         Some(name) => {

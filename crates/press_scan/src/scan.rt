@@ -106,7 +106,7 @@ fn in_brackets(alloc: Global, shortcode: Shortcode, answer: &str) -> Result<Stri
     format!(in alloc; "{front}{answer}{back}")
 }
 
-// Adds an answer. With brackets it is made first, so that after running out of memory nothing has changed.
+// Adds an answer. An empty one without brackets takes no memory. With brackets it is made first, so that after running out of memory nothing has changed.
 fn push_answer(
     out: &mut String,
     alloc: Global,
@@ -116,6 +116,8 @@ fn push_answer(
     ensures ok { OnOk result (string_bytes out.new ≡ string_bytes out.old
         ++ (before shortcode ++ (answer.now ++ behind shortcode))) }
     ensures err { OnErr result (string_bytes out.new ≡ string_bytes out.old) }
+    ensures memory { OnErr result (0 < length (before shortcode
+        ++ (answer.now ++ behind shortcode))) }
 {
     if shortcode.lead || shortcode.tail {
         let piece = in_brackets(alloc, shortcode, answer)?;
@@ -329,9 +331,12 @@ impl Scan {
     }
 
     /// Puts the answer to the call in its place, which is not scanned again. If memory runs out, nothing has changed.
+    /// An empty answer without brackets takes none.
     pub fn put(&mut self, answer: &str) -> Result<(), AllocError>
         requires { IsSome self.old.waiting }
-        ensures { PutGives result answer.now self.old self.new }
+        ensures puts { PutGives result answer.now self.old self.new }
+        ensures memory { OnErr result (IfSome self.old.waiting (λ s. 0 < length (before s
+            ++ (answer.now ++ behind s)))) }
     {
         match self.waiting {
             Some(shortcode) => {

@@ -19,8 +19,8 @@ returns-then-place-text-clause-computed c = c.into_atts.ensures ∙ attributes_c
 
 pub tokens-preserved : goal.tokens-preserved
 tokens-preserved c =
-    let step : c.take.new.found.next ≤ c.tokens.found.next + 1 = next_more _ _ c.tokens.found.next c.take.new.found.next c.args.text.now c.token_of-token.result c.in_ok-take.ensures in (
+    let step : c.take.new.found.next ≤ c.tokens.found.next + 1 = next_more _ _ c.tokens.found.next c.take.new.found.next c.args.text.now c.token_of-token.result c.in_ok-take.ensures.gathers in (
       c.token_of-token.ensures.edge,
       omega (arith, c.tokens.invariant.1, c.next_place-place.ensures.first.after, c.token_of-token.ensures.end.0),
-      leads_more c.args.text.now c.tokens.at c.next_place-place.result c.token_of-token.result c.tokens.found.atts c.take.new.found.atts c.tokens.found.next c.take.new.found.next c.tokens.invariant.2 c.next_place-place.ensures.first (omega (arith, c.token_of-token.ensures.end)) c.token_of-token.ensures.token c.in_ok-take.ensures,
+      leads_more c.args.text.now c.tokens.at c.next_place-place.result c.token_of-token.result c.tokens.found.atts c.take.new.found.atts c.tokens.found.next c.take.new.found.next c.tokens.invariant.2 c.next_place-place.ensures.first (omega (arith, c.token_of-token.ensures.end)) c.token_of-token.ensures.token c.in_ok-take.ensures.gathers,
     )
