@@ -88,7 +88,13 @@ impl Copied for Op {
                 every,
                 hook,
                 arg,
-            } => schedule(alloc, *after, *every, hook, arg),
+            } => {
+                let times = Times {
+                    after: *after,
+                    every: *every,
+                };
+                schedule(alloc, times, hook, arg)
+            }
             Op::Publish(parts) => Ok(Op::Publish(parts.copied(alloc)?)),
             Op::Echo(parts) => Ok(Op::Echo(parts.copied(alloc)?)),
             Op::Return(parts) => Ok(Op::Return(parts.copied(alloc)?)),
@@ -134,20 +140,21 @@ fn set_option(alloc: Global, name: &OptName, value: &Parts) -> Result<Op, AllocE
     Ok(Op::SetOption { name, value })
 }
 
-fn schedule(
-    alloc: Global,
+// When an event is asked for: so many seconds from now, and how often from then on.
+#[derive(Clone, Copy)]
+struct Times {
     after: u64,
     every: Every,
-    hook: &HookName,
-    arg: &Parts,
-) -> Result<Op, AllocError>
-    ensures { IfOk result (λ op. op ≡ Op.Schedule after every hook.now arg.now) }
+}
+
+fn schedule(alloc: Global, times: Times, hook: &HookName, arg: &Parts) -> Result<Op, AllocError>
+    ensures { IfOk result (λ op. op ≡ Op.Schedule times.after times.every hook.now arg.now) }
 {
     let hook = hook.copy(alloc)?;
     let arg = arg.copied(alloc)?;
     Ok(Op::Schedule {
-        after,
-        every,
+        after: times.after,
+        every: times.every,
         hook,
         arg,
     })

@@ -1,6 +1,6 @@
-ghost use Rattle.std.specs.Prelude.{◌≡◌, ◌∷◌, ◌++◌, map, IfOk, OnOk, bytes_eq};
+ghost use Rattle.std.specs.Prelude.{◌≡◌, ◌∷◌, ◌++◌, cond, map, IfOk, OnOk, bytes_eq};
 ghost use Rattle.press_text.specs.Escapes.{escaped};
-ghost use Rattle.press_callbacks.specs.Turns.{source_text, part_text, text_of, turn_of_op, turn_of, skipped};
+ghost use Rattle.press_callbacks.specs.Turns.{source_text, part_text, text_of, turn_of_op, turn_of};
 ghost use Rattle.press_callbacks.specs.declared.script.Turn.TheVariants.{Go, Return};
 
 use crate::script::{Ask, CallIn, Op, Part, Parts, Script, Source, Turn};
@@ -79,7 +79,10 @@ fn op_turn(alloc: Global, op: &Op, call: &CallIn) -> Result<Turn, AllocError>
         Op::RemoveTag { tag } => Ok(Turn::RemoveTag {
             tag: tag.copy(alloc)?,
         }),
-        Op::SkipIf { left, right, n } => Ok(Turn::Skip(skipped(alloc, left, right, *n, call)?)),
+        Op::SkipIf { left, right, n } => Ok(Turn::Skip(skipped(
+            *n,
+            are_same(alloc, left, right, call)?,
+        ))),
         Op::Apply { hook, value, more } => {
             let hook = hook.copy(alloc)?;
             let texts = value_and_more(alloc, value, more, call)?;
@@ -113,24 +116,21 @@ fn op_turn(alloc: Global, op: &Op, call: &CallIn) -> Result<Turn, AllocError>
     }
 }
 
-// How many ops a SkipIf passes over.
-fn skipped(
-    alloc: Global,
-    left: &Parts,
-    right: &Parts,
-    n: u16,
-    call: &CallIn,
-) -> Result<u16, AllocError>
-    ensures { IfOk result (λ k. k ≡ skipped (text_of call.now left.now)
-        (text_of call.now right.now) n) }
+// How many ops a SkipIf passes over, of those that it names.
+fn skipped(n: u16, same: bool) -> u16
+    ensures { result ≡ cond same n 0 }
+{
+    if same { n } else { 0 }
+}
+
+// Whether the two texts are the same, byte by byte.
+fn are_same(alloc: Global, left: &Parts, right: &Parts, call: &CallIn) -> Result<bool, AllocError>
+    ensures { IfOk result (λ b. b ≡ bytes_eq (text_of call.now left.now)
+        (text_of call.now right.now)) }
 {
     let left = text_of(alloc, left, call)?;
     let right = text_of(alloc, right, call)?;
-    if left.as_str() == right.as_str() {
-        Ok(n)
-    } else {
-        Ok(0)
-    }
+    Ok(left.as_str() == right.as_str())
 }
 
 fn value_and_more(
