@@ -7,7 +7,9 @@ use Rattle.std.proofs.lemmas.List.{length-map}
 use Rattle.press_callbacks.specs.declared.script.Op.{Op}
 use Rattle.press_callbacks.specs.declared.plugin.Plugin.{Plugin}
 use Rattle.press_callbacks.specs.Kits.{Scripts, script_of, script_at, name_at, is_named, plugin_of}
-use Rattle.press_callbacks.specs.Order.{place_of}
+use Rattle.std.specs.List.{list_any}
+use Rattle.press_callbacks.specs.Order.{place_of, has_two}
+use Rattle.press_callbacks.proofs.Moved.{flip, neither}
 
 script_step : {A : Type 0} (f : A → List ℕ × List Op) (id : List ℕ) (xs : List A) (i : ℕ) (x : A) → i < length xs → x ≡ get_or xs i x → script_of id (drop i (map f xs)) ≡ cond (bytes_eq (f x).0 id) (Some (f x).1) (script_of id (drop (i + 1) (map f xs)))
 script_step f id [] i x h e = absurd (omega arith)
@@ -97,6 +99,43 @@ plugin_where false p ps name (Some i) rest e = e
 pub plugin_placed : (name : List ℕ) (ps : List Plugin) → plugin_at (place_of (λ p. p.name) name ps) ps ≡ plugin_of name ps
 plugin_placed name [] = refl
 plugin_placed name (p ∷ ps) = plugin_where (bytes_eq p.name name) p ps name (place_of (λ p. p.name) name ps) (plugin_of name ps) (plugin_placed name ps)
+
+-- ---- where no name stands twice, what has the name is the first that has it
+
+module _ (id : List ℕ) where
+  other : {A : Type 0} (f : A → List ℕ × List Op) (n : List ℕ) (xs : List A) (i : ℕ) → list_any (λ y. bytes_eq (f y).0 n) xs ≡ false → option_map (λ x. (f x).0) (slice_get xs i) ≡ Some id → bytes_eq n id ≡ false
+  other f n [] i e h = cc
+  other f n (x ∷ xs) zero e h =
+      let here : (f x).0 ≡ id = cc in
+      flip n id ∙ ap (λ m. bytes_eq m n) (sym here) ∙ (neither (bytes_eq (f x).0 n) (list_any (λ y. bytes_eq (f y).0 n) xs) e).0
+  other f n (x ∷ xs) (suc i) e h =
+      other f n xs i (neither (bytes_eq (f x).0 n) (list_any (λ y. bytes_eq (f y).0 n) xs) e).1 h
+
+  -- the script of what has the name
+  pub script_seen : {A : Type 0} (f : A → List ℕ × List Op) (xs : List A) (i : ℕ) → has_two (λ x. (f x).0) xs ≡ false → option_map (λ x. (f x).0) (slice_get xs i) ≡ Some id → script_at (Some i) (map f xs) ≡ script_of id (map f xs)
+  script_seen f [] i e h = cc
+  script_seen f (x ∷ xs) zero e h =
+      let same : (f x).0 ≡ id = cc in
+      let here : bytes_eq (f x).0 id ≡ true = (bytes_eq-Decides (f x).0 id).1 same in
+      sym (ap (λ b. cond b (Some (f x).1) (script_of id (map f xs))) here)
+  script_seen f (x ∷ xs) (suc i) e h =
+      let two = neither (list_any (λ y. bytes_eq (f y).0 (f x).0) xs) (has_two (λ y. (f y).0) xs) e in
+      script_seen f xs i two.1 h
+      ∙ sym (ap (λ b. cond b (Some (f x).1) (script_of id (map f xs))) (other f (f x).0 xs i two.0 h))
+
+  -- its name
+  pub name_seen : {A : Type 0} (f : A → List ℕ × List Op) (xs : List A) (i : ℕ) → option_map (λ x. (f x).0) (slice_get xs i) ≡ Some id → name_at i (map f xs) ≡ Some id
+  name_seen f [] i h = cc
+  name_seen f (x ∷ xs) zero h = h
+  name_seen f (x ∷ xs) (suc i) h = name_seen f xs i h
+
+-- what was looked at and goes by a name
+pub looked : {A : Type 0} (name : A → List ℕ) (id : List ℕ) (xs : List A) (i : ℕ) (x : A) → i < length xs → x ≡ get_or xs i x → bytes_eq (name x) id ≡ true → option_map name (slice_get xs i) ≡ Some id
+looked name id [] i x h e t = absurd (omega arith)
+looked name id (y ∷ ys) zero x h e t =
+    let same : name x ≡ id = (bytes_eq-Decides (name x) id).0 t in
+    ap (λ z. Some (name z)) (sym e) ∙ ap (λ n. Some n) same
+looked name id (y ∷ ys) (suc i) x h e t = let lt : i < length ys = omega arith in looked name id ys i x lt e t
 
 -- no place, no script
 pub nothing : (place : Option ℕ) (cs : Scripts) → IsNone place → script_at place cs ≡ None

@@ -21,7 +21,7 @@ use Rattle.press_callbacks.proofs.Naturals.{all_alike}
 
 -- ---- whether a name stands twice
 
-flip : (a b : List ℕ) → bytes_eq a b ≡ bytes_eq b a
+pub flip : (a b : List ℕ) → bytes_eq a b ≡ bytes_eq b a
 flip a b = alike (bytes_eq a b) (bytes_eq b a) refl refl
   where
     alike : (p q : Bool) → p ≡ bytes_eq a b → q ≡ bytes_eq b a → p ≡ q
@@ -29,7 +29,7 @@ flip a b = alike (bytes_eq a b) (bytes_eq b a) refl refl
     alike false true e f = e ∙ (bytes_eq-Decides a b).1 (sym ((bytes_eq-Decides b a).0 (sym f)))
     alike false false e f = refl
 
-neither : (a b : Bool) → (a || b) ≡ false → (a ≡ false) × (b ≡ false)
+pub neither : (a b : Bool) → (a || b) ≡ false → (a ≡ false) × (b ≡ false)
 neither true b e = absurd (cc)
 neither false b e = (refl, e)
 

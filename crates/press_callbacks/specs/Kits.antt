@@ -14,6 +14,7 @@ use Rattle.press_callbacks.specs.declared.plugin.LoadKind.{LoadKind}
 use Rattle.press_callbacks.specs.declared.plugin.LoadKind.TheVariants as kind
 use Rattle.press_callbacks.specs.BuiltIns.{is_built_in}
 use Rattle.press_callbacks.specs.Order.{by_name}
+pub use Rattle.press_callbacks.specs.Order.{has_two}
 use Rattle.press_callbacks.specs.declared.kit_fault.KitFault.{KitFault}
 use Rattle.press_callbacks.specs.declared.kit_fault.KitFault.TheVariants.{NoMemory, TwoNames, UnknownCallback, BadLoad}
 use Rattle.press_callbacks.specs.declared.stored.Stored.{Stored}
@@ -71,11 +72,6 @@ abbrev pub view_of : Scripts → List Plugin → KitView
 view_of scripts plugins = record { scripts = by_name (λ c. c.0) scripts; plugins = by_name (λ p. p.name) plugins }
 
 -- ---- refusals, in their order
-
--- whether a name stands twice
-abbrev pub has_two : {T : Type 0} → (T → List ℕ) → List T → Bool
-has_two name [] = false
-has_two name (x ∷ xs) = list_any (λ y. bytes_eq (name y) (name x)) xs || has_two name xs
 
 -- the callback that an op names
 abbrev pub callback_asked : asked.Ask → Option (List ℕ)

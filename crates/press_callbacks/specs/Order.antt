@@ -1,6 +1,6 @@
 -- Things with a name in the order of their names, byte by byte.
-use Rattle.std.specs.Prelude.{ℕ, suc, List, [], ◌∷◌, length, Bool, true, not, ◌&&◌, cond, bytes_eq, insert, position, unwrap_or, Option, Some, None, option_map}
-use Rattle.std.specs.List.{list_all}
+use Rattle.std.specs.Prelude.{ℕ, suc, List, [], ◌∷◌, length, Bool, true, false, not, ◌||◌, ◌&&◌, cond, bytes_eq, insert, position, unwrap_or, Option, Some, None, option_map}
+use Rattle.std.specs.List.{list_any, list_all}
 use Rattle.std.specs.Cmp.Lexicographic.{slice_cmp}
 use Rattle.std.specs.Ordering.{nat_cmp, is_lt}
 
@@ -22,6 +22,11 @@ by_name name (x ∷ xs) = put_by_name name x (by_name name xs)
 abbrev pub in_order : {T : Type 0} → (T → List ℕ) → List T → Bool
 in_order name [] = true
 in_order name (x ∷ xs) = list_all (λ y. not (is_before (name y) (name x))) xs && in_order name xs
+
+-- whether a name stands twice
+abbrev pub has_two : {T : Type 0} → (T → List ℕ) → List T → Bool
+has_two name [] = false
+has_two name (x ∷ xs) = list_any (λ y. bytes_eq (name y) (name x)) xs || has_two name xs
 
 -- where the first of that name stands
 abbrev pub place_of : {T : Type 0} → (T → List ℕ) → List ℕ → List T → Option ℕ

@@ -23,7 +23,8 @@ impl Identified for Stored {
     }
 }
 
-fn is_of_id<T: Identified>(x: &T, id: &CallbackId) -> bool
+/// Whether it goes by that name.
+pub fn is_of_id<T: Identified>(x: &T, id: &CallbackId) -> bool
     ensures { result ≡ bytes_eq (T.id x.now) id.now }
 {
     x.callback_id().order(id).is_eq()

@@ -1,6 +1,7 @@
-ghost use Rattle.std.specs.Prelude.{◌≡◌, true};
-ghost use Rattle.press_callbacks.specs.Order.{in_order};
+ghost use Rattle.std.specs.Prelude.{◌≡◌, true, false};
+ghost use Rattle.press_callbacks.specs.Order.{in_order, has_two};
 
+use crate::hints::Hints;
 use crate::plugin::Plugin;
 use crate::stored::Stored;
 
@@ -8,7 +9,9 @@ use crate::stored::Stored;
 pub struct Kit {
     pub(crate) callbacks: Vec<Stored>,
     pub(crate) plugins: Vec<Plugin>,
+    pub(crate) hints: Hints,
     ghost callbacks_in_order: { in_order (λ c. c.id) callbacks.items ≡ true },
+    ghost callbacks_apart: { has_two (λ c. c.id) callbacks.items ≡ false },
     ghost plugins_in_order: { in_order (λ p. p.name) plugins.items ≡ true },
 }
 
@@ -17,6 +20,7 @@ impl Drop for Kit {
         let Kit {
             callbacks: _,
             plugins: _,
+            hints: _,
         } = self;
     }
 }

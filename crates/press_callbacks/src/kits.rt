@@ -4,6 +4,7 @@ ghost use Rattle.std.specs.Prelude.{◌≡◌, Some, IfOk, IfSome, IsNone, IsTru
 ghost use Rattle.press_callbacks.specs.Kits.{id_of, script_in, scripts_in, plugins_in, callbacks_in, name_at, is_missing, kit_view, scripts_given, view_of, kit_fault, Builds, script_of, script_at, plugin_of};
 ghost use Rattle.press_callbacks.specs.Order.{by_name};
 
+use crate::hints::Hints;
 use crate::identified;
 use crate::kit::Kit;
 use crate::kit_fault::KitFault;
@@ -17,9 +18,10 @@ use std::alloc::Global;
 impl Kit {
     /// Refuses by TwoNames (two callbacks or two plugins of one name, or a callback with the name of a built-in one), then
     /// UnknownCallback (a load or a script names a callback that is neither there nor built in), then BadLoad (more than 1,000
-    /// hook loads or 128 tag loads in all plugins together). The kit's callbacks are those given, closures and all. Takes no memory.
+    /// hook loads or 128 tag loads in all plugins together). The kit's callbacks are those given, closures and all.
+    /// Takes memory for hints to where they stand, and none where there are none.
     pub fn build(
-        _alloc: Global,
+        alloc: Global,
         callbacks: Vec<Stored>,
         plugins: Vec<Plugin>,
     ) -> Result<Kit, KitFault>
@@ -33,7 +35,12 @@ impl Kit {
         if let Some(fault) = fault_of(callbacks.as_slice(), plugins.as_slice()) {
             return Err(fault);
         }
-        Ok(Kit { callbacks, plugins })
+        let hints = Hints::new(alloc, callbacks.as_slice())?;
+        Ok(Kit {
+            callbacks,
+            plugins,
+            hints,
+        })
     }
 
     /// The callback of that name.
@@ -48,14 +55,18 @@ impl Kit {
         }
     }
 
-    /// The place of the callback of that name, which serves for many turns, by binary search.
+    /// The place of the callback of that name, which serves for many turns: by its hint, and where none leads there by binary search.
     pub fn place(&self, id: CallbackId) -> Option<usize>
         ensures script { script_at result (scripts_in self.now)
             ≡ script_of id (scripts_in self.now) }
         ensures named { IfSome result (λ place. name_at place (scripts_in self.now) ≡ Some id) }
         ensures missing { IsNone result → IsTrue (is_missing id (scripts_in self.now)) }
     {
-        identified::place_of(self.callbacks.as_slice(), &id)
+        let callbacks = self.callbacks.as_slice();
+        if let Some(place) = self.hints.place_of(callbacks, &id) {
+            return Some(place);
+        }
+        identified::place_of(callbacks, &id)
     }
 
     /// The callback at a place.

@@ -7,6 +7,7 @@
 mod built_in;
 mod callback;
 mod copies;
+mod hints;
 mod identified;
 mod kit;
 mod kit_fault;

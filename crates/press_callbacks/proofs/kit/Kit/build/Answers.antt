@@ -1,4 +1,5 @@
 use Rattle.std.proofs.Common.{◌≡◌, ◌∙◌, ap, ap₂, sym, List, map, None}
+use Rattle.std.proofs.lemmas.Result.{err_from_is_err_and}
 use Rattle.press_callbacks.specs.declared.plugin.Plugin.{Plugin}
 use Rattle.press_callbacks.specs.Kits.{Scripts, kit_fault_by}
 use Rattle.press_callbacks.proofs.Moved.{fault_moved, whole_apart, sorted_is}
@@ -11,6 +12,14 @@ returns-in-Some-clause-builds g c =
     (fault-map (λ s. (s.id, s.script)) (λ e. e.0) (λ e. e.1) c.args.callbacks.items c.args.plugins.items
     ∙ fault_moved (λ s. s.id) (λ s. s.script) _ _ _ _ c.sorted_by_name-callbacks.ensures.moved c.sorted_by_name-plugins.ensures.moved
     ∙ rw (← c.as_slice.ensures.value, ← c.as_slice-2.ensures.value) (sym c.fault_of.ensures.fault ∙ c.in-Some.is))
+
+pub returns-in_err-hints-clause-builds : goal.returns-in_err-hints-clause-builds
+returns-in_err-hints-clause-builds g c =
+    let whole : kit_fault_by (λ s. s.id) (λ s. s.script) c.args.callbacks.items c.args.plugins.items ≡ None =
+    fault_moved (λ s. s.id) (λ s. s.script) _ _ _ _ c.sorted_by_name-callbacks.ensures.moved c.sorted_by_name-plugins.ensures.moved
+    ∙ rw (← c.as_slice.ensures.value, ← c.as_slice-2.ensures.value) (sym c.fault_of.ensures.fault ∙ c.in_default.is) in
+    let p = err_from_is_err_and c.from_residual.result c.from_residual.ensures.1 in
+    rw (p.1, p.2) (fault-map (λ s. (s.id, s.script)) (λ e. e.0) (λ e. e.1) c.args.callbacks.items c.args.plugins.items ∙ whole)
 
 pub returns-clause-builds : goal.returns-clause-builds
 returns-clause-builds g c =
