@@ -83,22 +83,30 @@ empty_whole schema is half = absurd (let none : false ≡ true = subst (λ (s : 
 module _ {S : Type 0} (g : Ghosts S) (law : (s : S) (db : Trees) → IsTrue (g.view s).is_open → g.recovers s db → db ≡ (g.view s).committed) where
   adopts : (old new : Held S) → IsTrue (state g new).is_open
       → (((state g old).now.schema ≡ no_schema) × (kept_by (state g new) ≡ new_store)) ⊎ (((state g old).now.schema ≡ store_schema) × (kept_by (state g new) ≡ kept_by (state g old)))
-      → ((state g old).now.schema ≡ store_schema → IsOurVersion (state g old).now.trees)
+      → ((state g old).now.schema ≡ store_schema → IsOurVersion (state g old).now.trees) → IsOurVersion (state g new).now.trees → (state g new).now ≡ (state g new).committed
       → Adopts (state g old) (state g new)
-  adopts old new up kept version = record { is_open = up; kept = kept; version = version; durable = λ left may. may.2 ∙ ap store_in (law new.store may.0 up may.1) }
+  adopts old new up kept version shown settled = record {
+    is_open = up;
+    kept = kept;
+    version = version;
+    durable = λ left may. may.2 ∙ ap store_in (law new.store may.0 up may.1);
+    version_shown = shown;
+    version_left = λ db may. subst IsOurVersion (ap (λ (d : Database). d.trees) settled ∙ sym (law new.store db up may)) shown;
+  }
 
   pub both_seen : (old new : Held S) → (state g old).in_transaction ≡ false → (state g old).step_limit ≡ None → IsSettled (state g old) → (state g old).now.schema ≡ store_schema → IsKept (state g old).now.trees
       → IsOurVersion (state g old).now.trees → IsUnchanged (state g old) (state g new) → OnlyLooks (state g old) (state g new) → Ready (state g new) × Adopts (state g old) (state g new)
   both_seen old new quiet unlimited settled has kept version same looks =
-      let now = same.0.now_is in (
+      let now = same.0.now_is in
+      let still = now ∙ settled same.0.was_open ∙ sym same.0.committed_is in (
         record {
           autocommit = same.0.mode ∙ quiet;
           unlimited = looks.limit ∙ unlimited;
           schema = λ _. ap (λ (d : Database). d.schema) now ∙ has;
           kept = λ _. subst (λ (d : Database). IsKept d.trees) (sym now) kept;
-          settled = λ _. now ∙ settled same.0.was_open ∙ sym same.0.committed_is;
+          settled = λ _. still;
         },
-        adopts old new same.0.is_open (inr (has, ap (λ (d : Database). store_in d.trees) same.0.committed_is)) (λ _. version),
+        adopts old new same.0.is_open (inr (has, ap (λ (d : Database). store_in d.trees) same.0.committed_is)) (λ _. version) (subst (λ (d : Database). IsOurVersion d.trees) (sym now) version) still,
       )
 
   pub new_made : (old new : Held S) → (state g old).step_limit ≡ None → (state g new).step_limit ≡ (state g old).step_limit → (state g new).in_transaction ≡ false → (state g old).now.schema ≡ no_schema
@@ -111,7 +119,7 @@ module _ {S : Type 0} (g : Ghosts S) (law : (s : S) (db : Trees) → IsTrue (g.v
       kept = λ _. h.1.kept;
       settled = λ _. h.2;
     },
-    adopts old new h.0 (inl (has, ap (λ (d : Database). store_in d.trees) (sym h.2) ∙ h.1.new)) (λ ours. differs (sym has ∙ ours)),
+    adopts old new h.0 (inl (has, ap (λ (d : Database). store_in d.trees) (sym h.2) ∙ h.1.new)) (λ ours. differs (sym has ∙ ours)) h.1.version h.2,
   )
 
 -- ---- the making of the tables, taken back

@@ -35,14 +35,14 @@ use Rattle.sqlite.specs.Listing.{understood}
 use Rattle.sqlite.proofs.Callers.{IsPlain, command_of, statement_of, runs_as, one_step, one_permutation}
 use Rattle.sqlite.specs.State.{State, Executes, ExecutesInside, Shows, KeepsCounts, mode_of}
 use Rattle.sqlite.specs.declared.error.Error.{Error}
-use Rattle.sqlite_value.proofs.OrderLemmas.{value_cmp-Text}
+use Rattle.sqlite_value.proofs.OrderLemmas.{value_cmp-Text, value_cmp-Int}
 use Rattle.press_store.specs.Making.{IsBare, IsFresh}
 use Rattle.press_store.specs.Tables.{make_promise, make_meta, promise, meta, store_schema, no_schema}
 use Rattle.press_store.specs.Shown.{is_last_round, is_version, row_in, IsKept, IsOurVersion, contents_of, store_in}
 use Rattle.press_store.specs.Adopting.{IsOneNumber, IsOne}
 use Rattle.press_store.proofs.Texts.{check_query, version_query, t1, t2, t3}
 use Rattle.press_store.proofs.Queries.{picked, equals_text}
-use Rattle.press_store.proofs.Rounds.{went, same_value, put_among, cast_int, in_range}
+use Rattle.press_store.proofs.Rounds.{went, same_value, cast_int, in_range}
 use Rattle.press_store.proofs.Slots.{cast_null}
 
 abbrev half_schema : Schema
@@ -134,6 +134,12 @@ named id n = ap is_eq (tied_itself value_cmp_total (Text (codes "last_round")))
 unnamed : (id n : Value) → is_last_round (id ∷ Text (codes "version") ∷ n ∷ []) ≡ false
 unnamed id n = ap is_eq (value_cmp-Text (codes "version") (codes "last_round"))
 
+versioned : (id n : Value) → is_version (id ∷ Text (codes "version") ∷ n ∷ []) ≡ true
+versioned id n = ap is_eq (tied_itself value_cmp_total (Text (codes "version")))
+
+unversioned : (id n : Value) → is_version (id ∷ Text (codes "last_round") ∷ n ∷ []) ≡ false
+unversioned id n = ap is_eq (value_cmp-Text (codes "last_round") (codes "version"))
+
 abbrev Gains : List ℕ → ℤ → State → State → Type 0
 Gains name n a b = (b.now.trees 1 ≡ put_row (Int (next_rowid (a.now.trees 1)) ∷ Text name ∷ Int n ∷ []) (a.now.trees 1)) × (b.now.trees 0 ≡ a.now.trees 0) × (b.now.schema ≡ store_schema)
 
@@ -149,6 +155,17 @@ round_gained a b count has ran =
     let w = runs_as insert_text [] a b store_schema has (Insert 1 (Values (row_terms (codes "last_round") (pos 0)) 3)) insert_is.0 plain_is.2 count ran in
     inserted (codes "last_round") (pos 0) a.step_limit (mode_of a) a.now b.now w.tally has text w.changed
 
+abbrev numbered_row : ℕ → List ℕ → ℤ → Row
+numbered_row id name n = Int (pos id) ∷ Text name ∷ Int n ∷ []
+
+-- the two rows of a new table stand there in the order of their numbers
+in_order : (none one two : List Row) → none ≡ [] → one ≡ put_row (Int (next_rowid none) ∷ Text (codes "version") ∷ Int (pos 1) ∷ []) none
+    → two ≡ put_row (Int (next_rowid one) ∷ Text (codes "last_round") ∷ Int (pos 0) ∷ []) one → two ≡ numbered_row 1 (codes "version") (pos 1) ∷ numbered_row 2 (codes "last_round") (pos 0) ∷ []
+in_order none one two empty first second =
+    let alone : one ≡ numbered_row 1 (codes "version") (pos 1) ∷ [] = rw empty at first in
+    let beside : two ≡ put_row (numbered_row 2 (codes "last_round") (pos 0)) (numbered_row 1 (codes "version") (pos 1) ∷ []) = rw alone at second in
+    beside ∙ rw (value_cmp-Int (pos 1) (pos 2))
+
 new_in : (db : Trees) (row : Row) → db 0 ≡ [] → filter is_last_round (db 1) ≡ row ∷ [] → column row 2 ≡ Int (pos 0) → store_in db ≡ new_store
 unfolding store_in contents_of
 new_in db row none one is = store_new (contents_of db) (λ s. rw none (nothing_at (s == 0))) (rw (one, is, in_range 0 (omega arith)))
@@ -163,14 +180,15 @@ rows_made old mid new count (Err e) bare one two = tt
 rows_made old mid new count (Ok n) bare one two =
     let a = version_gained old mid count bare.schema one.0 in
     let b = round_gained mid new n a.2 two.0 in
-    let first : Row = Int (next_rowid (old.now.trees 1)) ∷ Text (codes "version") ∷ Int (pos 1) ∷ [] in
-    let row : Row = Int (next_rowid (mid.now.trees 1)) ∷ Text (codes "last_round") ∷ Int (pos 0) ∷ [] in
-    let alone : mid.now.trees 1 ≡ first ∷ [] = a.0 ∙ ap (put_row first) bare.meta in
-    let none : filter is_last_round (mid.now.trees 1) ≡ [] = rw (alone, unnamed (column first 0) (column first 2)) in
-    let one_row : filter is_last_round (new.now.trees 1) ≡ row ∷ [] = ap (filter is_last_round) b.0 ∙ put_among is_last_round row (mid.now.trees 1) (named (column row 0) (column row 2)) none in (
+    let first : Row = numbered_row 1 (codes "version") (pos 1) in
+    let row : Row = numbered_row 2 (codes "last_round") (pos 0) in
+    let both : new.now.trees 1 ≡ first ∷ row ∷ [] = in_order (old.now.trees 1) (mid.now.trees 1) (new.now.trees 1) bare.meta a.0 b.0 in
+    let one_row : filter is_last_round (new.now.trees 1) ≡ row ∷ [] = rw (both, unnamed (column first 0) (column first 2), named (column row 0) (column row 2)) in
+    let one_version : filter is_version (new.now.trees 1) ≡ first ∷ [] = rw (both, versioned (column first 0) (column first 2), unversioned (column row 0) (column row 2)) in (
       record {
         schema = b.2;
-        kept = record { row = row; one = one_row; id = next_rowid (mid.now.trees 1); numbered = refl };
+        kept = record { row = row; one = one_row; id = pos 2; numbered = refl };
+        version = record { row = first; one = one_version; number = refl };
         new = new_in new.now.trees row (b.1 ∙ a.1 ∙ bare.slots) one_row refl;
       },
       two.1.mode,
@@ -186,6 +204,7 @@ pub fresh_left : (d : Database) (db : Trees) → IsFresh d → db ≡ d.trees �
 fresh_left d db fresh is = record {
   schema = refl;
   kept = subst IsKept (sym is) fresh.kept;
+  version = subst IsOurVersion (sym is) fresh.version;
   new = ap store_in is ∙ fresh.new;
 }
 

@@ -31,4 +31,4 @@ finds_again was now image opens live found adopts db holds store = elim adopts.k
 ]
 
 pub is_up : (was now : State) → Adopts was now → IsUp now
-is_up was now h = record { is_open = h.is_open; durable = h.durable }
+is_up was now h = record { is_open = h.is_open; durable = h.durable; version_shown = h.version_shown; version_left = h.version_left }

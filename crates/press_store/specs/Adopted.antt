@@ -24,12 +24,15 @@ has_table schema name = is_some (table_named schema name)
 unfoldable pub is_half : Schema → Bool
 is_half schema = if has_table schema (codes "promise") then not (has_table schema (codes "meta")) else has_table schema (codes "meta")
 
--- An empty database is a new store then. One that a store made has the version of its tables, and keeps what it kept. A crash leaves nothing else.
+-- An empty database is a new store then. One that a store made has the version of its tables, and keeps what it kept. A crash leaves nothing else. Made or found, the tables have
+-- their version, also where a crash leaves them.
 pub record Adopts (old new : State) : Type 0 where
   pub is_open : IsTrue new.is_open
   pub kept : ((old.now.schema ≡ no_schema) × (kept_by new ≡ new_store)) ⊎ ((old.now.schema ≡ store_schema) × (kept_by new ≡ kept_by old))
   pub version : old.now.schema ≡ store_schema → IsOurVersion old.now.trees
   pub durable : Only (kept_by new) (MayLeave new)
+  pub version_shown : IsOurVersion new.now.trees
+  pub version_left : (db : Trees) → new.may_leave db → IsOurVersion db
 
 -- What is returned: the database as it was. A crash leaves what it could leave before, or a new store where there was nothing.
 pub record HandsBack (old new : State) : Type 0 where

@@ -8,7 +8,7 @@ use Rattle.sqlite.specs.State.{State, HasCleanDisk, KeepsCommit}
 use Rattle.sqlite.specs.Held.{Held, state}
 use Rattle.press_acceptor.specs.StoreMap.{new_store}
 use Rattle.press_store.specs.Tables.{no_schema, store_schema}
-use Rattle.press_store.specs.Shown.{IsKept, store_in}
+use Rattle.press_store.specs.Shown.{IsKept, IsOurVersion, store_in}
 
 -- the two tables, and no row in them
 pub record IsBare (db : Database) : Type 0 where
@@ -16,10 +16,11 @@ pub record IsBare (db : Database) : Type 0 where
   pub slots : db.trees 0 ≡ []
   pub meta : db.trees 1 ≡ []
 
--- the two tables of a new store
+-- the two tables of a new store, with their version
 pub record IsFresh (db : Database) : Type 0 where
   pub schema : db.schema ≡ store_schema
   pub kept : IsKept db.trees
+  pub version : IsOurVersion db.trees
   pub new : store_in db.trees ≡ new_store
 
 -- the tables of a new store, where there was nothing

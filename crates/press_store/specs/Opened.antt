@@ -7,13 +7,15 @@ use Rattle.sqlite.specs.Files.{HoldsDatabase}
 use Rattle.sqlite_catalog.specs.Listing.{IsSound}
 use Rattle.press_acceptor.specs.StoreMap.{Only}
 use Rattle.press_store.specs.Tables.{store_schema}
-use Rattle.press_store.specs.Shown.{IsKept, store_in}
+use Rattle.press_store.specs.Shown.{IsKept, IsOurVersion, store_in}
 use Rattle.press_store.specs.Kept.{kept_by, MayLeave}
 
--- it is open, and a crash leaves what it keeps and nothing else
+-- It is open, and a crash leaves what it keeps and nothing else. Its tables have their version, also where a crash leaves them.
 pub record IsUp (s : State) : Type 0 where
   pub is_open : IsTrue s.is_open
   pub durable : Only (kept_by s) (MayLeave s)
+  pub version_shown : IsOurVersion s.now.trees
+  pub version_left : (db : Trees) → s.may_leave db → IsOurVersion db
 
 -- the trees are those of a store's two tables
 pub record IsStore (db : Trees) : Type 0 where
