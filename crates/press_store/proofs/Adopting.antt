@@ -1,11 +1,10 @@
 -- What the calls of an adoption leave.
-use Rattle.std.proofs.Common.{◌≡◌, [], ◌∷◌, codes, length, true, false, None, Ok, Err, Result, Vec, sym, ap, subst, ◌∙◌, inl, inr, arith}
+use Rattle.std.proofs.Common.{◌≡◌, [], ◌∷◌, codes, length, false, None, Ok, Err, Result, Vec, sym, ap, subst, ◌∙◌, inl, inr, arith}
 use Rattle.std.specs.Prelude.{◌⊎◌, IsTrue, OnErr, IfErr}
 use Rattle.std.specs.declared.alloc.Global.{Global}
 use Rattle.sqlite.specs.declared.error.Error.{Error}
 use Rattle.sqlite.specs.Store.{Ghosts}
 use Rattle.sqlite.specs.Schema.{Schema}
-use Rattle.sqlite_schema.specs.Names.{same_name}
 use Rattle.sqlite.specs.Order.{Row}
 use Rattle.sqlite.specs.Tree.{Trees}
 use Rattle.sqlite.specs.Command.TheVariants.{Select}
@@ -19,7 +18,7 @@ use Rattle.press_store.specs.Shown.{IsKept, IsOurVersion, store_in}
 use Rattle.press_store.specs.Kept.{kept_by}
 use Rattle.press_store.specs.Attempt.{Ready, IsSettled, Queries, Stays}
 use Rattle.press_store.specs.Making.{IsFresh}
-use Rattle.press_store.specs.Adopted.{Adopts, HandsBack, is_half}
+use Rattle.press_store.specs.Adopted.{Adopts, HandsBack}
 use Rattle.press_store.specs.Adopting.{IsOneNumber, IsOne, OnlyLooks}
 use Rattle.press_store.proofs.Texts.{check_text, check_query, c5, p5, version_query_text, version_query, c6, p6}
 use Rattle.press_store.proofs.Looked.{sees, looks_only}
@@ -70,15 +69,6 @@ differs : {A : Type 0} → no_schema ≡ store_schema → A
 differs same =
     let none : 0 ≡ 2 = ap (λ (s : Schema). length s.tables) same in
     absurd (omega (arith, none))
-
--- neither a store's own tables nor none are half of them
-pub ours_whole : {A : Type 0} (schema : Schema) → schema ≡ store_schema → is_half schema ≡ true → A
-unfolding is_half same_name
-ours_whole schema is half = absurd (let both : false ≡ true = subst (λ (s : Schema). is_half s ≡ true) is half in cc)
-
-pub empty_whole : {A : Type 0} (schema : Schema) → schema ≡ no_schema → is_half schema ≡ true → A
-unfolding is_half
-empty_whole schema is half = absurd (let none : false ≡ true = subst (λ (s : Schema). is_half s ≡ true) is half in cc)
 
 module _ {S : Type 0} (g : Ghosts S) (law : (s : S) (db : Trees) → IsTrue (g.view s).is_open → g.recovers s db → db ≡ (g.view s).committed) where
   adopts : (old new : Held S) → IsTrue (state g new).is_open

@@ -135,11 +135,15 @@ fn prepare_other<D: Alter>(conn: &mut Connection<D>) -> Result<(), StoreFault>
 pub fn prepare<D: Alter>(conn: &mut Connection<D>) -> Result<bool, StoreFault>
     ensures ours { IfOk result (λ is_ours. IsServed (state D.Store conn.old) → IsTrue is_ours) }
     ensures adopts { IfOk result (λ is_ours. IsTrue is_ours → IsAdopted D.Store conn.old conn.new) }
-    ensures half { is_half (state D.Store conn.old).now.schema ≡ true → result ≡ Err Damaged }
+    ensures half { is_half (state D.Store conn.old).now.schema ≡ true →
+        (result ≡ Err Damaged) × (conn.new ≡ conn.old) }
     ensures back { OnErr result (IsHandedBack D.Store conn.old conn.new) }
     ensures clean { Doubts D.Store conn.old conn.new }
 {
     if !conn.is_autocommit() {
+        return Err(StoreFault::Damaged);
+    }
+    if is_half(conn.schema()) {
         return Err(StoreFault::Damaged);
     }
     conn.set_step_limit(None);
@@ -150,9 +154,6 @@ pub fn prepare<D: Alter>(conn: &mut Connection<D>) -> Result<bool, StoreFault>
     if is_empty(conn.schema()) {
         prepare_empty(conn)?;
         return Ok(true);
-    }
-    if is_half(conn.schema()) {
-        return Err(StoreFault::Damaged);
     }
     prepare_other(conn)?;
     Ok(false)

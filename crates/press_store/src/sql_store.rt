@@ -1,6 +1,6 @@
 //! The store over a connection.
 
-ghost use Rattle.std.specs.Prelude.{◌≡◌, ◌<◌, ◌≤◌, true, IsTrue, IfOk, IfErr, IsErrAnd};
+ghost use Rattle.std.specs.Prelude.{◌≡◌, ◌<◌, ◌≤◌, true, Err, IsTrue, IfOk, IfErr};
 ghost use Rattle.sqlite.specs.State.{HasCleanDisk};
 ghost use Rattle.sqlite.specs.Held.{state};
 ghost use Rattle.sqlite.specs.Files.{file_state};
@@ -61,7 +61,8 @@ impl<D: Alter> Model for SqlStore<D> {
 
 impl<D: Alter> SqlStore<D> {
     /// A store over the connection, which has no limit on its steps from then on. Its tables are made where it has none. A fault returns
-    /// the connection: Damaged where it is in a transaction, or where the tables are not those of a store.
+    /// the connection: Damaged where it is in a transaction, or where the tables are not those of a store. Where one of the two tables is
+    /// there without the other, the connection is the very one that was given.
     pub fn adopt(
         alloc: Global,
         conn: Connection<D>,
@@ -70,7 +71,7 @@ impl<D: Alter> SqlStore<D> {
         ensures adopts { IfOk result (λ store. HasCleanDisk (state D.Store store.conn) →
             IsTrue store.is_ours → Adopts (state D.Store conn) (state D.Store store.conn)) }
         ensures half { is_half (state D.Store conn).now.schema ≡ true →
-            IsErrAnd result (λ refused. refused.0 ≡ Damaged) }
+            result ≡ Err (Damaged, conn) }
         ensures clean { IfOk result (λ store. HasCleanDisk (state D.Store store.conn) →
             HasCleanDisk (state D.Store conn)) }
         ensures faults { IfOk result (λ store. store.faults ≡ 0) }
