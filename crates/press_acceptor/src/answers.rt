@@ -3,6 +3,7 @@
 ghost use Rattle.std.specs.Prelude.{◌≡◌, ◌≤◌, IfOk, OnErr};
 ghost use Rattle.press_wire.specs.declared.vote.Vote.{Vote};
 ghost use Rattle.press_acceptor.specs.Answers.{acceptor_answer, said_out, query_out};
+ghost use Rattle.press_acceptor.specs.Messages as model;
 ghost use Rattle.press_acceptor.specs.Plans.{answer_calls, answer_plan};
 ghost use Rattle.press_acceptor.specs.Seen.{fault_in};
 ghost use Rattle.press_acceptor.specs.Turned.{Says, Turned, moved};
@@ -15,6 +16,29 @@ use crate::said::Said;
 use crate::store::PromiseStore;
 use press_wire::{Ballot, Body, Message, Node, Slot};
 use std::alloc::{AllocError, Global};
+
+// Which node is asked, among so many members, about which slot, and by whom.
+#[derive(Clone, Copy)]
+struct Asked {
+    members: u8,
+    id: Node,
+    slot: Slot,
+    asker: Node,
+}
+
+impl Asked {
+    // What is answered to who asked.
+    fn reply(self, body: Body) -> Message
+        ensures { result ≡ model.message_to self.id self.slot body self.asker }
+    {
+        Message {
+            from: self.id,
+            to: self.asker,
+            slot: self.slot,
+            body,
+        }
+    }
+}
 
 impl Acceptor {
     /// Answers a prepare request, an accept request or a query to the node `id`; other messages get no answer.
@@ -35,6 +59,12 @@ impl Acceptor {
             (moved S.seen store.old store.new) (fault_in result) }
     {
         let (asker, slot) = (message.from, message.slot);
+        let asked = Asked {
+            members,
+            id,
+            slot,
+            asker,
+        };
         match &message.body {
             Body::Prepare { round } => {
                 let ballot = Ballot {
@@ -42,7 +72,7 @@ impl Acceptor {
                     node: asker,
                 };
                 let said = Acceptor::on_prepare(store, slot, ballot)?;
-                Ok(request_messages(alloc, members, id, slot, ballot, asker, said)?)
+                Ok(request_messages(alloc, asked, ballot, said)?)
             }
             Body::Accept { round, value } => {
                 let ballot = Ballot {
@@ -50,11 +80,11 @@ impl Acceptor {
                     node: asker,
                 };
                 let said = Acceptor::on_accept(alloc, store, slot, ballot, value)?;
-                Ok(request_messages(alloc, members, id, slot, ballot, asker, said)?)
+                Ok(request_messages(alloc, asked, ballot, said)?)
             }
             Body::Query => {
                 let said = Acceptor::on_query(store, slot)?;
-                Ok(query_messages(alloc, id, slot, asker, said)?)
+                Ok(query_messages(alloc, asked, said)?)
             }
             Body::Promise { .. } | Body::Nack { .. } | Body::Accepted { .. } => Ok(Vec::new(alloc)),
         }
@@ -64,40 +94,35 @@ impl Acceptor {
 // What is said to a prepare or accept request in the ballot.
 fn request_messages(
     alloc: Global,
-    members: u8,
-    id: Node,
-    slot: Slot,
+    asked: Asked,
     ballot: Ballot,
-    asker: Node,
     said: Said,
 ) -> Result<Vec<Message>, AllocError>
-    requires { members ≤ 7 }
-    ensures { IfOk result (λ out. out.items ≡ said_out members id slot ballot asker said) }
+    requires { asked.members ≤ 7 }
+    ensures { IfOk result (λ out. out.items
+        ≡ said_out asked.members asked.id asked.slot ballot asked.asker said) }
 {
     match said {
-        Said::Promise(vote) => to_one(alloc, id, slot, Body::Promise { ballot, vote }, asker),
+        Said::Promise(vote) => to_one(alloc, asked.reply(Body::Promise { ballot, vote })),
         Said::Nack(promised) => {
             let refused = ballot;
-            to_one(alloc, id, slot, Body::Nack { refused, promised }, asker)
+            to_one(alloc, asked.reply(Body::Nack { refused, promised }))
         }
-        Said::Accepted(vote) => to_all(alloc, members, id, slot, &Body::Accepted { vote }),
+        Said::Accepted(vote) => {
+            let body = Body::Accepted { vote };
+            to_all(alloc, asked.members, asked.id, asked.slot, &body)
+        }
         Said::Nothing => Ok(Vec::new(alloc)),
     }
 }
 
 // What is said to a query.
-fn query_messages(
-    alloc: Global,
-    id: Node,
-    slot: Slot,
-    asker: Node,
-    said: Said,
-) -> Result<Vec<Message>, AllocError>
-    ensures out { IfOk result (λ out. out.items ≡ query_out id slot asker said) }
+fn query_messages(alloc: Global, asked: Asked, said: Said) -> Result<Vec<Message>, AllocError>
+    ensures out { IfOk result (λ out. out.items ≡ query_out asked.id asked.slot asked.asker said) }
     ensures memory { OnErr result ((vote : Vote) × (said ≡ says.Accepted vote)) }
 {
     match said {
-        Said::Accepted(vote) => to_one(alloc, id, slot, Body::Accepted { vote }, asker),
+        Said::Accepted(vote) => to_one(alloc, asked.reply(Body::Accepted { vote })),
         Said::Promise(_) | Said::Nack(_) | Said::Nothing => Ok(Vec::new(alloc)),
     }
 }

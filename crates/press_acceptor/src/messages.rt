@@ -18,23 +18,13 @@ fn member(number: u8) -> Node
     node
 }
 
-/// A message to one node.
-pub fn to_one(
-    alloc: Global,
-    from: Node,
-    slot: Slot,
-    body: Body,
-    to: Node,
-) -> Result<Vec<Message>, AllocError>
-    ensures { IfOk result (λ out. out.items ≡ model.to_one from slot body to) }
+/// The message, alone.
+pub fn to_one(alloc: Global, message: Message) -> Result<Vec<Message>, AllocError>
+    ensures { IfOk result (λ out. out.items
+        ≡ model.to_one message.from message.slot message.body message.to) }
 {
     let mut out = Vec::new(alloc);
-    out.push(Message {
-        from,
-        to,
-        slot,
-        body,
-    })?;
+    out.push(message)?;
     Ok(out)
 }
 
