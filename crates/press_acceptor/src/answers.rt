@@ -11,7 +11,7 @@ ghost use Rattle.press_acceptor.specs.declared.said.Said.TheVariants as says;
 
 use crate::acceptor::Acceptor;
 use crate::fault::StoreFault;
-use crate::messages::{to_all, to_one};
+use crate::messages::{Heading, to_all, to_one};
 use crate::said::Said;
 use crate::store::PromiseStore;
 use press_wire::{Ballot, Body, Message, Node, Slot};
@@ -109,8 +109,11 @@ fn request_messages(
             to_one(alloc, asked.reply(Body::Nack { refused, promised }))
         }
         Said::Accepted(vote) => {
-            let body = Body::Accepted { vote };
-            to_all(alloc, asked.members, asked.id, asked.slot, &body)
+            let heading = Heading {
+                from: asked.id,
+                slot: asked.slot,
+            };
+            to_all(alloc, asked.members, heading, &Body::Accepted { vote })
         }
         Said::Nothing => Ok(Vec::new(alloc)),
     }

@@ -19,7 +19,7 @@ pub use laws::{
     acceptor_saves_legal_facts, at_most_one_value_chosen, ballots_are_ordered, some_value_chosen,
 };
 pub use memory::MemoryStore;
-pub use messages::{to_all, to_one};
+pub use messages::{Heading, to_all, to_one};
 pub use row::Row;
 pub use said::Said;
 pub use store::PromiseStore;

@@ -28,17 +28,25 @@ pub fn to_one(alloc: Global, message: Message) -> Result<Vec<Message>, AllocErro
     Ok(out)
 }
 
+/// Who sends messages, and about which slot.
+#[derive(Clone, Copy, Debug)]
+pub struct Heading {
+    pub from: Node,
+    pub slot: Slot,
+}
+
 /// A message to each member, by number, the sender included.
 pub fn to_all(
     alloc: Global,
     members: u8,
-    from: Node,
-    slot: Slot,
+    heading: Heading,
     body: &Body,
 ) -> Result<Vec<Message>, AllocError>
     requires { members ≤ 7 }
-    ensures { IfOk result (λ out. out.items ≡ model.to_all members from slot body.now) }
+    ensures { IfOk result
+        (λ out. out.items ≡ model.to_all members heading.from heading.slot body.now) }
 {
+    let Heading { from, slot } = heading;
     let mut out = Vec::new(alloc);
     for i in 0..members {
         let to = member(i + 1);

@@ -19,7 +19,7 @@ use crate::fault::ProposerFault;
 use crate::phase::Phase;
 use crate::promises::{Promise, Promises, lacks_one, value_with};
 use crate::queue::Queue;
-use press_acceptor::{PromiseStore, StoreFault, to_all};
+use press_acceptor::{Heading, PromiseStore, StoreFault, to_all};
 use press_apply::{Stamped, Value};
 use press_wire::{Ballot, Body, Message, Node, Round, Slot, Vote};
 use std::alloc::{AllocError, Global};
@@ -233,7 +233,11 @@ impl Proposer {
         ensures { IfOk result
             (λ out. out.items ≡ messages.to_all self.now.members self.now.id slot body) }
     {
-        to_all(self.alloc, self.members, self.id, slot, &body)
+        let heading = Heading {
+            from: self.id,
+            slot,
+        };
+        to_all(self.alloc, self.members, heading, &body)
     }
 }
 
