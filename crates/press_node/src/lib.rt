@@ -3,6 +3,7 @@
 
 mod event;
 mod fault;
+mod fixed;
 mod kept;
 mod laws;
 mod node;

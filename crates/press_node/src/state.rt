@@ -16,6 +16,7 @@ ghost use Rattle.press_node.specs.States.{
 
 use crate::event::Event;
 use crate::fault::NodeFault;
+use crate::fixed::Fixed;
 use crate::up::Up;
 use press_acceptor::PromiseStore;
 use press_callbacks::Kit;
@@ -147,12 +148,18 @@ impl State {
             → IsFolded (kit_view kit.now) self.new }
     {
         let (alloc, id, members) = (self.alloc, self.id, self.members);
+        let fixed = Fixed {
+            alloc,
+            kit,
+            id,
+            members,
+        };
         let done = match &mut self.up {
             None => {
                 drop(event);
                 return Err(NodeFault::Down);
             }
-            Some(up) => up.on(alloc, kit, store, id, members, event),
+            Some(up) => up.on(&fixed, store, event),
         };
         match done {
             Ok(out) => Ok(out),

@@ -22,6 +22,7 @@ ghost use Rattle.press_node.specs.Views.{Applies, IsBeside, IsUpAt, IsUpFolded, 
 
 use crate::event::Event;
 use crate::fault::NodeFault;
+use crate::fixed::Fixed;
 use press_acceptor::{Acceptor, PromiseStore};
 use press_apply::{Stamped, Value, apply};
 use press_callbacks::Kit;
@@ -84,22 +85,22 @@ fn short(command: Stamped) -> Result<Stamped, NodeFault>
 
 // What the acceptor answers to a request or a query.
 fn answered<S: PromiseStore>(
-    alloc: Global,
+    fixed: &Fixed<'_>,
     store: &mut S,
-    members: u8,
-    id: Member,
     message: &Message,
 ) -> Result<Vec<Message>, NodeFault>
-    requires { members ≤ 7 }
+    requires { fixed.now.members ≤ 7 }
     ensures out { Says (answer_calls message.now.slot message.now.body) (λ out. out.items)
-        (λ kept. (acceptor_answer members id kept message.now).out)
+        (λ kept. (acceptor_answer fixed.now.members fixed.now.id kept message.now).out)
         (moved S.seen store.old store.new) result }
     ensures turned { MatchResult result
-        (λ _. Turned (answer_plan members id message.now) (moved S.seen store.old store.new) None)
+        (λ _. Turned (answer_plan fixed.now.members fixed.now.id message.now)
+        (moved S.seen store.old store.new) None)
         (λ fault. (by : StoreFault) × (fault ≡ of_store by) ×
-        Turned (answer_plan members id message.now) (moved S.seen store.old store.new) (Some by)) }
+        Turned (answer_plan fixed.now.members fixed.now.id message.now)
+        (moved S.seen store.old store.new) (Some by)) }
 {
-    match Acceptor::answer(alloc, store, members, id, message) {
+    match Acceptor::answer(fixed.alloc, store, fixed.members, fixed.id, message) {
         Ok(out) => Ok(out),
         Err(fault) => Err(NodeFault::of_store(fault)),
     }
@@ -193,8 +194,7 @@ impl Up {
 
     fn on_vote(
         &mut self,
-        alloc: Global,
-        kit: &Kit,
+        fixed: &Fixed<'_>,
         from: Member,
         slot: Slot,
         vote: Vote,
@@ -213,10 +213,11 @@ impl Up {
             (running_of self.new ≡ settled
             (with_learner (running_of self.old) (with_vote self.old.learner from slot vote))) }
         ensures folded { OnOk result
-            (IsUpFolded (kit_view kit.now) self.old → IsUpFolded (kit_view kit.now) self.new) }
+            (IsUpFolded (kit_view fixed.now.kit.now) self.old
+            → IsUpFolded (kit_view fixed.now.kit.now) self.new) }
     {
         match self.learner.on_vote(from, slot, vote) {
-            Ok(()) => self.settle(alloc, kit),
+            Ok(()) => self.settle(fixed.alloc, fixed.kit),
             Err(_) => Err(NodeFault::NoMemory),
         }
     }
@@ -307,21 +308,22 @@ impl Up {
     // Takes a message for this node from a member.
     fn on_body<S: PromiseStore>(
         &mut self,
-        alloc: Global,
-        kit: &Kit,
+        fixed: &Fixed<'_>,
         store: &mut S,
-        id: Member,
-        members: u8,
         message: Message,
     ) -> Result<Vec<Message>, NodeFault>
-        requires up { IsUpAt id members self.old }
-        requires member { message.from ≤ members }
-        ensures up { OnOk result (IsUpAt id members self.new) }
+        requires up { IsUpAt fixed.now.id fixed.now.members self.old }
+        requires member { message.from ≤ fixed.now.members }
+        ensures up { OnOk result (IsUpAt fixed.now.id fixed.now.members self.new) }
         ensures folded { OnOk result
-            (IsUpFolded (kit_view kit.now) self.old → IsUpFolded (kit_view kit.now) self.new) }
-        ensures plays { PlaysBy (body_plan members id (running_of self.old) message message.body)
-            (λ kept. on_body members id kept (running_of self.old) message message.body) ⊥ (λ _. None)
-            (moved S.seen store.old store.new) (up_moved id members self.old self.new)
+            (IsUpFolded (kit_view fixed.now.kit.now) self.old
+            → IsUpFolded (kit_view fixed.now.kit.now) self.new) }
+        ensures plays { PlaysBy
+            (body_plan fixed.now.members fixed.now.id (running_of self.old) message message.body)
+            (λ kept. on_body fixed.now.members fixed.now.id kept (running_of self.old) message
+            message.body)
+            ⊥ (λ _. None) (moved S.seen store.old store.new)
+            (up_moved fixed.now.id fixed.now.members self.old self.new)
             (sent (λ out. out.items) result) }
     {
         let Message {
@@ -334,10 +336,10 @@ impl Up {
             Body::Promise { ballot, vote } => self.promise(from, slot, ballot, vote),
             Body::Nack { refused, promised } => {
                 self.nack(slot, refused, promised);
-                Ok(Vec::new(alloc))
+                Ok(Vec::new(fixed.alloc))
             }
-            Body::Accepted { vote } => match self.on_vote(alloc, kit, from, slot, vote) {
-                Ok(()) => Ok(Vec::new(alloc)),
+            Body::Accepted { vote } => match self.on_vote(fixed, from, slot, vote) {
+                Ok(()) => Ok(Vec::new(fixed.alloc)),
                 Err(fault) => Err(fault),
             },
             body @ (Body::Prepare { .. } | Body::Accept { .. } | Body::Query) => {
@@ -347,7 +349,7 @@ impl Up {
                     slot,
                     body,
                 };
-                let answer = answered(alloc, store, members, id, &request);
+                let answer = answered(fixed, store, &request);
                 drop(request);
                 answer
             }
@@ -357,52 +359,50 @@ impl Up {
     // Takes a message, which is ignored if it is for another node or not from a member.
     fn on_message<S: PromiseStore>(
         &mut self,
-        alloc: Global,
-        kit: &Kit,
+        fixed: &Fixed<'_>,
         store: &mut S,
-        id: Member,
-        members: u8,
         message: Message,
     ) -> Result<Vec<Message>, NodeFault>
-        requires { IsUpAt id members self.old }
-        ensures up { OnOk result (IsUpAt id members self.new) }
+        requires { IsUpAt fixed.now.id fixed.now.members self.old }
+        ensures up { OnOk result (IsUpAt fixed.now.id fixed.now.members self.new) }
         ensures folded { OnOk result
-            (IsUpFolded (kit_view kit.now) self.old → IsUpFolded (kit_view kit.now) self.new) }
-        ensures plays { Plays (moved S.seen store.old store.new) (up_moved id members self.old self.new)
-            (Event.Deliver message) (sent (λ out. out.items) result) }
+            (IsUpFolded (kit_view fixed.now.kit.now) self.old
+            → IsUpFolded (kit_view fixed.now.kit.now) self.new) }
+        ensures plays { Plays (moved S.seen store.old store.new)
+            (up_moved fixed.now.id fixed.now.members self.old self.new) (Event.Deliver message)
+            (sent (λ out. out.items) result) }
     {
-        if !is_for(members, id, &message) {
+        if !is_for(fixed.members, fixed.id, &message) {
             drop(message);
-            return Ok(Vec::new(alloc));
+            return Ok(Vec::new(fixed.alloc));
         }
-        self.on_body(alloc, kit, store, id, members, message)
+        self.on_body(fixed, store, message)
     }
 
     /// Plays an event. After a fault that stops the node nothing is said of what is in memory.
     pub(crate) fn on<S: PromiseStore>(
         &mut self,
-        alloc: Global,
-        kit: &Kit,
+        fixed: &Fixed<'_>,
         store: &mut S,
-        id: Member,
-        members: u8,
         event: Event,
     ) -> Result<Vec<Message>, NodeFault>
-        requires { IsUpAt id members self.old }
-        ensures up { IfOk result (λ _. IsUpAt id members self.new) }
+        requires { IsUpAt fixed.now.id fixed.now.members self.old }
+        ensures up { IfOk result (λ _. IsUpAt fixed.now.id fixed.now.members self.new) }
         ensures unchanged { IfErr result (λ fault. stops fault ≡ false → self.new ≡ self.old) }
         ensures folded { OnOk result
-            (IsUpFolded (kit_view kit.now) self.old → IsUpFolded (kit_view kit.now) self.new) }
+            (IsUpFolded (kit_view fixed.now.kit.now) self.old
+            → IsUpFolded (kit_view fixed.now.kit.now) self.new) }
         ensures plays { Plays (moved S.seen store.old store.new)
-            (up_moved id members self.old self.new) event (sent (λ out. out.items) result) }
+            (up_moved fixed.now.id fixed.now.members self.old self.new) event
+            (sent (λ out. out.items) result) }
     {
         match event {
-            Event::Submit(command) => match self.submit(alloc, command) {
-                Ok(()) => Ok(Vec::new(alloc)),
+            Event::Submit(command) => match self.submit(fixed.alloc, command) {
+                Ok(()) => Ok(Vec::new(fixed.alloc)),
                 Err(fault) => Err(fault),
             },
-            Event::Wake => self.wake(store, id, members),
-            Event::Deliver(message) => self.on_message(alloc, kit, store, id, members, message),
+            Event::Wake => self.wake(store, fixed.id, fixed.members),
+            Event::Deliver(message) => self.on_message(fixed, store, message),
         }
     }
 }
