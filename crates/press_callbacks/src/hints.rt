@@ -77,12 +77,16 @@ impl Hints {
     }
 }
 
-// The four words of a name, mixed: names that differ little come far apart.
+// The words of a name up to its end, mixed: names that differ little come far apart.
 fn hash(id: &CallbackId) -> usize {
-    let mixed = id.word(0).wrapping_mul(0x9E37_79B9_7F4A_7C15)
-        ^ id.word(1).wrapping_mul(0xBF58_476D_1CE4_E5B9)
-        ^ id.word(2).wrapping_mul(0x94D0_49BB_1331_11EB)
-        ^ id.word(3).wrapping_mul(0xD6E8_FEB8_6659_FD93);
-    let folded = (mixed ^ (mixed >> 32)).wrapping_mul(0x9E37_79B9_7F4A_7C15);
-    (folded >> 32) as usize
+    let mut mixed = 0u64;
+    for i in 0..4 {
+        let word = id.word(i);
+        if word == 0 {
+            break;
+        }
+        mixed = (mixed ^ word).wrapping_mul(0x9E37_79B9_7F4A_7C15);
+        mixed ^= mixed >> 32;
+    }
+    mixed as usize
 }
