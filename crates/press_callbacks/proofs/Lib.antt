@@ -1,5 +1,6 @@
 pub mod Found
 pub mod Halves
+pub mod Lengths
 pub mod Moved
 pub mod Naturals
 pub mod Ordered

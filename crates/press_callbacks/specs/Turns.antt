@@ -1,6 +1,6 @@
 -- The turn of a script on a call: that of the op at place `turn`, and past the last op Return of the value (own).
 -- A text of parts is their concatenation; a missing argument or attribute is the empty text, and an escaped part is escaped for HTML (Plugin Handbook, Escaping Data).
-use Rattle.std.specs.Prelude.{ℕ, List, [], ◌∷◌, Option, Some, None, slice_get, map, ◌≡◌, Result, Ok, bytes_eq, cond}
+use Rattle.std.specs.Prelude.{ℕ, List, [], ◌∷◌, Option, Some, None, slice_get, map, length, ◌≡◌, ◌<◌, Result, Ok, bytes_eq, cond}
 use Rattle.std.specs.List.{flat_map}
 use Rattle.std.specs.declared.alloc.AllocError.{AllocError}
 use Rattle.press_text.specs.Escapes.{escaped}
@@ -63,6 +63,14 @@ turn_at call (Some o) = turn_of_op call o
 
 abbrev pub turn_of : List Op → CallIn → Turn
 turn_of script call = turn_at call (slice_get script call.turn)
+
+-- the turns that take memory: of those that have one text, but for Return, where it isn't empty
+abbrev pub TakesMemory : Turn → Type 0
+TakesMemory (turn.Go text) = 0 < length text
+TakesMemory (turn.Shortcodes text) = 0 < length text
+TakesMemory (turn.Publish text) = 0 < length text
+TakesMemory (turn.Echo text) = 0 < length text
+TakesMemory other = Unit {0}
 
 -- each turn that such calls may give is the script's
 abbrev pub PlaysScript : (CallIn → Result Turn AllocError → Type 0) → List Op → Type 0

@@ -1,6 +1,6 @@
-ghost use Rattle.std.specs.Prelude.{◌≡◌, ◌∷◌, ◌++◌, cond, map, IfOk, OnOk, bytes_eq};
+ghost use Rattle.std.specs.Prelude.{◌≡◌, ◌<◌, ◌∷◌, ◌++◌, cond, map, length, IfOk, OnOk, OnErr, bytes_eq};
 ghost use Rattle.press_text.specs.Escapes.{escaped};
-ghost use Rattle.press_callbacks.specs.Turns.{source_text, part_text, text_of, turn_of_op, turn_of};
+ghost use Rattle.press_callbacks.specs.Turns.{source_text, part_text, text_of, turn_of_op, turn_of, TakesMemory};
 ghost use Rattle.press_callbacks.specs.declared.script.Turn.TheVariants.{Go, Return};
 
 use crate::script::{Ask, CallIn, Op, Part, Parts, Script, Source, Turn};
@@ -8,9 +8,10 @@ use press_text::{Copied, Items, Text, Texts, esc_html};
 use std::alloc::{AllocError, Global};
 
 /// What one turn of a script asks for: that of the op at place `turn`, and past the last op Return of the value.
-/// It may serve as a closure's body.
+/// It may serve as a closure's body. A turn of one text takes no memory where this is empty, but for Return.
 pub fn script_turn(alloc: Global, script: &Script, call: &CallIn) -> Result<Turn, AllocError>
-    ensures { IfOk result (λ t. t ≡ turn_of script.now call.now) }
+    ensures turn { IfOk result (λ t. t ≡ turn_of script.now call.now) }
+    ensures memory { OnErr result (TakesMemory (turn_of script.now call.now)) }
 {
     match script.as_slice().get(call.turn) {
         None => last_turn(alloc, call),
@@ -30,7 +31,8 @@ fn last_turn(alloc: Global, call: &CallIn) -> Result<Turn, AllocError>
 
 #[inline(never)]
 fn set_turn(alloc: Global, parts: &Parts, call: &CallIn) -> Result<Turn, AllocError>
-    ensures { IfOk result (λ t. t ≡ Go (text_of call.now parts.now)) }
+    ensures turn { IfOk result (λ t. t ≡ Go (text_of call.now parts.now)) }
+    ensures memory { OnErr result (0 < length (text_of call.now parts.now)) }
 {
     Ok(Turn::Go(text_of(alloc, parts, call)?))
 }
@@ -44,7 +46,8 @@ fn return_turn(alloc: Global, parts: &Parts, call: &CallIn) -> Result<Turn, Allo
 
 #[inline(never)]
 fn op_turn(alloc: Global, op: &Op, call: &CallIn) -> Result<Turn, AllocError>
-    ensures { IfOk result (λ t. t ≡ turn_of_op call.now op.now) }
+    ensures turn { IfOk result (λ t. t ≡ turn_of_op call.now op.now) }
+    ensures memory { OnErr result (TakesMemory (turn_of_op call.now op.now)) }
 {
     match op {
         Op::Set(parts) => set_turn(alloc, parts, call),
@@ -170,8 +173,11 @@ fn push_texts(
     Ok(())
 }
 
+// An empty text takes no memory.
+#[tactic(auto, using(crate::proofs::Lengths::text_some))]
 fn text_of(alloc: Global, parts: &Parts, call: &CallIn) -> Result<Text, AllocError>
-    ensures { IfOk result (λ t. t ≡ text_of call.now parts.now) }
+    ensures text { IfOk result (λ t. t ≡ text_of call.now parts.now) }
+    ensures memory { OnErr result (0 < length (text_of call.now parts.now)) }
 {
     let mut text = Text::new(alloc);
     for part in parts.as_slice() {
@@ -180,8 +186,11 @@ fn text_of(alloc: Global, parts: &Parts, call: &CallIn) -> Result<Text, AllocErr
     Ok(text)
 }
 
+// Adds a part. An empty one takes no memory.
+#[tactic(auto, using(crate::proofs::Lengths::escaped_some))]
 fn push_part(alloc: Global, text: &mut Text, part: &Part, call: &CallIn) -> Result<(), AllocError>
-    ensures { OnOk result (text.new ≡ text.old ++ part_text call.now part.now) }
+    ensures text { OnOk result (text.new ≡ text.old ++ part_text call.now part.now) }
+    ensures memory { OnErr result (0 < length (part_text call.now part.now)) }
 {
     match part {
         Part::Lit(t) => text.push(t),
@@ -190,16 +199,22 @@ fn push_part(alloc: Global, text: &mut Text, part: &Part, call: &CallIn) -> Resu
     }
 }
 
+// An empty text takes no memory.
 fn escaped(alloc: Global, source: &Source, call: &CallIn) -> Result<Text, AllocError>
-    ensures { IfOk result (λ t. t ≡ escaped (source_text call.now source.now)) }
+    ensures text { IfOk result (λ t. t ≡ escaped (source_text call.now source.now)) }
+    ensures memory { OnErr result (0 < length (source_text call.now source.now)) }
 {
     let mut raw = Text::new(alloc);
     push_source(&mut raw, source, call)?;
+    if raw.is_empty() {
+        return Ok(raw);
+    }
     Text::from_string(esc_html(alloc, raw.as_str())?)
 }
 
 fn push_source(text: &mut Text, source: &Source, call: &CallIn) -> Result<(), AllocError>
-    ensures { OnOk result (text.new ≡ text.old ++ source_text call.now source.now) }
+    ensures text { OnOk result (text.new ≡ text.old ++ source_text call.now source.now) }
+    ensures memory { OnErr result (0 < length (source_text call.now source.now)) }
 {
     match source {
         Source::Arg(n) => match call.args.as_slice().get(*n) {
