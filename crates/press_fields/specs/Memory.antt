@@ -1,5 +1,5 @@
 -- What has to be read before memory is taken for what fields give: the first of their names and texts (own).
-use Rattle.std.specs.Prelude.{◌≡◌, ℕ, List, Result, Err, IsOk, codes}
+use Rattle.std.specs.Prelude.{◌≡◌, ◌<◌, ℕ, List, length, Result, Err, IsOk, IfOk, codes}
 use Rattle.press_apply.specs.declared.kind.CommandKind.{CommandKind}
 use Rattle.press_apply.specs.declared.kind.CommandKind.TheVariants as kind
 use Rattle.press_fields.specs.declared.fault.FieldFault.{FieldFault}
@@ -9,6 +9,10 @@ use Rattle.press_fields.specs.Fields.{Fields, ◌>>=◌, text_at, name_at, numbe
 -- out of memory comes only where that is read
 abbrev pub GrowsBehind : {A B : Type 0} → Result A FieldFault → Result B FieldFault → Type 0
 GrowsBehind result needed = result ≡ Err NoMemory → IsOk needed
+
+-- out of memory comes only where a text of more bytes than that is read
+abbrev pub GrowsPast : {A : Type 0} → ℕ → Result A FieldFault → Result (List ℕ) FieldFault → Type 0
+GrowsPast few result read = result ≡ Err NoMemory → IfOk read (λ text. few < length text)
 
 abbrev pub editor_at : Fields → Result (List ℕ) FieldFault
 editor_at fields = name_at (codes "editor") fields

@@ -5,7 +5,7 @@ ghost use Rattle.std.specs.Cow.{cow_str_bytes};
 ghost use Rattle.press_text.specs.Gives.{Gives};
 ghost use Rattle.press_fields.specs.Commands.{date_at, kind_at, status_at};
 ghost use Rattle.press_fields.specs.Fields as spec;
-ghost use Rattle.press_fields.specs.Memory.{GrowsBehind};
+ghost use Rattle.press_fields.specs.Memory.{GrowsBehind, GrowsPast};
 
 use crate::fault::FieldFault;
 use crate::lookup::Lookup;
@@ -34,10 +34,13 @@ impl<'f, F: Lookup> Reader<'f, F> {
         }
     }
 
+    /// Takes memory past 22 bytes alone.
     pub fn text(&self, name: &str) -> Result<Text, FieldFault>
         ensures gives { Gives spec.Refuses Ok result
             (spec.text_at name.now (F.seen self.now.fields.now)) }
         ensures memory { F.lends self.now.fields.now name.now → GrowsBehind result
+            (spec.text_at name.now (F.seen self.now.fields.now)) }
+        ensures long { F.lends self.now.fields.now name.now → GrowsPast 22 result
             (spec.text_at name.now (F.seen self.now.fields.now)) }
     {
         let word = self.word(name)?;
