@@ -57,21 +57,23 @@ pub fn closes_itself(text: &[u8], close: usize) -> bool
     byte_at(text, close - 1) == b'/'
 }
 
-// The shortcode with its optional second `]`.
-fn with_tail(
-    text: &[u8],
-    opening: Opening,
-    atts_end: usize,
+// What stands behind an opening: its content, if it has one, and the place behind its own and its closing tag's `]`.
+#[derive(Clone, Copy)]
+struct Rest {
     content: Option<Span>,
     after: usize,
-) -> Shortcode
+}
+
+// The shortcode with its optional second `]`.
+fn with_tail(text: &[u8], opening: Opening, atts_end: usize, rest: Rest) -> Shortcode
     ensures same { (result.start ≡ opening.start) × (result.lead ≡ opening.head.lead)
-        × (result.tag ≡ opening.head.tag) × (result.content ≡ content) }
+        × (result.tag ≡ opening.head.tag) × (result.content ≡ rest.content) }
     ensures atts { (result.atts.start ≡ opening.head.tag.end) × (result.atts.end ≡ atts_end) }
-    ensures tail { result.tail ≡ true → At text.now 93 after }
-    ensures no_tail { result.tail ≡ false → At text.now 93 after → ⊥ }
-    ensures ends { result.end ≡ after + (if result.tail then 1 else 0) }
+    ensures tail { result.tail ≡ true → At text.now 93 rest.after }
+    ensures no_tail { result.tail ≡ false → At text.now 93 rest.after → ⊥ }
+    ensures ends { result.end ≡ rest.after + (if result.tail then 1 else 0) }
 {
+    let Rest { content, after } = rest;
     let tail = after < text.len() && text[after] == b']';
     Shortcode {
         start: opening.start,
@@ -95,7 +97,11 @@ pub fn self_closing(text: &[u8], opening: Opening) -> Shortcode
     requires some { 0 < opening.close }
     ensures { IsMade text.now opening result }
 {
-    with_tail(text, opening, opening.close - 1, None, opening.close + 1)
+    let rest = Rest {
+        content: None,
+        after: opening.close + 1,
+    };
+    with_tail(text, opening, opening.close - 1, rest)
 }
 
 /// `[name atts]` alone.
@@ -107,7 +113,11 @@ pub fn alone(text: &[u8], opening: Opening) -> Shortcode
         (opening.close + 1) }
     ensures { IsMade text.now opening result }
 {
-    with_tail(text, opening, opening.close, None, opening.close + 1)
+    let rest = Rest {
+        content: None,
+        after: opening.close + 1,
+    };
+    with_tail(text, opening, opening.close, rest)
 }
 
 /// `[name atts]content[/name]`.
@@ -126,8 +136,11 @@ pub fn enclosing(text: &[u8], opening: Opening, closing: usize) -> Shortcode
         start: opening.close + 1,
         end: closing,
     };
-    let after = closing + 3 + (tag.end - tag.start);
-    with_tail(text, opening, opening.close, Some(content), after)
+    let rest = Rest {
+        content: Some(content),
+        after: closing + 3 + (tag.end - tag.start),
+    };
+    with_tail(text, opening, opening.close, rest)
 }
 
 // The first shortcode at or after a place.
