@@ -64,7 +64,7 @@ turn_at call (Some o) = turn_of_op call o
 abbrev pub turn_of : List Op → CallIn → Turn
 turn_of script call = turn_at call (slice_get script call.turn)
 
--- the turns that take memory: of those that have one text, but for Return, where it isn't empty
+-- which turns may take memory: Go, shortcodes, publish and echo where their text isn't empty, and all others
 abbrev pub TakesMemory : Turn → Type 0
 TakesMemory (turn.Go text) = 0 < length text
 TakesMemory (turn.Shortcodes text) = 0 < length text

@@ -12,6 +12,9 @@ const TRIES: usize = 8;
 // What is in a slot without a place: no callback stands there.
 const FREE: usize = usize::MAX;
 
+// An odd number whose bits follow no rule: 2^64 by the golden ratio.
+const MIXING: u64 = 0x9E37_79B9_7F4A_7C15;
+
 /// Places of callbacks, each in a slot that the hash of its name gives, or soon behind it. A place is looked at before it
 /// is believed, so nothing is said of what stands here.
 pub struct Hints {
@@ -77,7 +80,8 @@ impl Hints {
     }
 }
 
-// The words of a name up to its end, mixed: names that differ little come far apart.
+// The words of a name up to its end, mixed. The first bytes of a word are its highest, which a product moves no lower, so
+// the half that is used is the upper one of a last product.
 fn hash(id: &CallbackId) -> usize {
     let mut mixed = 0u64;
     for i in 0..4 {
@@ -85,8 +89,8 @@ fn hash(id: &CallbackId) -> usize {
         if word == 0 {
             break;
         }
-        mixed = (mixed ^ word).wrapping_mul(0x9E37_79B9_7F4A_7C15);
+        mixed = (mixed ^ word).wrapping_mul(MIXING);
         mixed ^= mixed >> 32;
     }
-    mixed as usize
+    (mixed.wrapping_mul(MIXING) >> 32) as usize
 }

@@ -8,7 +8,7 @@ use press_text::{Copied, Items, Text, Texts, esc_html};
 use std::alloc::{AllocError, Global};
 
 /// What one turn of a script asks for: that of the op at place `turn`, and past the last op Return of the value.
-/// It may serve as a closure's body. A turn of one text takes no memory where this is empty, but for Return.
+/// It may serve as a closure's body. Set, `do_shortcode`, publish and echo take no memory where their text is empty.
 pub fn script_turn(alloc: Global, script: &Script, call: &CallIn) -> Result<Turn, AllocError>
     ensures turn { IfOk result (λ t. t ≡ turn_of script.now call.now) }
     ensures memory { OnErr result (TakesMemory (turn_of script.now call.now)) }
@@ -173,7 +173,6 @@ fn push_texts(
     Ok(())
 }
 
-// An empty text takes no memory.
 #[tactic(auto, using(crate::proofs::Lengths::text_some))]
 fn text_of(alloc: Global, parts: &Parts, call: &CallIn) -> Result<Text, AllocError>
     ensures text { IfOk result (λ t. t ≡ text_of call.now parts.now) }
@@ -186,7 +185,6 @@ fn text_of(alloc: Global, parts: &Parts, call: &CallIn) -> Result<Text, AllocErr
     Ok(text)
 }
 
-// Adds a part. An empty one takes no memory.
 #[tactic(auto, using(crate::proofs::Lengths::escaped_some))]
 fn push_part(alloc: Global, text: &mut Text, part: &Part, call: &CallIn) -> Result<(), AllocError>
     ensures text { OnOk result (text.new ≡ text.old ++ part_text call.now part.now) }
@@ -199,7 +197,6 @@ fn push_part(alloc: Global, text: &mut Text, part: &Part, call: &CallIn) -> Resu
     }
 }
 
-// An empty text takes no memory.
 fn escaped(alloc: Global, source: &Source, call: &CallIn) -> Result<Text, AllocError>
     ensures text { IfOk result (λ t. t ≡ escaped (source_text call.now source.now)) }
     ensures memory { OnErr result (0 < length (source_text call.now source.now)) }
