@@ -10,7 +10,7 @@ use Rattle.press_fields.specs.Fields.{Fields, ◌>>=◌, text_at, name_at, numbe
 abbrev pub GrowsBehind : {A B : Type 0} → Result A FieldFault → Result B FieldFault → Type 0
 GrowsBehind result needed = result ≡ Err NoMemory → IsOk needed
 
--- out of memory comes only where a text of more bytes than that is read
+-- where a text is read, out of memory comes only if it has more bytes than that
 abbrev pub GrowsPast : {A : Type 0} → ℕ → Result A FieldFault → Result (List ℕ) FieldFault → Type 0
 GrowsPast few result read = result ≡ Err NoMemory → IfOk read (λ text. few < length text)
 

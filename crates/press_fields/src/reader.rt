@@ -34,7 +34,7 @@ impl<'f, F: Lookup> Reader<'f, F> {
         }
     }
 
-    /// Takes memory past 22 bytes alone.
+    /// Beside looking it up, takes memory past 22 bytes alone.
     pub fn text(&self, name: &str) -> Result<Text, FieldFault>
         ensures gives { Gives spec.Refuses Ok result
             (spec.text_at name.now (F.seen self.now.fields.now)) }

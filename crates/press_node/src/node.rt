@@ -26,7 +26,7 @@ impl<S> Node<S> {
         self.state.is_down()
     }
 
-    /// How many values it has applied since its start; None where it is down.
+    /// How many values it has applied since its start; 0 where it is down.
     pub fn applied(&self) -> u64
         ensures value { result ≡ applied_count (state_of self.now) }
         ensures whole { IsWhole (state_of self.now) }

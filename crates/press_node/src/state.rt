@@ -98,7 +98,7 @@ impl State {
         }
     }
 
-    /// How many values were applied; None where the node is down.
+    /// How many values were applied; 0 where the node is down.
     pub fn applied(&self) -> u64
         ensures value { result ≡ applied_count self.now }
         ensures whole { IsWhole self.now }

@@ -65,7 +65,7 @@ fn deliver<S: PromiseStore>(
     Ok(())
 }
 
-/// Wakes the node, and delivers its own messages, the oldest first, until none is left. The first fault ends it.
+/// Wakes the node, and delivers its own messages, the oldest first, until none is left, 22 at most. The first fault ends it.
 pub fn wake<S: PromiseStore>(alloc: Global, node: &mut Node<S>) -> Result<(), NodeFault>
     requires always { Unit {0} }
     ensures kit { kit_of node.new ≡ kit_of node.old }

@@ -1,4 +1,4 @@
-//! The store of promises and votes on a SQL database: two tables, and one statement on them for each call.
+//! The store of promises and votes on a SQL database: two tables, and one statement on them for each save.
 #![tactic(auto)]
 
 mod adopt;

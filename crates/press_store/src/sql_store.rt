@@ -25,7 +25,7 @@ use std::alloc::Global;
 use std::marker::Model;
 use std::rt::HostRuntime;
 
-/// A store over the tables `promise` and `meta` of a database. Each call is one statement, so a save is kept whole or not at all.
+/// A store over the tables `promise` and `meta` of a database. Each save is one statement, so it is kept whole or not at all.
 pub struct SqlStore<D: Alter> {
     conn: Connection<D>,
     faults: u64,
@@ -89,8 +89,8 @@ impl<D: Alter> SqlStore<D> {
         }
     }
 
-    /// The last slot with a vote, by the store's order of slots and not by its search: one statement, however many
-    /// slots there are. None where no slot has a vote.
+    /// The last slot with a vote, by the store's order of slots and not by its search: two statements at most, however
+    /// many slots there are. None where no slot has a vote.
     pub fn last_vote(&mut self) -> Result<Option<Slot>, StoreFault>
         ensures honest { (seen_of D.Store self.new).is_honest →
             (seen_of D.Store self.old).is_honest }

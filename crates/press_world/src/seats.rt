@@ -70,7 +70,7 @@ impl Seat {
         self.state = State::new(self.alloc, id, members, self.store.round());
     }
 
-    /// How many values it has applied since its start; None where it is down.
+    /// How many values it has applied since its start; 0 where it is down.
     pub(crate) fn applied(&self) -> u64
         ensures value { result ≡ applied_count self.now.state }
         ensures whole { IsWhole self.now.state }

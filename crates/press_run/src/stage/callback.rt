@@ -4,7 +4,7 @@ ghost use Rattle.std.specs.Prelude.{◌≡◌, None, false, IsErrOf};
 ghost use Rattle.press_callbacks.specs.Kits.{Scripts};
 ghost use Rattle.press_callbacks.specs.declared.script.Turn.TheVariants as turn;
 ghost use Rattle.press_run.specs.Frames.{BeginsAs, CallsAs, CountsAs, IsFew, Steps, Turns, meant};
-ghost use Rattle.press_run.specs.Run.{at_depth, built_in, fits, one_turn};
+ghost use Rattle.press_run.specs.Run.{at_depth, built_in, fits, is_short, one_turn};
 ghost use Rattle.press_run.specs.Outcome.{around, state_of};
 ghost use Rattle.press_run.specs.Standing.{standing};
 ghost use Rattle.press_run.specs.declared.frame.Frame.TheVariants as frame;
@@ -133,6 +133,9 @@ impl<L: SiteLink + Drop> Stage<L> {
     // The turn Go, counted. It and Return are the commonest, so that what is moved is their text alone.
     fn goes(&mut self, callback: &mut OpenCallback, value: Text) -> Result<Step, RunFault>
         requires { IsFew 1 callback.old }
+        ensures late { one_turn (state_of (standing L.view L.fixed self.old)) ≡ None
+            → IsErrOf result RunFault.Limit }
+        ensures long { is_short value ≡ false → IsErrOf result RunFault.Limit }
         ensures steps { (scripts : Scripts) → CountsAs L.changes scripts
             callback.old (turn.Go value) callback.new
             (standing L.view L.fixed self.old) (standing L.view L.fixed self.new) result }
@@ -158,6 +161,9 @@ impl<L: SiteLink + Drop> Stage<L> {
     // The turn Return, counted.
     fn gives(&mut self, callback: &OpenCallback, text: Text) -> Result<Step, RunFault>
         requires { IsFew 1 callback.now }
+        ensures late { one_turn (state_of (standing L.view L.fixed self.old)) ≡ None
+            → IsErrOf result RunFault.Limit }
+        ensures long { is_short text ≡ false → IsErrOf result RunFault.Limit }
         ensures steps { (scripts : Scripts) → CountsAs L.changes scripts
             callback.now (turn.Return text) callback.now
             (standing L.view L.fixed self.old) (standing L.view L.fixed self.new) result }
