@@ -17,7 +17,7 @@ pub trait Pieces {
     // One read leads from a state to another, and gives bytes, or fails.
     ghost gives: { Self → Option (List ℕ) → Self → Type 0 };
 
-    /// One read. None is its end.
+    /// One read: how many bytes it gave. 0 is the end.
     fn piece(&mut self, buf: &mut [u8]) -> io::Result<usize>
         ensures bound { ReadsAtMost result buf.new }
         ensures bytes { ReadConsumes (left self.old) (left self.new) result buf.new }
