@@ -6,7 +6,7 @@ ghost use Rattle.press_sockets.specs.Listening.{listening_line, where_of};
 ghost use Rattle.press_sockets.specs.Listening.Where.{alone_at, member_of};
 
 use crate::alone::Alone;
-use crate::joining::{join, seat_of};
+use crate::joining::{Seat, join, seat_of};
 use crate::screen::Screen;
 use crate::serve_fault::ServeFault;
 use crate::setup::{Place, Setup};
@@ -18,6 +18,7 @@ use press_server::{Answers, Server};
 use press_store::SqlStore;
 use press_text::{Text, write_once};
 use press_wire::Node as Member;
+use sqlite::Alter;
 use std::alloc::{AllocError, Global};
 use std::fs;
 use std::io::Write;
@@ -143,41 +144,72 @@ fn port_of(place: Place<'_>) -> u16 {
     }
 }
 
+// What a server has beside its store.
+#[derive(Drop)]
+struct Beside<'a> {
+    start: Start<'a>,
+    // None for a node by itself.
+    seat: Option<Seat>,
+    screen: Screen,
+    kit: Kit,
+}
+
 // A node by itself.
 #[tactic(auto, using(crate::proofs::Fronts::nothing))]
 fn serve_alone<S: PromiseStore + Drop, W: Write, E: Write>(
-    start: Start<'_>,
-    node: Node<S>,
+    beside: Beside<'_>,
+    store: S,
     writer: &mut W,
     error: &mut E,
 ) -> Result<(), ServeFault>
     ensures { AppendsFront (W.contents writer.old) (W.contents writer.new)
-        (listening_line (where_of start.entry.setup.now.place)) }
+        (listening_line (where_of beside.entry.start.setup.now.place)) }
 {
+    let Beside {
+        start,
+        screen,
+        kit,
+        ..
+    } = beside;
     let Start { rt, setup } = start;
-    let screen = screen_of(rt, setup)?;
-    let addr = loopback(port_of(setup.place));
-    let mut node = node;
+    let mut node = begin(rt.alloc(), kit, store)?;
     catch_up(rt.alloc(), &mut node);
+    let addr = loopback(port_of(setup.place));
     let mut alone = Alone::new(rt.alloc(), addr, node, &screen);
     serve_over(start, &mut alone, writer, error)
 }
 
-// A member of a cluster, at its own address.
+// A node by itself or a member of a cluster, over a store on a database.
 #[tactic(auto, using(crate::proofs::Fronts::nothing))]
-fn serve_member<W: Write, E: Write>(
-    start: Start<'_>,
-    kit: Kit,
+fn serve_stored<D: Alter + Drop, W: Write, E: Write>(
+    beside: Beside<'_>,
+    store: SqlStore<D>,
     writer: &mut W,
     error: &mut E,
 ) -> Result<(), ServeFault>
     ensures { AppendsFront (W.contents writer.old) (W.contents writer.new)
-        (listening_line (where_of start.entry.setup.now.place)) }
+        (listening_line (where_of beside.entry.start.setup.now.place)) }
 {
-    let Start { rt, setup } = start;
-    let seat = seat_of(start)?;
-    let screen = screen_of(rt, setup)?;
-    let mut clustered = join(rt, seat, kit, &screen)?;
+    let Beside {
+        start,
+        seat,
+        screen,
+        kit,
+    } = beside;
+    let Some(seat) = seat else {
+        return serve_alone(
+            Beside {
+                start,
+                seat: None,
+                screen,
+                kit,
+            },
+            store,
+            writer,
+            error,
+        );
+    };
+    let mut clustered = join(start.rt.alloc(), seat.party(&screen), kit, store)?;
     serve_over(start, &mut clustered, writer, error)
 }
 
@@ -197,18 +229,17 @@ impl Setup<'_> {
             (listening_line (where_of self.now.place)) }
     {
         let start = Start { rt, setup: self };
-        if matches!(self.place, Place::Member { .. }) {
-            return serve_member(start, kit, writer, error);
-        }
+        let seat = seat_of(start)?;
+        let screen = screen_of(rt, self)?;
+        let beside = Beside {
+            start,
+            seat,
+            screen,
+            kit,
+        };
         match self.store {
-            Some(file) => {
-                let node = begin(rt.alloc(), kit, SqlStore::open(rt, file)?)?;
-                serve_alone(start, node, writer, error)
-            }
-            None => {
-                let node = begin(rt.alloc(), kit, MemoryStore::new(rt.alloc()))?;
-                serve_alone(start, node, writer, error)
-            }
+            Some(file) => serve_stored(beside, SqlStore::open(rt, file)?, writer, error),
+            None => serve_alone(beside, MemoryStore::new(rt.alloc()), writer, error),
         }
     }
 }

@@ -5,8 +5,8 @@ use crate::rows::{is_row_of, row_of};
 use press_acceptor::{PromiseStore, Row, StoreFault};
 use press_store::SqlStore;
 use press_wire::{Round, Slot};
-use sqlite::{Connection, FileStore, Files, Options};
-use sqlite_disk::{Crash, Fuse, Memory};
+use sqlite::{Alter, Connection, Files, Options};
+use sqlite_disk::{Crash, Disk, Fuse, Memory};
 use std::alloc::Global;
 
 // More calls than any run below makes, and fewer.
@@ -15,8 +15,6 @@ const MOST: u64 = 1_000;
 const FEWEST: u64 = 10;
 
 type Stopped = Fuse<Memory>;
-
-type Stored = SqlStore<FileStore<Stopped>>;
 
 /// Which of the two files is stopped.
 #[derive(Clone, Copy, PartialEq, Eq)]
@@ -43,25 +41,6 @@ fn fused(alloc: Global, stops: Stops, calls: u64) -> Files<Stopped> {
         log: Fuse::new(Memory::new(alloc), log),
         db: Fuse::new(Memory::new(alloc), db),
     }
-}
-
-// A store over the files, or the files.
-fn opened(alloc: Global, files: Files<Stopped>) -> Result<Stored, Files<Stopped>> {
-    if !files.may_be_used() {
-        return Err(files);
-    }
-    let conn = match Connection::open_files(alloc, files, Options::new(1)) {
-        Ok(conn) => conn,
-        Err((_, left)) => return Err(left.into_files()),
-    };
-    match SqlStore::adopt(alloc, conn) {
-        Ok(store) => Ok(store),
-        Err((_, conn)) => Err(conn.into_store().close()),
-    }
-}
-
-fn files_of(store: Stored) -> Files<Stopped> {
-    store.into_connection().into_store().close()
 }
 
 fn save_all<S: PromiseStore>(store: &mut S, told: &mut u32) -> Result<(), StoreFault> {
@@ -113,22 +92,36 @@ fn saves_of_command_in(round: u64, row: &Row) -> Option<u32> {
     }
 }
 
-// Does the work over files of which one stops; returns the files, and how many saves were reported as done.
-fn played(alloc: Global, work: Work, files: Files<Stopped>) -> (Files<Stopped>, u32) {
-    let mut store = match opened(alloc, files) {
+// Does the work over a store on the connection; returns how many saves were reported as done.
+fn worked<D: Alter>(alloc: Global, work: Work, conn: Connection<D>) -> (Connection<D>, u32) {
+    let mut store = match SqlStore::adopt(alloc, conn) {
         Ok(store) => store,
-        Err(files) => return (files, 0),
+        Err((_, conn)) => return (conn, 0),
     };
     match work {
         Work::Saves => {
             let mut told = 0;
             let _ = save_all(&mut store, &mut told);
-            (files_of(store), told)
+            (store.into_connection(), told)
         }
         Work::Command => {
             let (store, events) = command_over(alloc, store);
-            (files_of(store), saves_before(events))
+            (store.into_connection(), saves_before(events))
         }
+    }
+}
+
+// The same over files of which one stops.
+fn worked_on_files<D: Disk + Drop>(alloc: Global, work: Work, files: Files<D>) -> (Files<D>, u32) {
+    if !files.may_be_used() {
+        return (files, 0);
+    }
+    match Connection::open_files(alloc, files, Options::new(1)) {
+        Ok(conn) => {
+            let (conn, told) = worked(alloc, work, conn);
+            (conn.into_store().close(), told)
+        }
+        Err((_, left)) => (left.into_files(), 0),
     }
 }
 
@@ -162,27 +155,50 @@ fn came_of(told: u32, kept: Option<u32>, goes_on: bool) -> Came {
     }
 }
 
-fn stopped_at(alloc: Global, work: Work, stops: Stops, calls: u64) -> Came {
-    let (mut files, told) = played(alloc, work, fused(alloc, stops, calls));
-    files.log.crash();
-    files.db.crash();
-    let mut store = match opened(alloc, files) {
+// What became of the work of which that many saves were reported as done, by a store on the connection.
+fn seen_in<D: Alter>(
+    alloc: Global,
+    work: Work,
+    told: u32,
+    conn: Connection<D>,
+) -> (Connection<D>, Came) {
+    let mut store = match SqlStore::adopt(alloc, conn) {
         Ok(store) => store,
-        Err(_) => return Came::Lost,
+        Err((_, conn)) => return (conn, Came::Lost),
     };
     let kept = kept_of(work, &mut store);
     let (store, goes_on) = match work {
         Work::Saves => (store, true),
         Work::Command => goes_on_over(alloc, store, kept == Some(3)),
     };
-    drop(files_of(store));
-    came_of(told, kept, goes_on)
+    (store.into_connection(), came_of(told, kept, goes_on))
+}
+
+// What comes of the work over files of which one stops, which then crash and are opened again.
+fn came_after<D: Crash + Drop>(alloc: Global, work: Work, files: Files<D>) -> Came {
+    let (mut files, told) = worked_on_files(alloc, work, files);
+    files.log.crash();
+    files.db.crash();
+    if !files.may_be_used() {
+        return Came::Lost;
+    }
+    match Connection::open_files(alloc, files, Options::new(1)) {
+        Ok(conn) => {
+            let (conn, came) = seen_in(alloc, work, told, conn);
+            drop(conn.into_store().close());
+            came
+        }
+        Err((_, left)) => {
+            drop(left.into_files());
+            Came::Lost
+        }
+    }
 }
 
 /// Stops the work at each call in turn, until it ends before the stop.
 pub fn play_stops(rt: &HostRuntime, work: Work, stops: Stops) -> anyhow::Result<()> {
     for calls in 0..MOST {
-        match stopped_at(rt.alloc(), work, stops, calls) {
+        match came_after(rt.alloc(), work, fused(rt.alloc(), stops, calls)) {
             Came::Kept => {}
             Came::Whole if calls < FEWEST => {
                 println!(rt; "only {calls} stops")?;

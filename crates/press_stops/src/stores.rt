@@ -5,8 +5,8 @@
 use crate::asks::{ask_all, save_often};
 use press_acceptor::StoreFault;
 use press_store::SqlStore;
-use sqlite::{Alter, Connection, FileStore, Files, MemStore, Options, Wary};
-use sqlite_disk::Memory;
+use sqlite::{Alter, Connection, FileStore, Files, MemStore, Options, Start, Unknown, Wary};
+use sqlite_disk::{Disk, Memory};
 use std::alloc::Global;
 
 /// What the database is kept in.
@@ -94,7 +94,7 @@ fn play_in_memory(rt: &HostRuntime, base: Base, all: &[Session<'_>]) -> anyhow::
     done
 }
 
-fn closed(conn: Connection<FileStore<Memory>>) -> (Files<Memory>, anyhow::Result<()>) {
+fn closed<D: Disk + Drop>(conn: Connection<FileStore<D>>) -> (Files<D>, anyhow::Result<()>) {
     match conn.close_files() {
         Ok(files) => (files, Ok(())),
         Err((error, left)) => (left.close(), Err(error.into())),
@@ -102,11 +102,11 @@ fn closed(conn: Connection<FileStore<Memory>>) -> (Files<Memory>, anyhow::Result
 }
 
 // Opens the files, asks the store over them, and closes them.
-fn session_over_files(
+fn session_over_files<D: Disk + Drop>(
     rt: &HostRuntime,
-    files: Files<Memory>,
+    files: Files<D>,
     words: &[&str],
-) -> (Files<Memory>, anyhow::Result<()>) {
+) -> (Files<D>, anyhow::Result<()>) {
     if !files.may_be_used() {
         return (files, Err(anyhow::anyhow!("a file is shut")));
     }
@@ -158,10 +158,19 @@ pub enum Syncs {
     Twice,
 }
 
+fn saved_from<S: Start>(
+    rt: &HostRuntime,
+    name: &str,
+    start: S,
+    count: u32,
+) -> Result<(), StoreFault> {
+    save_often(&mut SqlStore::open_from(rt, name, start)?, count)
+}
+
 fn saved_in_file(rt: &HostRuntime, name: &str, count: u32, syncs: Syncs) -> Result<(), StoreFault> {
     match syncs {
-        Syncs::Once => save_often(&mut SqlStore::open(rt, name)?, count),
-        Syncs::Twice => save_often(&mut SqlStore::open_from(rt, name, Wary)?, count),
+        Syncs::Once => saved_from(rt, name, Unknown, count),
+        Syncs::Twice => saved_from(rt, name, Wary, count),
     }
 }
 
