@@ -6,7 +6,7 @@ use crate::asks::{ask_all, save_often};
 use press_acceptor::StoreFault;
 use press_store::SqlStore;
 use sqlite::{Alter, Connection, FileStore, Files, MemStore, Options, Start, Unknown, Wary};
-use sqlite_disk::{Disk, Memory};
+use sqlite_disk::{Disk, Fuse, Memory};
 use std::alloc::Global;
 
 /// What the database is kept in.
@@ -120,10 +120,11 @@ fn session_over_files<D: Disk + Drop>(
     }
 }
 
+// The files are of the type that stops have, and never stop: each type of file has the whole database compiled anew.
 fn play_over_files(rt: &HostRuntime, all: &[Session<'_>]) -> anyhow::Result<()> {
     let mut files = Files {
-        log: Memory::new(rt.alloc()),
-        db: Memory::new(rt.alloc()),
+        log: Fuse::new(Memory::new(rt.alloc()), u64::MAX),
+        db: Fuse::new(Memory::new(rt.alloc()), u64::MAX),
     };
     for words in all.iter() {
         let (left, done) = session_over_files(rt, files, words);
