@@ -56,16 +56,11 @@ fn place_words<'a>(alloc: Global) -> Result<Command<'a>, AllocError>
     ensures app { IfOk result (λ c. app_of c ≡ spec.place_words) }
     ensures local { IfOk result (λ c. (out-Command c).has_globals ≡ false) }
 {
-    let port = Arg::new(alloc, "port").long("port");
-    let id = Arg::new(alloc, "id").long("id");
-    let peers = Arg::new(alloc, "peers").long("peers");
-    let tick = Arg::new(alloc, "tick").long("tick");
-    let serve = Command::new(alloc, "serve")
-        .disable_help_flag(true)
-        .arg(port)?
-        .arg(id)?
-        .arg(peers)?
-        .arg(tick)?;
+    let bare = Command::new(alloc, "serve").disable_help_flag(true);
+    let one = bare.arg(Arg::new(alloc, "port").long("port"))?;
+    let two = one.arg(Arg::new(alloc, "id").long("id"))?;
+    let three = two.arg(Arg::new(alloc, "peers").long("peers"))?;
+    let serve = three.arg(Arg::new(alloc, "tick").long("tick"))?;
     Ok(serve)
 }
 
@@ -74,12 +69,11 @@ fn server_words<'a>(alloc: Global) -> Result<Command<'a>, AllocError>
     ensures app { IfOk result (λ c. app_of c ≡ spec.server_words) }
     ensures local { IfOk result (λ c. (out-Command c).has_globals ≡ false) }
 {
-    let store = Arg::new(alloc, "store").long("store");
-    let turns = Arg::new(alloc, "turns").long("turns");
-    let editor = Arg::new(alloc, "editor").long("editor");
-    let ahead = Arg::new(alloc, "ahead").long("ahead");
     let place = place_words(alloc)?;
-    let serve = place.arg(store)?.arg(turns)?.arg(editor)?.arg(ahead)?;
+    let one = place.arg(Arg::new(alloc, "store").long("store"))?;
+    let two = one.arg(Arg::new(alloc, "turns").long("turns"))?;
+    let three = two.arg(Arg::new(alloc, "editor").long("editor"))?;
+    let serve = three.arg(Arg::new(alloc, "ahead").long("ahead"))?;
     Ok(serve)
 }
 
@@ -98,19 +92,19 @@ fn parsed<'a>(alloc: Global, words: &'a [String]) -> Result<ArgMatches<'a>, Erro
     ensures matches { IfOk result (λ m. subcommand_rows_of m
         ≡ subcommand_of spec.program (map string_bytes words.entry.now)) }
 {
-    let page = page_words(alloc)?;
-    let replay = file_words(alloc, "replay")?;
-    let looped = file_words(alloc, "loop")?;
-    let serve = serve_words(alloc)?;
-    let program = Command::new(alloc, "press")
+    let bare = Command::new(alloc, "press")
         .no_binary_name(true)
         .disable_help_flag(true)
         .disable_help_subcommand(true)
-        .subcommand_required(true)
-        .subcommand(page)?
-        .subcommand(replay)?
-        .subcommand(looped)?
-        .subcommand(serve)?;
+        .subcommand_required(true);
+    let page = page_words(alloc)?;
+    let one = bare.subcommand(page)?;
+    let replay = file_words(alloc, "replay")?;
+    let two = one.subcommand(replay)?;
+    let looped = file_words(alloc, "loop")?;
+    let three = two.subcommand(looped)?;
+    let serve = serve_words(alloc)?;
+    let program = three.subcommand(serve)?;
     program.try_get_matches_from(words)
 }
 

@@ -17,10 +17,10 @@ is_told = refl
 program_is : (c : goal.After-try_get_matches_from) → app_of c.in_ok-program.program ≡ spec.program
 unfolding program
 program_is c =
-    let bare_is : app_of c.subcommand_required.result ≡ spec.bare = search rules in
-    let one = c.in_ok-subcommand.ensures.shape c.in_ok-page.ensures.local ∙ ap₂ with_subcommand bare_is (ap (λ (a : App). a.top) c.in_ok-page.ensures.app) in
-    let two = c.in_ok-subcommand-2.ensures.shape c.in_ok-replay.ensures.local ∙ ap₂ with_subcommand one (ap (λ (a : App). a.top) c.in_ok-replay.ensures.app) in
-    let three = c.in_ok-subcommand-3.ensures.shape c.in_ok-looped.ensures.local ∙ ap₂ with_subcommand two (ap (λ (a : App). a.top) c.in_ok-looped.ensures.app) in
+    let bare_is : app_of c.subcommand_required-bare.result ≡ spec.bare = search rules in
+    let one = c.in_ok-one.ensures.shape c.in_ok-page.ensures.local ∙ ap₂ with_subcommand bare_is (ap (λ (a : App). a.top) c.in_ok-page.ensures.app) in
+    let two = c.in_ok-two.ensures.shape c.in_ok-replay.ensures.local ∙ ap₂ with_subcommand one (ap (λ (a : App). a.top) c.in_ok-replay.ensures.app) in
+    let three = c.in_ok-three.ensures.shape c.in_ok-looped.ensures.local ∙ ap₂ with_subcommand two (ap (λ (a : App). a.top) c.in_ok-looped.ensures.app) in
     c.in_ok-program.ensures.shape c.in_ok-serve.ensures.local ∙ ap₂ with_subcommand three (ap (λ (a : App). a.top) c.in_ok-serve.ensures.app)
 
 pub returns-clause-kinds : goal.returns-clause-kinds
