@@ -163,7 +163,7 @@ is_file (Step n) = false
 -- a play file, of which the kit is a part, is easily taken for a kit file
 abbrev pub what_told : Data → Place → List ℕ
 what_told kit at =
-    if is_file at && is_some (get (codes "kit") kit) then codes "this is a play file: the kit is what stands at its \"kit\"" else item_told at (item_where kit at)
+    if is_file at && is_some (get (codes "kit") kit) then codes "this is a play file: its kit is the value of \"kit\"" else item_told at (item_where kit at)
 
 abbrev pub bad_told : Data → Place → List ℕ
 bad_told kit at = place_told (name_where kit at) at ++ what_told kit at

@@ -165,7 +165,7 @@ fn what_told(alloc: Global, kit: &Value, at: Place) -> Result<String, AllocError
     ensures { IfOk result (λ t. string_bytes t ≡ spec.what_told (view kit.now) at) }
 {
     if is_file(at) && kit.get("kit").is_some() {
-        let told = "this is a play file: the kit is what stands at its \"kit\"";
+        let told = "this is a play file: its kit is the value of \"kit\"";
         return String::from_str(alloc, told);
     }
     item_told(alloc, kit, at)

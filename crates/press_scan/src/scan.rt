@@ -126,11 +126,9 @@ fn push_answer(
     out.push_str(answer)
 }
 
-// What an opening and its shortcode are, without work.
-fn stands(text: &str, tags: &TagTable, from: usize, opening: Opening, shortcode: Shortcode)
-    requires opening { IsOpening text.now (names_of tags.now) from opening }
-    requires made { IsMade text.now opening shortcode }
-    ensures next { IsNext text.now (names_of tags.now) from shortcode }
+// What the next shortcode is, without work.
+fn stands(text: &str, tags: &TagTable, from: usize, shortcode: Shortcode)
+    requires next { IsNext text.now (names_of tags.now) from shortcode }
     ensures edges { HasEdges text.now shortcode }
     ensures named { IsNamed text.now shortcode }
 {}
@@ -308,7 +306,7 @@ impl Scan {
         ensures edges { IfOk result (λ s. HasEdges self.old.text s) }
     {
         let shortcode = shortcode_of(self.text.as_bytes(), &mut self.missing, opening)?;
-        stands(self.text.as_str(), tags, self.at, opening, shortcode);
+        stands(self.text.as_str(), tags, self.at, shortcode);
         self.found = Some(shortcode);
         Ok(shortcode)
     }

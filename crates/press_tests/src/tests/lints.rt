@@ -68,7 +68,7 @@ fn mistakes_are_told_with_their_places(rt: HostRuntime) {
         (
             r#"{"kit":{"callbacks":[],"plugins":[]},"plays":[]}"#,
             73,
-            "file: this is a play file: the kit is what stands at its \"kit\"",
+            "file: this is a play file: its kit is the value of \"kit\"",
         ),
         (r#"{"callbacks":[]}"#, 73, "plugins: is bad"),
         ("[]", 73, "file: is bad: no object"),
