@@ -14,9 +14,9 @@ stands-requires c =
     let next = made_next _ _ _ _ _ c.requires.opening made in
     let text : c.args.self.now.text ≡ c.as_str.result.now = cc in
     let at : c.args.self.now.at ≡ c.self.inside.at = cc in (
-      record {
-        next = subst (λ (k : ℕ). IsNext c.as_str.result.now (names_of c.args.tags.now) k c.in_ok-shortcode.shortcode) at (subst (λ (t : List ℕ). IsNext t (names_of c.args.tags.now) c.args.self.now.at c.in_ok-shortcode.shortcode) text next);
-      }
+    record {
+      next = subst (λ (k : ℕ). IsNext c.as_str.result.now (names_of c.args.tags.now) k c.in_ok-shortcode.shortcode) at (subst (λ (t : List ℕ). IsNext t (names_of c.args.tags.now) c.args.self.now.at c.in_ok-shortcode.shortcode) text next);
+    }
     )
 
 pub returns-clause-next : goal.returns-clause-next
