@@ -2,5 +2,6 @@ mod fakes;
 mod fixtures;
 mod replays;
 mod runs;
+mod servers;
 mod turns;
 mod words;

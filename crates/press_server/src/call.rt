@@ -1,5 +1,7 @@
 //! One request that goes out to a member, from its begin to its end.
 
+ghost use Rattle.std.specs.Prelude.{◌≡◌};
+
 use crate::answers::{Errand, Outgoing};
 use mio::net::TcpStream;
 use std::alloc::{AllocError, Global};
@@ -82,7 +84,9 @@ impl Call {
     }
 
     /// For which member it is.
-    pub fn place(&self) -> usize {
+    pub fn place(&self) -> usize
+        ensures { result ≡ self.now.place }
+    {
         self.place
     }
 

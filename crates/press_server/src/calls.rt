@@ -1,5 +1,8 @@
 //! The requests that go out at once, and those that wait.
 
+ghost use Rattle.std.specs.Prelude.{◌≡◌, None, IfSome};
+ghost use Rattle.press_server.specs.Lanes.{call_at, closed, open_in};
+
 use crate::answers::Outgoing;
 use crate::call::Call;
 use std::alloc::{AllocError, Global};
@@ -91,7 +94,10 @@ impl Calls {
     }
 
     /// One that was to go out has ended.
-    pub fn close_lane(&mut self, place: usize) {
+    pub fn close_lane(&mut self, place: usize)
+        ensures closes { open_in self.new.lanes.items ≡ closed (open_in self.old.lanes.items) place }
+        ensures same { self.new.places ≡ self.old.places }
+    {
         if let Some(lane) = self.lanes.get_mut(place) {
             lane.open = lane.open.saturating_sub(1);
         }
@@ -122,16 +128,18 @@ impl Calls {
         }
     }
 
-    /// Takes one from its place.
-    pub fn leave(&mut self, place: usize) {
-        let Some(call) = self.get_mut(place) else {
+    /// Takes one from its place: its lane has one less that is open.
+    pub fn leave(&mut self, place: usize)
+        ensures free { call_at self.new place ≡ None }
+        ensures lane { IfSome (call_at self.old place) (λ call.
+            open_in self.new.lanes.items ≡ closed (open_in self.old.lanes.items) call.place) }
+    {
+        let Some(slot) = self.places.get_mut(place) else {
             return;
         };
-        let lane = call.place();
-        if let Some(slot) = self.places.get_mut(place) {
-            *slot = None;
+        if let Some(call) = slot.take() {
+            self.close_lane(call.place());
         }
-        self.close_lane(lane);
     }
 
     /// How many places there are.

@@ -1,2 +1,3 @@
 pub mod Listening
+pub mod Members
 pub mod Turns

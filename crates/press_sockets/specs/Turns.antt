@@ -1,6 +1,6 @@
 -- A turn of a server: what a connection, and behind a command that was taken a wake with the node's own messages, make of a node (own). A fault of any event ends it
 -- there.
-use Rattle.std.specs.Prelude.{◌≡◌, ◌≢◌, ◌⊎◌, ℕ, zero, suc, List, [], ◌∷◌, ◌++◌, Option, None, Some, Result, Ok, Err}
+use Rattle.std.specs.Prelude.{◌≡◌, ◌≢◌, ◌⊎◌, ◌<◌, ◌≤◌, ℕ, zero, suc, List, [], ◌∷◌, ◌++◌, Option, None, Some, IsSome, Result, Ok, Err}
 use Rattle.press_http.specs.declared.fault.HttpFault.{HttpFault}
 use Rattle.press_wire.specs.declared.message.Message.{Message}
 use Rattle.press_node.specs.declared.event.Event.TheVariants.{Wake, Deliver}
@@ -38,6 +38,11 @@ module _ {N : Type 0} (moved : N → N → NodeMove) where
   Wakes node after fault =
       (outcome : Result (List Message) NodeFault) × (next : N) × (moved node next).plays Wake outcome
       × GoesOn (λ sent. Delivers most_deliveries sent next after fault) next after fault outcome
+
+  -- It is woken until a wake fails or applies nothing more. The function counts what a node has applied.
+  pub data CatchesUp (count : N → ℕ) : N → N → Type 0 where
+    rests : (node after : N) (fault : Option NodeFault) → Wakes node after fault → IsSome fault ⊎ (count after ≤ count node) → CatchesUp count node after
+    goes_on : (node next after : N) → Wakes node next None → count node < count next → CatchesUp count next after → CatchesUp count node after
 
   -- behind 202 there is a wake, whatever comes of it, and behind any other status nothing
   abbrev pub WakesAfter : ℕ → N → N → Type 0

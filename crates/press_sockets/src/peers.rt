@@ -1,5 +1,8 @@
 //! The members of a cluster, by their addresses.
 
+ghost use Rattle.std.specs.Prelude.{◌≡◌, ◌+◌, length};
+ghost use Rattle.press_sockets.specs.Members.{is_majority};
+
 use press_wire::Node as Member;
 use std::alloc::{AllocError, AllocFailed, Global};
 use std::net::{IpAddr, Net, SocketAddr, ToSocketAddrs};
@@ -160,8 +163,10 @@ impl Peers {
     }
 
     // Whether that many other members make a majority with this node.
-    fn is_majority(&self, others: usize) -> bool {
-        self.all.len() < others.saturating_add(1).saturating_mul(2)
+    fn is_majority(&self, others: usize) -> bool
+        ensures { result ≡ is_majority (length self.now.all.items) (others + 1) }
+    {
+        others >= self.all.len() / 2
     }
 
     /// Whether a majority, this node among it, has reported how far it is, in whichever looks.

@@ -10,7 +10,7 @@ use crate::joining::{Seat, join, seat_of};
 use crate::screen::Screen;
 use crate::serve_fault::ServeFault;
 use crate::setup::{Place, Setup};
-use crate::turn::wake;
+use crate::turn::catch_up;
 use press_acceptor::{MemoryStore, PromiseStore, StoreFault};
 use press_callbacks::Kit;
 use press_node::{Node, StartFault};
@@ -43,18 +43,6 @@ pub fn begin<S: PromiseStore + Drop>(
     match Node::start(alloc, member(), 1, kit, store) {
         Ok(node) => Ok(node),
         Err(StartFault { fault, .. }) => Err(fault),
-    }
-}
-
-/// Has what its store keeps chosen again, and applied: wakes it until nothing more is applied.
-pub fn catch_up<S: PromiseStore>(alloc: Global, node: &mut Node<S>)
-    requires always { Unit {0} }
-{
-    for _ in 0..u64::MAX {
-        let applied = node.applied();
-        if wake(alloc, node).is_err() || node.applied() == applied {
-            return;
-        }
     }
 }
 
@@ -190,25 +178,16 @@ fn serve_stored<D: Alter + Drop, W: Write, E: Write>(
     ensures { AppendsFront (W.contents writer.old) (W.contents writer.new)
         (listening_line (where_of beside.entry.start.setup.now.place)) }
 {
+    let mut beside = beside;
+    let Some(seat) = beside.seat.take() else {
+        return serve_alone(beside, store, writer, error);
+    };
     let Beside {
         start,
-        seat,
         screen,
         kit,
+        ..
     } = beside;
-    let Some(seat) = seat else {
-        return serve_alone(
-            Beside {
-                start,
-                seat: None,
-                screen,
-                kit,
-            },
-            store,
-            writer,
-            error,
-        );
-    };
     let mut clustered = join(start.rt.alloc(), seat.party(&screen), kit, store)?;
     serve_over(start, &mut clustered, writer, error)
 }

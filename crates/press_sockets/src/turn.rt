@@ -1,9 +1,10 @@
 //! One turn of a server: a connection, and after a command that was taken a wake with what the node sends to itself.
 
 ghost use Rattle.std.specs.Prelude.{◌≡◌, ◌++◌, OnOk};
-ghost use Rattle.press_node.specs.Nodes.{kit_of, node_moved};
+ghost use Rattle.press_node.specs.Nodes.{kit_of, node_moved, state_of};
 ghost use Rattle.press_node.specs.Plays.{sent};
-ghost use Rattle.press_sockets.specs.Turns.{Delivers, ServesTurn, Wakes, fault_of};
+ghost use Rattle.press_node.specs.States.{applied_count};
+ghost use Rattle.press_sockets.specs.Turns.{CatchesUp, Delivers, ServesTurn, Wakes, fault_of};
 
 use press_acceptor::PromiseStore;
 use press_http::HttpFault;
@@ -79,6 +80,23 @@ pub fn wake<S: PromiseStore>(alloc: Global, node: &mut Node<S>) -> Result<(), No
                 Ok(()) => deliver(node, &mut waiting, MOST_DELIVERIES),
                 Err(AllocError) => Err(NodeFault::NoMemory),
             }
+        }
+    }
+}
+
+/// Has what its store keeps chosen again, and applied: wakes it until a wake fails or applies nothing more.
+pub fn catch_up<S: PromiseStore>(alloc: Global, node: &mut Node<S>)
+    requires always { Unit {0} }
+    ensures { CatchesUp (λ a b. node_moved S.seen a b)
+        (λ n. applied_count (state_of n)) node.old node.new }
+{
+    'wakes: loop {
+        let applied = node.applied();
+        let Ok(()) = wake(alloc, node) else {
+            return;
+        };
+        if node.applied() <= applied {
+            return;
         }
     }
 }

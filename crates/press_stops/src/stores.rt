@@ -20,6 +20,8 @@ pub enum Base {
     Later,
     /// In memory, over one table of the two.
     Half,
+    /// The same in a file, which a store opens by its name.
+    HalfFile,
 }
 
 const LOOSE: &str =
@@ -77,7 +79,7 @@ fn sessions<D: Alter>(
 // The tables that stand before a store is made.
 fn prepared(conn: &mut Connection<MemStore>, base: Base) -> anyhow::Result<()> {
     match base {
-        Base::Memory | Base::Files => {}
+        Base::Memory | Base::Files | Base::HalfFile => {}
         Base::Loose => conn.execute_batch(LOOSE)?,
         Base::Later => conn.execute_batch(LATER)?,
         Base::Half => conn.execute_batch(HALF)?,
@@ -143,12 +145,27 @@ fn show_refusal(rt: &HostRuntime, played: anyhow::Result<()>) -> anyhow::Result<
     Ok(())
 }
 
+// One table of the two, in a file that a store then opens by its name.
+fn play_half_file(rt: &HostRuntime, name: &str) -> anyhow::Result<()> {
+    let mut conn = Connection::open(rt, name)?;
+    let made = conn.execute_batch(HALF);
+    let (files, ended) = closed(conn);
+    drop(files);
+    made?;
+    ended?;
+    match SqlStore::open(rt, name) {
+        Ok(_) => Ok(()),
+        Err(fault) => Err(refused(fault)),
+    }
+}
+
 /// Plays each session on the store, the first on a new one.
 pub fn play_store(rt: &HostRuntime, base: Base, all: &[Session<'_>]) -> anyhow::Result<()> {
     match base {
         Base::Memory | Base::Loose => play_in_memory(rt, base, all),
         Base::Files => play_over_files(rt, all),
         Base::Later | Base::Half => show_refusal(rt, play_in_memory(rt, base, all)),
+        Base::HalfFile => show_refusal(rt, play_half_file(rt, "half.db")),
     }
 }
 

@@ -26,6 +26,7 @@ impl Start {
             "store-loose" => Some(Start::Store(Base::Loose)),
             "store-later" => Some(Start::Store(Base::Later)),
             "store-half" => Some(Start::Store(Base::Half)),
+            "store-half-file" => Some(Start::Store(Base::HalfFile)),
             "stops-of-log" => Some(Start::Stop(Work::Saves, Stops::Log)),
             "stops-of-file" => Some(Start::Stop(Work::Saves, Stops::Database)),
             "command-stops-of-log" => Some(Start::Stop(Work::Command, Stops::Log)),

@@ -65,7 +65,7 @@ looks_then old mid new same one two = record {
   crash = λ db may. one.crash db (two.crash db may);
 }
 
-differs : {A : Type 0} → no_schema ≡ store_schema → A
+pub differs : {A : Type 0} → no_schema ≡ store_schema → A
 differs same =
     let none : 0 ≡ 2 = ap (λ (s : Schema). length s.tables) same in
     absurd (omega (arith, none))

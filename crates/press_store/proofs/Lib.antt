@@ -1,4 +1,5 @@
 mod Adopting
+mod Blank
 mod Lasts
 mod Looked
 mod Made
@@ -7,6 +8,7 @@ mod Queries
 mod Reopened
 mod Rounds
 mod Saved
+mod Schemas
 mod Slots
 mod Texts
 mod Told

@@ -1,25 +1,33 @@
 -- What an open finds of an earlier run.
-use Rattle.std.proofs.Common.{◌≡◌, List, [], ◌∷◌, filter, ap, subst, ◌∙◌, inl, inr}
-use Rattle.std.specs.List.{AllZip}
+use Rattle.std.proofs.Common.{◌≡◌, ap, subst, ◌∙◌, inl, inr}
 use Rattle.sqlite.specs.Tree.{Trees}
 use Rattle.sqlite.specs.Recovery.{Image}
 use Rattle.sqlite.specs.Effect.{Database}
 use Rattle.sqlite.specs.State.{State, Opens, IsLive}
 use Rattle.sqlite.specs.Start.{FindsIn}
 use Rattle.sqlite_trees.specs.Objects.{catalog_tree}
-use Rattle.sqlite_catalog.specs.Listing.{IsSound, is_table_row}
+use Rattle.sqlite_catalog.specs.Listing.{IsSound}
 use Rattle.press_store.specs.Tables.{no_schema, store_schema}
 use Rattle.press_store.specs.Shown.{store_in}
-use Rattle.press_store.specs.Adopted.{Adopts}
-use Rattle.press_store.specs.Opened.{Finds, IsUp}
-
-no_rows : {A B : Type 0} (P : A → B → Type 0) (xs : List A) (y : B) (ys : List B) → AllZip P xs [] → AllZip P xs (y ∷ ys) → ⊥
-no_rows P [] y ys none some = some
-no_rows P (x ∷ xs) y ys none some = none
+use Rattle.press_store.specs.Adopted.{Adopts, IsServed}
+use Rattle.press_store.specs.Opened.{Finds, IsUp, HoldsServed}
+use Rattle.press_store.proofs.Adopting.{differs}
+use Rattle.press_store.proofs.Schemas.{one_schema, lists_nothing}
+use Rattle.press_store.proofs.Blank.{finds_empty}
 
 -- a list of objects is not that of nothing and that of a store
 not_both : (db : Trees) → IsSound no_schema db → IsSound store_schema db → ⊥
-not_both db none some = no_rows _ (filter is_table_row (db catalog_tree)) _ _ none.lists.listed.tables some.lists.listed.tables
+not_both db none some = differs (one_schema no_schema db none some)
+
+pub finds_served : (was : State) (image : Image) → Opens was → IsLive was → FindsIn image was → HoldsServed image → IsServed was
+finds_served was image opens live found (inl nothing) =
+    let sound : IsSound was.now.schema was.now.trees = (live opens.is_open).0 in
+    let trees : was.now.trees ≡ was.committed.trees = ap (λ (d : Database). d.trees) opens.clean in
+    inl (lists_nothing was.now.schema was.now.trees sound (ap (λ (db : Trees). db catalog_tree) trees ∙ finds_empty image was.committed.trees nothing found.reads))
+finds_served was image opens live found (inr (db, holds, store)) =
+    let sound : IsSound was.now.schema was.now.trees = (live opens.is_open).0 in
+    let trees : was.now.trees ≡ db = ap (λ (d : Database). d.trees) opens.clean ∙ found.holds db holds in
+    inr (one_schema was.now.schema db (subst (IsSound was.now.schema) trees sound) store)
 
 pub finds_again : (was now : State) (image : Image) → Opens was → IsLive was → FindsIn image was → Adopts was now → Finds image now
 finds_again was now image opens live found adopts db holds store = elim adopts.kept [

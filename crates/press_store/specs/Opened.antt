@@ -1,9 +1,9 @@
 -- What an open finds of an earlier run (own).
-use Rattle.std.specs.Prelude.{◌≡◌, IsTrue}
+use Rattle.std.specs.Prelude.{◌≡◌, ◌⊎◌, IsTrue}
 use Rattle.sqlite.specs.Recovery.{Image}
 use Rattle.sqlite.specs.Tree.{Trees}
 use Rattle.sqlite.specs.State.{State}
-use Rattle.sqlite.specs.Files.{HoldsDatabase}
+use Rattle.sqlite.specs.Files.{HoldsDatabase, IsNothing}
 use Rattle.sqlite_catalog.specs.Listing.{IsSound}
 use Rattle.press_acceptor.specs.StoreMap.{Only}
 use Rattle.press_store.specs.Tables.{store_schema}
@@ -25,3 +25,7 @@ pub record IsStore (db : Trees) : Type 0 where
 -- What was saved is found again: where the files hold the trees of a store, it keeps what they stand for.
 abbrev pub Finds : Image → State → Type 0
 Finds image s = (db : Trees) → HoldsDatabase image db → IsStore db → kept_by s ≡ store_in db
+
+-- the files hold no database yet, or one that has the two tables of a store and nothing else
+abbrev pub HoldsServed : Image → Type 0
+HoldsServed image = IsNothing image ⊎ ((db : Trees) × HoldsDatabase image db × IsSound store_schema db)

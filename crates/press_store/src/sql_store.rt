@@ -7,7 +7,7 @@ ghost use Rattle.sqlite.specs.Files.{file_state};
 ghost use Rattle.sqlite.specs.WalFiles.{image_at};
 ghost use Rattle.press_store.specs.Adopted.{Adopts, IsServed, IsHandedBack, is_half};
 ghost use Rattle.press_acceptor.specs.declared.fault.StoreFault.TheVariants.{Damaged};
-ghost use Rattle.press_store.specs.Opened.{Finds, IsUp};
+ghost use Rattle.press_store.specs.Opened.{Finds, HoldsServed, IsUp};
 ghost use Rattle.press_store.specs.Attempt.{IsReady};
 ghost use Rattle.press_store.specs.Kept.{seen_of};
 ghost use Rattle.press_store.specs.Voted.{IsLastVote};
@@ -129,6 +129,8 @@ impl<S: Start> SqlStore<FileStore<FileFrom<S>>> {
         path: &str,
         start: S,
     ) -> Result<SqlStore<FileStore<FileFrom<S>>>, StoreFault>
+        ensures ours { IfOk result (λ store. HasCleanDisk (file_state store.conn) →
+            HoldsServed (image_at S.Start) → IsTrue store.is_ours) }
         ensures up { IfOk result (λ store. HasCleanDisk (file_state store.conn) →
             IsTrue store.is_ours → IsUp (file_state store.conn)) }
         ensures found { IfOk result (λ store. HasCleanDisk (file_state store.conn) →
@@ -149,6 +151,8 @@ impl<S: Start> SqlStore<FileStore<FileFrom<S>>> {
 impl SqlStore<FileStore<File>> {
     /// A store in the file at the path, which is created if it doesn't exist.
     pub fn open(rt: &HostRuntime, path: &str) -> Result<SqlStore<FileStore<File>>, StoreFault>
+        ensures ours { IfOk result (λ store. HasCleanDisk (file_state store.conn) →
+            IsTrue store.is_ours) }
         ensures up { IfOk result (λ store. HasCleanDisk (file_state store.conn) →
             IsTrue store.is_ours → IsUp (file_state store.conn)) }
         ensures faults { IfOk result (λ store. store.faults ≡ 0) }

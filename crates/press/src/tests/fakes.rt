@@ -1,6 +1,7 @@
 use std::alloc::Global;
 use std::io;
 use std::io::{Read, Write};
+use std::net::{SocketAddr, TcpStream};
 
 /// A reader that gives seven bytes at a time. The read after a given number fails, and any later one gives more.
 #[derive(Drop)]
@@ -35,27 +36,88 @@ impl Read for Failing {
     }
 }
 
+/// A client that asks once, as soon as a server says that it listens.
+#[derive(Drop)]
+pub struct Client<'a> {
+    rt: &'a HostRuntime,
+    addr: SocketAddr,
+    request: &'a [u8],
+    stream: Option<TcpStream>,
+}
+
+impl<'a> Client<'a> {
+    pub fn new(rt: &'a HostRuntime, addr: SocketAddr, request: &'a [u8]) -> Client<'a> {
+        Client {
+            rt,
+            addr,
+            request,
+            stream: None,
+        }
+    }
+
+    fn ask(&mut self) -> io::Result<()> {
+        let mut stream = TcpStream::connect(self.rt, self.addr)?;
+        stream.write_all(self.request)?;
+        self.stream = Some(stream);
+        Ok(())
+    }
+
+    fn reply(self, reply: &mut Vec<u8>) -> io::Result<()> {
+        if let Some(mut stream) = self.stream {
+            stream.read_to_end(reply)?;
+        }
+        Ok(())
+    }
+}
+
+/// What comes of the flush of a writer.
+#[derive(Drop)]
+pub enum Flush<'a> {
+    Done,
+    Fails,
+    /// It is done, and a client asks.
+    Asks(Client<'a>),
+}
+
 /// A writer that takes three bytes at a time. The write after a given number fails or takes none, and any later one goes well.
 #[derive(Drop)]
-pub struct Narrow {
+pub struct Narrow<'a> {
     pub taken: Vec<u8>,
     good: u32,
     fails: bool,
     pub writes: u32,
+    flush: Flush<'a>,
 }
 
-impl Narrow {
-    pub fn new(alloc: Global, good: u32, fails: bool) -> Narrow {
+impl<'a> Narrow<'a> {
+    pub fn new(alloc: Global, good: u32, fails: bool) -> Narrow<'a> {
         Narrow {
             taken: Vec::new(alloc),
             good,
             fails,
             writes: 0,
+            flush: Flush::Done,
+        }
+    }
+
+    /// One whose writes go well.
+    pub fn flushed(alloc: Global, flush: Flush<'a>) -> Narrow<'a> {
+        Narrow {
+            flush,
+            ..Narrow::new(alloc, u32::MAX, true)
+        }
+    }
+
+    /// The whole reply to the client that asked, if one did.
+    pub fn reply(self, reply: &mut Vec<u8>) -> io::Result<()> {
+        match self.flush {
+            Flush::Asks(client) => client.reply(reply),
+            _ => Ok(()),
         }
     }
 }
 
-impl Write for Narrow {
+impl Write for Narrow<'_> {
     fn write(&mut self, buf: &[u8]) -> io::Result<usize> {
         let turn = self.writes;
         self.writes = self.writes.saturating_add(1);
@@ -72,7 +134,11 @@ impl Write for Narrow {
     }
 
     fn flush(&mut self) -> io::Result<()> {
-        Ok(())
+        match &mut self.flush {
+            Flush::Done => Ok(()),
+            Flush::Fails => Err(io::Error::from(io::ErrorKind::BrokenPipe)),
+            Flush::Asks(client) => client.ask(),
+        }
     }
 }
 

@@ -39,11 +39,17 @@ pub fn asked(rt: &HostRuntime, words: &[&str]) -> Result<EndedRun, Fail> {
 
 /// A run for these arguments on this file.
 pub fn asked_of(rt: &HostRuntime, words: &[&str], file: &[u8]) -> Result<EndedRun, Fail> {
-    let mut given: Vec<String> = Vec::new(rt.alloc());
+    let given = given(rt, words)?;
+    Ok(ended(rt, &given, file))
+}
+
+/// The arguments, as a program gets them.
+pub fn given(rt: &HostRuntime, words: &[&str]) -> Result<Vec<String>, Fail> {
+    let mut given = Vec::new(rt.alloc());
     for word in words {
         given.push(String::from_str(rt.alloc(), word)?)?;
     }
-    Ok(ended(rt, &given, file))
+    Ok(given)
 }
 
 impl EndedRun {

@@ -1,4 +1,5 @@
 use crate::tests::fixtures::{LETTERS, asked};
+use std::fs::File;
 use std::test::Fail;
 
 #[test]
@@ -78,7 +79,7 @@ fn other_words_of_a_server_are_refused(rt: HostRuntime) -> Result<(), Fail> {
 }
 
 // Options of a node by itself beside those of a member, a member without one of its options, and one whose addresses
-// are none: nothing is opened.
+// are none.
 #[test]
 fn words_of_a_server_that_do_not_fit_are_refused(rt: HostRuntime) -> Result<(), Fail> {
     let peers = "127.0.0.1:1,127.0.0.1:2";
@@ -95,5 +96,32 @@ fn words_of_a_server_that_do_not_fit_are_refused(rt: HostRuntime) -> Result<(), 
     ] {
         assert!(rt; asked(&rt, words)?.is_refused());
     }
+    assert!(rt; File::open(&rt, "f").is_err());
+    Ok(())
+}
+
+// The page for editors is read before the store is opened.
+#[test]
+fn a_page_that_is_not_there_leaves_no_store(rt: HostRuntime) -> Result<(), Fail> {
+    for words in [
+        &[
+            "serve", "--port", "8080", "--store", "f", "--editor", "no/such",
+        ][..],
+        &[
+            "serve",
+            "--id",
+            "1",
+            "--peers",
+            "127.0.0.1:1",
+            "--store",
+            "f",
+            "--editor",
+            "no/such",
+        ][..],
+    ] {
+        let unread = asked(&rt, words)?;
+        assert!(rt; unread.left(2, "", "press: fault 40\n"));
+    }
+    assert!(rt; File::open(&rt, "f").is_err());
     Ok(())
 }

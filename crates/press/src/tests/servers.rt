@@ -1,0 +1,111 @@
+use crate::tests::fakes::{Client, Flush, Narrow};
+use crate::tests::fixtures::given;
+use press_program::run;
+use std::fs;
+use std::net::{SocketAddr, TcpListener};
+use std::test::Fail;
+
+const FRONT: &[u8] = b"GET / HTTP/1.1\r\nHost: a\r\n\r\n";
+
+// A question for the vote of slot 1, from member 1 to itself.
+const QUESTION: &[u8] =
+    b"POST /peer HTTP/1.1\r\nHost: a\r\nContent-Length: 7\r\n\r\n\x06\x01\x01\x00\x00\x00\x01";
+
+// A port of that address at which nothing listens.
+fn free_addr(rt: &HostRuntime, ip: &str) -> Result<SocketAddr, Fail> {
+    let listener = TcpListener::bind(rt, (ip, 0))?;
+    Ok(listener.local_addr()?)
+}
+
+// What a server for these words replies to a request.
+fn replied(
+    rt: &HostRuntime,
+    words: &[&str],
+    addr: SocketAddr,
+    request: &[u8],
+) -> Result<Vec<u8>, Fail> {
+    let words = given(rt, words)?;
+    let client = Client::new(rt, addr, request);
+    let mut input: &[u8] = b"";
+    let mut out = Narrow::flushed(rt.alloc(), Flush::Asks(client));
+    let mut told: Vec<u8> = Vec::new(rt.alloc());
+    if run(rt, &words, &mut input, &mut out, &mut told) != 0 {
+        return Err(Fail::from("no server"));
+    }
+    let mut reply = Vec::new(rt.alloc());
+    out.reply(&mut reply)?;
+    Ok(reply)
+}
+
+// What the first of these members, which is new, replies.
+fn replied_by_member(
+    rt: &HostRuntime,
+    addr: SocketAddr,
+    peers: &str,
+    request: &[u8],
+) -> Result<Vec<u8>, Fail> {
+    let words = [
+        "serve", "--id", "1", "--peers", peers, "--store", "member", "--turns", "1",
+    ];
+    let reply = replied(rt, &words, addr, request)?;
+    fs::remove_file(rt, "member")?;
+    fs::remove_file(rt, "member-wal")?;
+    Ok(reply)
+}
+
+#[test]
+fn a_failed_flush_is_told(rt: HostRuntime) -> Result<(), Fail> {
+    let addr = free_addr(&rt, "127.0.0.1")?;
+    let port = format!(in rt.alloc(); "{}", addr.port())?;
+    let words = given(&rt, &["serve", "--port", &port, "--turns", "0"])?;
+    let mut input: &[u8] = b"";
+    let mut out = Narrow::flushed(rt.alloc(), Flush::Fails);
+    let mut told: Vec<u8> = Vec::new(rt.alloc());
+    assert_eq!(rt; run(&rt, &words, &mut input, &mut out, &mut told), 2);
+    assert_eq!(rt; told.as_slice(), b"press: fault 42\n".as_slice());
+    Ok(())
+}
+
+#[test]
+fn a_long_request_is_read_to_its_end(rt: HostRuntime) -> Result<(), Fail> {
+    let addr = free_addr(&rt, "127.0.0.1")?;
+    let port = format!(in rt.alloc(); "{}", addr.port())?;
+    let mut request = String::from_str(
+        rt.alloc(),
+        "POST /command HTTP/1.1\r\nHost: a\r\nContent-Length: 9067\r\n\r\neditor=ann&seq=1&at=100&kind=insert&title=x&status=publish&content=",
+    )?;
+    for _ in 0..900 {
+        request.push_str("0123456789")?;
+    }
+    let words = ["serve", "--port", &port, "--turns", "1"];
+    let reply = replied(&rt, &words, addr, request.as_bytes())?;
+    assert!(rt; reply.starts_with(b"HTTP/1.1 202 "));
+    Ok(())
+}
+
+// A client of this machine has the address 127.0.0.1.
+#[test]
+fn a_message_of_a_stranger_is_not_taken(rt: HostRuntime) -> Result<(), Fail> {
+    for (ip, status) in [
+        ("127.0.0.1", "HTTP/1.1 200 "),
+        ("127.0.0.2", "HTTP/1.1 404 "),
+    ] {
+        let addr = free_addr(&rt, ip)?;
+        let peers = format!(in rt.alloc(); "{addr}")?;
+        let reply = replied_by_member(&rt, addr, &peers, QUESTION)?;
+        assert!(rt; reply.starts_with(status.as_bytes()), "at {ip}");
+    }
+    Ok(())
+}
+
+// The other member is at an address where nothing listens.
+#[test]
+fn one_of_two_members_alone_answers_no_page(rt: HostRuntime) -> Result<(), Fail> {
+    for (others, status) in [("", "HTTP/1.1 200 "), (",127.0.0.2:1", "HTTP/1.1 503 ")] {
+        let addr = free_addr(&rt, "127.0.0.1")?;
+        let peers = format!(in rt.alloc(); "{addr}{others}")?;
+        let reply = replied_by_member(&rt, addr, &peers, FRONT)?;
+        assert!(rt; reply.starts_with(status.as_bytes()), "at {peers}");
+    }
+    Ok(())
+}
