@@ -1,10 +1,10 @@
 -- Files that hold no database yet have no first page that is sound.
-use Rattle.std.proofs.Common.{◌≡◌, ◌≤◌, ◌<◌, ◌+◌, ◌-◌, ◌*◌, ℕ, List, [], ◌∷◌, ◌++◌, codes, length, take, slice_index, Option, Some, unwrap_or, sym, ap, ◌∙◌, inl, inr, arith, get_or-take, zero-add, refl, true, false}
+use Rattle.std.proofs.Common.{◌≡◌, ◌≤◌, ◌<◌, ◌-◌, ◌*◌, ℕ, List, [], length, take, slice_index, Option, Some, unwrap_or, sym, ap, ◌∙◌, inl, inr, arith, get_or-take, zero-add, refl, true, false}
 use Rattle.std.proofs.lemmas.List.{length-take}
 use Rattle.std.proofs.Math.Logic.{∥∥₁_elim}
 use Rattle.sqlite.specs.Recovery.{Image}
 use Rattle.sqlite.specs.Tree.{Trees}
-use Rattle.sqlite.specs.Files.{IsNothing, AreFoundIn, IsEmpty}
+use Rattle.sqlite.specs.Files.{IsNothing, AreFoundIn}
 use Rattle.sqlite_wal.specs.Recovery.{pages_after}
 use Rattle.sqlite_wal.specs.Format.{part}
 use Rattle.sqlite_wal.proofs.PartLemmas.{slice_index-part, part_within}

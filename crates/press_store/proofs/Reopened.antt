@@ -1,5 +1,6 @@
 -- What an open finds of an earlier run.
-use Rattle.std.proofs.Common.{◌≡◌, ap, subst, ◌∙◌, inl, inr}
+use Rattle.std.proofs.Common.{◌≡◌, Result, Ok, Err, ap, subst, ◌∙◌, inl, inr}
+use Rattle.std.specs.Prelude.{IfOk}
 use Rattle.sqlite.specs.Tree.{Trees}
 use Rattle.sqlite.specs.Recovery.{Image}
 use Rattle.sqlite.specs.Effect.{Database}
@@ -40,3 +41,7 @@ finds_again was now image opens live found adopts db holds store = elim adopts.k
 
 pub is_up : (was now : State) → Adopts was now → IsUp now
 is_up was now h = record { is_open = h.is_open; durable = h.durable; version_shown = h.version_shown; version_left = h.version_left }
+
+pub if_ok : {T E : Type 0} {P Q : T → Type 0} (result : Result T E) → ((t : T) → P t → Q t) → IfOk result P → IfOk result Q
+if_ok (Ok t) so h = so t h
+if_ok (Err e) so h = tt

@@ -1,5 +1,5 @@
 -- A list of objects is that of one schema, where it is that of a store; files that hold nothing list none.
-use Rattle.std.proofs.Common.{◌≡◌, ◌≤◌, ◌<◌, ◌+◌, ℕ, zero, suc, pos, List, [], ◌∷◌, filter, length, codes, Option, Some, None, Ok, refl, sym, ap, ap₂, subst, ◌∙◌, inl, inr, arith}
+use Rattle.std.proofs.Common.{◌≡◌, ◌+◌, ℕ, zero, suc, pos, List, [], ◌∷◌, filter, length, codes, Some, refl, sym, ap, ap₂, subst, ◌∙◌, inl, inr, arith}
 use Rattle.std.specs.List.{AllZip}
 use Rattle.std.specs.Prelude.{slice_get}
 use Rattle.sqlite.specs.declared.types.Value.{Value}
