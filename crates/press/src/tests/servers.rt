@@ -7,6 +7,8 @@ use std::test::Fail;
 
 const FRONT: &[u8] = b"GET / HTTP/1.1\r\nHost: a\r\n\r\n";
 
+const READY: &[u8] = b"GET /ready HTTP/1.1\r\nHost: a\r\n\r\n";
+
 // A question for the vote of slot 1, from member 1 to itself.
 const QUESTION: &[u8] =
     b"POST /peer HTTP/1.1\r\nHost: a\r\nContent-Length: 7\r\n\r\n\x06\x01\x01\x00\x00\x00\x01";
@@ -100,12 +102,14 @@ fn a_message_of_a_stranger_is_not_taken(rt: HostRuntime) -> Result<(), Fail> {
 
 // The other member is at an address where nothing listens.
 #[test]
-fn one_of_two_members_alone_answers_no_page(rt: HostRuntime) -> Result<(), Fail> {
+fn one_of_two_members_alone_is_not_ready(rt: HostRuntime) -> Result<(), Fail> {
     for (others, status) in [("", "HTTP/1.1 200 "), (",127.0.0.2:1", "HTTP/1.1 503 ")] {
-        let addr = free_addr(&rt, "127.0.0.1")?;
-        let peers = format!(in rt.alloc(); "{addr}{others}")?;
-        let reply = replied_by_member(&rt, addr, &peers, FRONT)?;
-        assert!(rt; reply.starts_with(status.as_bytes()), "at {peers}");
+        for request in [FRONT, READY] {
+            let addr = free_addr(&rt, "127.0.0.1")?;
+            let peers = format!(in rt.alloc(); "{addr}{others}")?;
+            let reply = replied_by_member(&rt, addr, &peers, request)?;
+            assert!(rt; reply.starts_with(status.as_bytes()), "at {peers}");
+        }
     }
     Ok(())
 }
