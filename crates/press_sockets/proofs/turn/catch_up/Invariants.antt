@@ -1,4 +1,4 @@
-use Rattle.std.proofs.Common.{ℕ, ◌-◌}
+use Rattle.std.proofs.Common.{◌-◌}
 use Rattle.press_node.specs.Nodes.{node_moved, state_of}
 use Rattle.press_node.specs.States.{applied_count}
 use Rattle.press_sockets.specs.Turns.{CatchesUp}
