@@ -1,41 +1,44 @@
 -- What an open finds of an earlier run.
-use Rattle.std.proofs.Common.{◌≡◌, Result, Ok, Err, ap, subst, ◌∙◌, inl, inr}
+use Rattle.std.proofs.Common.{◌≡◌, Result, Ok, Err, ap, sym, subst, ◌∙◌, inl, inr}
 use Rattle.std.specs.Prelude.{IfOk}
 use Rattle.sqlite.specs.Tree.{Trees}
 use Rattle.sqlite.specs.Recovery.{Image}
 use Rattle.sqlite.specs.Effect.{Database}
 use Rattle.sqlite.specs.State.{State, Opens, IsLive}
 use Rattle.sqlite.specs.Start.{FindsIn}
+use Rattle.sqlite.specs.Files.{HoldsDatabase, IsNothing}
 use Rattle.sqlite_trees.specs.Objects.{catalog_tree}
 use Rattle.sqlite_catalog.specs.Listing.{IsSound}
 use Rattle.press_store.specs.Tables.{no_schema, store_schema}
 use Rattle.press_store.specs.Shown.{store_in}
 use Rattle.press_store.specs.Adopted.{Adopts, IsServed}
-use Rattle.press_store.specs.Opened.{Finds, IsUp, HoldsServed}
+use Rattle.press_store.specs.Opened.{Begins, Finds, IsUp, HoldsServed}
 use Rattle.press_store.proofs.Adopting.{differs}
 use Rattle.press_store.proofs.Schemas.{one_schema, lists_nothing}
 use Rattle.press_store.proofs.Blank.{finds_empty}
 
--- a list of objects is not that of nothing and that of a store
-not_both : (db : Trees) → IsSound no_schema db → IsSound store_schema db → ⊥
-not_both db none some = differs (one_schema no_schema db none some)
-
-pub finds_served : (was : State) (image : Image) → Opens was → IsLive was → FindsIn image was → HoldsServed image → IsServed was
-finds_served was image opens live found (inl nothing) =
+finds_none : (was : State) (image : Image) → Opens was → IsLive was → FindsIn image was → IsNothing image → was.now.schema ≡ no_schema
+finds_none was image opens live found nothing =
     let sound : IsSound was.now.schema was.now.trees = (live opens.is_open).0 in
     let trees : was.now.trees ≡ was.committed.trees = ap (λ (d : Database). d.trees) opens.clean in
-    inl (lists_nothing was.now.schema was.now.trees sound (ap (λ (db : Trees). db catalog_tree) trees ∙ finds_empty image was.committed.trees nothing found.reads))
-finds_served was image opens live found (inr (db, holds, store)) =
+    lists_nothing was.now.schema was.now.trees sound (ap (λ (db : Trees). db catalog_tree) trees ∙ finds_empty image was.committed.trees nothing found.reads)
+
+finds_store : (was : State) (image : Image) (db : Trees) → Opens was → IsLive was → FindsIn image was → HoldsDatabase image db → IsSound store_schema db → was.now.schema ≡ store_schema
+finds_store was image db opens live found holds store =
     let sound : IsSound was.now.schema was.now.trees = (live opens.is_open).0 in
     let trees : was.now.trees ≡ db = ap (λ (d : Database). d.trees) opens.clean ∙ found.holds db holds in
-    inr (one_schema was.now.schema db (subst (IsSound was.now.schema) trees sound) store)
+    one_schema was.now.schema db (subst (IsSound was.now.schema) trees sound) store
+
+pub finds_served : (was : State) (image : Image) → Opens was → IsLive was → FindsIn image was → HoldsServed image → IsServed was
+finds_served was image opens live found (inl nothing) = inl (finds_none was image opens live found nothing)
+finds_served was image opens live found (inr (db, holds, store)) = inr (finds_store was image db opens live found holds store)
+
+pub begins_new : (was now : State) (image : Image) → Opens was → IsLive was → FindsIn image was → Adopts was now → Begins image now
+begins_new was now image opens live found adopts nothing = elim adopts.kept [ inl new ↦ new.1 | inr same ↦ differs (sym (finds_none was image opens live found nothing) ∙ same.0) ]
 
 pub finds_again : (was now : State) (image : Image) → Opens was → IsLive was → FindsIn image was → Adopts was now → Finds image now
 finds_again was now image opens live found adopts db holds store = elim adopts.kept [
-  | inl new ↦
-      let sound : IsSound was.now.schema was.now.trees = (live opens.is_open).0 in
-      let trees : was.now.trees ≡ db = ap (λ (d : Database). d.trees) opens.clean ∙ found.holds db holds in
-      absurd (not_both db (subst (IsSound no_schema) trees (subst (λ s. IsSound s was.now.trees) new.0 sound)) store.sound)
+  | inl new ↦ differs (sym new.0 ∙ finds_store was image db opens live found holds store.sound)
   | inr same ↦ same.1 ∙ ap store_in (found.holds db holds)
 ]
 

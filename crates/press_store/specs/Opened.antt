@@ -5,7 +5,7 @@ use Rattle.sqlite.specs.Tree.{Trees}
 use Rattle.sqlite.specs.State.{State}
 use Rattle.sqlite.specs.Files.{HoldsDatabase, IsNothing}
 use Rattle.sqlite_catalog.specs.Listing.{IsSound}
-use Rattle.press_acceptor.specs.StoreMap.{Only}
+use Rattle.press_acceptor.specs.StoreMap.{Only, new_store}
 use Rattle.press_store.specs.Tables.{store_schema}
 use Rattle.press_store.specs.Shown.{IsKept, IsOurVersion, store_in}
 use Rattle.press_store.specs.Kept.{kept_by, MayLeave}
@@ -25,6 +25,10 @@ pub record IsStore (db : Trees) : Type 0 where
 -- What was saved is found again: where the files hold the trees of a store, it keeps what they stand for.
 abbrev pub Finds : Image → State → Type 0
 Finds image s = (db : Trees) → HoldsDatabase image db → IsStore db → kept_by s ≡ store_in db
+
+-- where the files hold no database yet, it is a new store
+abbrev pub Begins : Image → State → Type 0
+Begins image s = IsNothing image → kept_by s ≡ new_store
 
 -- the files hold no database yet, or one that has the two tables of a store and nothing else
 abbrev pub HoldsServed : Image → Type 0

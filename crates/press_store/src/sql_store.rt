@@ -7,7 +7,7 @@ ghost use Rattle.sqlite.specs.Files.{file_state};
 ghost use Rattle.sqlite.specs.WalFiles.{image_at};
 ghost use Rattle.press_store.specs.Adopted.{Adopts, IsServed, IsHandedBack, is_half};
 ghost use Rattle.press_acceptor.specs.declared.fault.StoreFault.TheVariants.{Damaged};
-ghost use Rattle.press_store.specs.Opened.{Finds, HoldsServed, IsUp};
+ghost use Rattle.press_store.specs.Opened.{Begins, Finds, HoldsServed, IsUp};
 ghost use Rattle.press_store.specs.Attempt.{IsReady};
 ghost use Rattle.press_store.specs.Kept.{seen_of};
 ghost use Rattle.press_store.specs.Voted.{IsLastVote};
@@ -133,6 +133,8 @@ impl<S: Start> SqlStore<FileStore<FileFrom<S>>> {
             HoldsServed (image_at S.Start) → IsTrue store.is_ours) }
         ensures up { IfOk result (λ store. HasCleanDisk (file_state store.conn) →
             IsTrue store.is_ours → IsUp (file_state store.conn)) }
+        ensures new { IfOk result (λ store. HasCleanDisk (file_state store.conn) →
+            IsTrue store.is_ours → Begins (image_at S.Start) (file_state store.conn)) }
         ensures found { IfOk result (λ store. HasCleanDisk (file_state store.conn) →
             IsTrue store.is_ours → Finds (image_at S.Start) (file_state store.conn)) }
         ensures faults { IfOk result (λ store. store.faults ≡ 0) }
@@ -149,7 +151,8 @@ impl<S: Start> SqlStore<FileStore<FileFrom<S>>> {
 }
 
 impl SqlStore<FileStore<File>> {
-    /// A store in the file at the path, which is created if it doesn't exist.
+    /// A store in the file at the path, which is created if it doesn't exist. What is said of its tables is said of a
+    /// file that was empty: nobody knows what another one held.
     pub fn open(rt: &HostRuntime, path: &str) -> Result<SqlStore<FileStore<File>>, StoreFault>
         ensures ours { IfOk result (λ store. HasCleanDisk (file_state store.conn) →
             IsTrue store.is_ours) }

@@ -1,7 +1,7 @@
 use Rattle.sqlite.specs.State.{HasCleanDisk}
 use Rattle.sqlite.specs.Files.{file_state}
 use Rattle.sqlite.specs.WalFiles.{image_at}
-use Rattle.press_store.proofs.Reopened.{finds_again, finds_served, is_up}
+use Rattle.press_store.proofs.Reopened.{begins_new, finds_again, finds_served, is_up}
 use Rattle.press_store.proofs.sql_store.SqlStore+FileStore+FileFrom+S.open_from.Goals as goal
 
 pub returns-in-Ok-adopt-clause-up : goal.returns-in-Ok-adopt-clause-up
@@ -20,3 +20,10 @@ returns-in-Ok-adopt-clause-ours g c clean served =
     let early : HasCleanDisk (file_state was) = c.in-Ok-adopt.ensures.clean clean in
     let opened = c.in-Ok.ensures.opened early in
     c.in-Ok-adopt.ensures.ours (finds_served (file_state was) (image_at g.S.Start) opened.0 opened.1 (c.in-Ok.ensures.found early) served)
+
+pub returns-in-Ok-adopt-clause-new : goal.returns-in-Ok-adopt-clause-new
+returns-in-Ok-adopt-clause-new g c clean ours =
+    let was = c.in-Ok.conn in
+    let early : HasCleanDisk (file_state was) = c.in-Ok-adopt.ensures.clean clean in
+    let opened = c.in-Ok.ensures.opened early in
+    begins_new (file_state was) (file_state c.in-Ok-adopt.store.conn) (image_at g.S.Start) opened.0 opened.1 (c.in-Ok.ensures.found early) (c.in-Ok-adopt.ensures.adopts clean ours)
