@@ -1,7 +1,7 @@
 //! The members of a cluster, by their addresses.
 
-ghost use Rattle.std.specs.Prelude.{◌≡◌, ◌+◌, length};
-ghost use Rattle.press_sockets.specs.Members.{is_majority};
+ghost use Rattle.std.specs.Prelude.{◌≡◌, ◌+◌, ◌-◌, length};
+ghost use Rattle.press_sockets.specs.Members.{has_answered, is_majority, others};
 
 use press_wire::Node as Member;
 use std::alloc::{AllocError, AllocFailed, Global};
@@ -24,6 +24,18 @@ struct Peer {
     has_told: bool,
     // How many looks and questions are on their way to it.
     asked: u32,
+}
+
+impl Peer {
+    // Whether it answered lately.
+    fn has_answered(&self, now: u64) -> bool
+        ensures { result ≡ has_answered now self.now }
+    {
+        match self.heard {
+            Some(heard) => now.saturating_sub(heard) <= LATELY,
+            None => false,
+        }
+    }
 }
 
 impl Drop for Peer {
@@ -111,7 +123,9 @@ impl Peers {
     }
 
     /// The place of this node, from 0.
-    pub fn place(&self) -> usize {
+    pub fn place(&self) -> usize
+        ensures { result ≡ self.now.own - 1 }
+    {
         usize::from(self.own.number()).saturating_sub(1)
     }
 
@@ -170,33 +184,33 @@ impl Peers {
     }
 
     /// Whether a majority, this node among it, has reported how far it is, in whichever looks.
-    pub fn has_told(&self) -> bool {
+    pub fn has_told(&self) -> bool
+        ensures { result ≡ is_majority (length self.now.all.items)
+            (others (λ peer. peer.has_told) self.now + 1) }
+    {
         let own = self.place();
         let mut others: usize = 0;
         for (place, peer) in self.all.iter().enumerate() {
-            if place != own && peer.has_told {
-                others = others.saturating_add(1);
-            }
+            let is_counted = (place != own) & peer.has_told;
+            others = others.saturating_add(usize::from(is_counted));
         }
         self.is_majority(others)
     }
 
     fn is_near(&self, place: usize, peer: &Peer, now: u64) -> bool {
-        place == self.place()
-            || match peer.heard {
-                Some(heard) => now.saturating_sub(heard) <= LATELY,
-                None => false,
-            }
+        place == self.place() || peer.has_answered(now)
     }
 
     /// Whether a majority answered lately.
-    pub fn is_majority_near(&self, now: u64) -> bool {
+    pub fn is_majority_near(&self, now: u64) -> bool
+        ensures { result ≡ is_majority (length self.now.all.items)
+            (others (has_answered now) self.now + 1) }
+    {
         let own = self.place();
         let mut others: usize = 0;
         for (place, peer) in self.all.iter().enumerate() {
-            if place != own && self.is_near(place, peer, now) {
-                others = others.saturating_add(1);
-            }
+            let is_counted = (place != own) & peer.has_answered(now);
+            others = others.saturating_add(usize::from(is_counted));
         }
         self.is_majority(others)
     }

@@ -1,7 +1,8 @@
 //! Plays stores on a SQL database: `press_stops WORD ..`. `store`, `store-over-files` and `store-loose` begin with a
-//! new one, and the arguments after them ask it; `store-later`, `store-half` and `store-half-file` say why none is
-//! made; `stops-of-log`, `stops-of-file`, `command-stops-of-log` and `command-stops-of-file` stop one on two files in
-//! memory at each call of one of them; `saves=N` and `wary-saves=N` save in a file, for whoever measures it.
+//! new one, and the arguments after them ask it; `store-later`, `store-half`, `store-half-file` and `store-beside-file`
+//! say whether one is made, or why none; `stops-of-log`, `stops-of-file`, `command-stops-of-log` and
+//! `command-stops-of-file` stop one on two files in memory at each call of one of them; `saves=N` and `wary-saves=N`
+//! save in a file, for whoever measures it.
 //!
 //! Functions here that play an event on a node carry `requires always { Unit {0} }`, which always holds:
 //! `docs/DECISIONS.md` says why the checker wants it.

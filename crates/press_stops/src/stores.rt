@@ -22,6 +22,8 @@ pub enum Base {
     Half,
     /// The same in a file, which a store opens by its name.
     HalfFile,
+    /// In such a file, beside a table of another.
+    BesideFile,
 }
 
 const LOOSE: &str =
@@ -37,6 +39,8 @@ const LATER: &str =
 
 const HALF: &str = "CREATE TABLE meta (name TEXT PRIMARY KEY, n INTEGER NOT NULL) STRICT;
     INSERT INTO meta VALUES ('version', 1), ('last_round', 4)";
+
+const BESIDE: &str = "CREATE TABLE notes (text TEXT)";
 
 /// The words of a store from one adoption to the next.
 pub type Session<'w> = Vec<&'w str>;
@@ -79,7 +83,7 @@ fn sessions<D: Alter>(
 // The tables that stand before a store is made.
 fn prepared(conn: &mut Connection<MemStore>, base: Base) -> anyhow::Result<()> {
     match base {
-        Base::Memory | Base::Files | Base::HalfFile => {}
+        Base::Memory | Base::Files | Base::HalfFile | Base::BesideFile => {}
         Base::Loose => conn.execute_batch(LOOSE)?,
         Base::Later => conn.execute_batch(LATER)?,
         Base::Half => conn.execute_batch(HALF)?,
@@ -145,10 +149,10 @@ fn show_refusal(rt: &HostRuntime, played: anyhow::Result<()>) -> anyhow::Result<
     Ok(())
 }
 
-// One table of the two, in a file that a store then opens by its name.
-fn play_half_file(rt: &HostRuntime, name: &str) -> anyhow::Result<()> {
+// A file with these tables, which a store then opens by its name.
+fn play_in_file(rt: &HostRuntime, name: &str, tables: &str) -> anyhow::Result<()> {
     let mut conn = Connection::open(rt, name)?;
-    let made = conn.execute_batch(HALF);
+    let made = conn.execute_batch(tables);
     let (files, ended) = closed(conn);
     drop(files);
     made?;
@@ -165,7 +169,8 @@ pub fn play_store(rt: &HostRuntime, base: Base, all: &[Session<'_>]) -> anyhow::
         Base::Memory | Base::Loose => play_in_memory(rt, base, all),
         Base::Files => play_over_files(rt, all),
         Base::Later | Base::Half => show_refusal(rt, play_in_memory(rt, base, all)),
-        Base::HalfFile => show_refusal(rt, play_half_file(rt, "half.db")),
+        Base::HalfFile => show_refusal(rt, play_in_file(rt, "half.db", HALF)),
+        Base::BesideFile => show_refusal(rt, play_in_file(rt, "beside.db", BESIDE)),
     }
 }
 

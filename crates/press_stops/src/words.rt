@@ -27,6 +27,7 @@ impl Start {
             "store-later" => Some(Start::Store(Base::Later)),
             "store-half" => Some(Start::Store(Base::Half)),
             "store-half-file" => Some(Start::Store(Base::HalfFile)),
+            "store-beside-file" => Some(Start::Store(Base::BesideFile)),
             "stops-of-log" => Some(Start::Stop(Work::Saves, Stops::Log)),
             "stops-of-file" => Some(Start::Stop(Work::Saves, Stops::Database)),
             "command-stops-of-log" => Some(Start::Stop(Work::Command, Stops::Log)),
