@@ -1,1 +1,3 @@
 pub mod Lanes
+pub mod Talking
+pub mod Turning

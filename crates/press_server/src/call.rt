@@ -1,6 +1,7 @@
 //! One request that goes out to a member, from its begin to its end.
 
-ghost use Rattle.std.specs.Prelude.{◌≡◌};
+ghost use Rattle.std.specs.Prelude.{◌≡◌, ◌++◌, ◌-◌, IfOk, length, nat_le, take};
+ghost use Rattle.press_server.specs.Lanes.{asked_by, is_call_late, request_of};
 
 use crate::answers::{Errand, Outgoing};
 use mio::net::TcpStream;
@@ -59,7 +60,11 @@ impl Drop for Call {
 
 impl Call {
     /// A request that goes out over a stream that is being connected.
-    pub fn new(alloc: Global, stream: TcpStream, outgoing: Outgoing, begun: Instant) -> Call {
+    pub fn new(alloc: Global, stream: TcpStream, outgoing: Outgoing, begun: Instant) -> Call
+        ensures request { request_of result ≡ asked_by outgoing }
+        ensures begun { result.begun ≡ begun }
+        ensures stream { result.stream ≡ stream }
+    {
         let Outgoing {
             place,
             addr: _,
@@ -91,24 +96,34 @@ impl Call {
     }
 
     /// The reply to it, as far as it is looked at.
-    pub fn reply(&self) -> &[u8] {
+    pub fn reply(&self) -> &[u8]
+        ensures { result.now ≡ self.now.reply.items }
+    {
         &self.reply
     }
 
-    pub fn errand(&self) -> Errand {
+    pub fn errand(&self) -> Errand
+        ensures { result ≡ self.now.errand }
+    {
         self.errand
     }
 
-    pub fn course(&self) -> Course {
+    pub fn course(&self) -> Course
+        ensures { result ≡ self.now.course }
+    {
         self.course
     }
 
     /// Whether its time is over.
-    pub fn is_late(&self, now: Instant) -> bool {
+    pub fn is_late(&self, now: Instant) -> bool
+        ensures { result ≡ is_call_late now self.now }
+    {
         Duration::from_secs(SECONDS) <= now.duration_since(self.begun)
     }
 
-    fn is_out(&self) -> bool {
+    fn is_out(&self) -> bool
+        ensures { result ≡ nat_le (length self.now.bytes.items) self.now.sent }
+    {
         self.bytes.len() <= self.sent
     }
 
@@ -131,7 +146,10 @@ impl Call {
         Ok(())
     }
 
-    fn hear(&mut self, piece: &[u8]) -> Result<(), AllocError> {
+    fn hear(&mut self, piece: &[u8]) -> Result<(), AllocError>
+        ensures heard { IfOk result (λ _. self.new.reply.items ≡
+            self.old.reply.items ++ take (512 - length self.old.reply.items) piece.now) }
+    {
         let room = LONGEST.saturating_sub(self.reply.len());
         let front = piece.get(..room).unwrap_or(piece);
         self.reply.extend_from_slice(front)

@@ -1,5 +1,7 @@
 //! The bytes of a request, as they come.
 
+ghost use Rattle.std.specs.Prelude.{◌≡◌, ◌≤◌, ◌++◌, [], IfOk, length, nat_le};
+
 use press_http::read_request;
 use std::alloc::{AllocError, Global};
 use std::io;
@@ -98,7 +100,10 @@ impl Drop for Gathered {
 }
 
 impl Gathered {
-    pub fn new(alloc: Global) -> Gathered {
+    pub fn new(alloc: Global) -> Gathered
+        ensures none { result.bytes.items ≡ [] }
+        ensures due { result.due ≡ 0 }
+    {
         Gathered {
             bytes: Vec::new(alloc),
             line: Line::Before,
@@ -107,12 +112,18 @@ impl Gathered {
     }
 
     /// The bytes so far.
-    pub fn as_slice(&self) -> &[u8] {
+    pub fn as_slice(&self) -> &[u8]
+        ensures { result.now ≡ self.now.bytes.items }
+    {
         &self.bytes
     }
 
     /// Adds the bytes that came.
-    pub fn add(&mut self, piece: &[u8]) -> Result<(), AllocError> {
+    pub fn add(&mut self, piece: &[u8]) -> Result<(), AllocError>
+        ensures added { IfOk result (λ _.
+            self.new.bytes.items ≡ self.old.bytes.items ++ piece.now) }
+        ensures sooner { self.new.due ≤ self.old.due }
+    {
         self.bytes.extend_from_slice(piece)?;
         let mut line = self.line;
         for byte in piece {
@@ -126,14 +137,18 @@ impl Gathered {
     }
 
     /// Whether a look may find a whole request, or one that is refused.
-    pub fn is_due(&self) -> bool {
+    pub fn is_due(&self) -> bool
+        ensures { result ≡ nat_le self.now.due (length self.now.bytes.items) }
+    {
         self.due <= self.bytes.len()
     }
 
     /// A look found that more has to come. No whole request waits for the next one: a head is whole only where an empty
     /// line comes, and a body only with as many bytes as are asked for; a head that isn't whole may be refused, and is
     /// looked at again at twice its bytes, so that bytes that come one by one don't cost the square of their count.
-    pub fn wait(&mut self, alloc: Global) {
+    pub fn wait(&mut self, alloc: Global)
+        ensures { self.new.bytes ≡ self.old.bytes }
+    {
         let count = self.bytes.len();
         self.due = if self.line == Line::Empty {
             count.saturating_add(asked_for(alloc, &self.bytes))

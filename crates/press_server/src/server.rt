@@ -1,5 +1,9 @@
 //! A server over readiness: no connection is waited for, so one that says nothing, or reads nothing, holds up nobody.
 
+ghost use Rattle.std.specs.Prelude.{◌≡◌, ◌-◌, ◌<◌, if◌then◌else◌, not, option_map};
+ghost use Rattle.press_server.specs.Talking.{freed, is_reading};
+ghost use Rattle.press_server.specs.Turning.{call_of, ends_at, holder_named, talk_of};
+
 use crate::answers::{Answers, Outgoing, Time};
 use crate::call::{Call, Course};
 use crate::calls::Calls;
@@ -38,7 +42,9 @@ enum Holder {
     Call(usize),
 }
 
-fn holder_of(token: Token) -> Holder {
+fn holder_of(token: Token) -> Holder
+    ensures { result ≡ holder_named token.0 }
+{
     let number = usize::from(token);
     match number.checked_sub(1) {
         None => Holder::Listener,
@@ -47,11 +53,15 @@ fn holder_of(token: Token) -> Holder {
     }
 }
 
-fn token_of_talk(place: usize) -> Token {
+fn token_of_talk(place: usize) -> Token
+    ensures { place < 4611686018427387904 → holder_named result.0 ≡ talk_of place }
+{
     Token(place.saturating_mul(2).saturating_add(1))
 }
 
-fn token_of_call(place: usize) -> Token {
+fn token_of_call(place: usize) -> Token
+    ensures { place < 4611686018427387904 → holder_named result.0 ≡ call_of place }
+{
     Token(place.saturating_mul(2).saturating_add(2))
 }
 
@@ -159,11 +169,18 @@ impl Server {
     }
 
     // Whether connections are still to have their turn.
-    fn is_open(&self) -> bool {
+    fn is_open(&self) -> bool
+        ensures { result ≡ not (ends_at 0 self.entry.now.left) }
+    {
         self.left != Some(0)
     }
 
-    fn had_turn(&mut self) {
+    fn had_turn(&mut self)
+        ensures left { self.new.left ≡ option_map (λ left. left - 1) self.old.left }
+        ensures ends { self.new.talks.places.items ≡ (if ends_at 0 self.new.left
+            then freed is_reading self.old.talks.places.items else self.old.talks.places.items) }
+        ensures same { self.new.calls ≡ self.old.calls }
+    {
         if let Some(left) = self.left {
             let left = left.saturating_sub(1);
             self.left = Some(left);

@@ -1,5 +1,9 @@
 //! One connection, from its beginning to its end.
 
+ghost use Rattle.std.specs.Prelude.{◌≡◌, []};
+ghost use Rattle.press_server.specs.declared.talk.Phase.TheVariants.{Reading};
+ghost use Rattle.press_server.specs.Talking.{is_late};
+
 use crate::answers::Answers;
 use crate::gathered::Gathered;
 use mio::net::TcpStream;
@@ -95,7 +99,12 @@ fn log_served<E: Write>(alloc: Global, log: &mut E, came: &Gathered, status: u16
 }
 
 impl Talk {
-    pub fn new(alloc: Global, stream: TcpStream, arrival: Arrival) -> Talk {
+    pub fn new(alloc: Global, stream: TcpStream, arrival: Arrival) -> Talk
+        ensures reads { result.phase ≡ Reading }
+        ensures arrival { result.arrival ≡ arrival }
+        ensures none { (result.came.bytes.items ≡ []) × (result.told.items ≡ []) }
+        ensures sent { result.sent ≡ 0 }
+    {
         Talk {
             stream,
             arrival,
@@ -108,17 +117,23 @@ impl Talk {
         }
     }
 
-    pub fn phase(&self) -> Phase {
+    pub fn phase(&self) -> Phase
+        ensures { result ≡ self.now.phase }
+    {
         self.phase
     }
 
     /// Its number among all that have come.
-    pub fn number(&self) -> u64 {
+    pub fn number(&self) -> u64
+        ensures { result ≡ self.now.arrival.number }
+    {
         self.arrival.number
     }
 
     /// Whether more may be read from it at once.
-    pub fn has_more(&self) -> bool {
+    pub fn has_more(&self) -> bool
+        ensures { result ≡ self.now.has_more }
+    {
         self.has_more
     }
 
@@ -128,14 +143,15 @@ impl Talk {
     }
 
     /// Whether its time is over.
-    pub fn is_late(&self, now: Instant) -> bool {
+    pub fn is_late(&self, now: Instant) -> bool
+        ensures { result ≡ is_late now self.now }
+    {
         Duration::from_secs(SECONDS) <= now.duration_since(self.arrival.begun)
     }
 
-    /// Gives it up before its request was whole.
-    pub fn give_up<E: Write>(&mut self, log: &mut E, why: &str) {
+    /// Gives it up before its request was whole: a line says why.
+    pub fn give_up<E: Write>(self, log: &mut E, why: &str) {
         log_closed(self.alloc, log, why);
-        self.phase = Phase::Over;
     }
 
     // Reads what has come of the request; returns whether the input has ended.

@@ -1,5 +1,41 @@
 //! The open connections.
 
+ghost use Rattle.std.specs.Prelude.{
+  ◌≡◌,
+  ◌<◌,
+  ◌≤◌,
+  IfErr,
+  IfOk,
+  IfSome,
+  IsSomeAnd,
+  List,
+  MatchOption,
+  None,
+  Option,
+  Some,
+  is_none,
+  position,
+  slice_set,
+};
+ghost use Rattle.std.specs.List.{list_all};
+ghost use Rattle.press_server.specs.declared.talk.Talk.{Talk};
+ghost use Rattle.press_server.specs.Talking.{
+  GivesWay,
+  GoesFirst,
+  HasNone,
+  IsOldest,
+  MakesPlace,
+  MayGrow,
+  count_of,
+  freed,
+  is_late,
+  is_reading,
+  is_unheard,
+  kept_unless,
+  meets,
+  talk_at,
+};
+
 use crate::talk::{Phase, Talk};
 use std::alloc::{AllocError, Global};
 use std::io::Write;
@@ -11,6 +47,83 @@ const MOST: usize = 1024;
 /// Connections by their places. Where each place is taken, the oldest whose request isn't whole is closed.
 pub struct Talks {
     places: Vec<Option<Talk>>,
+}
+
+// A connection ends, with a line where its request wasn't whole; whether it wasn't.
+fn close<E: Write>(slot: &mut Option<Talk>, log: &mut E, why: &str) -> bool
+    ensures free { slot.new ≡ None }
+    ensures reading { result ≡ meets is_reading slot.old }
+{
+    let Some(talk) = slot.take() else {
+        return false;
+    };
+    if talk.phase() != Phase::Reading {
+        return false;
+    }
+    talk.give_up(log, why);
+    true
+}
+
+// Closes one whose time is over; whether it had had no turn.
+fn end_if_late<E: Write>(slot: &mut Option<Talk>, now: Instant, log: &mut E) -> bool
+    ensures free { slot.new ≡ kept_unless (is_late now) slot.old }
+    ensures unheard { result ≡ meets (is_unheard now) slot.old }
+{
+    match slot {
+        Some(talk) if talk.is_late(now) => close(slot, log, "its time is over"),
+        _ => false,
+    }
+}
+
+fn end_all_late<E: Write>(slots: &mut [Option<Talk>], now: Instant, log: &mut E) -> usize
+    ensures freed { slots.new ≡ freed (is_late now) slots.old }
+    ensures count { result ≡ count_of (is_unheard now) slots.old }
+{
+    let mut count: usize = 0;
+    for slot in slots.iter_mut() {
+        count = count.saturating_add(usize::from(end_if_late(slot, now, log)));
+    }
+    count
+}
+
+// The number of a connection in that phase that came before what was found.
+fn number_before(found: Option<(usize, u64)>, phase: Phase, slot: &Option<Talk>) -> Option<u64>
+    ensures { MatchOption result
+        ((talk : Talk) → slot.now ≡ Some talk → talk.phase ≡ phase →
+        IsSomeAnd found (λ f. f.1 ≤ talk.arrival.number))
+        (λ number. (talk : Talk) × (slot.now ≡ Some talk) × (talk.phase ≡ phase)
+        × (number ≡ talk.arrival.number) × IfSome found (λ f. number < f.1)) }
+{
+    let Some(talk) = slot else {
+        return None;
+    };
+    if talk.phase() != phase {
+        return None;
+    }
+    match found {
+        None => Some(talk.number()),
+        Some((_, number)) if talk.number() < number => Some(talk.number()),
+        Some(_) => None,
+    }
+}
+
+// Frees a place whose request isn't whole.
+fn end_if_unheard(slot: &mut Option<Talk>)
+    ensures { slot.new ≡ kept_unless is_reading slot.old }
+{
+    if let Some(talk) = slot {
+        if talk.phase() == Phase::Reading {
+            *slot = None;
+        }
+    }
+}
+
+fn end_all_unheard(slots: &mut [Option<Talk>])
+    ensures { slots.new ≡ freed is_reading slots.old }
+{
+    for slot in slots.iter_mut() {
+        end_if_unheard(slot);
+    }
 }
 
 impl Drop for Talks {
@@ -26,70 +139,91 @@ impl Talks {
         }
     }
 
-    pub fn is_empty(&self) -> bool {
+    pub fn is_empty(&self) -> bool
+        ensures { result ≡ list_all is_none self.now.places.items }
+    {
         self.places.iter().all(|talk| talk.is_none())
     }
 
     /// The one at a place.
-    pub fn get_mut(&mut self, place: usize) -> Option<&mut Talk> {
+    pub fn get_mut(&mut self, place: usize) -> Option<&mut Talk>
+        ensures is { MatchOption result (talk_at self.old place ≡ None)
+            (λ talk. talk_at self.old place ≡ Some talk.now) }
+    {
         match self.places.get_mut(place) {
             Some(Some(talk)) => Some(talk),
             _ => None,
         }
     }
 
-    fn free_place(&self) -> Option<usize> {
+    fn free_place(&self) -> Option<usize>
+        ensures { result ≡ position is_none self.now.places.items }
+    {
         self.places.iter().position(|talk| talk.is_none())
     }
 
     // The place of the oldest in that phase.
-    fn oldest(&self, phase: Phase) -> Option<usize> {
+    fn oldest(&self, phase: Phase) -> Option<usize>
+        ensures { MatchOption result (HasNone phase self.now.places.items)
+            (IsOldest phase self.now.places.items) }
+    {
         let mut found: Option<(usize, u64)> = None;
-        for (place, talk) in self.places.iter().enumerate() {
-            if let Some(talk) = talk {
-                let is_older = match found {
-                    Some((_, number)) => talk.number() < number,
-                    None => true,
-                };
-                if talk.phase() == phase && is_older {
-                    found = Some((place, talk.number()));
-                }
+        for (place, slot) in self.places.iter().enumerate() {
+            if let Some(number) = number_before(found, phase, slot) {
+                found = Some((place, number));
             }
         }
-        found.map(|(place, _)| place)
+        let (place, _) = found?;
+        Some(place)
+    }
+
+    // Which one is to be closed where each place is taken.
+    fn first_to_go(&self) -> Option<usize>
+        ensures { GoesFirst self.now.places.items result }
+    {
+        if let Some(place) = self.oldest(Phase::Reading) {
+            return Some(place);
+        }
+        if let Some(place) = self.oldest(Phase::Ending) {
+            return Some(place);
+        }
+        self.oldest(Phase::Writing)
     }
 
     /// Closes one: the oldest whose request isn't whole, else the oldest whose reply is out, else the oldest. Returns
     /// its place, if there was one.
-    pub fn give_way<E: Write>(&mut self, log: &mut E) -> Option<usize> {
-        for phase in [Phase::Reading, Phase::Ending, Phase::Writing] {
-            if let Some(place) = self.oldest(phase) {
-                self.close(place, log, "given up for another");
-                return Some(place);
-            }
-        }
-        None
+    pub fn give_way<E: Write>(&mut self, log: &mut E) -> Option<usize>
+        ensures { GivesWay self.old.places.items self.new.places.items result }
+    {
+        let place = self.first_to_go()?;
+        self.close(place, log, "given up for another");
+        Some(place)
     }
 
     // A connection ends, with a line where its request wasn't whole.
-    fn close<E: Write>(&mut self, place: usize, log: &mut E, why: &str) {
-        if let Some(talk) = self.get_mut(place) {
-            if talk.phase() == Phase::Reading {
-                talk.give_up(log, why);
-            }
+    fn close<E: Write>(&mut self, place: usize, log: &mut E, why: &str)
+        ensures { self.new.places.items ≡ slice_set self.old.places.items place None }
+    {
+        if let Some(slot) = self.places.get_mut(place) {
+            close(slot, log, why);
         }
-        self.leave(place);
     }
 
     /// Frees a place.
-    pub fn leave(&mut self, place: usize) {
+    pub fn leave(&mut self, place: usize)
+        ensures { self.new.places.items ≡ slice_set self.old.places.items place None }
+    {
         if let Some(slot) = self.places.get_mut(place) {
             *slot = None;
         }
     }
 
     // A place for one more.
-    fn place<E: Write>(&mut self, log: &mut E) -> Result<usize, AllocError> {
+    fn place<E: Write>(&mut self, log: &mut E) -> Result<usize, AllocError>
+        ensures made { IfOk result (MakesPlace self.old.places.items self.new.places.items) }
+        ensures no_memory { IfErr result (λ _. MayGrow self.old.places.items
+            × (self.new.places.items ≡ self.old.places.items)) }
+    {
         if let Some(place) = self.free_place() {
             return Ok(place);
         }
@@ -102,7 +236,13 @@ impl Talks {
     }
 
     /// Puts a connection at a free place.
-    pub fn enter<E: Write>(&mut self, talk: Talk, log: &mut E) -> Result<usize, AllocError> {
+    pub fn enter<E: Write>(&mut self, talk: Talk, log: &mut E) -> Result<usize, AllocError>
+        ensures entered { IfOk result (λ place. (slots : List (Option Talk))
+            × MakesPlace self.old.places.items slots place
+            × (self.new.places.items ≡ slice_set slots place (Some talk))) }
+        ensures no_memory { IfErr result (λ _. MayGrow self.old.places.items
+            × (self.new.places.items ≡ self.old.places.items)) }
+    {
         let place = self.place(log)?;
         if let Some(slot) = self.places.get_mut(place) {
             *slot = Some(talk);
@@ -111,33 +251,17 @@ impl Talks {
     }
 
     /// Closes those whose time is over; returns how many of them had had no turn.
-    pub fn end_late<E: Write>(&mut self, now: Instant, log: &mut E) -> u32 {
-        let mut count: u32 = 0;
-        for place in 0..self.places.len() {
-            let (is_late, is_read) = match self.places.get(place) {
-                Some(Some(talk)) => (talk.is_late(now), talk.phase() == Phase::Reading),
-                _ => (false, false),
-            };
-            if is_late {
-                self.close(place, log, "its time is over");
-                if is_read {
-                    count = count.saturating_add(1);
-                }
-            }
-        }
-        count
+    pub fn end_late<E: Write>(&mut self, now: Instant, log: &mut E) -> usize
+        ensures freed { self.new.places.items ≡ freed (is_late now) self.old.places.items }
+        ensures count { result ≡ count_of (is_unheard now) self.old.places.items }
+    {
+        end_all_late(&mut self.places, now, log)
     }
 
     /// Closes those whose request isn't whole.
-    pub fn end_unheard(&mut self) {
-        for place in 0..self.places.len() {
-            let is_unheard = match self.places.get(place) {
-                Some(Some(talk)) => talk.phase() == Phase::Reading,
-                _ => false,
-            };
-            if is_unheard {
-                self.leave(place);
-            }
-        }
+    pub fn end_unheard(&mut self)
+        ensures { self.new.places.items ≡ freed is_reading self.old.places.items }
+    {
+        end_all_unheard(&mut self.places);
     }
 }

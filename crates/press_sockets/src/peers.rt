@@ -2,6 +2,7 @@
 
 ghost use Rattle.std.specs.Prelude.{◌≡◌, ◌+◌, ◌-◌, length};
 ghost use Rattle.press_sockets.specs.Members.{has_answered, is_majority, others};
+ghost use Rattle.press_sockets.specs.declared.peers.PeersFault.TheVariants.{NoMemory};
 
 use press_wire::Node as Member;
 use std::alloc::{AllocError, AllocFailed, Global};
@@ -69,7 +70,9 @@ pub enum PeersFault {
 }
 
 impl<T: Drop> From<AllocFailed<T>> for PeersFault {
-    fn from(_e: AllocFailed<T>) -> PeersFault {
+    fn from(_e: AllocFailed<T>) -> PeersFault
+        ensures { result ≡ NoMemory }
+    {
         PeersFault::NoMemory
     }
 }

@@ -1,0 +1,4 @@
+mod Lanes
+mod Mapped
+mod Counted
+mod Found

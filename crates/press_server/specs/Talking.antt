@@ -1,0 +1,83 @@
+-- The open connections (own).
+use Rattle.std.specs.Prelude.{ℕ, ◌≡◌, ◌≢◌, ◌≤◌, ◌<◌, ◌⊎◌, ◌-◌, ◌+◌, ◌&&◌, Bool, true, false, List, [], ◌∷◌, ◌++◌, map, Option, Some, None, option_and_then, unwrap_or, option_map, is_none, slice_get, slice_set, length, nat_le, position, if◌then◌else◌}
+use Rattle.std.specs.Time.{instant_nanos}
+use Rattle.std.specs.declared.time.Instant.{Instant}
+use Rattle.press_server.specs.declared.talk.Phase.{Phase}
+use Rattle.press_server.specs.declared.talk.Phase.TheVariants.{Reading, Writing, Ending, Over}
+use Rattle.press_server.specs.declared.talk.Talk.{Talk}
+use Rattle.press_server.specs.declared.talks.Talks.{Talks}
+
+-- its request isn't whole yet
+abbrev pub is_phase_reading : Phase → Bool
+is_phase_reading Reading = true
+is_phase_reading Writing = false
+is_phase_reading Ending = false
+is_phase_reading Over = false
+
+abbrev pub is_reading : Talk → Bool
+is_reading talk = is_phase_reading talk.phase
+
+-- ten seconds are over since it began
+abbrev pub is_late : Instant → Talk → Bool
+is_late now talk = nat_le 10000000000 (instant_nanos now - instant_nanos talk.arrival.begun)
+
+-- the connection at a place
+abbrev pub talk_at : Talks → ℕ → Option Talk
+talk_at talks place = option_and_then (λ talk. talk) (slice_get talks.places.items place)
+
+-- a connection stays at its place unless it meets a test
+abbrev pub kept_unless : (Talk → Bool) → Option Talk → Option Talk
+kept_unless ends = option_and_then (λ talk. if ends talk then None else Some talk)
+
+abbrev pub freed : (Talk → Bool) → List (Option Talk) → List (Option Talk)
+freed ends places = map (kept_unless ends) places
+
+-- a connection stands there that meets a test
+abbrev pub meets : (Talk → Bool) → Option Talk → Bool
+meets test slot = unwrap_or (option_map test slot) false
+
+-- how many connections meet a test
+abbrev pub count_of : (Talk → Bool) → List (Option Talk) → ℕ
+count_of test [] = 0
+count_of test (slot ∷ rest) = (if meets test slot then 1 else 0) + count_of test rest
+
+-- it is late, and had no turn
+abbrev pub is_unheard : Instant → Talk → Bool
+is_unheard now talk = is_late now talk && is_reading talk
+
+-- a connection in that phase stands at a place
+abbrev pub InPhase : Phase → List (Option Talk) → ℕ → Talk → Type 0
+InPhase phase slots place talk = (slice_get slots place ≡ Some (Some talk)) × (talk.phase ≡ phase)
+
+-- of those in that phase none came before it
+abbrev pub IsOldest : Phase → List (Option Talk) → ℕ → Type 0
+IsOldest phase slots place =
+    (talk : Talk) × InPhase phase slots place talk
+    × ((other : ℕ) (next : Talk) → InPhase phase slots other next → talk.arrival.number ≤ next.arrival.number)
+
+-- no connection is in that phase
+abbrev pub HasNone : Phase → List (Option Talk) → Type 0
+HasNone phase slots = (place : ℕ) (talk : Talk) → slice_get slots place ≡ Some (Some talk) → talk.phase ≢ phase
+
+-- the oldest whose request isn't whole goes first, else the oldest whose reply is out, else the oldest of the others
+abbrev pub GoesFirst : List (Option Talk) → Option ℕ → Type 0
+GoesFirst slots None = HasNone Reading slots × HasNone Ending slots × HasNone Writing slots
+GoesFirst slots (Some place) =
+    IsOldest Reading slots place
+    ⊎ (HasNone Reading slots × IsOldest Ending slots place)
+    ⊎ (HasNone Reading slots × HasNone Ending slots × IsOldest Writing slots place)
+
+-- it is closed, and its place is free
+abbrev pub GivesWay : List (Option Talk) → List (Option Talk) → Option ℕ → Type 0
+GivesWay old new gone = GoesFirst old gone × (new ≡ unwrap_or (option_map (λ place. slice_set old place None) gone) old)
+
+-- no place is free, and fewer than 1,024 are taken
+abbrev pub MayGrow : List (Option Talk) → Type 0
+MayGrow slots = (position is_none slots ≡ None) × (length slots < 1024)
+
+-- the first free place is it, else one more, else that of one that gives way
+abbrev pub MakesPlace : List (Option Talk) → List (Option Talk) → ℕ → Type 0
+MakesPlace old new place =
+    ((position is_none old ≡ Some place) × (new ≡ old))
+    ⊎ (MayGrow old × (place ≡ length old) × (new ≡ old ++ None ∷ []))
+    ⊎ ((position is_none old ≡ None) × (1024 ≤ length old) × (gone : Option ℕ) × GivesWay old new gone × (place ≡ unwrap_or gone 0))

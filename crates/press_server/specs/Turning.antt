@@ -1,0 +1,19 @@
+-- Whose a token is, and how many connections are still to have their turn (own).
+use Rattle.std.specs.Prelude.{ℕ, ◌-◌, ◌/◌, ◌%◌, ◌==◌, Option, option_map, unwrap_or, Bool, false, if◌then◌else◌}
+use Rattle.press_server.specs.declared.server.Holder.{Holder}
+use Rattle.press_server.specs.declared.server.Holder.TheVariants.{Listener, Talk, Call}
+
+-- the listener has none, connections the odd ones, requests that go out the even ones
+abbrev pub holder_named : ℕ → Holder
+holder_named number =
+    if number == 0 then Listener else if (number - 1) % 2 == 0 then Talk ((number - 1) / 2) else Call ((number - 1) / 2)
+
+abbrev pub talk_of : ℕ → Holder
+talk_of = Talk
+
+abbrev pub call_of : ℕ → Holder
+call_of = Call
+
+-- so many connections are still to have their turn
+abbrev pub ends_at : ℕ → Option ℕ → Bool
+ends_at count left = unwrap_or (option_map (λ n. n == count) left) false
