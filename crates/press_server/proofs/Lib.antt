@@ -2,3 +2,4 @@ mod Lanes
 mod Mapped
 mod Counted
 mod Found
+mod Sent

@@ -75,7 +75,7 @@ pub record Request : Type 0 where
   pub course : Course
 
 abbrev pub request_of : Call → Request
-request_of call = record { place = call.place; errand = call.errand; bytes = call.bytes.items; sent = call.sent; reply = call.reply.items; course = call.course }
+request_of call = record { place = call.place; errand = call.errand; bytes = call.request.bytes.items; sent = call.request.sent; reply = call.reply.items; course = call.course }
 
 -- nothing of it is sent yet
 abbrev pub asked_by : Outgoing → Request

@@ -1,3 +1,4 @@
 pub mod Lanes
 pub mod Talking
 pub mod Turning
+pub mod Heads

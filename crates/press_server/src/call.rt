@@ -1,13 +1,14 @@
 //! One request that goes out to a member, from its begin to its end.
 
-ghost use Rattle.std.specs.Prelude.{◌≡◌, ◌++◌, ◌-◌, IfOk, length, nat_le, take};
+ghost use Rattle.std.specs.Prelude.{◌≡◌, ◌++◌, ◌-◌, IfOk, length, take};
 ghost use Rattle.press_server.specs.Lanes.{asked_by, is_call_late, request_of};
 
 use crate::answers::{Errand, Outgoing};
+use crate::sending::Sending;
 use mio::net::TcpStream;
 use std::alloc::{AllocError, Global};
 use std::io;
-use std::io::{ErrorKind, Read, Write};
+use std::io::{ErrorKind, Read};
 use std::time::{Duration, Instant};
 
 const PIECE: usize = 1024;
@@ -36,8 +37,7 @@ pub struct Call {
     // For which member it is.
     place: usize,
     errand: Errand,
-    bytes: Vec<u8>,
-    sent: usize,
+    request: Sending,
     reply: Vec<u8>,
     begun: Instant,
     course: Course,
@@ -49,8 +49,7 @@ impl Drop for Call {
             stream: _,
             place: _,
             errand: _,
-            bytes: _,
-            sent: _,
+            request: _,
             reply: _,
             begun: _,
             course: _,
@@ -75,8 +74,7 @@ impl Call {
             stream,
             place,
             errand,
-            bytes,
-            sent: 0,
+            request: Sending::new(bytes),
             reply: Vec::new(alloc),
             begun,
             course: Course::Goes,
@@ -121,29 +119,12 @@ impl Call {
         Duration::from_secs(SECONDS) <= now.duration_since(self.begun)
     }
 
-    fn is_out(&self) -> bool
-        ensures { result ≡ nat_le (length self.now.bytes.items) self.now.sent }
-    {
-        self.bytes.len() <= self.sent
-    }
-
-    // Sends the request as far as the socket takes it.
+    // Sends the request as far as the socket takes it: none of it before it is connected.
     fn send(&mut self) -> io::Result<()> {
-        for _ in 0..self.bytes.len() {
-            let left = self.bytes.get(self.sent..).unwrap_or(&[]);
-            if left.is_empty() {
-                return Ok(());
-            }
-            match self.stream.write(left) {
-                Ok(0) => return Err(io::Error::from(ErrorKind::WriteZero)),
-                Ok(n) => self.sent = self.sent.saturating_add(n),
-                Err(e) => match e.kind() {
-                    ErrorKind::WouldBlock | ErrorKind::NotConnected => return Ok(()),
-                    _ => return Err(e),
-                },
-            }
+        match self.request.send(&mut self.stream) {
+            Err(e) if e.kind() == ErrorKind::NotConnected => Ok(()),
+            sent => sent,
         }
-        Ok(())
     }
 
     fn hear(&mut self, piece: &[u8]) -> Result<(), AllocError>
@@ -174,7 +155,7 @@ impl Call {
 
     fn go_on(&mut self) -> io::Result<()> {
         self.send()?;
-        if self.is_out() {
+        if self.request.is_out() {
             self.read_away()?;
         }
         Ok(())

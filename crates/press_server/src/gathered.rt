@@ -1,6 +1,18 @@
 //! The bytes of a request, as they come.
 
-ghost use Rattle.std.specs.Prelude.{◌≡◌, ◌≤◌, ◌++◌, [], IfOk, length, nat_le};
+ghost use Rattle.std.specs.Prelude.{
+  ◌≡◌,
+  ◌++◌,
+  ◌&&◌,
+  [],
+  if◌then◌else◌,
+  IfErr,
+  IfOk,
+  length,
+  nat_le,
+  not,
+};
+ghost use Rattle.press_server.specs.Heads.{is_whole, line_after, lines_after};
 
 use press_http::read_request;
 use std::alloc::{AllocError, Global};
@@ -22,13 +34,25 @@ enum Line {
 }
 
 impl Line {
-    fn after(self, byte: u8) -> Line {
+    fn after(self, byte: u8) -> Line
+        ensures { result ≡ line_after self byte }
+    {
         match (self, byte) {
             (Line::Empty, _) | (Line::Ended, b'\n') => Line::Empty,
             (Line::Before, b'\r' | b'\n') => Line::Before,
             (Line::Ended, b'\r') | (Line::Inside, b'\n') => Line::Ended,
             _ => Line::Inside,
         }
+    }
+
+    fn after_all(self, piece: &[u8]) -> Line
+        ensures { result ≡ lines_after self piece.now }
+    {
+        let mut line = self;
+        for byte in piece {
+            line = line.after(*byte);
+        }
+        line
     }
 }
 
@@ -122,13 +146,14 @@ impl Gathered {
     pub fn add(&mut self, piece: &[u8]) -> Result<(), AllocError>
         ensures added { IfOk result (λ _.
             self.new.bytes.items ≡ self.old.bytes.items ++ piece.now) }
-        ensures sooner { self.new.due ≤ self.old.due }
+        ensures line { IfOk result (λ _. self.new.line ≡ lines_after self.old.line piece.now) }
+        ensures due { IfOk result (λ _. self.new.due ≡ (if not (is_whole self.old.line)
+            && is_whole self.new.line then 0 else self.old.due)) }
+        ensures no_memory { IfErr result (λ _. (self.new.bytes.items ≡ self.old.bytes.items)
+            × (self.new.line ≡ self.old.line) × (self.new.due ≡ self.old.due)) }
     {
         self.bytes.extend_from_slice(piece)?;
-        let mut line = self.line;
-        for byte in piece {
-            line = line.after(*byte);
-        }
+        let line = self.line.after_all(piece);
         if line != self.line && line == Line::Empty {
             self.due = 0;
         }

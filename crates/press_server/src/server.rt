@@ -127,13 +127,21 @@ impl Server {
         })
     }
 
-    fn begin<E: Write>(&mut self, stream: TcpStream, from: IpAddr, log: &mut E) -> io::Result<()> {
-        let arrival = Arrival {
+    // A connection that comes now.
+    fn arrival(&self, from: IpAddr) -> Arrival
+        ensures from { result.from ≡ from }
+        ensures number { result.number ≡ self.entry.now.came }
+        ensures begun { result.begun ≡ self.entry.now.now }
+    {
+        Arrival {
             from,
             number: self.came,
             begun: self.now,
-        };
-        let talk = Talk::new(self.alloc, stream, arrival);
+        }
+    }
+
+    fn begin<E: Write>(&mut self, stream: TcpStream, from: IpAddr, log: &mut E) -> io::Result<()> {
+        let talk = Talk::new(self.alloc, stream, self.arrival(from));
         self.came = self.came.saturating_add(1);
         let place = self.talks.enter(talk, log)?;
         if let Some(talk) = self.talks.get_mut(place) {

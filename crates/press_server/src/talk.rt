@@ -1,11 +1,12 @@
 //! One connection, from its beginning to its end.
 
-ghost use Rattle.std.specs.Prelude.{◌≡◌, []};
+ghost use Rattle.std.specs.Prelude.{◌≡◌, ◌≢◌, ◌≤◌, ◌⊎◌, [], IsFalse, IsTrue, length};
 ghost use Rattle.press_server.specs.declared.talk.Phase.TheVariants.{Reading};
 ghost use Rattle.press_server.specs.Talking.{is_late};
 
 use crate::answers::Answers;
 use crate::gathered::Gathered;
+use crate::sending::Sending;
 use mio::net::TcpStream;
 use press_http::HttpFault;
 use press_text::write_once;
@@ -53,8 +54,7 @@ pub struct Talk {
     arrival: Arrival,
     phase: Phase,
     came: Gathered,
-    told: Vec<u8>,
-    sent: usize,
+    told: Sending,
     // More may be there to be read than was read, though nothing else comes.
     has_more: bool,
     alloc: Global,
@@ -68,7 +68,6 @@ impl Drop for Talk {
             phase: _,
             came: _,
             told: _,
-            sent: _,
             has_more: _,
             alloc: _,
         } = self;
@@ -102,16 +101,15 @@ impl Talk {
     pub fn new(alloc: Global, stream: TcpStream, arrival: Arrival) -> Talk
         ensures reads { result.phase ≡ Reading }
         ensures arrival { result.arrival ≡ arrival }
-        ensures none { (result.came.bytes.items ≡ []) × (result.told.items ≡ []) }
-        ensures sent { result.sent ≡ 0 }
+        ensures none { (result.came.bytes.items ≡ []) × (result.told.bytes.items ≡ []) }
+        ensures sent { result.told.sent ≡ 0 }
     {
         Talk {
             stream,
             arrival,
             phase: Phase::Reading,
             came: Gathered::new(alloc),
-            told: Vec::new(alloc),
-            sent: 0,
+            told: Sending::new(Vec::new(alloc)),
             has_more: false,
             alloc,
         }
@@ -171,13 +169,21 @@ impl Talk {
     // Looks at what came, if that is due; returns whether the connection had its turn.
     fn look<A: Answers, E: Write>(&mut self, answers: &mut A, ended: bool, log: &mut E) -> bool
         requires always { Unit {0} }
+        ensures ended { IsTrue ended → IsTrue result }
+        ensures turn { IsTrue result → self.new.phase ≢ Reading }
+        ensures waits { IsFalse result → self.new.phase ≡ self.old.phase }
+        ensures came { self.new.came.bytes ≡ self.old.came.bytes }
     {
         if !ended && !self.came.is_due() {
             return false;
         }
-        match answers.answer(self.arrival.from, self.came.as_slice(), &mut self.told) {
+        match answers.answer(
+            self.arrival.from,
+            self.came.as_slice(),
+            &mut self.told.bytes,
+        ) {
             Ok(status) => {
-                log_served(self.alloc, log, &self.came, status, self.told.len());
+                log_served(self.alloc, log, &self.came, status, self.told.bytes.len());
                 self.phase = Phase::Writing;
                 true
             }
@@ -207,21 +213,16 @@ impl Talk {
     }
 
     // Sends the reply as far as the socket takes it, and then shuts the write side.
-    fn send(&mut self) -> io::Result<()> {
-        for _ in 0..self.told.len() {
-            let left = self.told.get(self.sent..).unwrap_or(&[]);
-            if left.is_empty() {
-                break;
-            }
-            match self.stream.write(left) {
-                Ok(0) => return Err(io::Error::from(ErrorKind::WriteZero)),
-                Ok(n) => self.sent = self.sent.saturating_add(n),
-                Err(e) if e.kind() == ErrorKind::WouldBlock => return Ok(()),
-                Err(e) => return Err(e),
-            }
+    fn send(&mut self) -> io::Result<()>
+        ensures whole { self.new.phase ≡ self.old.phase ⊎
+            length self.new.told.bytes.items ≤ self.new.told.sent }
+        ensures same { self.new.told.bytes ≡ self.old.told.bytes }
+    {
+        self.told.send(&mut self.stream)?;
+        if self.told.is_out() {
+            self.stream.shutdown(Shutdown::Write)?;
+            self.phase = Phase::Ending;
         }
-        self.stream.shutdown(Shutdown::Write)?;
-        self.phase = Phase::Ending;
         Ok(())
     }
 

@@ -1,0 +1,8 @@
+use Rattle.std.proofs.Common.{◌≡◌, ◌≤◌, ◌-◌, drop, length, take}
+use Rattle.std.specs.Io.KnownBytes.{Appends}
+use Rattle.press_server.proofs.sending.Sending.send.Given as goal
+
+abbrev pub invariant-loop : goal.invariant-loop
+invariant-loop g l = (l.self.bytes ≡ l.initial.self.bytes) × (l.initial.self.sent ≤ l.self.sent)
+    × (l.initial.self.sent ≤ length l.initial.self.bytes.items → l.self.sent ≤ length l.initial.self.bytes.items)
+    × (l.initial.self.sent ≤ length l.initial.self.bytes.items → Appends (g.W.Write.contents l.initial.writer) (g.W.Write.contents l.writer) (take (l.self.sent - l.initial.self.sent) (drop l.initial.self.sent l.initial.self.bytes.items)))

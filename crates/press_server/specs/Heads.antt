@@ -1,0 +1,23 @@
+-- Where the bytes of a head are: it ends with an empty line (RFC 9112, 2.1), and empty lines before it are none of its lines (2.2).
+use Rattle.std.specs.Prelude.{ℕ, ◌==◌, ◌||◌, Bool, true, false, List, [], ◌∷◌, if◌then◌else◌}
+use Rattle.press_server.specs.declared.gathered.Line.{Line}
+use Rattle.press_server.specs.declared.gathered.Line.TheVariants.{Before, Inside, Ended, Empty}
+
+-- after one byte more: LF ends a line, and where nothing but CR came since the last LF the line is empty
+abbrev pub line_after : Line → ℕ → Line
+line_after Before byte = if (byte == 13) || (byte == 10) then Before else Inside
+line_after Inside byte = if byte == 10 then Ended else Inside
+line_after Ended byte = if byte == 10 then Empty else if byte == 13 then Ended else Inside
+line_after Empty byte = Empty
+
+-- after several
+abbrev pub lines_after : Line → List ℕ → Line
+lines_after line [] = line
+lines_after line (byte ∷ rest) = lines_after (line_after line byte) rest
+
+-- the head is whole: an empty line came
+abbrev pub is_whole : Line → Bool
+is_whole Before = false
+is_whole Inside = false
+is_whole Ended = false
+is_whole Empty = true

@@ -1,0 +1,71 @@
+//! Bytes that go out over a socket, which takes a part of them at a time.
+
+ghost use Rattle.std.specs.Prelude.{◌≡◌, ◌≤◌, ◌-◌, drop, length, nat_le, take};
+ghost use Rattle.std.specs.Io.KnownBytes.{Appends};
+
+use std::io;
+use std::io::{ErrorKind, Write};
+
+/// Bytes, and how many of them are out.
+pub struct Sending {
+    pub bytes: Vec<u8>,
+    sent: usize,
+}
+
+impl Drop for Sending {
+    fn drop(self) {
+        let Sending { bytes: _, sent: _ } = self;
+    }
+}
+
+impl Sending {
+    /// None of the bytes is out yet.
+    pub fn new(bytes: Vec<u8>) -> Sending
+        ensures bytes { result.bytes ≡ bytes }
+        ensures sent { result.sent ≡ 0 }
+    {
+        Sending { bytes, sent: 0 }
+    }
+
+    /// Whether all are out.
+    pub fn is_out(&self) -> bool
+        ensures { result ≡ nat_le (length self.now.bytes.items) self.now.sent }
+    {
+        self.bytes.len() <= self.sent
+    }
+
+    // What is left.
+    fn left(&self) -> &[u8]
+        ensures { result.now ≡ drop self.now.sent self.now.bytes.items }
+    {
+        match self.bytes.get(self.sent..) {
+            Some(left) => left,
+            None => &[],
+        }
+    }
+
+    /// Writes what is left, as far as the writer takes it.
+    pub fn send<W: Write>(&mut self, writer: &mut W) -> io::Result<()>
+        ensures bytes { self.new.bytes ≡ self.old.bytes }
+        ensures more { self.old.sent ≤ self.new.sent }
+        ensures within { self.old.sent ≤ length self.old.bytes.items →
+            self.new.sent ≤ length self.old.bytes.items }
+        ensures wrote { self.old.sent ≤ length self.old.bytes.items →
+            Appends (W.contents writer.old) (W.contents writer.new)
+            (take (self.new.sent - self.old.sent) (drop self.old.sent self.old.bytes.items)) }
+    {
+        for _ in 0..self.bytes.len() {
+            let left = self.left();
+            if left.is_empty() {
+                return Ok(());
+            }
+            match writer.write(left) {
+                Ok(0) => return Err(io::Error::from(ErrorKind::WriteZero)),
+                Ok(n) => self.sent = self.sent.saturating_add(n),
+                Err(e) if e.kind() == ErrorKind::WouldBlock => return Ok(()),
+                Err(e) => return Err(e),
+            }
+        }
+        Ok(())
+    }
+}
