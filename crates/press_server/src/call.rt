@@ -1,6 +1,6 @@
 //! One request that goes out to a member, from its begin to its end.
 
-ghost use Rattle.std.specs.Prelude.{◌≡◌, ◌++◌, ◌-◌, IfOk, length, take};
+ghost use Rattle.std.specs.Prelude.{◌≡◌, ◌++◌, ◌-◌, ◌≤◌, IfOk, IsTrue, length, take};
 ghost use Rattle.press_server.specs.Lanes.{asked_by, is_call_late, request_of};
 
 use crate::answers::{Errand, Outgoing};
@@ -119,10 +119,13 @@ impl Call {
         Duration::from_secs(SECONDS) <= now.duration_since(self.begun)
     }
 
-    // Sends the request as far as the socket takes it: none of it before it is connected.
-    fn send(&mut self) -> io::Result<()> {
+    // Sends the request as far as the socket takes it: none of it before it is connected. Returns whether it is out.
+    fn send(&mut self) -> io::Result<bool>
+        ensures { IfOk result (λ whole. IsTrue whole →
+            length self.new.request.bytes.items ≤ self.new.request.sent) }
+    {
         match self.request.send(&mut self.stream) {
-            Err(e) if e.kind() == ErrorKind::NotConnected => Ok(()),
+            Err(e) if e.kind() == ErrorKind::NotConnected => Ok(false),
             sent => sent,
         }
     }
@@ -154,8 +157,7 @@ impl Call {
     }
 
     fn go_on(&mut self) -> io::Result<()> {
-        self.send()?;
-        if self.request.is_out() {
+        if self.send()? {
             self.read_away()?;
         }
         Ok(())

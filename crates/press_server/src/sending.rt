@@ -1,6 +1,6 @@
 //! Bytes that go out over a socket, which takes a part of them at a time.
 
-ghost use Rattle.std.specs.Prelude.{◌≡◌, ◌≤◌, ◌-◌, drop, length, nat_le, take};
+ghost use Rattle.std.specs.Prelude.{◌≡◌, ◌≤◌, ◌-◌, IfOk, drop, length, nat_le, take};
 ghost use Rattle.std.specs.Io.KnownBytes.{Appends};
 
 use std::io;
@@ -27,13 +27,6 @@ impl Sending {
         Sending { bytes, sent: 0 }
     }
 
-    /// Whether all are out.
-    pub fn is_out(&self) -> bool
-        ensures { result ≡ nat_le (length self.now.bytes.items) self.now.sent }
-    {
-        self.bytes.len() <= self.sent
-    }
-
     // What is left.
     fn left(&self) -> &[u8]
         ensures { result.now ≡ drop self.now.sent self.now.bytes.items }
@@ -44,8 +37,8 @@ impl Sending {
         }
     }
 
-    /// Writes what is left, as far as the writer takes it.
-    pub fn send<W: Write>(&mut self, writer: &mut W) -> io::Result<()>
+    /// Writes what is left, as far as the writer takes it; returns whether all is out.
+    pub fn send<W: Write>(&mut self, writer: &mut W) -> io::Result<bool>
         ensures bytes { self.new.bytes ≡ self.old.bytes }
         ensures more { self.old.sent ≤ self.new.sent }
         ensures within { self.old.sent ≤ length self.old.bytes.items →
@@ -53,19 +46,17 @@ impl Sending {
         ensures wrote { self.old.sent ≤ length self.old.bytes.items →
             Appends (W.contents writer.old) (W.contents writer.new)
             (take (self.new.sent - self.old.sent) (drop self.old.sent self.old.bytes.items)) }
+        ensures whole { IfOk result (λ whole.
+            whole ≡ nat_le (length self.old.bytes.items) self.new.sent) }
     {
-        for _ in 0..self.bytes.len() {
-            let left = self.left();
-            if left.is_empty() {
-                return Ok(());
-            }
-            match writer.write(left) {
+        while self.sent < self.bytes.len() {
+            match writer.write(self.left()) {
                 Ok(0) => return Err(io::Error::from(ErrorKind::WriteZero)),
                 Ok(n) => self.sent = self.sent.saturating_add(n),
-                Err(e) if e.kind() == ErrorKind::WouldBlock => return Ok(()),
+                Err(e) if e.kind() == ErrorKind::WouldBlock => return Ok(false),
                 Err(e) => return Err(e),
             }
         }
-        Ok(())
+        Ok(true)
     }
 }

@@ -218,8 +218,7 @@ impl Talk {
             length self.new.told.bytes.items ≤ self.new.told.sent }
         ensures same { self.new.told.bytes ≡ self.old.told.bytes }
     {
-        self.told.send(&mut self.stream)?;
-        if self.told.is_out() {
+        if self.told.send(&mut self.stream)? {
             self.stream.shutdown(Shutdown::Write)?;
             self.phase = Phase::Ending;
         }
