@@ -1,45 +1,8 @@
 //! The requests that go out at once, and those that wait.
 
-ghost use Rattle.std.specs.Prelude.{
-  ◌≡◌,
-  [],
-  if◌then◌else◌,
-  ◌+◌,
-  ◌<◌,
-  IfErr,
-  IfOk,
-  IfSome,
-  IsFalse,
-  IsTrue,
-  MatchOption,
-  None,
-  Some,
-  false,
-  is_none,
-  length,
-  option_and_then,
-  option_map,
-  position,
-  slice_get,
-  slice_set,
-  unwrap_or,
-};
-ghost use Rattle.press_server.specs.Lanes.{
-  IsGrown,
-  MakesRoom,
-  call_at,
-  changed_at,
-  ended,
-  front_at,
-  is_call_late,
-  is_ready,
-  queue_of,
-  queues,
-  ready,
-  sent,
-  with_lanes,
-  with_last,
-};
+ghost use Rattle.std.specs.Prelude.{◌≡◌, [], if◌then◌else◌, ◌+◌, ◌<◌, ◌≤◌, ◌⊎◌, IfErr, IfOk, IfSome, IsFalse, IsTrue, MatchOption, None, Some, false, is_none, length, option_and_then, option_map, position, slice_get, slice_set, unwrap_or};
+ghost use Rattle.std.specs.VecDeque.{deque_capacity, deque_len};
+ghost use Rattle.press_server.specs.Lanes.{IsGrown, MakesRoom, call_at, changed_at, ended, front_at, is_call_late, is_ready, queue_of, queues, ready, sent, with_lanes, with_last};
 
 use crate::answers::Outgoing;
 use crate::call::Call;
@@ -125,7 +88,9 @@ impl Calls {
     fn make_lane(&mut self, place: usize) -> Result<(), AllocError>
         ensures made { IfOk result (λ _.
             queues self.new ≡ with_lanes (place + 1) (queues self.old)) }
-        ensures grown { IfErr result (λ _. IsGrown (queues self.new) (queues self.old)) }
+        ensures there { place < length self.old.lanes.items → self.new ≡ self.old }
+        ensures grown { IfErr result (λ _. (length self.old.lanes.items ≤ place)
+            × IsGrown (queues self.new) (queues self.old)) }
         ensures same { self.new.places ≡ self.old.places }
     {
         while self.lanes.len() <= place {
@@ -146,6 +111,9 @@ impl Calls {
             (slice_get (with_lanes (outgoing.place + 1) (queues self.old)) outgoing.place)
             (λ queue. length queue.waiting < 4096) }
         ensures lost { IsFalse result → IsGrown (queues self.new) (queues self.old) }
+        ensures lost_where { IsFalse result → IfSome (slice_get self.old.lanes.items outgoing.place)
+            (λ lane. (4096 ≤ length lane.waiting.items)
+            ⊎ (deque_capacity lane.waiting ≤ deque_len lane.waiting)) }
         ensures same { self.new.places ≡ self.old.places }
     {
         let place = outgoing.place;

@@ -1,17 +1,6 @@
 //! The bytes of a request, as they come.
 
-ghost use Rattle.std.specs.Prelude.{
-  ◌≡◌,
-  ◌++◌,
-  ◌&&◌,
-  [],
-  if◌then◌else◌,
-  IfErr,
-  IfOk,
-  length,
-  nat_le,
-  not,
-};
+ghost use Rattle.std.specs.Prelude.{◌≡◌, ◌++◌, ◌&&◌, [], if◌then◌else◌, IfErr, IfOk, length, nat_le, not};
 ghost use Rattle.press_server.specs.Heads.{is_whole, line_after, lines_after};
 
 use press_http::read_request;

@@ -1,40 +1,9 @@
 //! The open connections.
 
-ghost use Rattle.std.specs.Prelude.{
-  ◌≡◌,
-  ◌<◌,
-  ◌≤◌,
-  IfErr,
-  IfOk,
-  IfSome,
-  IsSomeAnd,
-  List,
-  MatchOption,
-  None,
-  Option,
-  Some,
-  is_none,
-  position,
-  slice_set,
-};
+ghost use Rattle.std.specs.Prelude.{◌≡◌, ◌<◌, ◌≤◌, IfErr, IfOk, IfSome, IsSomeAnd, List, MatchOption, None, Option, Some, is_none, position, slice_set};
 ghost use Rattle.std.specs.List.{list_all};
 ghost use Rattle.press_server.specs.declared.talk.Talk.{Talk};
-ghost use Rattle.press_server.specs.Talking.{
-  GivesWay,
-  GoesFirst,
-  HasNone,
-  IsOldest,
-  MakesPlace,
-  MayGrow,
-  count_of,
-  freed,
-  is_late,
-  is_reading,
-  is_unheard,
-  kept_unless,
-  meets,
-  talk_at,
-};
+ghost use Rattle.press_server.specs.Talking.{GivesWay, GoesFirst, HasNone, IsOldest, MakesPlace, MayGrow, count_of, freed, is_late, is_reading, is_unheard, kept_unless, meets, talk_at};
 
 use crate::talk::{Phase, Talk};
 use std::alloc::{AllocError, Global};
