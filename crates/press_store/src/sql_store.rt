@@ -7,6 +7,7 @@ ghost use Rattle.sqlite.specs.Files.{file_state};
 ghost use Rattle.sqlite.specs.WalFiles.{image_at};
 ghost use Rattle.press_store.specs.Adopted.{Adopts, IsServed, IsHandedBack, is_half};
 ghost use Rattle.press_acceptor.specs.declared.fault.StoreFault.TheVariants.{Damaged};
+ghost use Rattle.press_store.specs.Faults.{told};
 ghost use Rattle.press_store.specs.Opened.{Begins, Finds, HoldsServed, IsUp};
 ghost use Rattle.press_store.specs.Attempt.{IsReady};
 ghost use Rattle.press_store.specs.Kept.{seen_of};
@@ -166,6 +167,7 @@ impl SqlStore<FileStore<File>> {
 
 // The fault that the error is, counted where it names the disk.
 fn counted(faults: &mut u64, error: Error) -> StoreFault
+    ensures told { faults.old < 18446744073709551615 → result ≡ told error }
     ensures disk { result ≡ StoreFault.Disk → faults.old < faults.new }
     ensures counts { faults.old ≤ faults.new }
 {
