@@ -1,9 +1,10 @@
 -- Where the bytes of a head are: it ends with an empty line (RFC 9112, 2.1), and empty lines before it are none of its lines (2.2).
-use Rattle.std.specs.Prelude.{ℕ, ◌==◌, ◌||◌, Bool, true, false, List, [], ◌∷◌, if◌then◌else◌}
+use Rattle.std.specs.Prelude.{ℕ, ◌==◌, ◌||◌, ◌*◌, min, nat_lt, Bool, true, false, List, [], ◌∷◌, if◌then◌else◌}
 use Rattle.press_server.specs.declared.gathered.Line.{Line}
 use Rattle.press_server.specs.declared.gathered.Line.TheVariants.{Before, Inside, Ended, Empty}
 
--- after one byte more: LF ends a line, and where nothing but CR came since the last LF the line is empty
+-- after one byte more: LF ends a line, and where nothing but CR came since the last LF the line is empty (so are several CR: whether the head is a
+-- good one is for who reads it then)
 abbrev pub line_after : Line → ℕ → Line
 line_after Before byte = if (byte == 13) || (byte == 10) then Before else Inside
 line_after Inside byte = if byte == 10 then Ended else Inside
@@ -21,3 +22,7 @@ is_whole Before = false
 is_whole Inside = false
 is_whole Ended = false
 is_whole Empty = true
+
+-- how many bytes there have to be for another look at a head that isn't whole: twice those that came, 8,192 at most
+abbrev pub due_again : ℕ → ℕ
+due_again count = if nat_lt count 8192 then min 8192 (count * 2) else count

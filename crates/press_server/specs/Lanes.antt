@@ -81,7 +81,7 @@ request_of call = record { place = call.place; errand = call.errand; bytes = cal
 abbrev pub asked_by : Outgoing → Request
 asked_by outgoing = record { place = outgoing.place; errand = outgoing.errand; bytes = outgoing.bytes.items; sent = 0; reply = []; course = Goes }
 
--- two seconds are over since it began
+-- two seconds or more are over since it began
 abbrev pub is_call_late : Instant → Call → Bool
 is_call_late now call = nat_le 2000000000 (instant_nanos now - instant_nanos call.begun)
 

@@ -17,7 +17,7 @@ is_phase_reading Over = false
 abbrev pub is_reading : Talk → Bool
 is_reading talk = is_phase_reading talk.phase
 
--- ten seconds are over since it began
+-- ten seconds or more are over since it began
 abbrev pub is_late : Instant → Talk → Bool
 is_late now talk = nat_le 10000000000 (instant_nanos now - instant_nanos talk.arrival.begun)
 

@@ -3,7 +3,7 @@ use Rattle.std.specs.Prelude.{ℕ, ◌-◌, ◌/◌, ◌%◌, ◌==◌, Option, 
 use Rattle.press_server.specs.declared.server.Holder.{Holder}
 use Rattle.press_server.specs.declared.server.Holder.TheVariants.{Listener, Talk, Call}
 
--- the listener has none, connections the odd ones, requests that go out the even ones
+-- 0 is the listener's, the odd ones are of connections, the other even ones of requests that go out
 abbrev pub holder_named : ℕ → Holder
 holder_named number =
     if number == 0 then Listener else if (number - 1) % 2 == 0 then Talk ((number - 1) / 2) else Call ((number - 1) / 2)

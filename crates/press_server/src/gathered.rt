@@ -1,7 +1,7 @@
 //! The bytes of a request, as they come.
 
-ghost use Rattle.std.specs.Prelude.{◌≡◌, ◌++◌, ◌&&◌, [], if◌then◌else◌, IfErr, IfOk, length, nat_le, not};
-ghost use Rattle.press_server.specs.Heads.{is_whole, line_after, lines_after};
+ghost use Rattle.std.specs.Prelude.{◌≡◌, ◌++◌, ◌&&◌, [], false, if◌then◌else◌, IfErr, IfOk, length, nat_le, not};
+ghost use Rattle.press_server.specs.Heads.{due_again, is_whole, line_after, lines_after};
 
 use press_http::read_request;
 use std::alloc::{AllocError, Global};
@@ -161,7 +161,9 @@ impl Gathered {
     /// line comes, and a body only with as many bytes as are asked for; a head that isn't whole may be refused, and is
     /// looked at again at twice its bytes, so that bytes that come one by one don't cost the square of their count.
     pub fn wait(&mut self, alloc: Global)
-        ensures { self.new.bytes ≡ self.old.bytes }
+        ensures bytes { self.new.bytes ≡ self.old.bytes }
+        ensures due { is_whole self.old.line ≡ false →
+            self.new.due ≡ due_again (length self.old.bytes.items) }
     {
         let count = self.bytes.len();
         self.due = if self.line == Line::Empty {

@@ -212,7 +212,7 @@ impl Talk {
         }
     }
 
-    // Sends the reply as far as the socket takes it, and then shuts the write side.
+    // Sends the reply as far as the socket takes it; once all is out the write side is shut.
     fn send(&mut self) -> io::Result<()>
         ensures whole { self.new.phase ≡ self.old.phase ⊎
             length self.new.told.bytes.items ≤ self.new.told.sent }

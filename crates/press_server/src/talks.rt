@@ -1,6 +1,6 @@
 //! The open connections.
 
-ghost use Rattle.std.specs.Prelude.{◌≡◌, ◌<◌, ◌≤◌, IfErr, IfOk, IfSome, IsSomeAnd, List, MatchOption, None, Option, Some, is_none, position, slice_set};
+ghost use Rattle.std.specs.Prelude.{◌≡◌, ◌<◌, ◌≤◌, [], IfErr, IfOk, IfSome, IsSomeAnd, List, MatchOption, None, Option, Some, is_none, position, slice_set};
 ghost use Rattle.std.specs.List.{list_all};
 ghost use Rattle.press_server.specs.declared.talk.Talk.{Talk};
 ghost use Rattle.press_server.specs.Talking.{GivesWay, GoesFirst, HasNone, IsOldest, MakesPlace, MayGrow, count_of, freed, is_late, is_reading, is_unheard, kept_unless, meets, talk_at};
@@ -102,7 +102,9 @@ impl Drop for Talks {
 }
 
 impl Talks {
-    pub fn new(alloc: Global) -> Talks {
+    pub fn new(alloc: Global) -> Talks
+        ensures { result.places.items ≡ [] }
+    {
         Talks {
             places: Vec::new(alloc),
         }
@@ -204,7 +206,7 @@ impl Talks {
         Ok(self.give_way(log).unwrap_or(0))
     }
 
-    /// Puts a connection at a free place.
+    /// Puts a connection at a free place, at a new one, or at that of one that gives way.
     pub fn enter<E: Write>(&mut self, talk: Talk, log: &mut E) -> Result<usize, AllocError>
         ensures entered { IfOk result (λ place. (slots : List (Option Talk))
             × MakesPlace self.old.places.items slots place
