@@ -1,6 +1,6 @@
 -- The rows of a table as they are kept: hook by hook in the order of names, each in groups by priority, a group's entries in the order in which they were added.
 use Rattle.std.specs.Prelude.{◌≡◌, ℕ, ℤ, List, [], ◌∷◌, ◌++◌, length, Bool, true, false, not, ◌&&◌, cond, int_lt, bytes_eq, Option, Some, None, filter, map, ◌<◌, ◌≤◌, Result, MatchResult}
-use Rattle.std.specs.List.{HoldsAt}
+use Rattle.std.specs.List.{HoldsAt, list_any}
 use Rattle.std.specs.List.Sorted.{IsPartitionPoint}
 use Rattle.std.specs.Cmp.Lexicographic.{slice_cmp}
 use Rattle.std.specs.Ordering.{nat_cmp, int_cmp, int_eq}
@@ -98,6 +98,10 @@ is_of (Some callback) e = bytes_eq e.callback callback
 
 abbrev pub is_named : Option ℤ → Option (List ℕ) → Entry → Bool
 is_named priority callback e = is_at priority e && is_of callback e
+
+-- whether there is an entry of the priority and the callback
+abbrev pub has_entry : ℤ → List ℕ → List Entry → Bool
+has_entry priority callback es = list_any (λ (e : Entry). bytes_eq e.callback callback) (filter (λ (e : Entry). int_eq e.priority priority) es)
 
 -- the entry with this `accepted`, where it is the one named
 abbrev pub accepted_where : ℤ → List ℕ → ℕ → Entry → Entry

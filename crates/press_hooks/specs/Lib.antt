@@ -1,4 +1,5 @@
 pub mod Hooked
+pub mod Keys
 pub mod HookRows
 pub mod Members
 pub mod NextEntry

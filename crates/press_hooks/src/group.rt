@@ -1,19 +1,23 @@
-ghost use Rattle.std.specs.Prelude.{◌≡◌, ◌+◌, ◌++◌, ◌∷◌, [], length, map, filter, not, bytes_eq, IfOk, OnOk, OnErr};
+ghost use Rattle.std.specs.Prelude.{◌≡◌, ◌+◌, ◌++◌, ◌∷◌, ◌≤◌, ◌==◌, [], false, length, map, filter, not, bytes_eq, IfOk, OnOk, OnErr, vec_len, vec_capacity};
 ghost use Rattle.std.specs.List.{list_any};
+ghost use Rattle.indexmap.specs.IndexMap.{index_map_len};
 ghost use Rattle.press_hooks.specs.Hooked.{with_members};
+ghost use Rattle.press_hooks.specs.Keys.{members_in};
 ghost use Rattle.press_hooks.specs.Members.{member_of, is_member_of, accepted_if};
 
 use crate::entry::Entry;
+use crate::key::Key;
 use crate::member::Member;
+use indexmap::IndexMap;
 use press_text::{CallbackId, Copied};
 use std::alloc::{AllocError, Global};
 use std::marker::Model;
 
-/// The entries of a hook at one priority, in the order in which they were added.
+/// The entries of a hook at one priority, in the order in which they were added: how many arguments each callback accepts.
 #[derive(Debug)]
 pub struct Group {
     priority: i64,
-    members: Vec<Member>,
+    members: IndexMap<Key, u32>,
 }
 
 impl Drop for Group {
@@ -27,10 +31,11 @@ impl Drop for Group {
 
 impl Model for Group {
     ghost use Rattle.press_hooks.specs.Hooked.{Grouped};
+    ghost use Rattle.press_hooks.specs.Keys.{members_in};
 
     ghost Value = { Grouped };
 
-    ghost view = { λ g. record { priority = g.priority; members = g.members.items } };
+    ghost view = { λ g. record { priority = g.priority; members = members_in g.members.entries } };
 }
 
 impl Group {
@@ -41,7 +46,8 @@ impl Group {
           members = member_of entry.now ∷ [];
         }) }
     {
-        let members = vec![in alloc; Member::of(entry)]?;
+        let mut members = IndexMap::new(alloc);
+        members.insert(Key::of(entry.callback), entry.accepted)?;
         Ok(Group {
             priority: entry.priority,
             members,
@@ -54,16 +60,23 @@ impl Group {
         self.priority
     }
 
-    pub fn members(&self) -> &[Member]
-        ensures { result.now ≡ self.now.members }
+    /// How many entries it has.
+    pub fn len(&self) -> usize
+        ensures { result ≡ length self.now.members }
     {
-        self.members.as_slice()
+        self.members.len()
+    }
+
+    pub fn is_empty(&self) -> bool
+        ensures { result ≡ (length self.now.members == 0) }
+    {
+        self.members.len() == 0
     }
 
     pub fn has(&self, callback: CallbackId) -> bool
         ensures { result ≡ list_any (λ m. bytes_eq m.callback callback) self.now.members }
     {
-        self.members.iter().any(|m| m.callback.is(callback))
+        self.members.contains_key(&Key::of(callback))
     }
 
     /// Sets `accepted` of the entry, if it exists.
@@ -71,16 +84,21 @@ impl Group {
         ensures { self.new ≡ with_members (map (accepted_if entry.now.callback entry.now.accepted)
             self.old.members) self.old }
     {
-        accept_in(&mut self.members, &Member::of(entry));
+        let Some(accepted) = self.members.get_mut(&Key::of(entry.callback)) else {
+            return;
+        };
+        *accepted = entry.accepted;
     }
 
-    /// Adds an entry after the others.
+    /// Adds an entry after the others, of a callback that has none.
     pub fn put(&mut self, entry: &Entry) -> Result<(), AllocError>
+        requires { list_any (λ m. bytes_eq m.callback entry.now.callback) self.old.members ≡ false }
         ensures put { OnOk result (self.new ≡ with_members (self.old.members
             ++ member_of entry.now ∷ []) self.old) }
         ensures refused { OnErr result (self.new ≡ self.old) }
     {
-        self.members.push(Member::of(entry))?;
+        self.members
+            .insert(Key::of(entry.callback), entry.accepted)?;
         Ok(())
     }
 
@@ -91,25 +109,44 @@ impl Group {
         ensures gone { result + length self.new.members ≡ length self.old.members }
     {
         let before = self.members.len();
-        self.members.retain(|m| !m.is_of(callback));
+        let Some(callback) = callback else {
+            self.members.clear();
+            return before;
+        };
+        self.members.shift_remove(&Key::of(callback));
         before - self.members.len()
+    }
+
+    /// Copies the entries behind what is there.
+    pub fn copy_to(&self, members: &mut Vec<Member>) -> Result<(), AllocError>
+        ensures copied { OnOk result (members.new.items ≡ members.old.items ++ self.now.members) }
+        ensures refused { OnErr result (members.new.items ≡ members.old.items) }
+    {
+        members.reserve(self.members.len())?;
+        push_all(members, &self.members);
+        Ok(())
     }
 }
 
 impl Copied for Group {
     fn copied(&self, alloc: Global) -> Result<Group, AllocError> {
-        let members = Vec::from_slice(alloc, self.members.as_slice())?;
+        let _ = alloc;
         Ok(Group {
             priority: self.priority,
-            members,
+            members: self.members.clone()?,
         })
     }
 }
 
-fn accept_in(members: &mut [Member], member: &Member)
-    ensures { members.new ≡ map (accepted_if member.now.callback member.now.accepted) members.old }
+// Copies a map's entries behind what is there, where there is room for them.
+fn push_all(members: &mut Vec<Member>, entries: &IndexMap<Key, u32>)
+    requires { vec_len members.old + index_map_len entries.now ≤ vec_capacity members.old }
+    ensures { members.new.items ≡ members.old.items ++ members_in entries.now.entries }
 {
-    for m in members.iter_mut() {
-        m.accept_as(member);
+    for (key, accepted) in entries {
+        members.push_reserved(Member {
+            callback: key.callback(),
+            accepted: *accepted,
+        });
     }
 }

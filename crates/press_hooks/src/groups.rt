@@ -1,7 +1,7 @@
-ghost use Rattle.std.specs.Prelude.{◌≡◌, ◌+◌, ◌≤◌, ◌<◌, ◌^◌, ℤ, Option, length, map, filter, insert, not, bytes_eq, option_map, OnOk, OnErr};
+ghost use Rattle.std.specs.Prelude.{◌≡◌, ◌+◌, ◌≤◌, ◌<◌, ◌^◌, ℤ, Option, false, length, map, filter, insert, not, bytes_eq, option_map, OnOk, OnErr};
 ghost use Rattle.std.specs.Ordering.{int_eq};
 ghost use Rattle.std.specs.List.{list_any, find};
-ghost use Rattle.press_hooks.specs.Hooked.{AreGroups, IsPlaceAt, entries_of, up_to, accepted_where, is_named, put_entry};
+ghost use Rattle.press_hooks.specs.Hooked.{AreGroups, IsPlaceAt, entries_of, has_entry, up_to, accepted_where, is_named, put_entry};
 
 use crate::entry::Entry;
 use crate::group::Group;
@@ -63,9 +63,11 @@ pub(crate) fn accept(groups: &mut Vec<Group>, entry: &Entry)
     }
 }
 
-/// Adds an entry after those of its priority.
+/// Adds an entry after those of its priority, of a callback that has none there.
 pub(crate) fn put(alloc: Global, groups: &mut Vec<Group>, entry: &Entry) -> Result<(), AllocError>
-    requires { AreGroups groups.old.items }
+    requires order { AreGroups groups.old.items }
+    requires new { has_entry entry.now.priority entry.now.callback (entries_of groups.old.items)
+        ≡ false }
     ensures entries { OnOk result (entries_of groups.new.items
         ≡ put_entry entry.now (entries_of groups.old.items)) }
     ensures order { OnOk result (AreGroups groups.new.items) }
@@ -99,7 +101,7 @@ pub(crate) fn remove(groups: &mut Vec<Group>, priority: i64, callback: Option<Ca
         return 0;
     };
     let gone = groups[place].remove(callback);
-    if groups[place].members().is_empty() {
+    if groups[place].is_empty() {
         drop(groups.remove(place));
     }
     gone
@@ -112,7 +114,7 @@ pub(crate) fn entry_count(groups: &[Group]) -> usize
 {
     let mut count = 0;
     for group in groups {
-        count += group.members().len();
+        count += group.len();
     }
     count
 }

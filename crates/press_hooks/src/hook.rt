@@ -1,7 +1,7 @@
-ghost use Rattle.std.specs.Prelude.{◌≡◌, ◌+◌, ◌<◌, ◌^◌, length, map, filter, not, Some, None, IfOk, OnOk, OnErr, [], ◌∷◌};
+ghost use Rattle.std.specs.Prelude.{◌≡◌, ◌+◌, ◌<◌, ◌^◌, false, length, map, filter, not, Some, None, IfOk, OnOk, OnErr, [], ◌∷◌};
 ghost use Rattle.std.specs.Cmp.Lexicographic.{slice_cmp};
 ghost use Rattle.std.specs.Ordering.{nat_cmp};
-ghost use Rattle.press_hooks.specs.Hooked.{hook_entries, AreGroups, is_named, accepted_where, put_entry};
+ghost use Rattle.press_hooks.specs.Hooked.{hook_entries, AreGroups, has_entry, is_named, accepted_where, put_entry};
 
 use crate::entry::Entry;
 use crate::group::Group;
@@ -69,8 +69,10 @@ impl Hook {
         groups::accept(&mut self.groups, entry);
     }
 
-    /// Adds an entry after those of its priority.
+    /// Adds an entry after those of its priority, of a callback that has none there.
     pub fn put(&mut self, alloc: Global, entry: &Entry) -> Result<(), AllocError>
+        requires { has_entry entry.now.priority entry.now.callback (hook_entries self.old)
+            ≡ false }
         ensures name { self.new.name ≡ self.old.name }
         ensures put { OnOk result (hook_entries self.new
             ≡ put_entry entry.now (hook_entries self.old)) }

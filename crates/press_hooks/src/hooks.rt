@@ -1,6 +1,6 @@
-ghost use Rattle.std.specs.Prelude.{◌≡◌, ◌+◌, ◌<◌, ◌≤◌, ◌^◌, ℕ, List, length, map, filter, insert, not, Some, None, OnOk, OnErr};
+ghost use Rattle.std.specs.Prelude.{◌≡◌, ◌+◌, ◌<◌, ◌≤◌, ◌^◌, ℕ, List, false, length, map, filter, insert, not, Some, None, OnOk, OnErr};
 ghost use Rattle.press_hooks.specs.HookRows.{accepted_as, is_of_hook, put_row};
-ghost use Rattle.press_hooks.specs.Hooked.{IsByName, AreGroups, IsPlaceOf, KeepsOthers, entries_of, groups_named, row_of, table_rows, is_row_named};
+ghost use Rattle.press_hooks.specs.Hooked.{IsByName, AreGroups, IsPlaceOf, KeepsOthers, entries_of, groups_named, has_entry, row_of, table_rows, is_row_named};
 
 use crate::entry::Entry;
 use crate::group::Group;
@@ -45,14 +45,16 @@ pub(crate) fn accept(hooks: &mut Vec<Hook>, name: &HookName, entry: &Entry)
     }
 }
 
-/// Adds an entry after those of its hook and priority.
+/// Adds an entry after those of its hook and priority, of a callback that has none there.
 pub(crate) fn put(
     alloc: Global,
     hooks: &mut Vec<Hook>,
     name: &HookName,
     entry: &Entry,
 ) -> Result<(), AllocError>
-    requires { IsByName hooks.old.items }
+    requires order { IsByName hooks.old.items }
+    requires new { has_entry entry.now.priority entry.now.callback
+        (entries_of (groups_named name.now hooks.old.items)) ≡ false }
     ensures rows { OnOk result (table_rows hooks.new.items
         ≡ put_row (row_of name.now entry.now) (table_rows hooks.old.items)) }
     ensures others { OnOk result (KeepsOthers name.now hooks.old.items hooks.new.items) }

@@ -8,6 +8,7 @@ mod group;
 mod groups;
 mod hook;
 mod hooks;
+mod key;
 mod laws;
 mod member;
 mod open_run;

@@ -125,7 +125,7 @@ impl Rest {
         self.priority = group.priority();
         self.members.clear();
         self.given = 0;
-        self.members.extend_from_slice(group.members())
+        group.copy_to(&mut self.members)
     }
 
     fn take_first(&mut self) -> Option<Entry>

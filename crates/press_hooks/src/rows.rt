@@ -1,7 +1,7 @@
 ghost use Rattle.std.specs.Prelude.{◌≡◌, ◌<◌, [], true, false, ltb, Some, None, IsOk, IfOk, OnOk, OnErr, length, map, filter, not};
 ghost use Rattle.std.specs.List.{list_any};
 ghost use Rattle.press_hooks.specs.HookRows.{is_row, is_of_hook, accepted_as, most_rows, put_row, add_row, adds_row, remove_row, remove_rows};
-ghost use Rattle.press_hooks.specs.Hooked.{AreGroups, KeepsOthers, entries_of, groups_named, row_of, table_rows, is_row_named};
+ghost use Rattle.press_hooks.specs.Hooked.{AreGroups, KeepsOthers, entries_of, groups_named, has_entry, row_of, table_rows, is_row_named};
 
 use crate::entry::Entry;
 use crate::group::Group;
@@ -70,7 +70,9 @@ impl Rows {
     }
 
     pub fn has(&self, hook: &HookName, priority: i64, callback: CallbackId) -> bool
-        ensures { result ≡ list_any (is_row hook.now priority callback) (table_rows self.now) }
+        ensures row { result ≡ list_any (is_row hook.now priority callback) (table_rows self.now) }
+        ensures entry { result ≡ has_entry priority callback
+            (entries_of (groups_named hook.now self.now)) }
     {
         groups::has(self.groups_of(hook), priority, callback)
     }
@@ -116,7 +118,9 @@ impl Rows {
     }
 
     fn put(&mut self, alloc: Global, hook: &HookName, e: &Entry) -> Result<(), AllocError>
-        requires { length (table_rows self.old) < most_rows }
+        requires room { length (table_rows self.old) < most_rows }
+        requires new { has_entry e.now.priority e.now.callback
+            (entries_of (groups_named hook.now self.old)) ≡ false }
         ensures put { OnOk result (table_rows self.new
             ≡ put_row (row_of hook.now e.now) (table_rows self.old)) }
         ensures others { OnOk result (KeepsOthers hook.now self.old self.new) }

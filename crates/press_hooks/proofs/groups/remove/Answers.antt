@@ -20,7 +20,7 @@ pub returns-then-is_empty-clause-entries : goal.returns-then-is_empty-clause-ent
 returns-then-is_empty-clause-entries c =
     let z : to_z w64 (of_z w64 c.args.priority) ≡ c.args.priority = to_z-of_z w64 c.args.priority c.ranges.priority in
     let place = rw (z, c.as_slice.ensures.value) at c.in-Ok.ensures in
-    let none : length c.index.result.now.members ≡ 0 = ap (λ ms. length ms) (sym c.members.ensures) ∙ search rules in
+    let none : length c.index.result.now.members ≡ 0 = search rules in
     ap entries_of c.remove.ensures.items
     ∙ (empty_removed c.args.groups.now.items c.in-Ok.place c.index.result.now c.remove-gone.new.self place.0 c.index.ensures none
     ∙ removed_found c.args.priority c.args.callback c.args.groups.now.items c.in-Ok.place c.index_mut.result.now c.remove-gone.new.self c.requires place.0 place.1 c.index_mut.ensures.value c.remove-gone.ensures.members)
@@ -31,12 +31,12 @@ returns-then-is_empty-clause-order c = subst AreGroups (sym c.remove.ensures.ite
 pub returns-else-is_empty-clause-order : goal.returns-else-is_empty-clause-order
 returns-else-is_empty-clause-order c =
     let place = rw c.as_slice.ensures.value at c.in-Ok.ensures in
-    order_removed c.args.groups.now.items c.in-Ok.place c.index_mut.result.now c.index.result.now c.remove-gone.new.self _ c.requires place.0 c.index.ensures (λ e. true≢false (sym (c.is_empty.ensures ∙ ap (λ n. n == 0) (ap (λ ms. length ms) c.members.ensures ∙ e)) ∙ c.if-is_empty.false)) c.index_mut.ensures.value c.remove-gone.ensures.members
+    order_removed c.args.groups.now.items c.in-Ok.place c.index_mut.result.now c.index.result.now c.remove-gone.new.self _ c.requires place.0 c.index.ensures (λ e. true≢false (sym (c.is_empty.ensures ∙ ap (λ n. n == 0) e) ∙ c.if-is_empty.false)) c.index_mut.ensures.value c.remove-gone.ensures.members
 
 pub returns-then-is_empty-clause-gone : goal.returns-then-is_empty-clause-gone
 returns-then-is_empty-clause-gone c =
     let place = rw c.as_slice.ensures.value at c.in-Ok.ensures in
-    let none : length c.index.result.now.members ≡ 0 = ap (λ ms. length ms) (sym c.members.ensures) ∙ search rules in
+    let none : length c.index.result.now.members ≡ 0 = search rules in
     let same : length (entries_of c.remove.new.self.items) ≡ length (entries_of (set c.args.groups.now.items c.in-Ok.place c.remove-gone.new.self)) = ap (λ es. length es) (ap entries_of c.remove.ensures.items ∙ empty_removed c.args.groups.now.items c.in-Ok.place c.index.result.now c.remove-gone.new.self place.0 c.index.ensures none) in
     let long = length_set c.args.groups.now.items c.in-Ok.place c.index_mut.result.now c.remove-gone.new.self place.0 in
     let at = ap (λ g. length g.members) c.index_mut.ensures.value in

@@ -1,13 +1,13 @@
 use Rattle.std.proofs.Common.{◌∙◌, ap, sym, subst}
 use Rattle.std.proofs.lemmas.Result.{on_ok_weaker}
-use Rattle.press_hooks.specs.Hooked.{KeepsOthers, IsByName, table_rows}
-use Rattle.press_hooks.proofs.Named.{put_found, put_missing, order_missing, order_set, others_set, others_insert}
+use Rattle.press_hooks.specs.Hooked.{KeepsOthers, IsByName, entries_of, has_entry, table_rows}
+use Rattle.press_hooks.proofs.Named.{put_found, put_missing, order_missing, order_set, others_set, others_insert, found_named}
 use Rattle.press_hooks.proofs.hooks.put.Goals as goal
 
 pub returns-in-Ok-clause-rows : goal.returns-in-Ok-clause-rows
 returns-in-Ok-clause-rows c =
     let place = rw c.as_slice.ensures.value at c.in-Ok.ensures in
-    on_ok_weaker c.put.result (λ h. put_found c.args.name.now c.args.entry.now c.args.hooks.now.items c.in-Ok.place c.index_mut.result.now c.put.new.self c.requires place.0 place.1 c.index_mut.ensures.value c.put.ensures.name h) c.put.ensures.put
+    on_ok_weaker c.put.result (λ h. put_found c.args.name.now c.args.entry.now c.args.hooks.now.items c.in-Ok.place c.index_mut.result.now c.put.new.self c.requires.order place.0 place.1 c.index_mut.ensures.value c.put.ensures.name h) c.put.ensures.put
 
 pub returns-in-Ok-clause-others : goal.returns-in-Ok-clause-others
 returns-in-Ok-clause-others c =
@@ -17,7 +17,7 @@ returns-in-Ok-clause-others c =
 pub returns-in-Ok-clause-order : goal.returns-in-Ok-clause-order
 returns-in-Ok-clause-order c =
     let place = rw c.as_slice.ensures.value at c.in-Ok.ensures in
-    on_ok_weaker c.put.result (λ h. order_set c.args.hooks.now.items c.in-Ok.place c.index_mut.result.now c.put.new.self place.0 (c.put.ensures.name ∙ ap (λ g. g.name) c.index_mut.ensures.value) c.requires) c.put.ensures.put
+    on_ok_weaker c.put.result (λ h. order_set c.args.hooks.now.items c.in-Ok.place c.index_mut.result.now c.put.new.self place.0 (c.put.ensures.name ∙ ap (λ g. g.name) c.index_mut.ensures.value) c.requires.order) c.put.ensures.put
 
 pub returns-in_ok-with_entry-in-Err-clause-rows : goal.returns-in_ok-with_entry-in-Err-clause-rows
 returns-in_ok-with_entry-in-Err-clause-rows c =
@@ -31,4 +31,11 @@ returns-in_ok-with_entry-in-Err-clause-others c =
 pub returns-in_ok-with_entry-in-Err-clause-order : goal.returns-in_ok-with_entry-in-Err-clause-order
 returns-in_ok-with_entry-in-Err-clause-order c =
     let place = rw c.as_slice.ensures.value at c.in-Err.ensures in
-    on_ok_weaker c.put_hook.result (λ h. subst IsByName (sym h) (order_missing c.args.name.now c.in_ok-with_entry-in-Err.field-0 c.args.hooks.now.items c.in-Err.place c.in_ok-with_entry-in-Err.ensures.name place.0 place.1 c.requires)) c.put_hook.ensures.put
+    on_ok_weaker c.put_hook.result (λ h. subst IsByName (sym h) (order_missing c.args.name.now c.in_ok-with_entry-in-Err.field-0 c.args.hooks.now.items c.in-Err.place c.in_ok-with_entry-in-Err.ensures.name place.0 place.1 c.requires.order)) c.put_hook.ensures.put
+
+pub put-requires : goal.put-requires
+put-requires c =
+    let place = rw c.as_slice.ensures.value at c.in-Ok.ensures in
+    ap (λ h. has_entry c.args.entry.now.priority c.args.entry.now.callback (entries_of h.groups)) c.index_mut.ensures.value
+    ∙ (ap (λ gs. has_entry c.args.entry.now.priority c.args.entry.now.callback (entries_of gs)) (found_named c.args.name.now c.args.hooks.now.items c.in-Ok.place c.index_mut.result.now c.requires.order place.0 place.1)
+    ∙ c.requires.new)
