@@ -1,4 +1,4 @@
-ghost use Rattle.std.specs.Prelude.{◌≡◌, ◌<◌, [], true, false, ltb, Some, None, IsOk, IfOk, OnOk, OnErr, length, map, filter, not};
+ghost use Rattle.std.specs.Prelude.{◌≡◌, ◌<◌, ◌==◌, [], true, false, ltb, Some, None, IsOk, IfOk, OnOk, OnErr, length, map, filter, not};
 ghost use Rattle.std.specs.List.{list_any};
 ghost use Rattle.press_hooks.specs.HookRows.{is_row, is_of_hook, accepted_as, most_rows, put_row, add_row, adds_row, remove_row, remove_rows};
 ghost use Rattle.press_hooks.specs.Hooked.{AreGroups, KeepsOthers, entries_of, groups_named, has_entry, row_of, table_rows, is_row_named};
@@ -57,6 +57,13 @@ impl Rows {
             hooks,
             count: self.count,
         })
+    }
+
+    /// Whether no hook has an entry.
+    pub fn is_empty(&self) -> bool
+        ensures { result ≡ (length (table_rows self.now) == 0) }
+    {
+        self.count == 0
     }
 
     /// The hook's entries in groups by priority, each in the order in which they were added.

@@ -1,4 +1,4 @@
-ghost use Rattle.std.specs.Prelude.{◌≡◌, true, false, IsOk, IfOk, OnErr, IsTrue, length};
+ghost use Rattle.std.specs.Prelude.{◌≡◌, ◌<◌, true, false, IsOk, IfOk, OnErr, IsTrue, length};
 ghost use Rattle.std.specs.List.{list_any};
 ghost use Rattle.press_hooks.specs.HookRows.{is_row, add_row, adds_row, remove_row, remove_rows, has_rows, priority_of};
 ghost use Rattle.press_hooks.specs.NextEntry.{no_rows, with_rows, is_innermost, run_begun, run_ended, entry_next, run_advanced, innermost_moves_on};
@@ -74,10 +74,14 @@ impl HookTable {
         }
     }
 
-    /// A table with the same rows, and no open run.
+    /// A table with the same rows, and no open run. Without a row this takes no memory.
     pub fn copy(&self) -> Result<HookTable, AllocError>
-        ensures { IfOk result (λ t. t ≡ with_rows self.now.rows no_rows) }
+        ensures same { IfOk result (λ t. t ≡ with_rows self.now.rows no_rows) }
+        ensures memory { OnErr result (0 < length self.now.rows) }
     {
+        if self.rows.is_empty() {
+            return Ok(HookTable::new(self.alloc));
+        }
         let rows = self.rows.copy(self.alloc)?;
         let runs = Vec::new(self.alloc);
         Ok(HookTable {
