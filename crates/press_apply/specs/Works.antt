@@ -1,4 +1,4 @@
--- What the steps of a command's work answer: an Ok is the meaning, with the state after it; a refusal is returned exactly where the meaning has it; and after each
+-- What the steps of a command's work answer: an Ok is the meaning, with the state after it; a refusal is returned only where the meaning has it; and after each
 -- of them the site can go back to what it was begun as.
 use Rattle.std.specs.Prelude.{◌≡◌, ℕ, ⊤, Some, IfSome, Result, Ok, Err, MatchResult, IsOk}
 use Rattle.std.specs.declared.alloc.AllocError.{AllocError}

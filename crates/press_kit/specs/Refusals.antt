@@ -1,4 +1,4 @@
--- What a fault of reading a file, or a part of it, says: BadKitFile is returned exactly where the file gives nothing, with the first bad place; out of memory may come at any
+-- What a fault of reading a file, or a part of it, says: BadKitFile is returned only where the file gives nothing, with the first bad place; out of memory may come at any
 -- time (own).
 use Rattle.std.specs.Prelude.{◌≡◌, Result, Err}
 use Rattle.press_kit.specs.declared.place.Place.{Place}

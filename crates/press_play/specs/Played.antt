@@ -51,7 +51,7 @@ played_in bytes = played_where (play_file_in bytes)
 
 -- ---- what a fault of a reader of play files says
 
--- a fault stands exactly where it is met; a read may fail and memory run out at any time
+-- a fault is told only where it is met; a read may fail and memory run out at any time
 abbrev pub Refuses : {Y : Type 0} → PlayFault → Result Y PlayFault → Type 0
 Refuses NoMemory found = Unit {0}
 Refuses ReadFault found = Unit {0}

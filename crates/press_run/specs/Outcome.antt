@@ -1,4 +1,4 @@
--- What the machine's calls say of the meaning: an Ok is its answer, Limit is returned exactly where there is none, and out of memory may come at any time.
+-- What the machine's calls say of the meaning: an Ok is its answer, Limit is returned only where there is none, and out of memory may come at any time.
 use Rattle.std.specs.Prelude.{◌≡◌, ℕ, ◌+◌, List, [], ◌∷◌, ◌++◌, Option, Some, None, IsSome, Result, MatchResult, Bool, true, false, ltb}
 use Rattle.press_text.specs.Gives.{GivesOrStays}
 use Rattle.press_hooks.specs.declared.open_run.OpenRun.{OpenRun}
@@ -41,7 +41,7 @@ pub record Around : Type 0 where
 abbrev pub around : Stage → Around
 around w = record { open_runs = w.hooks.open_runs; doing = w.counts.doing; fixed = w.fixed }
 
--- what a fault says of a meaning: Limit is returned exactly where there is none, and out of memory says nothing
+-- what a fault says of a meaning: Limit is returned only where there is none, and out of memory says nothing
 abbrev pub Refuses : {A : Type 0} → RunFault → Option A → Type 0
 Refuses Limit meaning = meaning ≡ None
 Refuses NoMemory meaning = Unit {0}

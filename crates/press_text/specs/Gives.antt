@@ -1,5 +1,5 @@
 -- What a call's result says of what the call means (own). An Ok is the meaning, as `shows` has it. A fault says what `refuses` has of it: each meaning that faults are told of has
--- such a word, mostly `Refuses`. By it a refusal is returned exactly where the meaning has it; a failed read says nothing, or what its word has; out of memory says nothing, or that nothing
+-- such a word, mostly `Refuses`. By it a refusal is returned only where the meaning has it; a failed read says nothing, or what its word has; out of memory says nothing, or that nothing
 -- is refused.
 use Rattle.std.specs.Prelude.{◌≡◌, Result, MatchResult}
 
