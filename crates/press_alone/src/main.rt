@@ -1,5 +1,6 @@
 //! Plays a node by itself over memory: `press_alone WORD ..`. `new`, `kit=FILE`, `fails-before=N` and `fails-after=N`
-//! begin with new nodes; `replay=FILE` plays the schedule of a cluster; any other FILE is a connection that is served;
+//! begin with new nodes; `replay=FILE` plays the schedule of a cluster; any other FILE is a connection that is served,
+//! and `cuts=FILE` a connection for each byte at which it may be cut;
 //! `wake`, `deliver`, `settle`, `stop` and `fill=N` are what happens beside connections; `commands=N`, `applies=N` and,
 //! before a FILE, `serves=N` are for whoever measures it.
 //!

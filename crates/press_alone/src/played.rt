@@ -28,7 +28,7 @@ fn kit_file(rt: &HostRuntime, start: Start<'_>) -> anyhow::Result<Vec<u8>> {
 // The bytes of the file that an argument names.
 fn request(rt: &HostRuntime, word: Word<'_>) -> anyhow::Result<Vec<u8>> {
     match word {
-        Word::File(name) => Ok(fs::read(rt, name)?),
+        Word::File(name) | Word::Cuts(name) => Ok(fs::read(rt, name)?),
         _ => Ok(Vec::new(rt.alloc())),
     }
 }

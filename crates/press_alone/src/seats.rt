@@ -94,6 +94,25 @@ impl Seats {
         told(self.alloc, &says)
     }
 
+    // Serves each front of a request. Says what it gets, and from how many bytes on.
+    fn cuts(&mut self, name: &str, request: &[u8]) -> anyhow::Result<Vec<u8>>
+        requires always { Unit {0} }
+    {
+        let count = request.len();
+        let mut said = format!(in self.alloc; "cuts={name}: {count} connections\n")?.into_bytes();
+        let mut last = Vec::new(self.alloc);
+        for end in 0..count {
+            let answer = self.serve(name, &request[..end])?;
+            if answer.as_slice() != last.as_slice() {
+                let from = format!(in self.alloc; "from {end} bytes on, ")?;
+                said.extend_from_slice(from.as_bytes())?;
+                said.extend_from_slice(&answer)?;
+                last = answer;
+            }
+        }
+        Ok(said)
+    }
+
     // The first node by itself; the others leave.
     fn alone(&mut self) -> Option<&mut Seat> {
         self.seats.truncate(1);
@@ -139,6 +158,7 @@ impl Seats {
                 self.times = Some(times);
                 Ok(Vec::new(self.alloc))
             }
+            Word::Cuts(name) => self.cuts(name, request),
             Word::File(name) => match self.times.take() {
                 Some(times) => self.serves(request, times),
                 None => self.serve(name, request),

@@ -27,6 +27,8 @@ pub enum Word<'w> {
     Applies(u32),
     /// The next file is served this many times.
     Serves(u32),
+    /// Each front of a file is served, from none of its bytes to all but the last.
+    Cuts(&'w str),
     /// A file is served.
     File(&'w str),
 }
@@ -54,7 +56,10 @@ impl<'w> Word<'w> {
             "deliver" => Word::Turn(Turn::Deliver),
             "settle" => Word::Turn(Turn::Settle),
             "stop" => Word::Stop,
-            _ => Word::counted(word).unwrap_or(Word::File(word)),
+            _ => match word.strip_prefix("cuts=") {
+                Some(name) => Word::Cuts(name),
+                None => Word::counted(word).unwrap_or(Word::File(word)),
+            },
         }
     }
 }
