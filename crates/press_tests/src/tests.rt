@@ -1,4 +1,5 @@
 mod callbacks;
+mod demonstration;
 mod hooks;
 mod learner;
 mod lints;

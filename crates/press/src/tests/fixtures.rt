@@ -5,6 +5,13 @@ use std::test::Fail;
 pub const LETTERS: &[u8] =
     b"{\"commands\":[{\"editor\":\"ann\",\"seq\":1,\"at\":10,\"kind\":\"activate\",\"plugin\":\"letters\"},{\"editor\":\"ann\",\"seq\":2,\"at\":10,\"kind\":\"insert\",\"title\":\"x\",\"content\":\"Hello\",\"status\":\"publish\",\"date\":10}]}";
 
+/// A post, then the plugin `loop`, whose filters meet the limit, then another post.
+pub const LOOPING: &[u8] =
+    b"{\"commands\":[{\"editor\":\"ann\",\"seq\":1,\"at\":10,\"kind\":\"insert\",\"title\":\"x\",\"content\":\"Hello\",\"status\":\"publish\"},{\"editor\":\"ann\",\"seq\":2,\"at\":10,\"kind\":\"activate\",\"plugin\":\"loop\"},{\"editor\":\"ann\",\"seq\":3,\"at\":20,\"kind\":\"insert\",\"title\":\"y\",\"content\":\"\"}]}";
+
+pub const FAILED: &str =
+    "<!DOCTYPE html>\n<html>\n<body>\n<h1>500 Internal Server Error</h1>\n</body>\n</html>\n";
+
 /// What a run left: its status, what it printed, what it reported of a fault, and how many bytes of its input it read.
 #[derive(Drop)]
 pub struct EndedRun {

@@ -7,10 +7,18 @@ const THREE_NODES: &str =
 const TRANSCRIPT: &str =
     "1 submit 1 sent 0 k=0\n2 wake 1 sent 1-3 k=0\n3 deliver 1 node 1 sent 4-4 k=0\n4 deliver 2 node 2 sent 5-5 k=0\n5 deliver 3 node 3 sent 6-6 k=0\n6 deliver 4 node 1 sent 0 k=0\n7 deliver 5 node 1 sent 7-9 k=0\n8 deliver 6 node 1 sent 0 k=0\n9 deliver 7 node 1 sent 10-12 k=0\n10 deliver 8 node 2 sent 13-15 k=0\n11 deliver 9 node 3 sent 16-18 k=0\n12 deliver 10 node 1 sent 0 k=0\n13 deliver 11 node 2 sent 0 k=0\n14 deliver 12 node 3 sent 0 k=0\n15 deliver 13 node 1 sent 0 k=1\n16 deliver 14 node 2 sent 0 k=1\n17 deliver 15 node 3 sent 0 k=1\n18 deliver 16 node 1 sent 0 k=1\n19 deliver 17 node 2 sent 0 k=1\n20 deliver 18 node 3 sent 0 k=1\n21 get 3 result:ann/1 200 10 k=1\n{\"done\":1}\nend 1 1 1\n";
 
+// One node with the plugin `grow`, whose page is asked for twice.
+const GROWING: &str =
+    r#"{"nodes":1,"steps":[{"do":"submit","node":1,"editor":"ann","seq":1,"at":10,"kind":"activate","plugin":"grow"},{"do":"submit","node":1,"editor":"ann","seq":2,"at":10,"kind":"insert","title":"x","content":"Hello","status":"publish"},{"do":"wake","node":1},{"do":"deliver","message":1},{"do":"deliver","message":2},{"do":"deliver","message":3},{"do":"deliver","message":4},{"do":"wake","node":1},{"do":"deliver","message":5},{"do":"deliver","message":6},{"do":"deliver","message":7},{"do":"deliver","message":8},{"do":"get","node":1,"target":"front"},{"do":"get","node":1,"target":"front"}]}"#;
+
+const GROWN: &str =
+    "1 submit 1 sent 0 k=0\n2 submit 1 sent 0 k=0\n3 wake 1 sent 1-1 k=0\n4 deliver 1 node 1 sent 2-2 k=0\n5 deliver 2 node 1 sent 3-3 k=0\n6 deliver 3 node 1 sent 4-4 k=0\n7 deliver 4 node 1 sent 0 k=1\n8 wake 1 sent 5-5 k=1\n9 deliver 5 node 1 sent 6-6 k=1\n10 deliver 6 node 1 sent 7-7 k=1\n11 deliver 7 node 1 sent 8-8 k=1\n12 deliver 8 node 1 sent 0 k=2\n13 get 1 front 200 169 k=2\n<!DOCTYPE html>\n<html>\n<head>\n<title>Press</title>\n</head>\n<body>\n<h1>Press</h1>\n<article id=\"post-1\">\n<h2><a href=\"/?p=1\">xae</a></h2>\nHello\n</article>\n</body>\n</html>\n\n14 get 1 front 200 169 k=2\n<!DOCTYPE html>\n<html>\n<head>\n<title>Press</title>\n</head>\n<body>\n<h1>Press</h1>\n<article id=\"post-1\">\n<h2><a href=\"/?p=1\">xae</a></h2>\nHello\n</article>\n</body>\n</html>\n\nend 2\n";
+
 #[test]
 fn schedules_are_replayed(rt: HostRuntime) -> Result<(), Fail> {
     for (file, status, out, told) in [
         (THREE_NODES, 0, TRANSCRIPT, ""),
+        (GROWING, 0, GROWN, ""),
         (
             r#"{"nodes":1,"steps":[{"node":1}]}"#,
             2,
@@ -19,7 +27,7 @@ fn schedules_are_replayed(rt: HostRuntime) -> Result<(), Fail> {
         ),
     ] {
         let outcome = asked_of(&rt, &["replay", "-"], file.as_bytes())?;
-        assert!(rt; outcome.left(status, out, told), "at {status}");
+        assert!(rt; outcome.left(status, out, told), "at {file}");
     }
     Ok(())
 }

@@ -1,5 +1,5 @@
 use crate::tests::fakes::{Endless, Failing, Narrow};
-use crate::tests::fixtures::{LETTERS, ran};
+use crate::tests::fixtures::{FAILED, LETTERS, ran};
 use press_kit::FILE_LIMIT;
 use press_program::run;
 use std::alloc::Global;
@@ -11,9 +11,6 @@ const LETTERS_PAGE: &str =
 const NOT_FOUND: &str =
     "<!DOCTYPE html>\n<html>\n<body>\n<h1>404 Not Found</h1>\n</body>\n</html>\n";
 
-const FAILED: &str =
-    "<!DOCTYPE html>\n<html>\n<body>\n<h1>500 Internal Server Error</h1>\n</body>\n</html>\n";
-
 #[test]
 fn runs_end(rt: HostRuntime) {
     assert!(rt; ran(&rt, LETTERS).left(0, LETTERS_PAGE, ""));
@@ -21,10 +18,12 @@ fn runs_end(rt: HostRuntime) {
     assert!(rt; ran(&rt, b"{}").left(2, "", "press: fault 72\n"));
 }
 
-// The file without its activation, with `grow` in its place, and a content of nested tags.
+// The file without its first command, with a plugin that the kit lacks in it, with `grow` in its place, and a content of
+// nested tags.
 #[test]
 fn other_plugins_make_other_pages(rt: HostRuntime) -> Result<(), Fail> {
     for (plugin, title, content, shown) in [
+        ("", "x", "Hello", "Hello"),
         ("none", "x", "Hello", "Hello"),
         ("grow", "xae", "Hello", "Hello"),
         (
@@ -44,10 +43,20 @@ fn other_plugins_make_other_pages(rt: HostRuntime) -> Result<(), Fail> {
     Ok(())
 }
 
-// A plugin that the kit lacks is refused, as if the command weren't there.
-fn file_of(alloc: Global, plugin: &str, content: &str) -> Result<String, Fail> {
+// The command that activates a plugin, where one is named.
+fn activation(alloc: Global, plugin: &str) -> Result<String, Fail> {
+    if plugin.is_empty() {
+        return Ok(String::new(alloc));
+    }
     Ok(format!(in alloc;
-        "{{\"commands\":[{{\"editor\":\"ann\",\"seq\":1,\"at\":10,\"kind\":\"activate\",\"plugin\":\"{plugin}\"}},{{\"editor\":\"ann\",\"seq\":2,\"at\":10,\"kind\":\"insert\",\"title\":\"x\",\"content\":\"{content}\",\"status\":\"publish\",\"date\":10}}]}}"
+        "{{\"editor\":\"ann\",\"seq\":1,\"at\":10,\"kind\":\"activate\",\"plugin\":\"{plugin}\"}},"
+    )?)
+}
+
+fn file_of(alloc: Global, plugin: &str, content: &str) -> Result<String, Fail> {
+    let first = activation(alloc, plugin)?;
+    Ok(format!(in alloc;
+        "{{\"commands\":[{first}{{\"editor\":\"ann\",\"seq\":2,\"at\":10,\"kind\":\"insert\",\"title\":\"x\",\"content\":\"{content}\",\"status\":\"publish\",\"date\":10}}]}}"
     )?)
 }
 

@@ -1,11 +1,18 @@
-use crate::tests::fixtures::{LETTERS, asked};
+use crate::tests::fixtures::{FAILED, LETTERS, LOOPING, asked, asked_of};
 use std::fs::File;
 use std::test::Fail;
 
 #[test]
 fn words_ask_for_replies(rt: HostRuntime) -> Result<(), Fail> {
-    let outcome = asked(&rt, &["page", "-", "result:ann/2"])?;
-    assert!(rt; outcome.left(0, "{\"done\":1}", ""));
+    for (file, target, status, body) in [
+        (LETTERS, "result:ann/2", 0, "{\"done\":1}"),
+        (LOOPING, "result:ann/2", 0, "{\"done\":0}"),
+        (LOOPING, "post:1", 1, FAILED),
+        (LOOPING, "result:ann/3", 0, "{\"refused\":20}"),
+    ] {
+        let reply = asked_of(&rt, &["page", "-", target], file)?;
+        assert!(rt; reply.left(status, body, ""), "at {target}");
+    }
     let missing = asked(&rt, &["page", "--", "-", "json:2"])?;
     assert!(rt; missing.left(1, "{\"code\":404}", ""));
     Ok(())

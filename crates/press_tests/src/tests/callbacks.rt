@@ -5,18 +5,21 @@ use std::alloc::Global;
 use std::cell::Cell;
 use std::test::Fail;
 
+// A callback answers what its closure does, also where the script has a turn.
 #[test]
 fn a_closure_in_no_box_is_called(rt: HostRuntime) -> Result<(), Fail> {
     let alloc = rt.alloc();
     let script = appending(alloc, "q")?;
     let own = appending(alloc, "q")?;
+    let calls = Cell::new(0u32);
     let callback = Callback::new(
         CallbackId::new("add_q")?,
         script,
-        move |i: &CallIn| script_turn(alloc, &own, i),
+        move |i: &CallIn| fails_once(alloc, &calls, &own, i),
     );
     let call = called(alloc, 0)?;
     assert!(rt; goes_on(callback.turn(&call), "vq"));
+    assert!(rt; callback.turn(&call).is_err());
     Ok(())
 }
 

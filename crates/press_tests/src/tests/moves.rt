@@ -20,7 +20,8 @@ fn full(alloc: Global) -> Result<Site, Fail> {
     Ok(site)
 }
 
-fn given(alloc: Global, seq: u64, command: Command) -> Result<Value, Fail> {
+/// A command of ann's at the first moment.
+pub fn given(alloc: Global, seq: u64, command: Command) -> Result<Value, Fail> {
     let editor = Name::new(alloc, "ann")?;
     Ok(Value::Cmd(Stamped {
         token: Token { editor, seq },
