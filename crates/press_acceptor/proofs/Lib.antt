@@ -1,6 +1,7 @@
 pub mod Agreement
 pub mod Ballots
 pub mod Example
+pub mod Kept
 pub mod Legal
 pub mod Majorities
 pub mod Maps

@@ -1,6 +1,6 @@
 -- Maps from numbers, as entries and as finite maps.
-use Rattle.std.proofs.Common.{ℕ, ◌≡◌, ◌≢◌, cond, List, [], ◌∷◌, Option, Some, refl, sym, ap, ◌∙◌}
-use Rattle.std.proofs.lemmas.Bool.{eq-eqb, ne_eqb, cond-true, cond-false}
+use Rattle.std.proofs.Common.{ℕ, ◌≡◌, ◌≢◌, inl, inr, cond, List, [], ◌∷◌, Option, Some, refl, sym, ap, ◌∙◌}
+use Rattle.std.proofs.lemmas.Bool.{cases_eq, eq-eqb, ne_eqb, cond-true, cond-false}
 use Rattle.std.proofs.lemmas.Map.Lookups.{exact_unsigned}
 use Rattle.std.specs.BTreeMap.{is_at}
 use Rattle.std.specs.Cmp.{nat_cmp_total, eq_by_cmp_equiv, unsigned_tied}
@@ -30,3 +30,10 @@ get_here m k v q e = get-insert nat_cmp_total m k v q ∙ cond-true (eq_by_cmp n
 
 pub get_there : {X : Type 0} (m : FinMap nat_cmp X) (k : ℕ) (v : X) (q : ℕ) → q ≢ k → get (insert m k v) q ≡ get m q
 get_there m k v q e = get-insert nat_cmp_total m k v q ∙ cond-false (eq_by_cmp nat_cmp q k) (Some v) (get m q) (unsigned_tied q k ∙ ne_eqb q k e)
+
+-- to insert what is there changes nothing
+pub inserted_same : {X : Type 0} (m : FinMap nat_cmp X) (k : ℕ) (v : X) → get m k ≡ Some v → insert m k v ≡ m
+inserted_same m k v e = same_map nat_cmp_total exact_unsigned _ _ (λ q. elim (cases_eq q k) [
+  | inl same ↦ get_here m k v q same ∙ sym e ∙ ap (get m) (sym same)
+  | inr apart ↦ get_there m k v q apart
+])

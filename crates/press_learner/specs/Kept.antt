@@ -60,6 +60,10 @@ IsInPlace k slot member = IsTrue (is_in_window k.applied slot) × (slot ≤ 1000
 abbrev pub IsWindow : Kept → Type 0
 IsWindow k = (slot member : ℕ) → IsSome (vote_at k slot member) → IsInPlace k slot member
 
+-- no vote is kept, of any member for any slot
+abbrev pub KeepsNone : Kept → Type 0
+KeepsNone k = (slot member : ℕ) → vote_at k slot member ≡ None
+
 -- ---- what a change adds
 
 -- each vote that is kept after it was kept before it, for the same slot and member

@@ -3,7 +3,7 @@
 ghost use Rattle.std.specs.Prelude.{◌≡◌, ◌<◌, ◌≤◌, ◌*◌, nat_lt, IsTrue, IsSome, IfSome, OnOk, OnErr, None, option_copied};
 ghost use Rattle.press_learner.specs.Chosen.{has_ballot, ballot_count, won, chosen_next, has_gap};
 ghost use Rattle.press_learner.specs.InRing.{has_place};
-ghost use Rattle.press_learner.specs.Kept.{IsInPlace, IsWindow, new_learner, vote_at, is_in_window, is_news, kept_with, with_vote, advanced, next_slot};
+ghost use Rattle.press_learner.specs.Kept.{IsInPlace, IsWindow, KeepsNone, new_learner, vote_at, is_in_window, is_news, kept_with, with_vote, advanced, next_slot};
 
 use crate::ring::{WINDOW, empty_slot, has_other, make_room, put_vote, vote_in};
 use press_apply::Value;
@@ -158,7 +158,7 @@ impl Learner {
         ensures ok { OnOk result (self.new ≡ kept_with self.old from slot vote) }
         ensures err { OnErr result (self.new ≡ self.old) }
         ensures members { self.new.members ≡ self.old.members }
-        ensures memory { OnErr result (vote_at self.old slot from ≡ None) }
+        ensures memory { OnErr result (KeepsNone self.old) }
     {
         make_room(&mut self.ring, self.alloc, self.members)?;
         put_vote(&mut self.ring, slot, from, vote);
@@ -173,7 +173,7 @@ impl Learner {
         ensures err { OnErr result (self.new ≡ self.old) }
         ensures members { self.new.members ≡ self.old.members }
         ensures memory { OnErr result (IsTrue (is_in_window self.old.applied slot)
-            × (vote_at self.old slot from ≡ None)) }
+            × KeepsNone self.old) }
     {
         let (from, slot) = (from.number(), slot.number());
         if self.is_within(slot) && self.is_news(from, slot, vote.ballot) {

@@ -6,7 +6,7 @@ use Rattle.press_learner.proofs.learner.Learner.put.Goals as goal
 pub returns-in_err-make_room-clause-memory : goal.returns-in_err-make_room-clause-memory
 returns-in_err-make_room-clause-memory c =
     let f = c.self.inside in
-    on_err c.from_residual.result (none_kept f.members f.applied f.ring.items c.args.self.now c.self.view_is c.args.slot c.args.from c.in_err-make_room.ensures.memory)
+    on_err c.from_residual.result (λ slot member. none_kept f.members f.applied f.ring.items c.args.self.now c.self.view_is slot member c.in_err-make_room.ensures.memory)
 
 pub put_vote-requires : goal.put_vote-requires
 put_vote-requires c =
