@@ -101,10 +101,10 @@ abbrev pub IsClosed : HttpFault → Option ℕ → Option (List ℕ) → Option 
 IsClosed fault None old new result = (result ≡ Err fault) × (new ≡ old)
 IsClosed fault (Some status) old new result = TellsStatus status old new result
 
--- What is asked is done, and the reply is written. A page leaves the node unchanged, and so does a command whose reply has no memory before it is played.
+-- What is asked is done, and the reply is written. A page leaves the node unchanged.
 abbrev pub IsAnswered : NodeMove → Option (List ℕ) → Option (List ℕ) → Asked → Result Served HttpFault → Type 0
 IsAnswered node old new (Page target) result = node.same × IsShown node.kit node.up target old new result
-IsAnswered node old new (Command stamped) result = PlaysAndTells node.plays (Submit stamped) queued old new result ⊎ (node.same × TellsStatus 503 old new result)
+IsAnswered node old new (Command stamped) result = PlaysAndTells node.plays (Submit stamped) queued old new result
 IsAnswered node old new (Peer message) result = PlaysAndTells node.plays (Deliver message) taken old new result
 
 -- and bytes that ask for nothing leave it unchanged

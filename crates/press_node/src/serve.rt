@@ -30,7 +30,7 @@ use press_http::{Asked, HttpFault, read_request, route, write_fault, write_reply
 use press_page::{ContentKind, Reply, Target};
 use press_text::Text;
 use press_wire::Message;
-use std::alloc::{AllocError, Global};
+use std::alloc::Global;
 use std::io::{Read, Write};
 
 /// What was replied on a connection, and what is to be sent because of it.
@@ -91,15 +91,18 @@ fn refused<W: Write>(alloc: Global, writer: &mut W, status: u16) -> Result<Serve
     }
 }
 
-// The reply that a command waits to be chosen.
-fn queued(alloc: Global) -> Result<Reply, AllocError>
-    ensures { IfOk result (λ r. r ≡ queued) }
+// The reply that a command waits to be chosen. Its body is short, so it takes no memory.
+fn queued(alloc: Global) -> Reply
+    ensures { result ≡ queued }
 {
-    Ok(Reply {
+    let Ok(body) = Text::from_str(alloc, "{\"queued\":true}") else {
+        unreachable!()
+    };
+    Reply {
         status: 202,
         kind: ContentKind::Json,
-        body: Text::from_str(alloc, "{\"queued\":true}")?,
-    })
+        body,
+    }
 }
 
 // The reply that a message was taken.
@@ -193,8 +196,7 @@ fn closed<W: Write>(alloc: Global, writer: &mut W, fault: HttpFault) -> Result<S
     }
 }
 
-// Does what is asked and replies. The reply to a command is made before it is played, so that running out of memory for
-// it leaves the node as it was.
+// Does what is asked and replies.
 fn answered<S: PromiseStore, W: Write>(
     node: &mut Node<S>,
     writer: &mut W,
@@ -211,17 +213,12 @@ fn answered<S: PromiseStore, W: Write>(
             drop(target);
             served
         }
-        Asked::Command(stamped) => match queued(alloc) {
-            Ok(reply) => {
-                let served = played(node, writer, Event::Submit(stamped), &reply);
-                drop(reply);
-                served
-            }
-            Err(_) => {
-                drop(stamped);
-                refused(alloc, writer, 503)
-            }
-        },
+        Asked::Command(stamped) => {
+            let reply = queued(alloc);
+            let served = played(node, writer, Event::Submit(stamped), &reply);
+            drop(reply);
+            served
+        }
         Asked::Peer(message) => {
             let reply = taken(alloc);
             let served = played(node, writer, Event::Deliver(message), &reply);
