@@ -1,6 +1,6 @@
 //! A schedule played over the loopback.
 
-ghost use Rattle.std.specs.Prelude.{◌≡◌, ◌≢◌, ◌≤◌, ◌+◌, Err, false, IfErr, IfOk, OnOk, length};
+ghost use Rattle.std.specs.Prelude.{◌≡◌, ◌≢◌, ◌≤◌, ◌+◌, Err, false, true, IfErr, IfOk, OnOk, length};
 ghost use Rattle.press_callbacks.specs.Kits.{KitView};
 ghost use Rattle.press_kit.specs.KitFile.{file_limit};
 ghost use Rattle.press_text.specs.Streams.{TakesAtMost};
@@ -47,7 +47,8 @@ fn fault_of(e: io::Error) -> ReplayFault
 }
 
 fn is_wanting(played: &Result<Played, WorldFault>) -> bool
-    ensures { result ≡ false → played.now ≢ Err (WorldFault.Node NodeFault.NoMemory) }
+    ensures wanting { result ≡ true → played.now ≡ Err (WorldFault.Node NodeFault.NoMemory) }
+    ensures other { result ≡ false → played.now ≢ Err (WorldFault.Node NodeFault.NoMemory) }
 {
     match played {
         Err(WorldFault::Node(NodeFault::NoMemory)) => true,

@@ -1,6 +1,6 @@
 //! A schedule, played, with its transcript.
 
-ghost use Rattle.std.specs.Prelude.{◌≡◌, ◌≢◌, ◌⊎◌, Err, false, ◌≤◌, ◌+◌, IfErr, IfOk, OnErr, OnOk, length, map};
+ghost use Rattle.std.specs.Prelude.{◌≡◌, ◌≢◌, ◌⊎◌, Err, false, true, ◌≤◌, ◌+◌, IfErr, IfOk, OnErr, OnOk, length, map};
 ghost use Rattle.std.specs.Io.KnownBytes.{Appends};
 ghost use Rattle.press_callbacks.specs.Kits.{KitView};
 ghost use Rattle.press_kit.specs.KitFile.{file_limit};
@@ -102,7 +102,8 @@ pub fn write_end<W: Write>(writer: &mut W, world: &World) -> Result<(), ReplayFa
 }
 
 fn is_wanting(played: &Result<Played, WorldFault>) -> bool
-    ensures { result ≡ false → played.now ≢ Err (WorldFault.Node NodeFault.NoMemory) }
+    ensures wanting { result ≡ true → played.now ≡ Err (WorldFault.Node NodeFault.NoMemory) }
+    ensures other { result ≡ false → played.now ≢ Err (WorldFault.Node NodeFault.NoMemory) }
 {
     match played {
         Err(WorldFault::Node(NodeFault::NoMemory)) => true,

@@ -8,13 +8,13 @@ use Rattle.press_world.proofs.replaying.play_one.Goals as goal
 pub returns-clause-step : goal.returns-clause-step
 returns-clause-step g c kit = λ have.
     let w = c.args.world.now in
-    on_ok c.write_step.result (as_outcome kit (size w) (model w) (model c.play-played.new.self) c.args.step.now c.play-played.result (c.play-played.ensures.step kit have) (c.if-is_wanting.ensures refl)).0
+    on_ok c.write_step.result (as_outcome kit (size w) (model w) (model c.play-played.new.self) c.args.step.now c.play-played.result (c.play-played.ensures.step kit have) (c.if-is_wanting.ensures.other refl)).0
 
 pub returns-clause-line : goal.returns-clause-line
 returns-clause-line g c kit = λ have.
     let w = c.args.world.now in
     let after = model c.play-played.new.self in
     let x = c.args.step.now in
-    let out = as_outcome kit (size w) (model w) after x c.play-played.result (c.play-played.ensures.step kit have) (c.if-is_wanting.ensures refl) in
+    let out = as_outcome kit (size w) (model w) after x c.play-played.result (c.play-played.ensures.step kit have) (c.if-is_wanting.ensures.other refl) in
     as_lines c.write_step.result (step_line (to_in after x) c.args.number x c.play-played.result) (line_of kit (size w) c.args.number (model w) x) (g.W.Write.contents c.args.writer.now) (g.W.Write.contents c.write_step.new.writer)
     (line_is kit (size w) c.args.number (model w) after x c.play-played.result out) c.write_step.ensures.ok c.write_step.ensures.err

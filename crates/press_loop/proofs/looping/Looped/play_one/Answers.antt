@@ -19,13 +19,13 @@ returns-in_err-played-clause-line g c kit = λ have.
 pub returns-clause-step : goal.returns-clause-step
 returns-clause-step g c kit = λ have.
     let w = c.args.self.now.world in
-    on_ok c.write_step.result (as_outcome kit (size w) (model w) (model c.play.new.self.world) c.args.step.now c.in_ok-played.played (c.in_ok-played.ensures.step kit have) (c.if-is_wanting.ensures refl)).0
+    on_ok c.write_step.result (as_outcome kit (size w) (model w) (model c.play.new.self.world) c.args.step.now c.in_ok-played.played (c.in_ok-played.ensures.step kit have) (c.if-is_wanting.ensures.other refl)).0
 
 pub returns-clause-line : goal.returns-clause-line
 returns-clause-line g c kit = λ have.
     let w = c.args.self.now.world in
     let after = model c.play.new.self.world in
     let x = c.args.step.now in
-    let out = as_outcome kit (size w) (model w) after x c.in_ok-played.played (c.in_ok-played.ensures.step kit have) (c.if-is_wanting.ensures refl) in
+    let out = as_outcome kit (size w) (model w) after x c.in_ok-played.played (c.in_ok-played.ensures.step kit have) (c.if-is_wanting.ensures.other refl) in
     as_lines c.write_step.result (step_line (to_in after x) c.args.number x c.in_ok-played.played) (line_of kit (size w) c.args.number (model w) x) (g.W.Write.contents c.args.writer.now) (g.W.Write.contents c.write_step.new.writer)
     (line_is kit (size w) c.args.number (model w) after x c.in_ok-played.played out) c.write_step.ensures.ok c.write_step.ensures.err
