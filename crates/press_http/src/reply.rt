@@ -2,7 +2,7 @@
 
 ghost use Rattle.std.specs.Prelude.{◌≡◌, IfOk, IfErr, ◌⊎◌, ◌++◌, OnOk, OnErr, IsErrOf, string_bytes};
 ghost use Rattle.std.specs.Io.KnownBytes.{Appends, Keeps};
-ghost use Rattle.press_text.specs.Streams.{AppendsFront};
+ghost use Rattle.press_text.specs.Streams.{AppendsFront, AppendsProperFront};
 ghost use Rattle.press_http.specs.Replies.{content_type, fault_bytes, head_bytes, phrase_of, reply_bytes, reply_head, IsTold};
 
 use crate::fault::HttpFault;
@@ -63,6 +63,8 @@ fn write_bytes<W: Write>(writer: &mut W, bytes: &[u8]) -> Result<(), HttpFault>
     ensures ok { OnOk result (Appends (W.contents writer.old) (W.contents writer.new) bytes.now) }
     ensures err { OnErr result (AppendsFront (W.contents writer.old) (W.contents writer.new)
         bytes.now) }
+    ensures left { OnErr result (AppendsProperFront (W.contents writer.old)
+        (W.contents writer.new) bytes.now) }
     ensures fault { IfErr result (λ e. e ≡ HttpFault.WriteFault) }
 {
     match write_once(writer, bytes) {
@@ -77,6 +79,8 @@ fn write_both<W: Write>(writer: &mut W, first: &[u8], second: &[u8]) -> Result<(
         ++ second.now)) }
     ensures err { OnErr result (AppendsFront (W.contents writer.old) (W.contents writer.new)
         (first.now ++ second.now)) }
+    ensures left { OnErr result (AppendsProperFront (W.contents writer.old)
+        (W.contents writer.new) (first.now ++ second.now)) }
     ensures fault { IfErr result (λ e. e ≡ HttpFault.WriteFault) }
 {
     write_bytes(writer, first)?;
@@ -92,6 +96,8 @@ pub fn write_reply<W: Write>(alloc: Global, writer: &mut W, reply: &Reply) -> Re
     ensures err { IfErr result (λ e. (e ≡ HttpFault.WriteFault) ⊎ (e ≡ HttpFault.NoMemory)) }
     ensures part { IsErrOf result HttpFault.WriteFault
         → AppendsFront (W.contents writer.old) (W.contents writer.new) (reply_bytes reply.now) }
+    ensures left { IsErrOf result HttpFault.WriteFault → AppendsProperFront
+        (W.contents writer.old) (W.contents writer.new) (reply_bytes reply.now) }
     ensures nothing { IsErrOf result HttpFault.NoMemory
         → Keeps (W.contents writer.old) (W.contents writer.new) }
 {
@@ -146,6 +152,8 @@ pub fn write_fault<W: Write>(writer: &mut W, status: u16) -> Result<(), HttpFaul
         (fault_bytes status)) }
     ensures err { OnErr result (AppendsFront (W.contents writer.old) (W.contents writer.new)
         (fault_bytes status)) }
+    ensures left { OnErr result (AppendsProperFront (W.contents writer.old)
+        (W.contents writer.new) (fault_bytes status)) }
     ensures fault { IfErr result (λ e. e ≡ HttpFault.WriteFault) }
 {
     write_bytes(writer, fixed_reply(status).as_bytes())

@@ -1,7 +1,7 @@
 -- The replies to an event.
 use Rattle.std.proofs.Common.{ℕ, ◌≡◌, List, [], Option, Result, Ok, Err, IfOk, IfErr, OnErr, MatchResult, subst, ◌∙◌}
 use Rattle.std.specs.Io.KnownBytes.{Appends}
-use Rattle.press_text.specs.Streams.{AppendsFront}
+use Rattle.press_text.specs.Streams.{AppendsProperFront}
 use Rattle.press_http.specs.declared.fault.HttpFault.{HttpFault}
 use Rattle.press_http.specs.declared.fault.HttpFault.TheVariants.{WriteFault}
 use Rattle.press_http.specs.Replies.{fault_bytes}
@@ -17,7 +17,7 @@ module _ {T : Type 0} (status : T → ℕ) (items : T → List Message) (reply :
   told_answers (Err e) out i t f w = (w, f)
 
   pub refused_answers : (r : Result T HttpFault) (fault : NodeFault) (code : ℕ) → code ≡ status_of_node fault
-      → IfOk r (λ s. (status s ≡ code) × (items s ≡ []) × Appends old new (fault_bytes code)) → OnErr r (AppendsFront old new (fault_bytes code)) → IfErr r (λ e. e ≡ WriteFault)
+      → IfOk r (λ s. (status s ≡ code) × (items s ≡ []) × Appends old new (fault_bytes code)) → OnErr r (AppendsProperFront old new (fault_bytes code)) → IfErr r (λ e. e ≡ WriteFault)
       → MatchResult r (λ s. AnswersBy (Err fault) reply old new (status s) (items s)) (λ e. (e ≡ WriteFault) × AnswersFront (Err fault) reply old new)
   refused_answers (Ok s) fault code is t f w = (t.1, t.0 ∙ is, subst (λ n. Appends old new (fault_bytes n)) is t.2)
-  refused_answers (Err e) fault code is t f w = (w, subst (λ n. AppendsFront old new (fault_bytes n)) is f)
+  refused_answers (Err e) fault code is t f w = (w, subst (λ n. AppendsProperFront old new (fault_bytes n)) is f)

@@ -2,7 +2,7 @@
 use Rattle.std.specs.Prelude.{◌≡◌, ◌⊎◌, ℕ, List, [], length, ◌≤◌, Option, None, Some, Result, Ok, Err, IsErrAnd, MatchResult, codes}
 use Rattle.std.specs.Io.KnownBytes.{Appends, Consumes}
 use Rattle.press_callbacks.specs.Kits.{KitView}
-use Rattle.press_text.specs.Streams.{AppendsFront}
+use Rattle.press_text.specs.Streams.{AppendsProperFront}
 use Rattle.press_http.specs.declared.asked.Asked.{Asked}
 use Rattle.press_http.specs.declared.asked.Asked.TheVariants.{Page, Command, Peer}
 use Rattle.press_http.specs.declared.fault.HttpFault.{HttpFault}
@@ -56,16 +56,16 @@ AsksFor seen left result =
 abbrev pub Tells : Option (List ℕ) → Option (List ℕ) → Reply → ℕ → Type 0
 Tells old new reply status = ((status ≡ reply.status) × Appends old new (reply_bytes reply)) ⊎ ((status ≡ 503) × Appends old new (fault_bytes 503))
 
--- a prefix of it was
+-- a prefix of it was, and not all of it
 abbrev pub TellsFront : Option (List ℕ) → Option (List ℕ) → Reply → Type 0
-TellsFront old new reply = AppendsFront old new (reply_bytes reply) ⊎ AppendsFront old new (fault_bytes 503)
+TellsFront old new reply = AppendsProperFront old new (reply_bytes reply) ⊎ AppendsProperFront old new (fault_bytes 503)
 
 -- the page that is asked for was written, or that there is none now
 abbrev pub Shows : KitView → Option Up → Target → Option (List ℕ) → Option (List ℕ) → ℕ → Type 0
 Shows kit up target old new status = ((reply : Reply) × IsPageAt kit up target reply × Tells old new reply status) ⊎ ((status ≡ 503) × Appends old new (fault_bytes 503))
 
 abbrev pub ShowsFront : KitView → Option Up → Target → Option (List ℕ) → Option (List ℕ) → Type 0
-ShowsFront kit up target old new = ((reply : Reply) × IsPageAt kit up target reply × TellsFront old new reply) ⊎ AppendsFront old new (fault_bytes 503)
+ShowsFront kit up target old new = ((reply : Reply) × IsPageAt kit up target reply × TellsFront old new reply) ⊎ AppendsProperFront old new (fault_bytes 503)
 
 -- ---- events
 
@@ -76,7 +76,7 @@ AnswersBy (Err fault) reply old new status outbox = (outbox ≡ []) × (status �
 
 abbrev pub AnswersFront : Result (List Message) NodeFault → Reply → Option (List ℕ) → Option (List ℕ) → Type 0
 AnswersFront (Ok out) reply old new = TellsFront old new reply
-AnswersFront (Err fault) reply old new = AppendsFront old new (fault_bytes (status_of_node fault))
+AnswersFront (Err fault) reply old new = AppendsProperFront old new (fault_bytes (status_of_node fault))
 
 -- the event was played and answered
 abbrev pub PlaysAndTells : (Event → Result (List Message) NodeFault → Type 0) → Event → Reply → Option (List ℕ) → Option (List ℕ) → Result Served HttpFault → Type 0
@@ -94,7 +94,7 @@ IsShown kit up target old new result =
 -- the fixed body of a status was written, with nothing to be sent
 abbrev pub TellsStatus : ℕ → Option (List ℕ) → Option (List ℕ) → Result Served HttpFault → Type 0
 TellsStatus status old new result =
-    MatchResult result (λ s. (s.status ≡ status) × (s.outbox.items ≡ []) × Appends old new (fault_bytes status)) (λ e. (e ≡ WriteFault) × AppendsFront old new (fault_bytes status))
+    MatchResult result (λ s. (s.status ≡ status) × (s.outbox.items ≡ []) × Appends old new (fault_bytes status)) (λ e. (e ≡ WriteFault) × AppendsProperFront old new (fault_bytes status))
 
 -- where a fault has no status the connection is closed without a word
 abbrev pub IsClosed : HttpFault → Option ℕ → Option (List ℕ) → Option (List ℕ) → Result Served HttpFault → Type 0

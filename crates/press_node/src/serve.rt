@@ -2,7 +2,7 @@
 
 ghost use Rattle.std.specs.Prelude.{◌≡◌, ◌≤◌, ℕ, List, [], length, IfOk, IfErr, OnErr};
 ghost use Rattle.std.specs.Io.KnownBytes.{Appends, Consumes};
-ghost use Rattle.press_text.specs.Streams.{AppendsFront};
+ghost use Rattle.press_text.specs.Streams.{AppendsProperFront};
 ghost use Rattle.press_http.specs.Replies.{IsTold, fault_bytes};
 ghost use Rattle.press_http.specs.Requests.{longest_request};
 ghost use Rattle.press_node.specs.Nodes.{kit_of, node_moved, state_of};
@@ -79,7 +79,7 @@ fn refused<W: Write>(alloc: Global, writer: &mut W, status: u16) -> Result<Serve
         (λ s. (s.status ≡ status) × (s.outbox.items ≡ []) ×
         Appends (W.contents writer.old) (W.contents writer.new) (fault_bytes status)) }
     ensures err { OnErr result
-        (AppendsFront (W.contents writer.old) (W.contents writer.new) (fault_bytes status)) }
+        (AppendsProperFront (W.contents writer.old) (W.contents writer.new) (fault_bytes status)) }
     ensures fault { IfErr result (λ e. e ≡ HttpFault.WriteFault) }
 {
     match write_fault(writer, status) {
@@ -230,8 +230,8 @@ fn answered<S: PromiseStore, W: Write>(
 
 /// Serves one request of a connection: reads it, does what it asks, and writes the reply; a refusal is a reply too. The
 /// caller sends the outbox, and delivers what is for this node itself by `Node::on`. Err closes the connection: after
-/// ReadFault or Ended nothing was done or written; after WriteFault a prefix of the reply may be out, the event is
-/// done, and its messages are lost.
+/// ReadFault or Ended nothing was done or written; after WriteFault the reply is not whole, though a prefix of it may be
+/// out, the event is done, and its messages are lost.
 pub fn serve_one<S: PromiseStore, R: Read, W: Write>(
     node: &mut Node<S>,
     reader: &mut R,

@@ -2,7 +2,7 @@
 
 ghost use Rattle.std.specs.Prelude.{◌≡◌, ◌≢◌, ℕ, ◌+◌, ◌<◌, ◌≤◌, ◌^◌, List, ◌++◌, length, IfOk, IfErr, IfSome, OnOk, OnErr, IsErrOf};
 ghost use Rattle.std.specs.Io.KnownBytes.{Appends, Consumes, IsAtEnd};
-ghost use Rattle.press_text.specs.Streams.{TakesAtMost, AppendsFront};
+ghost use Rattle.press_text.specs.Streams.{TakesAtMost, AppendsFront, AppendsProperFront};
 ghost use Rattle.press_text.specs.declared.streams.ReadLimitedFault.TheVariants.{NoMemory, TooLong};
 
 use std::alloc::{AllocError, AllocFailed, Global};
@@ -100,6 +100,8 @@ pub fn write_once<W: Write>(writer: &mut W, bytes: &[u8]) -> Result<(), WriteFau
     ensures ok { OnOk result (Appends (W.contents writer.old) (W.contents writer.new) bytes.now) }
     ensures err { OnErr result (AppendsFront (W.contents writer.old) (W.contents writer.new)
         bytes.now) }
+    ensures left { OnErr result (AppendsProperFront (W.contents writer.old)
+        (W.contents writer.new) bytes.now) }
 {
     let mut done = 0;
     while done < bytes.len() {
