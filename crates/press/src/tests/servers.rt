@@ -1,5 +1,5 @@
 use crate::tests::fakes::{Client, Flush, Narrow};
-use crate::tests::fixtures::given;
+use crate::tests::fixtures::{asked, given};
 use press_program::run;
 use std::fs;
 use std::net::{SocketAddr, TcpListener};
@@ -111,5 +111,21 @@ fn one_of_two_members_alone_is_not_ready(rt: HostRuntime) -> Result<(), Fail> {
             assert!(rt; reply.starts_with(status.as_bytes()), "at {peers}");
         }
     }
+    Ok(())
+}
+
+// Over memory, over a new store, and over the store that this one left.
+#[test]
+fn a_server_without_turns_ends(rt: HostRuntime) -> Result<(), Fail> {
+    let addr = free_addr(&rt, "127.0.0.1")?;
+    let port = format!(in rt.alloc(); "{}", addr.port())?;
+    let line = format!(in rt.alloc(); "listening on {addr}\n")?;
+    let words = ["serve", "--port", &port, "--turns", "0", "--store", "kept"];
+    for words in [&words[..5], &words[..], &words[..]] {
+        let outcome = asked(&rt, words)?;
+        assert!(rt; outcome.left(0, &line, ""), "at {}", words.len());
+    }
+    fs::remove_file(&rt, "kept")?;
+    fs::remove_file(&rt, "kept-wal")?;
     Ok(())
 }
