@@ -1,4 +1,5 @@
 pub mod Carried
 pub mod Fronts
+pub mod Heard
 pub mod Onward
 pub mod Outcomes

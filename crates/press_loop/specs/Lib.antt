@@ -1,1 +1,4 @@
+pub mod Carrying
 pub mod Loops
+pub mod Requests
+pub mod Responses

@@ -1,8 +1,12 @@
 //! What the receiving end of a connection makes of a request, and its answer.
 
 ghost use Rattle.std.specs.Prelude.{◌≡◌, ◌≢◌, true, Some, IfErr, IfOk, IfSome};
+ghost use Rattle.std.specs.Io.KnownBytes.{Appends};
+ghost use Rattle.press_http.specs.Replies.{fixed_reply, reply_bytes};
+ghost use Rattle.press_node.specs.Serving.{queued, status_of_node, taken};
 ghost use Rattle.press_world.specs.Models.{model};
 ghost use Rattle.press_world.specs.Refusing.{message_numbered};
+ghost use Rattle.press_loop.specs.Responses.{bytes_of, reply_for, reply_to, status_to, without_page};
 
 use press_apply::{Stamped, same_values_are_equal};
 use press_http::{Asked, HttpFault, read_request, route, write_fault, write_reply};
@@ -16,7 +20,9 @@ use std::io::{Read, Write};
 
 // A connection that fails, or carries something else, ends the run as a failed read does.
 fn fault_of(fault: HttpFault) -> ReplayFault
-    ensures { result ≢ ReplayFault.BadSchedule }
+    ensures schedule { result ≢ ReplayFault.BadSchedule }
+    ensures memory { fault ≡ HttpFault.NoMemory → result ≡ ReplayFault.NoMemory }
+    ensures others { fault ≢ HttpFault.NoMemory → result ≡ ReplayFault.ReadFault }
 {
     match fault {
         HttpFault::NoMemory => ReplayFault::NoMemory,
@@ -123,7 +129,9 @@ pub fn step_from<R: Read>(
 }
 
 // The reply that a command waits to be chosen.
-fn queued(alloc: Global) -> Result<Reply, AllocError> {
+fn queue_reply(alloc: Global) -> Result<Reply, AllocError>
+    ensures { IfOk result (λ reply. reply ≡ queued) }
+{
     Ok(Reply {
         status: 202,
         kind: ContentKind::Json,
@@ -132,7 +140,9 @@ fn queued(alloc: Global) -> Result<Reply, AllocError> {
 }
 
 // The reply that a message was taken.
-fn taken(alloc: Global) -> Reply {
+fn message_reply(alloc: Global) -> Reply
+    ensures { result ≡ taken }
+{
     Reply {
         status: 200,
         kind: ContentKind::Text,
@@ -140,12 +150,32 @@ fn taken(alloc: Global) -> Reply {
     }
 }
 
-fn tell<W: Write>(alloc: Global, writer: &mut W, reply: &Reply) -> Result<u16, HttpFault> {
+// The reply to a step that asks for no page.
+fn reply_without_page(alloc: Global, step: &Step) -> Result<Reply, AllocError>
+    ensures { IfOk result (λ reply. reply ≡ without_page step.now) }
+{
+    match step {
+        Step::Submit { .. } => queue_reply(alloc),
+        Step::Wake { .. } | Step::Deliver { .. } | Step::Restart { .. } | Step::Get { .. } => {
+            Ok(message_reply(alloc))
+        }
+    }
+}
+
+fn tell<W: Write>(alloc: Global, writer: &mut W, reply: &Reply) -> Result<u16, HttpFault>
+    ensures { IfOk result (λ status. (status ≡ reply.now.status)
+        × Appends (W.contents writer.old) (W.contents writer.new) (reply_bytes reply.now)) }
+{
     write_reply(alloc, writer, reply)?;
     Ok(reply.status)
 }
 
-fn refuse<W: Write>(writer: &mut W, fault: NodeFault) -> Result<u16, HttpFault> {
+#[tactic(auto, unfolding(press_http::specs::Replies::fault_bytes))]
+fn refuse<W: Write>(writer: &mut W, fault: NodeFault) -> Result<u16, HttpFault>
+    ensures { IfOk result (λ status. (status ≡ status_of_node fault)
+        × Appends (W.contents writer.old) (W.contents writer.new)
+        (reply_bytes (fixed_reply (status_of_node fault)))) }
+{
     let status = fault.status();
     write_fault(writer, status)?;
     Ok(status)
@@ -156,31 +186,38 @@ fn tell_done<W: Write>(
     writer: &mut W,
     step: &Step,
     played: &Played,
-) -> Result<u16, HttpFault> {
-    match (&played.reply, step) {
-        (Some(page), _) => tell(alloc, writer, page),
-        (None, Step::Submit { .. }) => tell(alloc, writer, &queued(alloc)?),
-        (None, _) => tell(alloc, writer, &taken(alloc)),
+) -> Result<u16, HttpFault>
+    ensures { IfOk result (λ status. (status ≡ (reply_for step.now played.now).status)
+        × Appends (W.contents writer.old) (W.contents writer.new)
+        (reply_bytes (reply_for step.now played.now))) }
+{
+    match &played.reply {
+        Some(page) => tell(alloc, writer, page),
+        None => tell(alloc, writer, &reply_without_page(alloc, step)?),
     }
 }
 
 /// Answers a step as a node's connection does; returns the status of the reply, or None where the connection is to
 /// close without one, as that of a node that was stopped.
+#[tactic(auto, using(crate::proofs::Carried::unchanged))]
 pub fn answer<W: Write>(
     alloc: Global,
     writer: &mut W,
     step: &Step,
     played: &Result<Played, WorldFault>,
 ) -> Result<Option<u16>, ReplayFault>
-    ensures { IfErr result (λ e. e ≢ ReplayFault.BadSchedule) }
+    ensures fault { IfErr result (λ e. e ≢ ReplayFault.BadSchedule) }
+    ensures status { IfOk result (λ status. status ≡ status_to step.now played.now) }
+    ensures bytes { IfOk result (λ _. Appends (W.contents writer.old) (W.contents writer.new)
+        (bytes_of (reply_to step.now played.now))) }
 {
-    let told = match played {
+    let status = match played {
         Ok(played) if played.stopped => return Ok(None),
         Ok(played) => tell_done(alloc, writer, step, played),
         Err(WorldFault::Node(fault)) => refuse(writer, *fault),
         Err(WorldFault::NoSuchMessage | WorldFault::NoSuchNode) => return Ok(None),
     };
-    match told {
+    match status {
         Ok(status) => Ok(Some(status)),
         Err(fault) => Err(fault_of(fault)),
     }

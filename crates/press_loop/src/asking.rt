@@ -1,7 +1,9 @@
 //! The requests by which the steps of a schedule come over a connection.
 
-ghost use Rattle.std.specs.Prelude.{◌≡◌, Some};
+ghost use Rattle.std.specs.Prelude.{◌≡◌, ◌∷◌, [], Some, IfOk, codes, decimal, option_map, string_bytes, vec_items};
 ghost use Rattle.press_apply.specs.Kinds.{kind_named};
+ghost use Rattle.press_world.specs.Models.{model};
+ghost use Rattle.press_loop.specs.Requests.{command_bytes, draft_pairs, form_of, get_bytes, head_of_post, is_node, kind_word, message_bytes, pairs_of, path_of, post_bytes, request_of, Puts};
 
 use form_urlencoded::Serializer;
 use itoa::Buffer;
@@ -21,7 +23,8 @@ const BYTES: &str = "application/octet-stream";
 
 // The word for it in a form.
 fn word(kind: CommandKind) -> &'static str
-    ensures { kind_named result.now ≡ Some kind }
+    ensures named { kind_named result.now ≡ Some kind }
+    ensures word { result.now ≡ kind_word kind }
 {
     match kind {
         CommandKind::Insert => "insert",
@@ -36,19 +39,32 @@ fn word(kind: CommandKind) -> &'static str
     }
 }
 
-fn put_number(form: &mut Serializer, name: &str, number: u64) -> Result<(), AllocError> {
-    let mut digits = Buffer::new();
-    form.append_pair(name, digits.format(number))
+#[tactic(auto, unfolding(crate::specs::Requests::with_pair))]
+fn put(form: &mut Serializer, name: &str, value: &str) -> Result<(), AllocError>
+    ensures { Puts form.old form.new ((name.now, value.now) ∷ []) result }
+{
+    form.append_pair(name, value)
 }
 
-fn put_draft(form: &mut Serializer, draft: &Draft) -> Result<(), AllocError> {
-    form.append_pair("title", draft.title.as_str())?;
-    form.append_pair("content", draft.content.as_str())?;
-    form.append_pair("status", draft.status.word())?;
+fn put_number(form: &mut Serializer, name: &str, number: u64) -> Result<(), AllocError>
+    ensures { Puts form.old form.new ((name.now, decimal number) ∷ []) result }
+{
+    let mut digits = Buffer::new();
+    put(form, name, digits.format(number))
+}
+
+fn put_draft(form: &mut Serializer, draft: &Draft) -> Result<(), AllocError>
+    ensures { Puts form.old form.new (draft_pairs draft.now) result }
+{
+    put(form, "title", draft.title.as_str())?;
+    put(form, "content", draft.content.as_str())?;
+    put(form, "status", draft.status.word())?;
     put_number(form, "date", draft.date.seconds())
 }
 
-fn put_fields(form: &mut Serializer, command: &Command) -> Result<(), AllocError> {
+fn put_fields(form: &mut Serializer, command: &Command) -> Result<(), AllocError>
+    ensures { Puts form.old form.new (pairs_of command.now) result }
+{
     match command {
         Command::Insert(draft) => put_draft(form, draft),
         Command::Update { id, draft } => {
@@ -59,41 +75,50 @@ fn put_fields(form: &mut Serializer, command: &Command) -> Result<(), AllocError
             put_number(form, "id", *id)
         }
         Command::SetOption { name, value } => {
-            form.append_pair("name", name.as_str())?;
-            form.append_pair("value", value.as_str())
+            put(form, "name", name.as_str())?;
+            put(form, "value", value.as_str())
         }
         Command::Activate { plugin } | Command::Deactivate { plugin } => {
-            form.append_pair("plugin", plugin.as_str())
+            put(form, "plugin", plugin.as_str())
         }
         Command::Tick => Ok(()),
     }
 }
 
 // The form that gives the command.
-fn form_of(alloc: Global, stamped: &Stamped) -> Result<String, AllocError> {
+fn form_of(alloc: Global, stamped: &Stamped) -> Result<String, AllocError>
+    ensures { IfOk result (λ form. string_bytes form ≡ form_of stamped.now) }
+{
     let mut form = Serializer::new(String::new(alloc));
-    form.append_pair("editor", stamped.token.editor.as_str())?;
+    put(&mut form, "editor", stamped.token.editor.as_str())?;
     put_number(&mut form, "seq", stamped.token.seq)?;
     put_number(&mut form, "at", stamped.at.seconds())?;
-    form.append_pair("kind", word(CommandKind::of(&stamped.command)))?;
+    put(&mut form, "kind", word(CommandKind::of(&stamped.command)))?;
     put_fields(&mut form, &stamped.command)?;
     Ok(form.finish())
 }
 
-fn head_of_post(alloc: Global, path: &str, kind: &str, count: usize) -> Result<String, AllocError> {
+#[tactic(auto, unfolding(crate::specs::Requests::head_of_post))]
+fn head_of_post(alloc: Global, path: &str, kind: &str, count: usize) -> Result<String, AllocError>
+    ensures { IfOk result (λ head. string_bytes head ≡ head_of_post path.now kind.now count) }
+{
     format!(in alloc;
         "POST {path} HTTP/1.1\r\nHost: 127.0.0.1\r\nContent-Type: {kind}\r\nContent-Length: {count}\r\n\r\n"
     )
 }
 
-fn post(alloc: Global, path: &str, kind: &str, body: &[u8]) -> Result<Vec<u8>, AllocError> {
+fn post(alloc: Global, path: &str, kind: &str, body: &[u8]) -> Result<Vec<u8>, AllocError>
+    ensures { IfOk result (λ bytes. bytes.items ≡ post_bytes path.now kind.now body.now) }
+{
     let head = head_of_post(alloc, path, kind, body.len())?;
     let mut request = head.into_bytes();
     request.extend_from_slice(body)?;
     Ok(request)
 }
 
-fn path_of(alloc: Global, target: &Target) -> Result<String, AllocError> {
+fn path_of(alloc: Global, target: &Target) -> Result<String, AllocError>
+    ensures { IfOk result (λ path. string_bytes path ≡ path_of target.now) }
+{
     match target {
         Target::Front => String::from_str(alloc, "/"),
         Target::Post(id) => format!(in alloc; "/?p={id}"),
@@ -106,14 +131,25 @@ fn path_of(alloc: Global, target: &Target) -> Result<String, AllocError> {
     }
 }
 
-fn get(alloc: Global, target: &Target) -> Result<Vec<u8>, AllocError> {
+#[tactic(auto, unfolding(crate::specs::Requests::get_bytes))]
+fn head_of_get(alloc: Global, path: &str) -> Result<String, AllocError>
+    ensures { IfOk result (λ head. string_bytes head ≡ get_bytes path.now) }
+{
+    format!(in alloc; "GET {path} HTTP/1.1\r\nHost: 127.0.0.1\r\n\r\n")
+}
+
+fn get(alloc: Global, target: &Target) -> Result<Vec<u8>, AllocError>
+    ensures { IfOk result (λ bytes. bytes.items ≡ get_bytes (path_of target.now)) }
+{
     let path = path_of(alloc, target)?;
-    let request = format!(in alloc; "GET {path} HTTP/1.1\r\nHost: 127.0.0.1\r\n\r\n")?;
-    Ok(request.into_bytes())
+    Ok(head_of_get(alloc, &path)?.into_bytes())
 }
 
 // None if the form is too long for a body.
-fn command_request(alloc: Global, stamped: &Stamped) -> Result<Option<Vec<u8>>, AllocError> {
+fn command_request(alloc: Global, stamped: &Stamped) -> Result<Option<Vec<u8>>, AllocError>
+    ensures { IfOk result (λ request. option_map vec_items request
+        ≡ command_bytes (form_of stamped.now)) }
+{
     let form = form_of(alloc, stamped)?;
     if form.len() > LONGEST_BODY {
         return Ok(None);
@@ -122,7 +158,9 @@ fn command_request(alloc: Global, stamped: &Stamped) -> Result<Option<Vec<u8>>, 
 }
 
 // None if no bytes spell the message.
-fn message_request(alloc: Global, message: &Message) -> Result<Option<Vec<u8>>, AllocError> {
+fn message_request(alloc: Global, message: &Message) -> Result<Option<Vec<u8>>, AllocError>
+    ensures { IfOk result (λ request. option_map vec_items request ≡ message_bytes message.now) }
+{
     match encode_msg(alloc, message) {
         Ok(bytes) => Ok(Some(post(alloc, "/peer", BYTES, &bytes)?)),
         Err(WireFault::TooLong) => Ok(None),
@@ -138,7 +176,10 @@ pub fn request_of(
     nodes: usize,
     step: &Step,
     world: &World,
-) -> Result<Option<Vec<u8>>, AllocError> {
+) -> Result<Option<Vec<u8>>, AllocError>
+    ensures { IfOk result (λ request. option_map vec_items request
+        ≡ request_of nodes (model world.now) step.now) }
+{
     match step {
         Step::Submit { node, command, .. } if is_node(nodes, *node) => {
             command_request(alloc, command)
@@ -154,6 +195,8 @@ pub fn request_of(
     }
 }
 
-fn is_node(nodes: usize, number: u64) -> bool {
+fn is_node(nodes: usize, number: u64) -> bool
+    ensures { result ≡ is_node nodes number }
+{
     1 <= number && number <= nodes as u64
 }

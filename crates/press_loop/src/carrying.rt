@@ -1,15 +1,17 @@
 //! Connections over the loopback, of which the program holds both ends.
 
+ghost use Rattle.std.specs.Prelude.{◌≡◌, None, [], IfOk, OnOk};
+ghost use Rattle.std.specs.Io.{ReadsAtMost, WritesAtMost};
+ghost use Rattle.std.specs.Io.KnownBytes.{IsAtEnd, ReadConsumes, WriteAppends};
+ghost use Rattle.press_loop.specs.Carrying.{Brings, Gives, Hears, Sends, SendsSome, Tells};
+
+use crate::front::Front;
 use std::io;
 use std::io::{ErrorKind, Read, Write};
 use std::net::{Ipv4Addr, Net, OpenListener, OpenStream, SocketAddr, SocketAddrV4};
-use std::str::from_utf8;
 
 // The most bytes that are on their way.
 const PIECE: usize = 4096;
-
-// The length of a reply's first bytes up to its status: `HTTP/1.1 200`.
-const FRONT: usize = 12;
 
 /// A listener on the loopback, and where it listens.
 #[derive(Drop)]
@@ -29,7 +31,10 @@ impl<'r, Rt: Net> Loopback<'r, Rt> {
     }
 
     /// A new connection, by which a request is to come. Where somebody else has come before, it is refused.
-    pub fn connect<'q>(&self, request: &'q [u8]) -> io::Result<Connection<'q, Rt::Stream>> {
+    pub fn connect<'q>(&self, request: &'q [u8]) -> io::Result<Connection<'q, Rt::Stream>>
+        ensures request { IfOk result (λ c. c.client.request.now ≡ request.now) }
+        ensures front { IfOk result (λ c. c.client.front ≡ []) }
+    {
         let stream = self.rt.connect(self.addr)?;
         let (server, peer) = self.listener.accept()?;
         if stream.local_addr()? != peer {
@@ -38,8 +43,7 @@ impl<'r, Rt: Net> Loopback<'r, Rt> {
         let client = Client {
             stream,
             request,
-            front: [0; FRONT],
-            heard: 0,
+            front: Front::new(),
         };
         Ok(Connection {
             server,
@@ -55,32 +59,29 @@ struct Client<'q, S> {
     stream: S,
     // What is still to be sent of the request.
     request: &'q [u8],
-    // The first bytes of the reply, and how many there are.
-    front: [u8; FRONT],
-    heard: usize,
+    // What was received of the reply.
+    front: Front,
 }
 
 impl<S: Read + Write> Client<'_, S> {
     // Sends the next bytes of the request; returns how many.
-    fn send(&mut self) -> io::Result<usize> {
+    fn send(&mut self) -> io::Result<usize>
+        ensures sends { Sends (S.contents self.old.stream) (S.contents self.new.stream)
+            self.old.request.now self.new.request.now result }
+        ensures front { self.new.front ≡ self.old.front }
+    {
         let count = self.request.len().min(PIECE);
         let sent = self.stream.write(&self.request[..count])?;
         self.request = &self.request[sent..];
         Ok(sent)
     }
 
-    fn keep(&mut self, bytes: &[u8]) {
-        for byte in bytes {
-            if self.heard >= FRONT {
-                return;
-            }
-            self.front[self.heard] = *byte;
-            self.heard += 1;
-        }
-    }
-
     // Receives this many bytes of the reply.
-    fn hear(&mut self, count: usize) -> io::Result<()> {
+    fn hear(&mut self, count: usize) -> io::Result<()>
+        ensures hears { Hears (S.remaining self.old.stream) (S.remaining self.new.stream)
+            self.old.front self.new.front (λ came. OnOk result (came ≡ count)) }
+        ensures request { self.new.request.now ≡ self.old.request.now }
+    {
         let mut piece = [0u8; PIECE];
         let mut left = count;
         while left > 0 {
@@ -89,30 +90,34 @@ impl<S: Read + Write> Client<'_, S> {
             if came == 0 {
                 return Err(io::Error::from(ErrorKind::UnexpectedEof));
             }
-            self.keep(&piece[..came]);
+            self.front.keep(&piece[..came]);
             left -= came;
         }
         Ok(())
     }
 
-    // The status of the reply, which has to be over; None where nothing was received.
-    fn told(&mut self) -> io::Result<Option<u16>> {
-        if self.stream.read(&mut [0u8; 1])? > 0 {
-            return Err(io::Error::from(ErrorKind::InvalidData));
-        }
-        if self.heard == 0 {
+    // The status of what was received of the reply; None where nothing was.
+    fn status(&self) -> io::Result<Option<u16>>
+        ensures { IfOk result (Tells self.now.front) }
+    {
+        if self.front.is_empty() {
             return Ok(None);
         }
-        match status_in(&self.front) {
+        match self.front.status() {
             Some(status) => Ok(Some(status)),
             None => Err(io::Error::from(ErrorKind::InvalidData)),
         }
     }
-}
 
-fn status_in(front: &[u8]) -> Option<u16> {
-    let front = from_utf8(front).ok()?;
-    front.strip_prefix("HTTP/1.1 ")?.parse::<u16>().ok()
+    // The end of the reply; an error where more comes.
+    fn end(&mut self) -> io::Result<()>
+        ensures { OnOk result (IsAtEnd (S.remaining self.new.stream)) }
+    {
+        if self.stream.read(&mut [0u8; 1])? > 0 {
+            return Err(io::Error::from(ErrorKind::InvalidData));
+        }
+        Ok(())
+    }
 }
 
 /// A connection as its server has it. What is read here the client sends just before, and what is written here it
@@ -126,7 +131,16 @@ pub struct Connection<'q, S> {
 }
 
 impl<S: Read + Write> Read for Connection<'_, S> {
-    fn read(&mut self, buf: &mut [u8]) -> io::Result<usize> {
+    fn read(&mut self, buf: &mut [u8]) -> io::Result<usize>
+        ensures bound { ReadsAtMost result buf.new }
+        ensures bytes { ReadConsumes None None result buf.new }
+        ensures sends { SendsSome (S.contents self.old.client.stream)
+            (S.contents self.new.client.stream) self.old.client.request.now
+            self.new.client.request.now }
+        ensures brings { Brings (S.remaining self.old.server) (S.remaining self.new.server) buf.new
+            result }
+        ensures front { self.new.client.front ≡ self.old.client.front }
+    {
         if self.coming == 0 {
             self.coming = self.client.send()?;
         }
@@ -141,7 +155,16 @@ impl<S: Read + Write> Read for Connection<'_, S> {
 }
 
 impl<S: Read + Write> Write for Connection<'_, S> {
-    fn write(&mut self, buf: &[u8]) -> io::Result<usize> {
+    fn write(&mut self, buf: &[u8]) -> io::Result<usize>
+        ensures bound { WritesAtMost result buf.now }
+        ensures bytes { WriteAppends None None result buf.now }
+        ensures gives { Gives (S.contents self.old.server) (S.contents self.new.server) buf.now
+            result }
+        ensures hears { Hears (S.remaining self.old.client.stream)
+            (S.remaining self.new.client.stream) self.old.client.front self.new.client.front
+            (λ came. IfOk result (λ n. came ≡ n)) }
+        ensures request { self.new.client.request.now ≡ self.old.client.request.now }
+    {
         let count = buf.len().min(PIECE);
         let sent = self.server.write(&buf[..count])?;
         self.client.hear(sent)?;
@@ -153,15 +176,24 @@ impl<S: Read + Write> Write for Connection<'_, S> {
     }
 }
 
+impl<S: Read + Write> Connection<'_, S> {
+    /// The status of the reply that the client received; None where there was no reply.
+    pub fn status(&self) -> io::Result<Option<u16>>
+        ensures { IfOk result (Tells self.now.client.front) }
+    {
+        self.client.status()
+    }
+}
+
 impl<S: Read + Write + Drop> Connection<'_, S> {
-    /// The server closes it; returns the status of the reply that the client received, None where there was no reply.
-    pub fn close(self) -> io::Result<Option<u16>> {
+    /// The server closes it. An error where the client receives more than it has by now.
+    pub fn close(self) -> io::Result<()> {
         let Connection {
             server,
             mut client,
             ..
         } = self;
         drop(server);
-        client.told()
+        client.end()
     }
 }

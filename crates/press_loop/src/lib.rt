@@ -4,6 +4,7 @@
 mod answering;
 mod asking;
 mod carrying;
+mod front;
 mod looping;
 
 pub use looping::loop_over;

@@ -1,6 +1,7 @@
 //! A schedule played over the loopback.
 
 ghost use Rattle.std.specs.Prelude.{◌≡◌, ◌≢◌, ◌≤◌, ◌+◌, Err, false, true, IfErr, IfOk, OnOk, length};
+ghost use Rattle.std.specs.IoError.{error_kind};
 ghost use Rattle.press_callbacks.specs.Kits.{KitView};
 ghost use Rattle.press_kit.specs.KitFile.{file_limit};
 ghost use Rattle.press_text.specs.Streams.{TakesAtMost};
@@ -11,11 +12,13 @@ ghost use Rattle.press_world.specs.Starts.{AreKit, views_of};
 ghost use Rattle.press_world.specs.Stepped.{Steps};
 ghost use Rattle.press_world.specs.Stored.{stored_step};
 ghost use Rattle.press_world.specs.Whole.{HaveKit};
+ghost use Rattle.press_loop.specs.Carrying.{Tells};
 ghost use Rattle.press_loop.specs.Loops.{Loops};
+ghost use Rattle.press_loop.specs.Responses.{status_to};
 
 use crate::answering::{answer, step_from};
 use crate::asking::request_of;
-use crate::carrying::Loopback;
+use crate::carrying::{Connection, Loopback};
 use press_callbacks::Kit;
 use press_node::NodeFault;
 use press_world::{
@@ -37,7 +40,9 @@ struct Looped<'r, Rt: Net> {
 
 // A socket that can't be opened, or that fails, counts as a failed read.
 fn fault_of(e: io::Error) -> ReplayFault
-    ensures { result ≢ ReplayFault.BadSchedule }
+    ensures schedule { result ≢ ReplayFault.BadSchedule }
+    ensures memory { error_kind e ≡ ErrorKind.OutOfMemory → result ≡ ReplayFault.NoMemory }
+    ensures others { error_kind e ≢ ErrorKind.OutOfMemory → result ≡ ReplayFault.ReadFault }
 {
     if e.kind() == ErrorKind::OutOfMemory {
         ReplayFault::NoMemory
@@ -57,6 +62,32 @@ fn is_wanting(played: &Result<Played, WorldFault>) -> bool
 }
 
 impl<Rt: Net> Looped<'_, Rt> {
+    // A step that comes over a connection, and the reply to it, of which its client has to receive the status.
+    fn play_over(
+        &mut self,
+        connection: &mut Connection<'_, Rt::Stream>,
+        step: &Step,
+    ) -> Result<Result<Played, WorldFault>, ReplayFault>
+        requires always { Unit {0} }
+        ensures statics { statics self.new.world ≡ statics self.old.world }
+        ensures step { IfOk result (λ played. (kit : KitView) →
+            HaveKit kit (statics self.old.world) → Steps kit (size self.old.world)
+            (model self.old.world) step.now (model self.new.world) played) }
+        ensures told { IfOk result (λ played. Tells connection.new.client.front
+            (status_to step.now played)) }
+        ensures fault { IfErr result (λ e. e ≢ ReplayFault.BadSchedule) }
+    {
+        let came = step_from(self.alloc, connection, step, &self.world)?;
+        let played = self.world.play(&came);
+        let status = answer(self.alloc, connection, &came, &played)?;
+        let heard = connection.status().map_err(fault_of)?;
+        if heard == status {
+            Ok(played)
+        } else {
+            Err(ReplayFault::ReadFault)
+        }
+    }
+
     // A step that comes by a request, and the reply to it.
     fn play_request(
         &mut self,
@@ -71,15 +102,9 @@ impl<Rt: Net> Looped<'_, Rt> {
         ensures fault { IfErr result (λ e. e ≢ ReplayFault.BadSchedule) }
     {
         let mut connection = self.loopback.connect(request).map_err(fault_of)?;
-        let came = step_from(self.alloc, &mut connection, step, &self.world)?;
-        let played = self.world.play(&came);
-        let answered = answer(self.alloc, &mut connection, &came, &played)?;
-        let heard = connection.close().map_err(fault_of)?;
-        if heard == answered {
-            Ok(played)
-        } else {
-            Err(ReplayFault::ReadFault)
-        }
+        let played = self.play_over(&mut connection, step)?;
+        connection.close().map_err(fault_of)?;
+        Ok(played)
     }
 
     fn play(&mut self, step: &Step) -> Result<Result<Played, WorldFault>, ReplayFault>

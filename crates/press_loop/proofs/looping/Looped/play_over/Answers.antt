@@ -1,7 +1,7 @@
 use Rattle.std.proofs.Common.{subst}
 use Rattle.press_world.specs.Models.{model, size}
 use Rattle.press_world.specs.Stepped.{Steps}
-use Rattle.press_loop.proofs.looping.Looped.play_request.Goals as goal
+use Rattle.press_loop.proofs.looping.Looped.play_over.Goals as goal
 
 pub returns-then-eq-clause-step : goal.returns-then-eq-clause-step
 returns-then-eq-clause-step g c kit = λ have.
