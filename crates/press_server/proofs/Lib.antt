@@ -3,3 +3,5 @@ mod Mapped
 mod Counted
 mod Found
 mod Sent
+pub mod Padding
+pub mod Credited

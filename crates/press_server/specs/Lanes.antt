@@ -1,12 +1,13 @@
 -- The requests that go out, by the member that they are for (own).
-use Rattle.std.specs.Prelude.{ℕ, ◌-◌, ◌+◌, ◌&&◌, Bool, List, map, Option, option_and_then, option_map, unwrap_or, slice_get, slice_set, nat_le, nat_lt, length, position, drop, replicate, ◌≡◌, ◌++◌, ◌∷◌, [], ◌⊎◌, Some, None, is_none}
+use Rattle.std.specs.Prelude.{ℕ, ◌-◌, ◌+◌, ◌&&◌, Bool, List, map, Option, option_and_then, option_map, unwrap_or, slice_get, slice_set, nat_le, nat_lt, length, position, drop, replicate, ◌≡◌, ◌++◌, ◌∷◌, [], ◌⊎◌, Some, None, MatchOption, is_none}
 use Rattle.press_server.specs.declared.answers.Outgoing.{Outgoing}
 use Rattle.std.specs.Time.{instant_nanos}
 use Rattle.std.specs.declared.time.Instant.{Instant}
+use Rattle.press_server.specs.Answering.{Credit, credit}
 use Rattle.press_server.specs.declared.answers.Errand.{Errand}
 use Rattle.press_server.specs.declared.call.Call.{Call}
 use Rattle.press_server.specs.declared.call.Course.{Course}
-use Rattle.press_server.specs.declared.call.Course.TheVariants.{Goes}
+use Rattle.press_server.specs.declared.call.Course.TheVariants.{Goes, Whole, Lost}
 use Rattle.press_server.specs.declared.calls.Calls.{Calls}
 use Rattle.press_server.specs.declared.calls.Lane.{Lane}
 
@@ -80,6 +81,23 @@ request_of call = record { place = call.place; errand = call.errand; bytes = cal
 -- nothing of it is sent yet
 abbrev pub asked_by : Outgoing → Request
 asked_by outgoing = record { place = outgoing.place; errand = outgoing.errand; bytes = outgoing.bytes.items; sent = 0; reply = []; course = Goes }
+
+-- the same request, for the same member, begun at the same time
+abbrev pub HasSameAim : Call → Call → Type 0
+HasSameAim new old =
+    (new.place ≡ old.place) × (new.errand ≡ old.errand) × (new.begun ≡ old.begun) × (new.request.bytes ≡ old.request.bytes)
+
+-- the reply that is told of a request: none while it goes, an empty one where it is lost
+abbrev pub reply_in : Course → List ℕ → Option (List ℕ)
+reply_in Goes reply = None
+reply_in Whole reply = Some reply
+reply_in Lost reply = Some []
+
+-- the request after a step: its own reply is told of it, and none of any other
+abbrev pub IsCredited : {A : Type 0} → (A → Credit → A → Type 0) → Call → A → A → Type 0
+IsCredited hears call old new =
+    (stepped : Call) × HasSameAim stepped call
+    × MatchOption (reply_in stepped.course stepped.reply.items) (new ≡ old) (λ reply. hears old (credit call.place call.errand reply) new)
 
 -- two seconds or more are over since it began
 abbrev pub is_call_late : Instant → Call → Bool

@@ -2,3 +2,5 @@ pub mod Lanes
 pub mod Talking
 pub mod Turning
 pub mod Heads
+pub mod Padding
+pub mod Answering

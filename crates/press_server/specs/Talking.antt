@@ -1,6 +1,8 @@
 -- The open connections (own).
-use Rattle.std.specs.Prelude.{ℕ, ◌≡◌, ◌≢◌, ◌≤◌, ◌<◌, ◌⊎◌, ◌-◌, ◌+◌, ◌&&◌, Bool, true, false, List, [], ◌∷◌, ◌++◌, map, Option, Some, None, option_and_then, unwrap_or, option_map, is_none, slice_get, slice_set, length, nat_le, position, if◌then◌else◌}
+use Rattle.std.specs.Prelude.{ℕ, ◌≡◌, ◌≢◌, ◌≤◌, ◌<◌, ◌⊎◌, ◌-◌, ◌+◌, ◌&&◌, Bool, true, false, List, [], ◌∷◌, ◌++◌, map, Option, Some, None, Result, option_and_then, unwrap_or, option_map, is_none, slice_get, slice_set, length, nat_le, position, if◌then◌else◌}
 use Rattle.std.specs.Time.{instant_nanos}
+use Rattle.press_http.specs.declared.fault.HttpFault.{HttpFault}
+use Rattle.press_server.specs.Answering.{Exchange, exchange}
 use Rattle.std.specs.declared.time.Instant.{Instant}
 use Rattle.press_server.specs.declared.talk.Phase.{Phase}
 use Rattle.press_server.specs.declared.talk.Phase.TheVariants.{Reading, Writing, Ending, Over}
@@ -81,3 +83,14 @@ MakesPlace old new place =
     ((position is_none old ≡ Some place) × (new ≡ old))
     ⊎ (MayGrow old × (place ≡ length old) × (new ≡ old ++ None ∷ []))
     ⊎ ((position is_none old ≡ None) × (1024 ≤ length old) × (gone : Option ℕ) × GivesWay old new gone × (place ≡ unwrap_or gone 0))
+
+-- another look at its request is due
+abbrev pub is_due : Talk → Bool
+is_due talk = nat_le talk.came.due (length talk.came.bytes.items)
+
+-- the bytes that came are answered, for the address from which they came
+abbrev pub asked_by : Talk → Talk → Result ℕ HttpFault → Exchange
+asked_by old new result = exchange old.arrival.from old.came.bytes.items old.told.bytes.items new.told.bytes.items result
+
+abbrev pub IsAnswered : {A : Type 0} → (A → Exchange → A → Type 0) → A → Talk → Talk → A → Type 0
+IsAnswered answers before old new after = (result : Result ℕ HttpFault) × answers before (asked_by old new result) after

@@ -1,5 +1,7 @@
 //! What a server serves: something that answers requests and has requests of its own to send.
 
+ghost use Rattle.press_server.specs.Answering.{credit, exchange};
+
 use press_http::HttpFault;
 use std::net::{IpAddr, SocketAddr};
 
@@ -34,18 +36,29 @@ pub struct Outgoing {
 
 /// What a server serves: it is given requests and time, and has requests of its own to send.
 pub trait Answers {
+    ghost use Rattle.press_server.specs.Answering.{Credit, Exchange};
+
+    // One request is answered.
+    ghost answers: { Self → Exchange → Self → Type 0 };
+
+    // One request that went out, or was to, has ended.
+    ghost hears: { Self → Credit → Self → Type 0 };
+
     /// Where it listens.
     fn addr(&self) -> SocketAddr;
 
     /// The reply to a request goes to `told`; its status. Ended where the request isn't whole.
     fn answer(&mut self, from: IpAddr, request: &[u8], told: &mut Vec<u8>) -> Result<u16, HttpFault>
-        requires always { Unit {0} };
+        requires always { Unit {0} }
+        ensures answers { answers self.old
+            (exchange from request.now told.old.items told.new.items result) self.new };
 
     /// The next request that goes out, if one waits.
     fn next_call(&mut self) -> Option<Outgoing>;
 
     /// A request that went out, or was to, has ended: its reply, as far as it is looked at; empty where it is lost.
-    fn called(&mut self, place: usize, errand: Errand, reply: &[u8]);
+    fn called(&mut self, place: usize, errand: Errand, reply: &[u8])
+        ensures hears { hears self.old (credit place errand reply.now) self.new };
 
     /// Time has passed.
     fn pass(&mut self, time: Time)

@@ -1,7 +1,7 @@
 //! One request that goes out to a member, from its begin to its end.
 
-ghost use Rattle.std.specs.Prelude.{◌≡◌, ◌++◌, ◌-◌, ◌≤◌, IfOk, IsTrue, length, take};
-ghost use Rattle.press_server.specs.Lanes.{asked_by, is_call_late, request_of};
+ghost use Rattle.std.specs.Prelude.{◌≡◌, ◌++◌, ◌-◌, ◌<◌, ◌≤◌, IfOk, IsFalse, IsTrue, length, option_map, take};
+ghost use Rattle.press_server.specs.Lanes.{HasSameAim, asked_by, is_call_late, reply_in, request_of};
 
 use crate::answers::{Errand, Outgoing};
 use crate::sending::Sending;
@@ -112,6 +112,18 @@ impl Call {
         self.course
     }
 
+    /// What is told of it: nothing while it goes, and an empty reply where it is lost.
+    pub fn told(&self) -> Option<&[u8]>
+        ensures { option_map (λ reply. reply.now) result ≡
+            reply_in self.now.course self.now.reply.items }
+    {
+        match self.course() {
+            Course::Goes => None,
+            Course::Whole => Some(self.reply()),
+            Course::Lost => Some(&[]),
+        }
+    }
+
     /// Whether its time is over.
     pub fn is_late(&self, now: Instant) -> bool
         ensures { result ≡ is_call_late now self.now }
@@ -121,8 +133,11 @@ impl Call {
 
     // Sends the request as far as the socket takes it: none of it before it is connected. Returns whether it is out.
     fn send(&mut self) -> io::Result<bool>
-        ensures { IfOk result (λ whole. IsTrue whole →
+        ensures whole { IfOk result (λ whole. IsTrue whole →
             length self.new.request.bytes.items ≤ self.new.request.sent) }
+        ensures left { IfOk result (λ whole. IsFalse whole →
+            self.new.request.sent < length self.new.request.bytes.items) }
+        ensures same { HasSameAim self.new self.old }
     {
         match self.request.send(&mut self.stream) {
             Err(e) if e.kind() == ErrorKind::NotConnected => Ok(false),
@@ -133,6 +148,7 @@ impl Call {
     fn hear(&mut self, piece: &[u8]) -> Result<(), AllocError>
         ensures heard { IfOk result (λ _. self.new.reply.items ≡
             self.old.reply.items ++ take (512 - length self.old.reply.items) piece.now) }
+        ensures same { HasSameAim self.new self.old }
     {
         let room = LONGEST.saturating_sub(self.reply.len());
         let front = piece.get(..room).unwrap_or(piece);
@@ -140,7 +156,9 @@ impl Call {
     }
 
     // Drains the reply, until it ends.
-    fn read_away(&mut self) -> io::Result<()> {
+    fn read_away(&mut self) -> io::Result<()>
+        ensures { HasSameAim self.new self.old }
+    {
         let mut piece = [0u8; PIECE];
         for _ in 0..MOST_AWAY {
             match self.stream.read(&mut piece) {
@@ -156,7 +174,9 @@ impl Call {
         Ok(())
     }
 
-    fn go_on(&mut self) -> io::Result<()> {
+    fn go_on(&mut self) -> io::Result<()>
+        ensures { HasSameAim self.new self.old }
+    {
         if self.send()? {
             self.read_away()?;
         }
@@ -164,7 +184,9 @@ impl Call {
     }
 
     /// Does what its socket is ready for.
-    pub fn step(&mut self) {
+    pub fn step(&mut self)
+        ensures { HasSameAim self.new self.old }
+    {
         if self.go_on().is_err() {
             self.course = Course::Lost;
         }

@@ -1,12 +1,13 @@
 //! The bytes of a request, as they come.
 
-ghost use Rattle.std.specs.Prelude.{◌≡◌, ◌++◌, ◌&&◌, [], false, if◌then◌else◌, IfErr, IfOk, length, nat_le, not};
-ghost use Rattle.press_server.specs.Heads.{due_again, is_whole, line_after, lines_after};
+ghost use Rattle.std.specs.Prelude.{◌≡◌, ◌++◌, ◌&&◌, [], true, false, if◌then◌else◌, IfErr, IfOk, None, length, nat_le, not};
+ghost use Rattle.press_server.specs.declared.gathered.Line.TheVariants.{Before};
+ghost use Rattle.press_server.specs.Heads.{IsDueWithBody, IsWanted, due_again, is_whole, line_after, lines_after};
+ghost use Rattle.press_server.specs.Padding.{Pads};
 
-use press_http::read_request;
+use press_http::{Pieces, read_pieces};
 use std::alloc::{AllocError, Global};
 use std::io;
-use std::io::Read;
 use std::str::from_utf8;
 
 // Where a head is refused at the latest.
@@ -45,31 +46,46 @@ impl Line {
     }
 }
 
-// Bytes that are there, and how many were asked for by the last read of them.
+// The bytes that came, and behind them as many zeros as a reader of a request asks for.
 #[derive(Drop)]
-struct Asking<'b> {
+struct Padded<'b> {
     rest: &'b [u8],
-    asked: usize,
+    zeros: usize,
+    // One more than the zeros that were there before its last read of some, which wanted more.
+    wanted: usize,
 }
 
-impl Read for Asking<'_> {
-    fn read(&mut self, buf: &mut [u8]) -> io::Result<usize> {
-        self.asked = buf.len();
-        let mut rest = self.rest;
-        let got = rest.read(buf)?;
-        self.rest = rest;
-        Ok(got)
+impl Pieces for Padded<'_> {
+    ghost left = { λ _. None };
+
+    ghost gives = { Pads };
+
+    // Zeros come one fewer than are asked for, so that the last one that is wanted comes by itself.
+    fn piece(&mut self, buf: &mut [u8]) -> io::Result<usize> {
+        if self.rest.is_empty() {
+            let count = buf.len().saturating_sub(1).max(1).min(buf.len());
+            self.wanted = self.zeros.saturating_add(1);
+            self.zeros = self.zeros.saturating_add(count);
+            return Ok(count);
+        }
+        let count = self.rest.len().min(buf.len());
+        buf[..count].copy_from_slice(&self.rest[..count]);
+        self.rest = &self.rest[count..];
+        Ok(count)
     }
 }
 
-// How many more bytes the reader of a request asks for at the end of those that came.
-fn asked_for(alloc: Global, bytes: &[u8]) -> usize {
-    let mut asking = Asking {
+// How many more bytes a request wants, of which so many came: fewer where memory for it fails.
+fn wanted(alloc: Global, bytes: &[u8]) -> usize
+    ensures { IsWanted bytes.now result }
+{
+    let mut padded = Padded {
         rest: bytes,
-        asked: 0,
+        zeros: 0,
+        wanted: 0,
     };
-    drop(read_request(alloc, &mut asking));
-    asking.asked
+    drop(read_pieces(alloc, &mut padded));
+    padded.wanted
 }
 
 // The first word, of visible ASCII, or `-`, and what follows it.
@@ -115,6 +131,7 @@ impl Drop for Gathered {
 impl Gathered {
     pub fn new(alloc: Global) -> Gathered
         ensures none { result.bytes.items ≡ [] }
+        ensures line { result.line ≡ Before }
         ensures due { result.due ≡ 0 }
     {
         Gathered {
@@ -158,16 +175,19 @@ impl Gathered {
     }
 
     /// A look found that more has to come. No whole request waits for the next one: a head is whole only where an empty
-    /// line comes, and a body only with as many bytes as are asked for; a head that isn't whole may be refused, and is
-    /// looked at again at twice its bytes, so that bytes that come one by one don't cost the square of their count.
+    /// line comes, and a body only with as many bytes as its head gives it; a head that isn't whole may be refused, and
+    /// is looked at again at twice its bytes, so that bytes that come one by one don't cost the square of their count.
     pub fn wait(&mut self, alloc: Global)
         ensures bytes { self.new.bytes ≡ self.old.bytes }
+        ensures line { self.new.line ≡ self.old.line }
         ensures due { is_whole self.old.line ≡ false →
             self.new.due ≡ due_again (length self.old.bytes.items) }
+        ensures body { is_whole self.old.line ≡ true →
+            IsDueWithBody self.old.bytes.items self.new.due }
     {
         let count = self.bytes.len();
         self.due = if self.line == Line::Empty {
-            count.saturating_add(asked_for(alloc, &self.bytes))
+            count.saturating_add(wanted(alloc, &self.bytes))
         } else if count < LONGEST_HEAD {
             LONGEST_HEAD.min(count.saturating_mul(2))
         } else {

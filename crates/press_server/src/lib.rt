@@ -5,6 +5,7 @@ mod answers;
 mod call;
 mod calls;
 mod gathered;
+mod outlet;
 mod sending;
 mod server;
 mod talk;

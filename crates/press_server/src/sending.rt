@@ -1,10 +1,11 @@
 //! Bytes that go out over a socket, which takes a part of them at a time.
 
-ghost use Rattle.std.specs.Prelude.{◌≡◌, ◌≤◌, ◌-◌, IfOk, drop, length, nat_le, take};
+ghost use Rattle.std.specs.Prelude.{◌≡◌, ◌<◌, ◌≤◌, ◌-◌, IfErr, IfOk, IsFalse, drop, length, nat_le, take};
 ghost use Rattle.std.specs.Io.KnownBytes.{Appends};
 
+use crate::outlet::Outlet;
 use std::io;
-use std::io::{ErrorKind, Write};
+use std::io::ErrorKind;
 
 /// Bytes, and how many of them are out.
 pub struct Sending {
@@ -38,7 +39,7 @@ impl Sending {
     }
 
     /// Writes what is left, as far as the writer takes it; returns whether all is out.
-    pub fn send<W: Write>(&mut self, writer: &mut W) -> io::Result<bool>
+    pub fn send<W: Outlet>(&mut self, writer: &mut W) -> io::Result<bool>
         ensures bytes { self.new.bytes ≡ self.old.bytes }
         ensures more { self.old.sent ≤ self.new.sent }
         ensures within { self.old.sent ≤ length self.old.bytes.items →
@@ -48,9 +49,12 @@ impl Sending {
             (take (self.new.sent - self.old.sent) (drop self.old.sent self.old.bytes.items)) }
         ensures whole { IfOk result (λ whole.
             whole ≡ nat_le (length self.old.bytes.items) self.new.sent) }
+        ensures refused { IfOk result (λ whole. IsFalse whole →
+            (before : W) × W.refuses before writer.new) }
+        ensures left { IfErr result (λ _. self.new.sent < length self.old.bytes.items) }
     {
         while self.sent < self.bytes.len() {
-            match writer.write(self.left()) {
+            match writer.put(self.left()) {
                 Ok(0) => return Err(io::Error::from(ErrorKind::WriteZero)),
                 Ok(n) => self.sent = self.sent.saturating_add(n),
                 Err(e) if e.kind() == ErrorKind::WouldBlock => return Ok(false),

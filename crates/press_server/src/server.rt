@@ -1,11 +1,13 @@
 //! A server over readiness: no connection is waited for, so one that says nothing, or reads nothing, holds up nobody.
 
-ghost use Rattle.std.specs.Prelude.{◌≡◌, ◌-◌, ◌<◌, if◌then◌else◌, not, option_map};
+ghost use Rattle.std.specs.Prelude.{◌≡◌, ◌-◌, ◌<◌, [], MatchOption, if◌then◌else◌, not, option_map};
+ghost use Rattle.press_server.specs.Answering.{credit};
+ghost use Rattle.press_server.specs.Lanes.{IsCredited, call_at};
 ghost use Rattle.press_server.specs.Talking.{freed, is_reading};
 ghost use Rattle.press_server.specs.Turning.{call_of, ends_at, holder_named, talk_of};
 
 use crate::answers::{Answers, Outgoing, Time};
-use crate::call::{Call, Course};
+use crate::call::Call;
 use crate::calls::Calls;
 use crate::talk::{Arrival, Phase, Talk};
 use crate::talks::Talks;
@@ -227,23 +229,26 @@ impl Server {
     }
 
     // The socket of a request that goes out is ready.
-    fn step_call<A: Answers>(&mut self, answers: &mut A, place: usize) {
+    fn step_call<A: Answers>(&mut self, answers: &mut A, place: usize)
+        ensures credits { MatchOption (call_at self.old.calls place) (answers.new ≡ answers.old)
+            (λ call. IsCredited A.hears call answers.old answers.new) }
+    {
         let Some(call) = self.calls.get_mut(place) else {
             return;
         };
         call.step();
-        match call.course() {
-            Course::Goes => {}
-            Course::Lost => self.lose(answers, place),
-            Course::Whole => {
-                answers.called(call.place(), call.errand(), call.reply());
-                self.calls.leave(place);
-            }
-        }
+        let Some(reply) = call.told() else {
+            return;
+        };
+        answers.called(call.place(), call.errand(), reply);
+        self.calls.leave(place);
     }
 
     // Gives up a request that goes out.
-    fn lose<A: Answers>(&mut self, answers: &mut A, place: usize) {
+    fn lose<A: Answers>(&mut self, answers: &mut A, place: usize)
+        ensures loses { MatchOption (call_at self.old.calls place) (answers.new ≡ answers.old)
+            (λ call. A.hears answers.old (credit call.place call.errand []) answers.new) }
+    {
         if let Some(call) = self.calls.get_mut(place) {
             answers.called(call.place(), call.errand(), &[]);
         }

@@ -1,8 +1,8 @@
 //! One connection, from its beginning to its end.
 
-ghost use Rattle.std.specs.Prelude.{◌≡◌, ◌≢◌, ◌≤◌, ◌⊎◌, [], IsFalse, IsTrue, length};
-ghost use Rattle.press_server.specs.declared.talk.Phase.TheVariants.{Reading};
-ghost use Rattle.press_server.specs.Talking.{is_late};
+ghost use Rattle.std.specs.Prelude.{◌≡◌, ◌≢◌, ◌≤◌, ◌⊎◌, ◌||◌, [], IfOk, IsFalse, IsTrue, length};
+ghost use Rattle.press_server.specs.declared.talk.Phase.TheVariants.{Ending, Reading};
+ghost use Rattle.press_server.specs.Talking.{IsAnswered, is_due, is_late};
 
 use crate::answers::Answers;
 use crate::gathered::Gathered;
@@ -173,6 +173,11 @@ impl Talk {
         ensures turn { IsTrue result → self.new.phase ≢ Reading }
         ensures waits { IsFalse result → self.new.phase ≡ self.old.phase }
         ensures came { self.new.came.bytes ≡ self.old.came.bytes }
+        ensures asks { IsTrue (ended || is_due self.old) → IsAnswered A.answers
+            answers.old self.old self.new answers.new }
+        ensures asks_only { IsFalse (ended || is_due self.old) → (answers.new ≡ answers.old)
+            × (self.new.told.bytes ≡ self.old.told.bytes) }
+        ensures arrival { self.new.arrival ≡ self.old.arrival }
     {
         if !ended && !self.came.is_due() {
             return false;
@@ -216,6 +221,8 @@ impl Talk {
     fn send(&mut self) -> io::Result<()>
         ensures whole { self.new.phase ≡ self.old.phase ⊎
             length self.new.told.bytes.items ≤ self.new.told.sent }
+        ensures over { IfOk result (λ _.
+            length self.new.told.bytes.items ≤ self.new.told.sent → self.new.phase ≡ Ending) }
         ensures same { self.new.told.bytes ≡ self.old.told.bytes }
     {
         if self.told.send(&mut self.stream)? {

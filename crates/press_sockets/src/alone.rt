@@ -48,6 +48,10 @@ impl<'s, S: PromiseStore> Alone<'s, S> {
 }
 
 impl<S: PromiseStore> Answers for Alone<'_, S> {
+    ghost answers = { λ _ _ _. Unit {0} };
+
+    ghost hears = { λ _ _ _. Unit {0} };
+
     fn addr(&self) -> SocketAddr {
         self.addr
     }

@@ -316,6 +316,10 @@ impl<'s, S: PromiseStore> Clustered<'s, S> {
 }
 
 impl<S: PromiseStore> Answers for Clustered<'_, S> {
+    ghost answers = { λ _ _ _. Unit {0} };
+
+    ghost hears = { λ _ _ _. Unit {0} };
+
     fn addr(&self) -> SocketAddr {
         match self.peers.addr(self.peers.place()) {
             Some(addr) => addr,

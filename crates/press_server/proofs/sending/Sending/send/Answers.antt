@@ -17,9 +17,9 @@ loop-self-preserved g c =
     let inside : c.loop-self.self.sent + c.in-Ok.n ≤ length c.args.self.now.bytes.items = omega arith in
     let whole : c.saturating_add-self.result ≡ c.loop-self.self.sent + c.in-Ok.n = search rules in
     let before : c.loop-self.self.sent ≤ length c.args.self.now.bytes.items = omega arith in
-    let wrote : c.args.self.now.sent ≤ length c.args.self.now.bytes.items → Appends (g.W.Write.contents c.args.writer.now) (g.W.Write.contents c.write.new.self) (take (c.saturating_add-self.result - c.args.self.now.sent) (drop c.args.self.now.sent c.args.self.now.bytes.items)) = λ start.
+    let wrote : c.args.self.now.sent ≤ length c.args.self.now.bytes.items → Appends (g.W.Outlet.contents c.args.writer.now) (g.W.Outlet.contents c.put.new.self) (take (c.saturating_add-self.result - c.args.self.now.sent) (drop c.args.self.now.sent c.args.self.now.bytes.items)) = λ start.
     let left : c.left.result.now ≡ drop c.loop-self.self.sent c.args.self.now.bytes.items = c.left.ensures ∙ ap (drop c.loop-self.self.sent) items in
-    subst (λ n. Appends (g.W.Write.contents c.args.writer.now) (g.W.Write.contents c.write.new.self) (take (n - old) (drop old bytes))) (sym whole)
+    subst (λ n. Appends (g.W.Outlet.contents c.args.writer.now) (g.W.Outlet.contents c.put.new.self) (take (n - old) (drop old bytes))) (sym whole)
     (wrote_more _ _ _ bytes old c.loop-self.self.sent c.in-Ok.n i.1 before (i.3 start)
-    (subst (λ part. Appends (g.W.Write.contents c.loop-self.writer) (g.W.Write.contents c.write.new.self) (take c.in-Ok.n part)) left c.in-Ok.ensures.bytes)) in
+    (subst (λ part. Appends (g.W.Outlet.contents c.loop-self.writer) (g.W.Outlet.contents c.put.new.self) (take c.in-Ok.n part)) left c.in-Ok.ensures.bytes)) in
     (i.0, omega arith, λ start. omega arith, wrote)
