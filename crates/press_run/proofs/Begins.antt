@@ -10,6 +10,8 @@ use Rattle.press_callbacks.specs.declared.script.Turn.TheVariants.{Apply, Do, Sh
 use Rattle.press_callbacks.specs.BuiltIns.{do_shortcode, is_built_in}
 use Rattle.press_callbacks.specs.Kits.{Scripts, script_of, script_at}
 use Rattle.press_callbacks.specs.Turns.{turn_of}
+use Rattle.press_site.specs.SiteView.{SiteView}
+use Rattle.press_site.specs.declared.changed.Changed.{Changed}
 use Rattle.press_site.specs.declared.effect.Effect.{Effect}
 use Rattle.press_site.specs.declared.effect.Effect.TheVariants as effect
 use Rattle.press_text.specs.declared.every.Every.{Every}
@@ -21,9 +23,9 @@ use Rattle.press_run.specs.declared.frame.Frame.TheVariants as frame
 use Rattle.press_run.specs.declared.step.Begun.{Begun}
 use Rattle.press_run.specs.declared.step.Begun.TheVariants as begun
 use Rattle.press_run.specs.declared.step.Step.{Step}
-use Rattle.press_run.specs.Links.{Changes, publishes, schedules}
+use Rattle.press_run.specs.Links.{Changes, or_no_change, publishes, schedules}
 use Rattle.press_run.specs.Counts.{Counts}
-use Rattle.press_run.specs.Run.{◌>>=◌, only_if, Answer, answer, State, Meaning, most_turns, first_text, do_fires, run_hook, do_hook, scan, change_site, play, fuel, or_empty, at_depth, built_in, built_in_where, turn_step, answers, fits, or_one_empty}
+use Rattle.press_run.specs.Run.{◌>>=◌, only_if, Answer, answer, State, Meaning, most_turns, first_text, do_fires, run_hook, do_hook, scan, change_site, fire_change, one_if, publish, play, fuel, or_empty, at_depth, built_in, built_in_where, turn_step, answers, fits, or_one_empty}
 use Rattle.press_run.specs.Outcome.{Stage, Around, around, state_of, CountsTurn, Refuses}
 use Rattle.press_run.specs.Frames.{meant, taken, IsFew, turns_left, Goes, Gives, Leaves, Begins, awaited, BeginsAs, Steps, CountsAs, Turns, counted, turned, played, hooked}
 use Rattle.press_run.proofs.Resumed.{awaits, awaits_none}
@@ -82,6 +84,24 @@ fires_answer m (f ∷ fs) s = rw (more_fires m f fs s) (then_empty m fs (λ s'. 
 pub fires_begin : (changes : Changes) (scripts : Scripts) (room : ℕ) (fires : List Fire) (gives : List ℕ) (whole : Option Answer) (w : Stage) → (do_fires (at_depth changes room scripts) fires (state_of w) >>= λ x. answer gives x.state) ≡ whole → length fires < 2 ^ 64
     → Goes changes scripts whole (around w) (turns_left w.counts.turns + 2 ^ 66) (frame.Fires (record { room = room; done = 0; fires = fires; gives = gives })) w
 fires_begin changes scripts room fires gives whole w e few = record { same = e; stands = refl; ready = tt; less = omega (arith, few) }
+
+-- a change that fires nothing is done
+pub change_done : (changes : Changes) (m : Meaning) (w : Stage) (e : Effect) (site : SiteView) (changed : Changed) → (site, changed) ≡ or_no_change w.site (changes w.site e) → changed.fires ≡ []
+    → answer (one_if changed.did) (record (state_of w) { site = site }) ≡ change_site changes m (state_of w) (Some e)
+change_done changes m w e site changed h none =
+    sym (ap (λ fs. do_fires m fs (record (state_of w) { site = site }) >>= λ a. answer (one_if changed.did) a.state) none
+    ∙ ap (λ (o : Option Answer). o >>= λ a. answer (one_if changed.did) a.state) (no_fires m (record (state_of w) { site = site })))
+    ∙ ap (fire_change m (state_of w)) h
+
+id_answer : (id : List ℕ) (o : Option Answer) (text : List ℕ) (s : State) → answer text s ≡ o → answer id s ≡ (o >>= λ a. answer id a.state)
+id_answer id o text s h = ap (λ (x : Option Answer). x >>= λ a. answer id a.state) h
+
+-- and so is what publishes nothing that is fired
+pub publish_done : (changes : Changes) (m : Meaning) (w : Stage) (id : List ℕ) (e : Effect) (site : SiteView) (changed : Changed) → publishes id w.site.moment ≡ Some e → (site, changed) ≡ or_no_change w.site (changes w.site e) → changed.fires ≡ []
+    → answer id (record (state_of w) { site = site }) ≡ publish changes m id (state_of w)
+publish_done changes m w id e site changed is h none =
+    id_answer id (change_site changes m (state_of w) (Some e)) (one_if changed.did) (record (state_of w) { site = site }) (change_done changes m w e site changed h none)
+    ∙ ap (λ (x : Option Effect). change_site changes m (state_of w) x >>= λ a. answer id a.state) (sym is)
 
 pub answer_again : (o : Option Answer) → (o >>= λ x. answer x.text x.state) ≡ o
 answer_again None = refl

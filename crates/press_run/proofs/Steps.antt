@@ -1,5 +1,5 @@
 -- One step of each recursion of the meaning, as the machine takes it.
-use Rattle.std.proofs.Common.{◌≡◌, refl, ◌∙◌, ap, ℕ, suc, ◌+◌, ◌-◌, ◌<◌, ◌≤◌, true, false, List, [], ◌∷◌, ◌++◌, take, drop, get_or, length, Option, add-one, drop-cons, None, arith}
+use Rattle.std.proofs.Common.{◌≡◌, refl, ◌∙◌, ap, ℕ, zero, suc, ◌+◌, ◌-◌, ◌<◌, ◌≤◌, ltb, true, false, List, [], ◌∷◌, ◌++◌, take, drop, get_or, length, Option, add-one, drop-cons, None, arith}
 use Rattle.std.proofs.Math.ListN.{drop_of_length-le}
 use Rattle.std.proofs.Math.Seq.{take-append_seam}
 use Rattle.std.proofs.lemmas.List.{length-append}
@@ -15,7 +15,7 @@ use Rattle.press_callbacks.specs.BuiltIns.{is_built_in}
 use Rattle.press_run.specs.declared.step.Kind.{Kind}
 use Rattle.press_posts.specs.declared.fire.Fire.{Fire}
 use Rattle.press_run.specs.Links.{Changes}
-use Rattle.press_run.specs.Run.{◌>>=◌, State, Answer, answer, Meaning, Stepped, run_entries, do_hook, do_fires, play, at_depth, call_entry, after_step, counted_step, handed_on, fuel, or_empty, without_last, built_in, callback_where}
+use Rattle.press_run.specs.Run.{◌>>=◌, State, Answer, answer, Meaning, Stepped, run_entries, do_hook, do_fires, play, at_depth, call_entry, after_step, counted_step, handed_on, fuel, or_empty, without_last, built_in, callback_where, fits, most_turns, only_if, turn_step}
 use Rattle.press_run.specs.Outcome.{Stage, innermost, state_of}
 
 pub no_depth : (changes : Changes) (scripts : Scripts) (id : List ℕ) (call : CallIn) (s : State) → at_depth changes 0 scripts id call s ≡ None
@@ -48,6 +48,13 @@ played_on changes m script n step = after_step (λ call' s'. play changes m scri
 pub more_turns : (changes : Changes) (m : Meaning) (script : List Op) (n : ℕ) (call : CallIn) (s : State) → play changes m script (suc n) call s ≡ (counted_step changes m call (turn_of script call) s >>= played_on changes m script n)
 unfolding play
 more_turns changes m script n call s = refl
+
+-- past the turns nothing comes of a script
+pub late_turns : (changes : Changes) (m : Meaning) (script : List Op) (n : ℕ) (call : CallIn) (s : State) → ltb s.turns most_turns ≡ false → play changes m script n call s ≡ None
+late_turns changes m script zero call s late = no_turns changes m script call s
+late_turns changes m script (suc n) call s late =
+    more_turns changes m script n call s
+    ∙ ap (λ b. ((only_if b (record s { turns = s.turns + 1 }) >>= λ s'. only_if (fits (turn_of script call)) (turn_of script call) >>= λ turn'. turn_step changes m call s' turn') >>= played_on changes m script n)) late
 
 pub no_fires : (m : Meaning) (s : State) → do_fires m [] s ≡ answer [] s
 unfolding do_fires

@@ -1,5 +1,5 @@
 -- What a change of the site comes to, as a run sees it: a site's own change, or none where the site is only read (own).
-use Rattle.std.specs.Prelude.{ℕ, ◌+◌, List, false, Option, option_map, Result, Ok, Err}
+use Rattle.std.specs.Prelude.{ℕ, ◌+◌, List, Bool, false, ◌||◌, ltb, length, IsTrue, Option, Some, None, option_map, Result, Ok, Err}
 use Rattle.press_text.specs.Decimals.{decimal_in}
 use Rattle.press_text.specs.Moments.{moment_of}
 use Rattle.press_text.specs.declared.every.Every.{Every}
@@ -26,10 +26,18 @@ read_only site effect = Ok (site, no_change)
 abbrev pub kept : SiteView → SiteView
 kept s = record no_site { moment = s.moment; outcomes = s.outcomes }
 
+abbrev pub does_some : Changed → Bool
+does_some c = c.did || ltb 0 (length c.fires)
+
 -- in a run a refused change changes nothing
 abbrev pub or_no_change : SiteView → Result (SiteView × Changed) SiteFault → SiteView × Changed
 or_no_change site (Ok after) = after
 or_no_change site (Err fault) = (site, no_change)
+
+-- whether what is asked for changes something or fires something; what doesn't takes no memory
+abbrev pub AsksSome : Changes → SiteView → Option Effect → Type 0
+AsksSome changes site None = ⊥
+AsksSome changes site (Some e) = IsTrue (does_some (or_no_change site (changes site e)).1)
 
 -- publishing the post with that id in decimal, if it is future and due; a text that is no number names none
 abbrev pub publishes : List ℕ → ℕ → Option Effect

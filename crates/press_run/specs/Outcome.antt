@@ -1,5 +1,5 @@
 -- What the machine's calls say of the meaning: an Ok is its answer, Limit is returned only where there is none, and out of memory may come at any time.
-use Rattle.std.specs.Prelude.{◌≡◌, ℕ, ◌+◌, List, [], ◌∷◌, ◌++◌, Option, Some, None, IsSome, Result, MatchResult, Bool, true, false, ltb}
+use Rattle.std.specs.Prelude.{◌≡◌, ℕ, ◌+◌, List, [], ◌∷◌, ◌++◌, Option, Some, None, IsSome, Result, Ok, Err, MatchResult, Bool, true, false, ltb}
 use Rattle.press_text.specs.Gives.{GivesOrStays}
 use Rattle.press_hooks.specs.declared.open_run.OpenRun.{OpenRun}
 use Rattle.press_hooks.specs.NextEntry.{Table, begun}
@@ -72,6 +72,12 @@ job_meaning changes scripts (Apply hook args) s = apply_hook (callbacks_of chang
 abbrev pub GivesJob : {A : Type 0} → Option Answer → Around → Stage → Result (String A) RunFault → Type 0
 GivesJob meaning before after result =
     MatchResult result (λ text. (meaning ≡ answer (string_bytes text) (state_of after)) × (around after ≡ before)) (λ fault. Refuses fault meaning)
+
+-- whether a run was ended by a limit
+abbrev pub is_limit : {A : Type 0} → Result A RunFault → Bool
+is_limit (Ok given) = false
+is_limit (Err Limit) = true
+is_limit (Err NoMemory) = false
 
 -- whether one more turn is within the turns, which is then counted
 abbrev pub CountsTurn : Counts → Counts → Bool → Type 0

@@ -1,6 +1,6 @@
 //! What the machine answers to a question.
 
-ghost use Rattle.std.specs.Prelude.{◌≡◌, IfOk, decimal, count_by, bytes_eq, option_map, string_bytes};
+ghost use Rattle.std.specs.Prelude.{◌≡◌, IfOk, IsOk, decimal, count_by, bytes_eq, option_map, string_bytes};
 ghost use Rattle.std.specs.Fmt.{signed_decimal};
 ghost use Rattle.std.specs.List.{list_any};
 ghost use Rattle.press_run.specs.Run.{one_if, decimal_or_empty, or_no_text};
@@ -9,7 +9,8 @@ use press_text::{HookName, Text};
 use std::alloc::{AllocError, Global};
 
 pub fn one_if(alloc: Global, is: bool) -> Result<Text, AllocError>
-    ensures { IfOk result (λ t. t ≡ one_if is) }
+    ensures text { IfOk result (λ t. t ≡ one_if is) }
+    ensures memory { IsOk result }
 {
     if is {
         Text::from_str(alloc, "1")

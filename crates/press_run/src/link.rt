@@ -1,5 +1,7 @@
-ghost use Rattle.std.specs.Prelude.{◌≡◌, Ok, Some};
+ghost use Rattle.std.specs.Prelude.{◌≡◌, Ok, Err, Some};
 ghost use Rattle.press_site.specs.Becomes.{Becomes};
+ghost use Rattle.press_site.specs.Contents.{ChangesSome};
+ghost use Rattle.press_site.specs.declared.fault.SiteFault.TheVariants.{NoMemory};
 ghost use Rattle.press_run.specs.Links.{no_change, read_only};
 
 use press_site::{Changed, Effect, OpenSite, Site, SiteFault};
@@ -22,11 +24,12 @@ pub trait SiteLink {
     fn site(&self) -> &Site
         ensures { result.now ≡ view self.now };
 
-    /// Makes a change; after a refusal the site is as it was.
+    /// Makes a change; after a refusal the site is as it was. What is refused or changes nothing takes no memory.
     fn change(&mut self, alloc: Global, effect: Effect) -> Result<Changed, SiteFault>
         ensures changes { Becomes result (changes (view self.old) effect)
             (view self.old) (view self.new) }
-        ensures fixed { fixed self.new ≡ fixed self.old };
+        ensures fixed { fixed self.new ≡ fixed self.old }
+        ensures memory { result ≡ Err NoMemory → ChangesSome (changes (view self.old) effect) };
 }
 
 impl SiteLink for Site {
@@ -94,6 +97,8 @@ impl<'a> SiteLink for Read<'a> {
             self.old.0.now self.new.0.now }
         ensures fixed { Some (self.new.0.now) ≡ Some (self.old.0.now) }
         ensures answer { result ≡ Ok no_change }
+        ensures memory { result ≡ Err NoMemory →
+            ChangesSome (read_only self.old.0.now _effect) }
     {
         let (id, did, fires) = (0, false, Items::new(alloc));
         Ok(Changed { id, did, fires })

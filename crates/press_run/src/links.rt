@@ -1,7 +1,8 @@
 //! The changes of a site that a callback asks for.
 
-ghost use Rattle.std.specs.Prelude.{◌≡◌, IfOk};
+ghost use Rattle.std.specs.Prelude.{◌≡◌, IfOk, OnErr};
 ghost use Rattle.press_run.specs.Links.{or_no_change, publishes, schedules};
+ghost use Rattle.press_site.specs.Contents.{ChangesSome};
 
 use crate::link::SiteLink;
 use press_events::Event;
@@ -10,7 +11,7 @@ use press_site::{Changed, Effect, SiteFault};
 use press_text::{Every, HookName, Items, Moment, Text, dec_u64};
 use std::alloc::{AllocError, Global};
 
-/// A change through the link; a refused one changes nothing.
+/// A change through the link; a refused one changes nothing, and takes no memory.
 pub fn change<L: SiteLink>(
     alloc: Global,
     link: &mut L,
@@ -19,6 +20,7 @@ pub fn change<L: SiteLink>(
     ensures changed { IfOk result (λ c. (L.view link.new, c)
         ≡ or_no_change (L.view link.old) (L.changes (L.view link.old) effect)) }
     ensures fixed { L.fixed link.new ≡ L.fixed link.old }
+    ensures memory { OnErr result (ChangesSome (L.changes (L.view link.old) effect)) }
 {
     match link.change(alloc, effect) {
         Ok(changed) => Ok(changed),

@@ -1,6 +1,6 @@
-ghost use Rattle.std.specs.Prelude.{◌≡◌, ◌++◌, ◌∷◌, [], None, IfOk, OnOk};
+ghost use Rattle.std.specs.Prelude.{◌≡◌, ◌++◌, ◌∷◌, [], None, IfOk, OnOk, ltb};
 ghost use Rattle.press_run.specs.Counts.{no_counts};
-ghost use Rattle.press_run.specs.Run.{answer_of, without_last};
+ghost use Rattle.press_run.specs.Run.{answer_of, most_turns, without_last};
 ghost use Rattle.press_run.specs.Outcome.{CountsTurn, stage, state_of};
 
 use crate::answers::{count_of, decimal, decimal_or_empty, has_hook, one_if, or_no_text};
@@ -69,6 +69,13 @@ impl Machine {
     /// Where its counts take memory from.
     pub(crate) fn allocator(&self) -> Global {
         self.alloc
+    }
+
+    /// Whether one more turn is within the turns.
+    pub(crate) fn has_turns(&self) -> bool
+        ensures { result ≡ ltb self.now.turns most_turns }
+    {
+        self.turns < MOST_TURNS
     }
 
     /// Counts a turn, where it is within the turns.

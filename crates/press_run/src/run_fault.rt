@@ -1,5 +1,6 @@
 ghost use Rattle.std.specs.Prelude.{◌≡◌};
 ghost use Rattle.press_run.specs.Faults.{run_fault_number};
+ghost use Rattle.press_run.specs.Outcome.{is_limit};
 ghost use Rattle.press_run.specs.declared.run_fault.RunFault.TheVariants.{NoMemory};
 
 use std::alloc::{AllocError, AllocFailed};
@@ -23,6 +24,17 @@ impl RunFault {
             RunFault::NoMemory => 0,
             RunFault::Limit => 20,
         }
+    }
+}
+
+/// Whether a run was ended by a limit.
+pub(crate) fn is_limit(given: &Result<String, RunFault>) -> bool
+    ensures { result ≡ is_limit given.now }
+{
+    match given {
+        Ok(_) => false,
+        Err(RunFault::Limit) => true,
+        Err(RunFault::NoMemory) => false,
     }
 }
 

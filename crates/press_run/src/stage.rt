@@ -7,11 +7,11 @@ mod play;
 mod scans;
 mod turns;
 
-ghost use Rattle.std.specs.Prelude.{◌≡◌, IfOk, Some};
+ghost use Rattle.std.specs.Prelude.{◌≡◌, IfOk, Some, false};
 ghost use Rattle.press_callbacks.specs.Kits.{plugins_in, scripts_in};
 ghost use Rattle.press_run.specs.Boot.{booted_with};
 ghost use Rattle.press_run.specs.Links.{kept};
-ghost use Rattle.press_run.specs.Outcome.{GivesJob, around, job_meaning, loaded_in, started, state_of};
+ghost use Rattle.press_run.specs.Outcome.{GivesJob, around, is_limit, job_meaning, loaded_in, started, state_of};
 ghost use Rattle.press_run.specs.Standing.{standing};
 
 use crate::boots::boot;
@@ -19,7 +19,7 @@ use crate::job::Job;
 use crate::link::SiteLink;
 use crate::machine::Machine;
 use crate::out::Out;
-use crate::run_fault::RunFault;
+use crate::run_fault::{RunFault, is_limit};
 use press_callbacks::{Kit, Tables};
 use press_site::Site;
 use std::alloc::{AllocError, Global};
@@ -31,6 +31,8 @@ pub struct Stage<L> {
     pub machine: Machine,
     pub site: L,
     pub out: Out,
+    /// Whether the last run met a limit.
+    pub met_limit: bool,
 }
 
 impl<L: Drop> Drop for Stage<L> {
@@ -40,6 +42,7 @@ impl<L: Drop> Drop for Stage<L> {
             machine: _,
             site: _,
             out: _,
+            met_limit: _,
         } = self;
     }
 }
@@ -50,6 +53,7 @@ impl<L: SiteLink + Drop> Stage<L> {
         ensures started { IfOk result (λ s. state_of (standing L.view L.fixed s)
             ≡ started (booted_with (plugins_in kit.now) (L.view site).active) (L.view site)) }
         ensures site { IfOk result (λ s. s.site ≡ site) }
+        ensures limit { IfOk result (λ s. s.met_limit ≡ false) }
     {
         let tables = boot(alloc, kit, site.site())?;
         Ok(Stage::over(alloc, tables, site))
@@ -60,6 +64,7 @@ impl<L: SiteLink + Drop> Stage<L> {
         ensures started { state_of (standing L.view L.fixed result)
             ≡ started (loaded_in tables) (L.view site) }
         ensures site { result.site ≡ site }
+        ensures limit { result.met_limit ≡ false }
     {
         let (machine, out) = (Machine::new(alloc), Out::new(alloc));
         Stage {
@@ -67,6 +72,7 @@ impl<L: SiteLink + Drop> Stage<L> {
             machine,
             site,
             out,
+            met_limit: false,
         }
     }
 
@@ -76,8 +82,21 @@ impl<L: SiteLink + Drop> Stage<L> {
     /// Callbacks may edit the tables, change the site, and write to the output. What a change of the site fires is done
     /// within the run. Limit is returned where a 33rd callback would be open at once, a 10,001st turn would be played,
     /// or a text would pass 1,048,576 bytes. After a fault the stage is in no stated state, but for what no change of
-    /// the site touches.
+    /// the site touches, and that it shows whether a limit was met.
     pub fn run(&mut self, kit: &Kit, job: Job) -> Result<String, RunFault>
+        ensures gives { GivesJob
+            (job_meaning L.changes (scripts_in kit.now) job
+            (state_of (standing L.view L.fixed self.old)))
+            (around (standing L.view L.fixed self.old)) (standing L.view L.fixed self.new) result }
+        ensures fixed { L.fixed self.new.site ≡ L.fixed self.old.site }
+        ensures limit { self.new.met_limit ≡ is_limit result }
+    {
+        let given = self.given(kit, job);
+        self.met_limit = is_limit(&given);
+        given
+    }
+
+    fn given(&mut self, kit: &Kit, job: Job) -> Result<String, RunFault>
         ensures gives { GivesJob
             (job_meaning L.changes (scripts_in kit.now) job
             (state_of (standing L.view L.fixed self.old)))
@@ -97,6 +116,7 @@ impl<L: SiteLink + Drop> Stage<L> {
             machine: _,
             site,
             out,
+            met_limit: _,
         } = self;
         (site, out)
     }
@@ -113,6 +133,7 @@ impl Stage<Site> {
             machine: self.machine.copy()?,
             site: self.site.copy()?,
             out: self.out.copy(alloc)?,
+            met_limit: self.met_limit,
         })
     }
 }

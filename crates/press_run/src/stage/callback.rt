@@ -1,10 +1,11 @@
 //! A callback is opened, built in or of the kit, and takes its turns.
 
-ghost use Rattle.std.specs.Prelude.{◌≡◌, None, false, IsErrOf};
+ghost use Rattle.std.specs.Prelude.{◌≡◌, ◌++◌, ℕ, List, None, false, IsErrOf};
 ghost use Rattle.press_callbacks.specs.Kits.{Scripts};
 ghost use Rattle.press_callbacks.specs.declared.script.Turn.TheVariants as turn;
+ghost use Rattle.press_callbacks.specs.declared.script.Turn.TheVariants.{Echo};
 ghost use Rattle.press_run.specs.Frames.{BeginsAs, CallsAs, CountsAs, IsFew, Steps, Turns, meant};
-ghost use Rattle.press_run.specs.Run.{at_depth, built_in, fits, is_short, one_turn};
+ghost use Rattle.press_run.specs.Run.{at_depth, built_in, fits, is_short, one_turn, within};
 ghost use Rattle.press_run.specs.Outcome.{around, state_of};
 ghost use Rattle.press_run.specs.Standing.{standing};
 ghost use Rattle.press_run.specs.declared.frame.Frame.TheVariants as frame;
@@ -106,7 +107,7 @@ impl<L: SiteLink + Drop> Stage<L> {
         }
     }
 
-    /// The next turn.
+    /// The next turn. The limit of turns is looked at before the kit, which may want memory.
     pub(crate) fn turn<K: Callbacks>(
         &mut self,
         kit: &K,
@@ -116,9 +117,15 @@ impl<L: SiteLink + Drop> Stage<L> {
         ensures steps { Steps L.changes (K.scripts kit.now)
             (frame.Callback callback.old) (frame.Callback callback.new)
             (standing L.view L.fixed self.old) (standing L.view L.fixed self.new) result }
+        ensures spent { callback.old.left ≡ 0 → IsErrOf result RunFault.Limit }
+        ensures late { one_turn (state_of (standing L.view L.fixed self.old)) ≡ None
+            → IsErrOf result RunFault.Limit }
         ensures fixed { L.fixed self.new.site ≡ L.fixed self.old.site }
     {
         if callback.left == 0 {
+            return Err(RunFault::Limit);
+        }
+        if !self.machine.has_turns() {
             return Err(RunFault::Limit);
         }
         callback.left -= 1;
@@ -183,6 +190,8 @@ impl<L: SiteLink + Drop> Stage<L> {
         ensures late { one_turn (state_of (standing L.view L.fixed self.old)) ≡ None
             → IsErrOf result RunFault.Limit }
         ensures long { fits turn ≡ false → IsErrOf result RunFault.Limit }
+        ensures full { (text : List ℕ) → turn ≡ Echo text → within (self.old.out ++ text) ≡ None
+            → IsErrOf result RunFault.Limit }
         ensures steps { (scripts : Scripts) → CountsAs L.changes scripts
             callback.old turn callback.new
             (standing L.view L.fixed self.old) (standing L.view L.fixed self.new) result }

@@ -1,8 +1,9 @@
 //! Changes of the site, and the actions that they fire.
 
-ghost use Rattle.std.specs.Prelude.{◌≡◌, ◌^◌};
+ghost use Rattle.std.specs.Prelude.{◌≡◌, ◌^◌, Err, Some};
 ghost use Rattle.press_callbacks.specs.Kits.{Scripts};
 ghost use Rattle.press_run.specs.Frames.{BeginsAs, Steps};
+ghost use Rattle.press_run.specs.Links.{AsksSome, publishes};
 ghost use Rattle.press_run.specs.Run.{at_depth, change_site, publish};
 ghost use Rattle.press_run.specs.Outcome.{state_of};
 ghost use Rattle.press_run.specs.Standing.{standing};
@@ -33,6 +34,8 @@ impl<L: SiteLink + Drop> Stage<L> {
             (change_site L.changes (at_depth L.changes room scripts)
             (state_of (standing L.view L.fixed self.old)) effect)
             (2 ^ 66) (standing L.view L.fixed self.old) (standing L.view L.fixed self.new) result }
+        ensures memory { result ≡ Err RunFault.NoMemory
+            → AsksSome L.changes (L.view self.old.site) effect }
         ensures fixed { L.fixed self.new.site ≡ L.fixed self.old.site }
     {
         let alloc = self.machine.allocator();
@@ -41,6 +44,9 @@ impl<L: SiteLink + Drop> Stage<L> {
         };
         let changed = links::change(alloc, &mut self.site, effect)?;
         let gives = one_if(alloc, changed.did)?;
+        if changed.fires.as_slice().is_empty() {
+            return Ok(Begun::Gives(gives));
+        }
         let fires = OpenFires::new(room, changed.fires, gives);
         Ok(Begun::Opens(Frame::Fires(Held::new(alloc, fires)?)))
     }
@@ -52,6 +58,8 @@ impl<L: SiteLink + Drop> Stage<L> {
             (publish L.changes (at_depth L.changes room scripts) id
             (state_of (standing L.view L.fixed self.old)))
             (2 ^ 66) (standing L.view L.fixed self.old) (standing L.view L.fixed self.new) result }
+        ensures memory { result ≡ Err RunFault.NoMemory → AsksSome L.changes (L.view self.old.site)
+            (publishes id (L.view self.old.site).moment) }
         ensures fixed { L.fixed self.new.site ≡ L.fixed self.old.site }
     {
         let effect = links::publishes(&id, self.site.site().now());
@@ -60,6 +68,9 @@ impl<L: SiteLink + Drop> Stage<L> {
         };
         let alloc = self.machine.allocator();
         let changed = links::change(alloc, &mut self.site, effect)?;
+        if changed.fires.as_slice().is_empty() {
+            return Ok(Begun::Gives(id));
+        }
         let fires = OpenFires::new(room, changed.fires, id);
         Ok(Begun::Opens(Frame::Fires(Held::new(alloc, fires)?)))
     }

@@ -1,6 +1,6 @@
 //! The callbacks of a hook, one after the other.
 
-ghost use Rattle.std.specs.Prelude.{◌≡◌, IsTrue};
+ghost use Rattle.std.specs.Prelude.{◌≡◌, IsErrOf, IsTrue};
 ghost use Rattle.press_hooks.specs.NextEntry.{is_innermost};
 ghost use Rattle.press_callbacks.specs.Kits.{Scripts};
 ghost use Rattle.press_run.specs.Frames.{BeginsAs, MovesTo, hooked};
@@ -78,6 +78,7 @@ impl<L: SiteLink + Drop> Stage<L> {
         run: &mut OpenHook,
     ) -> Result<Moved, RunFault>
         requires { IsTrue (is_innermost run.old.run self.old.tables.hooks.open_runs) }
+        ensures spent { run.old.left ≡ 0 → IsErrOf result RunFault.Limit }
         ensures steps { MovesTo L.changes (K.scripts kit.now)
             (frame.Hook run.old) (frame.Hook run.new)
             (standing L.view L.fixed self.old) (standing L.view L.fixed self.new) result }

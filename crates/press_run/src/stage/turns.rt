@@ -1,8 +1,10 @@
 //! What the turns of a callback ask for.
 
-ghost use Rattle.std.specs.Prelude.{◌≡◌, ◌≤◌};
+ghost use Rattle.std.specs.Prelude.{◌≡◌, ◌≤◌, ◌++◌, ℕ, List, None, IsErrOf};
 ghost use Rattle.press_callbacks.specs.Kits.{Scripts};
+ghost use Rattle.press_callbacks.specs.declared.script.Turn.TheVariants.{Echo};
 ghost use Rattle.press_run.specs.Frames.{IsFew, Turns, group};
+ghost use Rattle.press_run.specs.Run.{within};
 ghost use Rattle.press_run.specs.Standing.{standing};
 
 use super::Stage;
@@ -24,6 +26,8 @@ impl<L: SiteLink + Drop> Stage<L> {
         turn: Turn,
     ) -> Result<Step, RunFault>
         requires { IsFew 1 callback.old }
+        ensures full { (text : List ℕ) → turn ≡ Echo text → within (self.old.out ++ text) ≡ None
+            → IsErrOf result RunFault.Limit }
         ensures steps { (scripts : Scripts) → Turns L.changes scripts callback.old turn callback.new
             (standing L.view L.fixed self.old) (standing L.view L.fixed self.new) result }
         ensures fixed { L.fixed self.new.site ≡ L.fixed self.old.site }
