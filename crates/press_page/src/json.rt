@@ -1,6 +1,6 @@
 //! Replies in JSON.
 
-ghost use Rattle.std.specs.Prelude.{◌≡◌, IfOk, false, option_map, Some};
+ghost use Rattle.std.specs.Prelude.{◌≡◌, ◌≢◌, Err, IfOk, IsErrOf, None, false, option_map, Some};
 ghost use Rattle.serde_json.specs.View.{view};
 ghost use Rattle.serde_json.specs.Written.{compact_text, has_float};
 ghost use Rattle.press_callbacks.specs.Kits.{kit_view};
@@ -142,7 +142,9 @@ fn text_of(alloc: Global, value: &Value) -> Result<Text, AllocError>
 
 // The body, if it is within the limit.
 fn within(body: Text) -> Result<Text, RunFault>
-    ensures { Gives Refuses Some result (within body) }
+    ensures body { Gives Refuses Some result (within body) }
+    ensures full { within body ≡ None → IsErrOf result RunFault.Limit }
+    ensures memory { result ≢ Err RunFault.NoMemory }
 {
     if body.len() > MOST_BYTES {
         return Err(RunFault::Limit);

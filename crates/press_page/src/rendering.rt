@@ -1,9 +1,9 @@
 //! A page that is being built.
 
-ghost use Rattle.std.specs.Prelude.{◌≡◌, ◌∷◌, [], IfOk, Some, codes, decimal, option_map, string_bytes};
+ghost use Rattle.std.specs.Prelude.{◌≡◌, ◌∷◌, ◌++◌, [], false, IfOk, IsErrOf, None, Some, codes, decimal, option_map, string_bytes};
 ghost use Rattle.press_callbacks.specs.Kits.{kit_view};
-ghost use Rattle.press_run.specs.Outcome.{Refuses};
-ghost use Rattle.press_run.specs.Run.{apply_hook};
+ghost use Rattle.press_run.specs.Outcome.{Refuses, is_limit};
+ghost use Rattle.press_run.specs.Run.{apply_hook, within};
 ghost use Rattle.press_text.specs.Gives.{Gives};
 ghost use Rattle.press_page.specs.Json.{filtered, texts_of};
 ghost use Rattle.press_page.specs.Page.{article, article_body, article_head, articles, closing, opening};
@@ -171,8 +171,9 @@ impl<'a> Rendering<'a> {
 
     // Actions, one after the other.
     fn fires(&mut self, kit: &Kit, actions: Items<Fire>) -> Result<(), RunFault>
-        ensures { Steps (fires (meaning_in kit.now) actions (state_in self.old))
+        ensures steps { Steps (fires (meaning_in kit.now) actions (state_in self.old))
             (state_in self.new) result }
+        ensures limit { self.new.stage.met_limit ≡ is_limit result }
     {
         self.stage.run(kit, Job::Fires(actions))?;
         Ok(())
@@ -181,8 +182,9 @@ impl<'a> Rendering<'a> {
     // A filter over its first argument, whose answer goes to the output.
     #[tactic(auto, unfolding(crate::specs::Page::puts_filtered))]
     fn puts_filtered(&mut self, kit: &Kit, hook: HookName, args: Texts) -> Result<(), RunFault>
-        ensures { Steps (puts_filtered (meaning_in kit.now) hook args (state_in self.old))
+        ensures steps { Steps (puts_filtered (meaning_in kit.now) hook args (state_in self.old))
             (state_in self.new) result }
+        ensures limit { is_limit result ≡ false → self.new.stage.met_limit ≡ false }
     {
         let text = self.stage.run(kit, Job::Apply { hook, args })?;
         self.puts(text.as_str())
@@ -190,15 +192,18 @@ impl<'a> Rendering<'a> {
 
     // A filter over its first argument.
     fn applied(&mut self, kit: &Kit, hook: HookName, args: Texts) -> Result<Text, RunFault>
-        ensures { Answers (apply_hook (meaning_in kit.now) hook args (state_in self.old))
+        ensures answers { Answers (apply_hook (meaning_in kit.now) hook args (state_in self.old))
             (state_in self.new) result }
+        ensures limit { self.new.stage.met_limit ≡ is_limit result }
     {
         let text = self.stage.run(kit, Job::Apply { hook, args })?;
         Ok(Text::from_string(text)?)
     }
 
     fn puts(&mut self, text: &str) -> Result<(), RunFault>
-        ensures { Steps (puts text.now (state_in self.old)) (state_in self.new) result }
+        ensures steps { Steps (puts text.now (state_in self.old)) (state_in self.new) result }
+        ensures full { within (self.old.stage.out ++ text.now) ≡ None → IsErrOf result RunFault.Limit }
+        ensures limit { self.new.stage.met_limit ≡ self.old.stage.met_limit }
     {
         self.stage.out.push(text)
     }

@@ -6,8 +6,8 @@ pub returns-in_err-fires : goal.returns-in_err-fires
 returns-in_err-fires g c =
     let p = err_from_is_err_and c.from_residual-in_err-fires.result c.from_residual-in_err-fires.ensures.1 in
     let e = c.in_ok-one.ensures in
-    let h = rw e at c.in_err-fires.ensures in
+    let h = rw e at c.in_err-fires.ensures.steps in
     rw (p.1, p.2) (stops_after c.in_err-fires.field-0.0 _ _ h)
 
 pub returns : goal.returns
-returns g c = let e = c.in_ok-one.ensures in let h = rw e at c.in_ok-fires.ensures in goes_after _ _ _ _ _ h c.puts.ensures
+returns g c = let e = c.in_ok-one.ensures in let h = rw e at c.in_ok-fires.ensures.steps in goes_after _ _ _ _ _ h c.puts.ensures.steps
