@@ -1,6 +1,6 @@
 -- What the steps of a command's work answer: an Ok is the meaning, with the state after it; a refusal is returned only where the meaning has it; and after each
 -- of them the site can go back to what it was begun as.
-use Rattle.std.specs.Prelude.{◌≡◌, ℕ, ⊤, Some, IfSome, Result, Ok, Err, MatchResult, IsOk}
+use Rattle.std.specs.Prelude.{◌≡◌, ℕ, ⊤, Bool, true, false, Some, IfSome, Result, Ok, Err, MatchResult, IsOk}
 use Rattle.std.specs.declared.alloc.AllocError.{AllocError}
 use Rattle.press_callbacks.specs.Kits.{KitView, kit_view}
 use Rattle.press_callbacks.specs.declared.kit.Kit.{Kit}
@@ -47,6 +47,18 @@ Steps shows meant new result = MatchResult result (λ x. meant ≡ Ok (shows (st
 -- out of memory comes only behind what has to be passed
 abbrev pub GrowsBehind : {A B E : Type 0} → Result A ApplyFault → Result B E → Type 0
 GrowsBehind result needed = result ≡ Err NoMemory → IsOk needed
+
+-- whether a limit is told
+abbrev pub is_limit : {A : Type 0} → Result A ApplyFault → Bool
+is_limit (Ok x) = false
+is_limit (Err NoMemory) = false
+is_limit (Err Limit) = true
+is_limit (Err NoSuchPlugin) = false
+is_limit (Err (Site fault)) = false
+
+-- where it tells no limit, none was met since
+abbrev pub TellsLimits : {A : Type 0} → Result A ApplyFault → Work → Work → Type 0
+TellsLimits result old new = is_limit result ≡ false → new.stage.met_limit ≡ true → old.stage.met_limit ≡ true
 
 -- what it leaves of the site
 abbrev pub GoesBack : Work → Work → Type 0

@@ -10,7 +10,8 @@ ghost use Rattle.press_apply.specs.Apply.{between, boots, changes, delete_fault,
 ghost use Rattle.press_apply.specs.Apply.{filtered, fires, move_fault, update_fault, wanted_fault};
 ghost use Rattle.press_apply.specs.Apply.{inserts, passes, prepared, takes, takes_all, ticks, trashes};
 ghost use Rattle.press_apply.specs.Apply.{untrashes, updates};
-ghost use Rattle.press_apply.specs.Works.{Boots, GoesBack, GrowsBehind, Steps, meaning_in, state_in};
+ghost use Rattle.press_apply.specs.Works.{Boots, GoesBack, GrowsBehind, Steps, TellsLimits, is_limit};
+ghost use Rattle.press_apply.specs.Works.{meaning_in, state_in};
 
 use crate::actions::{about, event_fires};
 use crate::checks::{delete_fault, move_fault, update_fault, wanted_fault};
@@ -75,6 +76,7 @@ impl Work {
         ensures steps { Steps (λ s _. s) (fires (meaning_in kit.now) boot_actions
             (state_in self.old)) self.new result }
         ensures back { GoesBack self.old self.new }
+        ensures limit { TellsLimits result self.old self.new }
     {
         let actions = boot_actions(self.alloc)?;
         self.fires(kit, actions)
@@ -92,6 +94,7 @@ impl Work {
         ensures steps { Steps (λ s _. s) (fires (meaning_in kit.now) actions (state_in self.old))
             self.new result }
         ensures back { GoesBack self.old self.new }
+        ensures limit { self.new.stage.met_limit ≡ is_limit result }
     {
         match self.stage.run(kit, Job::Fires(actions)) {
             Ok(_) => Ok(()),
@@ -107,6 +110,7 @@ impl Work {
             (filtered (meaning_in kit.now) hook.now text.now (state_in self.old))
             self.new result }
         ensures back { GoesBack self.old self.new }
+        ensures limit { TellsLimits result self.old self.new }
     {
         let hook = HookName::from_valid(self.alloc, hook)?;
         let text = text.copy(self.alloc)?;
@@ -123,6 +127,7 @@ impl Work {
         ensures steps { Steps (λ s changed. (s, changed)) (changes effect (state_in self.old))
             self.new result }
         ensures back { GoesBack self.old self.new }
+        ensures limit { self.new.stage.met_limit ≡ self.old.stage.met_limit }
         ensures memory { GrowsBehind result (changes effect (state_in self.old)) }
     {
         Ok(self.stage.site.effect(effect)?)
@@ -135,6 +140,7 @@ impl Work {
             (does (meaning_in kit.now) effect (state_in self.old))
             self.new result }
         ensures back { GoesBack self.old self.new }
+        ensures limit { TellsLimits result self.old self.new }
         ensures memory { GrowsBehind result (changes effect (state_in self.old)) }
     {
         let Changed { id, fires, .. } = self.change(effect)?;
@@ -148,6 +154,7 @@ impl Work {
         ensures steps { Steps (λ s id. (s, id))
             (inserts (meaning_in kit.now) draft.now (state_in self.old)) self.new result }
         ensures back { GoesBack self.old self.new }
+        ensures limit { TellsLimits result self.old self.new }
         ensures memory { GrowsBehind result (passes (wanted_fault draft.now.status)) }
     {
         passes(wanted_fault(draft.status))?;
@@ -162,6 +169,7 @@ impl Work {
             (updates (meaning_in kit.now) edit.entry.id edit.entry.draft.now (state_in self.old))
             self.new result }
         ensures back { GoesBack self.old self.new }
+        ensures limit { TellsLimits result self.old self.new }
         ensures memory { GrowsBehind result (passes (update_fault edit.entry.draft.now.status
             (post_at self.old.stage.site.site.posts edit.entry.id))) }
     {
@@ -177,6 +185,7 @@ impl Work {
         ensures steps { Steps (λ s d. (s, d))
             (prepared (meaning_in kit.now) draft.now (state_in self.old)) self.new result }
         ensures back { GoesBack self.old self.new }
+        ensures limit { TellsLimits result self.old self.new }
     {
         Ok(Draft {
             title: self.filtered(kit, "title_save_pre", &draft.title)?,
@@ -202,6 +211,7 @@ impl Work {
             (state_in self.old))
             self.new result }
         ensures back { GoesBack self.old self.new }
+        ensures limit { TellsLimits result self.old self.new }
     {
         self.fires(kit, about(self.alloc, hooks.before, id)?)?;
         let done = self.does(kit, effect)?;
@@ -215,6 +225,7 @@ impl Work {
             (trashes (meaning_in kit.now) id (state_in self.old))
             self.new result }
         ensures back { GoesBack self.old self.new }
+        ensures limit { TellsLimits result self.old self.new }
         ensures memory { GrowsBehind result (passes (move_fault Move.Trash
             (post_at self.old.stage.site.site.posts id))) }
     {
@@ -233,6 +244,7 @@ impl Work {
             (untrashes (meaning_in kit.now) id (state_in self.old))
             self.new result }
         ensures back { GoesBack self.old self.new }
+        ensures limit { TellsLimits result self.old self.new }
         ensures memory { GrowsBehind result (passes (move_fault Move.Untrash
             (post_at self.old.stage.site.site.posts id))) }
     {
@@ -251,6 +263,7 @@ impl Work {
             (deletes (meaning_in kit.now) id (state_in self.old))
             self.new result }
         ensures back { GoesBack self.old self.new }
+        ensures limit { TellsLimits result self.old self.new }
         ensures memory { GrowsBehind result (passes (delete_fault
             (post_at self.old.stage.site.site.posts id))) }
     {
@@ -265,6 +278,7 @@ impl Work {
             (changes (Effect.Take event.now) (state_in self.old))
             self.new result }
         ensures back { GoesBack self.old self.new }
+        ensures limit { self.new.stage.met_limit ≡ self.old.stage.met_limit }
     {
         let own = event.copied(self.alloc)?;
         Ok(self.change(Effect::Take(own))?)
@@ -276,6 +290,7 @@ impl Work {
         ensures steps { Steps (λ s _. s) (takes (meaning_in kit.now) event.now (state_in self.old))
             self.new result }
         ensures back { GoesBack self.old self.new }
+        ensures limit { TellsLimits result self.old self.new }
     {
         let taken = self.taken(event)?;
         let actions = event_fires(self.alloc, taken.did, event)?;
@@ -288,6 +303,7 @@ impl Work {
             (takes_all (meaning_in kit.now) events.now (state_in self.old))
             self.new result }
         ensures back { GoesBack self.old self.new }
+        ensures limit { TellsLimits result self.old self.new }
     {
         for event in events {
             self.take(kit, event)?;
@@ -300,6 +316,7 @@ impl Work {
             (does (meaning_in kit.now) (Effect.SetOption name.now value.now) (state_in self.old))
             self.new result }
         ensures back { GoesBack self.old self.new }
+        ensures limit { TellsLimits result self.old self.new }
     {
         let (name, value) = (name.copy(self.alloc)?, value.copy(self.alloc)?);
         Ok(self.does(kit, Effect::SetOption { name, value })?)
@@ -317,6 +334,7 @@ impl Work {
         ensures steps { Steps (λ s id. (s, id)) (ticks (meaning_in kit.now) (state_in self.old))
             self.new result }
         ensures back { GoesBack self.old self.new }
+        ensures limit { TellsLimits result self.old self.new }
     {
         let due = self.stage.site.site().due()?;
         self.take_due(kit, due.as_slice())
@@ -329,6 +347,7 @@ impl Work {
         ensures steps { Steps (λ s id. (s, id)) (ticks (meaning_in kit.now) (state_in self.old))
             self.new result }
         ensures back { GoesBack self.old self.new }
+        ensures limit { TellsLimits result self.old self.new }
     {
         self.take_all(kit, events)?;
         Ok(0)

@@ -1,4 +1,4 @@
-use Rattle.std.proofs.Common.{◌∙◌, sym, ◌≤◌, length, arith}
+use Rattle.std.proofs.Common.{◌∙◌, sym, refl, ◌≤◌, length, arith}
 use Rattle.std.proofs.lemmas.Result.{err_from_is_err_and}
 use Rattle.press_apply.proofs.Ticks.{takes_more, takes_refused, takes_end}
 use Rattle.press_apply.proofs.work.Work.take_all.Goals as goal
@@ -13,6 +13,7 @@ loop-event-preserved g c =
     record {
       meaning = sym (takes_more _ _ _ _ _ _ c.loop-event-test.true c.event-item.is c.in_ok-take.ensures.steps) ∙ c.loop-event.invariant.meaning;
       back = c.in_ok-take.ensures.back ∙ c.loop-event.invariant.back;
+      limit = λ met. c.loop-event.invariant.limit (c.in_ok-take.ensures.limit refl met);
     }
 
 pub returns-clause-steps : goal.returns-clause-steps
