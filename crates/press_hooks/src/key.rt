@@ -43,7 +43,7 @@ impl PartialEq for Key {
     ghost laws = { partial_equiv_from_equiv nat_list_eq_equiv };
 
     fn eq(&self, other: &Key) -> bool {
-        self.callback.is(other.callback)
+        self.callback.as_bytes() == other.callback.as_bytes()
     }
 }
 
