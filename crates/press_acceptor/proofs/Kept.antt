@@ -8,7 +8,7 @@ use Rattle.press_wire.specs.declared.vote.Vote.{Vote}
 use Rattle.press_acceptor.specs.InMemory.{HasOtherValue, value_of}
 use Rattle.press_acceptor.specs.StoreMap.{StoreMap, new_row, row_at, with_row}
 use Rattle.press_acceptor.specs.declared.row.Row.{Row}
-use Rattle.press_acceptor.proofs.Maps.{at, get_at, inserted, inserted_same}
+use Rattle.press_acceptor.proofs.Maps.{at, get_at, inserted_same}
 
 abbrev pub store_of : List (ℕ × Row) → ℕ → StoreMap
 store_of rows round = record { rows = from_entries {R = nat_cmp} rows; last_round = round }
