@@ -12,6 +12,7 @@ use press_text::{ReadLimitedFault, read_limited};
 use std::alloc::{AllocError, Global};
 use std::rt::Files;
 use std::{fs, io};
+use thiserror::Error;
 
 /// The kit that a run plays with.
 #[derive(Debug, Drop)]
@@ -22,11 +23,15 @@ pub enum Chosen {
 }
 
 /// Why a kit file can't be used.
-#[derive(Debug, Drop)]
+#[derive(Debug, Drop, Error)]
 pub enum KitFault {
+    #[error("no memory")]
     NoMemory,
+    #[error("a read failed")]
     ReadFault,
+    #[error("longer than 4194304 bytes")]
     TooLong,
+    #[error("fault {number}: {text}")]
     Refused { number: u8, text: String },
 }
 

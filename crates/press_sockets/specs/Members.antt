@@ -1,5 +1,7 @@
 -- The members of a cluster (own).
-use Rattle.std.specs.Prelude.{ℕ, ◌*◌, ◌+◌, ◌-◌, ◌==◌, ◌&&◌, not, if◌then◌else◌, Bool, false, nat_lt, nat_le, List, [], ◌∷◌, unwrap_or, option_map}
+use Rattle.std.specs.Prelude.{ℕ, ◌*◌, ◌+◌, ◌-◌, ◌==◌, ◌&&◌, not, if◌then◌else◌, Bool, false, nat_lt, nat_le, List, [], ◌∷◌, unwrap_or, option_map, Option, None, Some}
+use Rattle.press_sockets.specs.declared.setup.Place.{Place}
+use Rattle.press_sockets.specs.declared.setup.Place.TheVariants.{Alone, Member}
 use Rattle.press_sockets.specs.declared.peers.Peer.{Peer}
 use Rattle.press_sockets.specs.declared.peers.Peers.{Peers}
 
@@ -18,3 +20,8 @@ others_from meets own place (peer ∷ rest) = (if not (place == own) && meets pe
 
 abbrev pub others : (Peer → Bool) → Peers → ℕ
 others meets peers = others_from meets (peers.own - 1) 0 peers.all.items
+
+-- the number of a member in its cluster, if the place is in one
+abbrev pub number_of : Place → Option ℕ
+number_of (Alone port) = None
+number_of (Member id peers tick) = Some id

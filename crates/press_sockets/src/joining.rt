@@ -1,5 +1,11 @@
 //! What a member of a cluster begins with: its peers, its store, and how many slots it knows to be chosen.
 
+ghost use Rattle.std.specs.Prelude.{◌≡◌, IfOk, length, option_map};
+ghost use Rattle.press_callbacks.specs.Kits.{kit_view};
+ghost use Rattle.press_node.specs.Nodes.{kit_of, state_of, store_of};
+ghost use Rattle.press_node.specs.States.{started_at};
+ghost use Rattle.press_sockets.specs.Members.{number_of};
+
 use crate::member::{Clustered, Party};
 use crate::pace::Pace;
 use crate::peers::Peers;
@@ -36,7 +42,10 @@ impl Seat {
 }
 
 /// The place of the member that a server is to be, which wants a file for its store. None for a node by itself.
-pub fn seat_of(start: Start<'_>) -> Result<Option<Seat>, ServeFault> {
+pub fn seat_of(start: Start<'_>) -> Result<Option<Seat>, ServeFault>
+    ensures { IfOk result (λ seat. option_map (λ seat. seat.peers.own) seat
+        ≡ number_of start.entry.setup.now.place) }
+{
     let Start { rt, setup } = start;
     let Place::Member { id, peers, tick } = setup.place else {
         return Ok(None);
@@ -63,7 +72,11 @@ fn begin_member<S: PromiseStore + Drop>(
     peers: &Peers,
     kit: Kit,
     store: S,
-) -> Result<Node<S>, ServeFault> {
+) -> Result<Node<S>, ServeFault>
+    ensures kit { IfOk result (λ node. kit_of node ≡ kit_view kit) }
+    ensures joins { IfOk result (λ node. (S.seen (store_of node)).is_honest → state_of node
+        ≡ started_at peers.now.own (length peers.now.all.items) (S.seen store).kept.last_round) }
+{
     let member = peers.own();
     let Ok(count) = u8::try_from(peers.count()) else {
         return Err(ServeFault::BadPeers);

@@ -1,5 +1,7 @@
 //! A node of a cluster behind a server: its messages go out as requests, and those that come are delivered.
 
+ghost use Rattle.std.specs.Prelude.{◌≡◌};
+
 use crate::pace::{Due, Pace};
 use crate::peers::{Peers, member_at};
 use crate::screen::{
@@ -117,7 +119,10 @@ fn is_answer(message: &Message) -> bool {
 
 impl<'s, S: PromiseStore> Clustered<'s, S> {
     /// A node that hasn't heard of any peer yet.
-    pub fn new(alloc: Global, node: Node<S>, party: Party<'s>) -> Clustered<'s, S> {
+    pub fn new(alloc: Global, node: Node<S>, party: Party<'s>) -> Clustered<'s, S>
+        ensures member { result.member ≡ party.entry.peers.own }
+        ensures peers { result.peers ≡ party.entry.peers }
+    {
         let Party {
             peers,
             pace,

@@ -1,12 +1,13 @@
 //! The members of a cluster, by their addresses.
 
-ghost use Rattle.std.specs.Prelude.{◌≡◌, ◌+◌, ◌-◌, length};
+ghost use Rattle.std.specs.Prelude.{◌≡◌, ◌+◌, ◌-◌, ◌≤◌, IfOk, length};
 ghost use Rattle.press_sockets.specs.Members.{has_answered, is_majority, others};
 ghost use Rattle.press_sockets.specs.declared.peers.PeersFault.TheVariants.{NoMemory};
 
 use press_wire::Node as Member;
 use std::alloc::{AllocError, AllocFailed, Global};
 use std::net::{IpAddr, Net, SocketAddr, ToSocketAddrs};
+use thiserror::Error;
 
 // The members of a cluster are few.
 const MOST: usize = 7;
@@ -63,9 +64,12 @@ impl Drop for Peers {
 }
 
 /// Why no peers were read.
+#[derive(Clone, Copy, Debug, PartialEq, Eq, Error)]
 pub enum PeersFault {
+    #[error("no memory")]
     NoMemory,
     /// The text names no members, or too many, or not this one; or an address can't be found.
+    #[error("no such peers")]
     Unknown,
 }
 
@@ -88,12 +92,10 @@ fn has_addr(all: &[Peer], addr: SocketAddr) -> bool {
 
 impl Peers {
     /// The members whose addresses are in the text, with commas between; the node's number is its place there, from 1.
-    pub fn read<N: Net>(
-        alloc: Global,
-        net: &N,
-        number: u8,
-        text: &str,
-    ) -> Result<Peers, PeersFault> {
+    pub fn read<N: Net>(alloc: Global, net: &N, number: u8, text: &str) -> Result<Peers, PeersFault>
+        ensures own { IfOk result (λ peers. peers.own ≡ number) }
+        ensures among { IfOk result (λ peers. peers.own ≤ length peers.all.items) }
+    {
         let mut all = Vec::new(alloc);
         for part in text.split(',') {
             let Some(addr) = addr_in(net, part) else {
@@ -116,12 +118,16 @@ impl Peers {
     }
 
     /// How many there are: at most 7.
-    pub fn count(&self) -> usize {
+    pub fn count(&self) -> usize
+        ensures { result ≡ length self.now.all.items }
+    {
         self.all.len()
     }
 
     /// This node.
-    pub fn own(&self) -> Member {
+    pub fn own(&self) -> Member
+        ensures { result ≡ self.now.own }
+    {
         self.own
     }
 

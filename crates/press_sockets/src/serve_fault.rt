@@ -5,20 +5,26 @@ use press_acceptor::StoreFault;
 use press_text::WriteFault;
 use std::alloc::{AllocError, AllocFailed};
 use std::io;
+use thiserror::Error;
 
 /// Why nothing is served, or no more.
-#[derive(Clone, Copy, Debug)]
+#[derive(Clone, Copy, Debug, Error)]
 pub enum ServeFault {
+    #[error("no memory")]
     NoMemory,
     /// The listener, or a connection, could not be opened.
+    #[error("no connection could be opened")]
     NoConnections,
-    /// The page for editors could not be read.
+    #[error("the page for editors could not be read")]
     ReadFault,
     /// The list of peers is wrong: nothing is opened.
+    #[error("a bad list of peers")]
     BadPeers,
-    /// The line that it listens could not be written.
+    #[error("the line that it listens could not be written")]
     WriteFault,
+    #[error("the disk failed")]
     Disk,
+    #[error("what is stored is damaged")]
     Damaged,
 }
 
