@@ -1,9 +1,9 @@
 -- How a place is written at which a file is bad: with the name of what is there, where that is one, and what is wrong with it, as far as its keys show (own).
-use Rattle.std.specs.Prelude.{ℕ, List, [], ◌∷◌, ◌++◌, Bool, true, false, not, ◌&&◌, if◌then◌else◌, is_none, is_some, Option, Some, None, option_and_then, option_map, slice_get, codes}
+use Rattle.std.specs.Prelude.{ℕ, List, [], ◌∷◌, ◌++◌, Bool, true, false, not, ◌&&◌, if◌then◌else◌, is_none, is_some, Option, Some, None, option_and_then, option_map, slice_get, codes, bytes_eq, decimal, length, nat_lt, take}
 use Rattle.serde_json.specs.Data.{Data, Members, no_members, member}
 use Rattle.serde_json.specs.Find.{as_object, as_str, get}
 use Rattle.press_kit.specs.Fields.{is_one_of, list_in, name_in}
-use Rattle.press_kit.specs.KitFile.{callback_keys, hook_load_keys, kit_keys, plugin_keys, tag_load_keys}
+use Rattle.press_kit.specs.KitFile.{callback_keys, file_limit, hook_load_keys, kit_keys, plugin_keys, tag_load_keys}
 use Rattle.press_kit.specs.Ops.{keys_of, kind_of}
 use Rattle.press_kit.specs.declared.place.Place.{Place}
 use Rattle.press_kit.specs.declared.place.Place.TheVariants.{File, Callbacks, Callback, Op, Plugins, Plugin, Load, Active, ActiveName, Commands, Command, Pages, Page, Plays, Play, Steps, Step}
@@ -167,3 +167,15 @@ what_told kit at =
 
 abbrev pub bad_told : Data → Place → List ℕ
 bad_told kit at = place_told (name_where kit at) at ++ what_told kit at
+
+-- ---- bytes that are no kit, before they are read as JSON
+
+-- U+FEFF in UTF-8
+abbrev pub byte_order_mark : List ℕ
+byte_order_mark = 239 ∷ 187 ∷ 191 ∷ []
+
+-- they are too many, or begin with a mark, which JSON may not (RFC 8259, 8.1)
+abbrev pub front_told : List ℕ → Option (List ℕ)
+front_told bytes =
+    if nat_lt file_limit (length bytes) then Some (codes "longer than " ++ (decimal file_limit ++ codes " bytes")) else
+    (if bytes_eq (take 3 bytes) byte_order_mark then Some (codes "begins with a byte order mark, which JSON may not") else None)

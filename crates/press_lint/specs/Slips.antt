@@ -1,5 +1,5 @@
 -- What is no mistake in a kit, but surely not meant: a skip past the end of its script, and a callback on a hook that nothing runs (own).
-use Rattle.std.specs.Prelude.{ℕ, ◌+◌, List, [], ◌∷◌, ◌++◌, Bool, false, ◌||◌, bytes_eq, if◌then◌else◌, is_some, nat_lt, length, take, drop, Option, Some, None, option_and_then, codes, decimal}
+use Rattle.std.specs.Prelude.{ℕ, ◌+◌, List, [], ◌∷◌, ◌++◌, Bool, false, ◌||◌, ◌&&◌, bytes_eq, if◌then◌else◌, nat_le, nat_lt, length, take, drop, Option, Some, None, option_and_then, codes, decimal}
 use Rattle.std.specs.List.{list_any}
 use Rattle.press_callbacks.specs.Kits.{is_named}
 use Rattle.press_callbacks.specs.declared.plugin.Load.{Load}
@@ -76,9 +76,16 @@ reaches hook new = is_some_and (λ rest. bytes_eq rest (codes "_post")) (behind 
 abbrev pub is_reached : List ℕ → Bool
 is_reached hook = list_any (reaches hook) statuses
 
+-- as long as the name of an option (Options API; its limit is own), which may have every byte that the name of a hook may have
+abbrev pub fits_option : List ℕ → Bool
+fits_option name = nat_lt 0 (length name) && nat_le (length name) 32
+
+abbrev pub is_change : List ℕ → List ℕ → Bool
+is_change hook change = is_some_and fits_option (behind change hook)
+
 -- `add_option_{name}` and `update_option_{name}`
 abbrev pub is_of_option : List ℕ → Bool
-is_of_option hook = is_some (behind (codes "add_option_") hook) || is_some (behind (codes "update_option_") hook)
+is_of_option hook = is_change hook (codes "add_option_") || is_change hook (codes "update_option_")
 
 abbrev pub is_engines : List ℕ → Bool
 is_engines hook = list_any (bytes_eq hook) engine_hooks || is_transition hook || is_reached hook || is_of_option hook

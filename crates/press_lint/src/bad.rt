@@ -1,7 +1,8 @@
 //! Files that are no kit files.
 
-ghost use Rattle.std.specs.Prelude.{◌≡◌, ◌++◌, IfOk, codes, map, option_and_then, option_map, string_bytes};
+ghost use Rattle.std.specs.Prelude.{◌≡◌, ◌++◌, IfOk, IfSome, IsSome, IsUtf8, None, codes, map, option_and_then, option_map, string_bytes};
 ghost use Rattle.serde_json.specs.Find.{as_object, as_str, get};
+ghost use Rattle.serde_json.specs.Read.{read as read_text};
 ghost use Rattle.serde_json.specs.View.{view};
 ghost use Rattle.press_kit.specs.Fields.{name_in as named};
 ghost use Rattle.press_lint.specs.Bad as spec;
@@ -182,7 +183,12 @@ pub fn bad_line(alloc: Global, kit: &Value, at: Place) -> Result<String, AllocEr
 }
 
 /// The message about bytes that are no JSON, or too many: what the reader of JSON says of them, with line and column, both from 1.
-pub fn no_json(alloc: Global, bytes: &[u8]) -> Result<String, AllocError> {
+pub fn no_json(alloc: Global, bytes: &[u8]) -> Result<String, AllocError>
+    ensures front { IfOk result (λ t. IfSome (spec.front_told bytes.now)
+        (λ told. string_bytes t ≡ told)) }
+    ensures json { spec.front_told bytes.now ≡ None → IsUtf8 bytes.now →
+        IsSome (read_text bytes.now) → IfOk result (λ t. string_bytes t ≡ codes "no kit") }
+{
     if bytes.len() > FILE_LIMIT {
         return format!(in alloc; "longer than {FILE_LIMIT} bytes");
     }

@@ -36,6 +36,9 @@ const ENGINE: [&str; 18] = [
 
 const STATUSES: [&str; 6] = ["publish", "future", "draft", "pending", "private", "trash"];
 
+// The most bytes of the name of an option.
+const LONGEST_OPTION: usize = 32;
+
 fn is_text(bytes: &[u8], text: &str) -> bool
     ensures { result ≡ bytes_eq bytes.now text.now }
 {
@@ -106,10 +109,20 @@ fn is_reached(hook: &[u8]) -> bool
     reaches_one(hook, &STATUSES)
 }
 
+// Whether what follows is as long as the name of an option; the bytes of a hook's name may all stand in one.
+fn is_change(hook: &[u8], change: &str) -> bool
+    ensures { result ≡ spec.is_change hook.now change.now }
+{
+    match behind(change, hook) {
+        Some(name) => !name.is_empty() && name.len() <= LONGEST_OPTION,
+        None => false,
+    }
+}
+
 fn is_of_option(hook: &[u8]) -> bool
     ensures { result ≡ spec.is_of_option hook.now }
 {
-    behind("add_option_", hook).is_some() || behind("update_option_", hook).is_some()
+    is_change(hook, "add_option_") || is_change(hook, "update_option_")
 }
 
 fn is_engines(hook: &[u8]) -> bool
