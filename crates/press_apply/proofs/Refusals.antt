@@ -70,7 +70,7 @@ work_refused (Site f) m rest s e h = ap (λ x. site_of (x >>= rest)) e ∙ ap si
 pub work_done : (m : Result State ApplyFault) (rest : State → Result (State × ℕ) ApplyFault) (s s' : State) (id : ℕ) → m ≡ Ok s → rest s ≡ Ok (s', id) → site_of (m >>= rest) ≡ Ok (s'.site, id)
 work_done m rest s s' id e h = ap (λ x. site_of (x >>= rest)) e ∙ ap site_of h
 
-pub work_ended : (m : Result State ApplyFault) (rest : State → Result (State × ℕ) ApplyFault) (site : Open) (old new : Work) (id : Result ℕ ApplyFault) (result : Open × Result ℕ ApplyFault) → m ≡ Ok (state_in old) → begun_of old.stage.site ≡ begun_of site → Steps (λ s n. (s, n)) (rest (state_in old)) new id → GoesBack old new → result ≡ (new.stage.site, id) → Works (site_of (m >>= rest)) site result
+pub work_ended : (m : Result State ApplyFault) (rest : State → Result (State × ℕ) ApplyFault) (site : Open) (old new : Work) (id : Result ℕ ApplyFault) (result : Open × Result ℕ ApplyFault) → m ≡ Ok (state_in old) → begun_of old.machine.site ≡ begun_of site → Steps (λ s n. (s, n)) (rest (state_in old)) new id → GoesBack old new → result ≡ (new.machine.site, id) → Works (site_of (m >>= rest)) site result
 work_ended m rest site old new (Ok n) result b k h g e = subst (λ (r : Open × Result ℕ ApplyFault). Works (site_of (m >>= rest)) site r) (sym e) (work_done m rest (state_in old) (state_in new) n b h, g ∙ k)
 work_ended m rest site old new (Err fault) result b k h g e = subst (λ (r : Open × Result ℕ ApplyFault). Works (site_of (m >>= rest)) site r) (sym e) (work_refused fault m rest (state_in old) b h, g ∙ k)
 

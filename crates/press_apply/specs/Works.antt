@@ -23,7 +23,7 @@ use Rattle.press_apply.specs.declared.work.Work.{Work}
 
 -- what a command's work is at
 abbrev pub state_in : Work → State
-state_in w = state_of (standing (λ o. o.site) (λ o. Some (begun_of o)) w.stage)
+state_in w = state_of (standing (λ o. o.site) (λ o. Some (begun_of o)) w.machine)
 
 -- what a kit's callbacks come to
 abbrev pub meaning_in : {t : _} {F : _} {g : _} → Kit t F g → Meaning
@@ -38,7 +38,7 @@ Refuses (Site fault) meant = meant ≡ Err (Site fault)
 
 -- a boot on an open site, which a refusal hands back
 abbrev pub Boots : Result State ApplyFault → Open → Result Work (Open × ApplyFault) → Type 0
-Boots meant old result = MatchResult result (λ work. (meant ≡ Ok (state_in work)) × (begun_of work.stage.site ≡ begun_of old)) (λ stopped. Refuses stopped.1 meant × (begun_of stopped.0 ≡ begun_of old))
+Boots meant old result = MatchResult result (λ work. (meant ≡ Ok (state_in work)) × (begun_of work.machine.site ≡ begun_of old)) (λ stopped. Refuses stopped.1 meant × (begun_of stopped.0 ≡ begun_of old))
 
 -- what a step shows of the state after it and of its answer
 abbrev pub Steps : {A M : Type 0} → (State → A → M) → Result M ApplyFault → Work → Result A ApplyFault → Type 0
@@ -58,11 +58,11 @@ is_limit (Err (Site fault)) = false
 
 -- where it tells no limit, none was met since
 abbrev pub TellsLimits : {A : Type 0} → Result A ApplyFault → Work → Work → Type 0
-TellsLimits result old new = is_limit result ≡ false → new.stage.met_limit ≡ true → old.stage.met_limit ≡ true
+TellsLimits result old new = is_limit result ≡ false → new.machine.met_limit ≡ true → old.machine.met_limit ≡ true
 
 -- what it leaves of the site
 abbrev pub GoesBack : Work → Work → Type 0
-GoesBack old new = begun_of new.stage.site ≡ begun_of old.stage.site
+GoesBack old new = begun_of new.machine.site ≡ begun_of old.machine.site
 
 -- the site after the whole work, and the id of the post that it is about, or 0
 abbrev pub Works : Result (SiteView × ℕ) ApplyFault → Open → Open × Result ℕ ApplyFault → Type 0

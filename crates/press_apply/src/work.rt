@@ -20,7 +20,7 @@ use crate::fault::ApplyFault;
 use press_callbacks::Kit;
 use press_events::Event;
 use press_posts::{Draft, Fire, Move};
-use press_run::{Job, RunFault, Stage, boot, boot_actions};
+use press_run::{Job, Machine, RunFault, boot, boot_actions};
 use press_site::{Changed, Effect, OpenSite, SiteFault};
 use press_text::{Copied, HookName, Items, OptName, Text, Texts};
 use std::alloc::{AllocError, Global};
@@ -29,12 +29,15 @@ use std::alloc::{AllocError, Global};
 #[derive(Debug)]
 pub struct Work {
     alloc: Global,
-    pub stage: Stage<OpenSite>,
+    pub machine: Machine<OpenSite>,
 }
 
 impl Drop for Work {
     fn drop(self) {
-        let Work { alloc: _, stage: _ } = self;
+        let Work {
+            alloc: _,
+            machine: _,
+        } = self;
     }
 }
 
@@ -64,8 +67,8 @@ impl Work {
             Ok(tables) => tables,
             Err(_) => return Err((site, ApplyFault::NoMemory)),
         };
-        let stage = Stage::over(alloc, tables, site);
-        let mut work = Work { alloc, stage };
+        let machine = Machine::over(alloc, tables, site);
+        let mut work = Work { alloc, machine };
         match work.boot(kit) {
             Ok(()) => Ok(work),
             Err(fault) => Err((work.into_site(), fault)),
@@ -83,10 +86,10 @@ impl Work {
     }
 
     fn into_site(self) -> OpenSite
-        ensures { result ≡ self.stage.site }
+        ensures { result ≡ self.machine.site }
     {
-        let Work { alloc: _, stage } = self;
-        let (site, _) = stage.into_parts();
+        let Work { alloc: _, machine } = self;
+        let (site, _) = machine.into_parts();
         site
     }
 
@@ -94,9 +97,9 @@ impl Work {
         ensures steps { Steps (λ s _. s) (fires (meaning_in kit.now) actions (state_in self.old))
             self.new result }
         ensures back { GoesBack self.old self.new }
-        ensures limit { self.new.stage.met_limit ≡ is_limit result }
+        ensures limit { self.new.machine.met_limit ≡ is_limit result }
     {
-        match self.stage.run(kit, Job::Fires(actions)) {
+        match self.machine.run(kit, Job::Fires(actions)) {
             Ok(_) => Ok(()),
             Err(RunFault::Limit) => Err(ApplyFault::Limit),
             Err(RunFault::NoMemory) => Err(ApplyFault::NoMemory),
@@ -115,7 +118,7 @@ impl Work {
         let hook = HookName::from_valid(self.alloc, hook)?;
         let text = text.copy(self.alloc)?;
         let args = Texts::from_vec(vec![in self.alloc; text]?)?;
-        match self.stage.run(kit, Job::Apply { hook, args }) {
+        match self.machine.run(kit, Job::Apply { hook, args }) {
             Ok(given) => Ok(Text::from_string(given)?),
             Err(RunFault::Limit) => Err(ApplyFault::Limit),
             Err(RunFault::NoMemory) => Err(ApplyFault::NoMemory),
@@ -127,10 +130,10 @@ impl Work {
         ensures steps { Steps (λ s changed. (s, changed)) (changes effect (state_in self.old))
             self.new result }
         ensures back { GoesBack self.old self.new }
-        ensures limit { self.new.stage.met_limit ≡ self.old.stage.met_limit }
+        ensures limit { self.new.machine.met_limit ≡ self.old.machine.met_limit }
         ensures memory { GrowsBehind result (changes effect (state_in self.old)) }
     {
-        Ok(self.stage.site.effect(effect)?)
+        Ok(self.machine.site.effect(effect)?)
     }
 
     /// A change, and what it fires; the id of the post that it is about, or 0.
@@ -171,10 +174,10 @@ impl Work {
         ensures back { GoesBack self.old self.new }
         ensures limit { TellsLimits result self.old self.new }
         ensures memory { GrowsBehind result (passes (update_fault edit.entry.draft.now.status
-            (post_at self.old.stage.site.site.posts edit.entry.id))) }
+            (post_at self.old.machine.site.site.posts edit.entry.id))) }
     {
         let Edit { id, draft } = edit;
-        passes(update_fault(draft.status, self.stage.site.site().post(id)))?;
+        passes(update_fault(draft.status, self.machine.site.site().post(id)))?;
         let draft = self.prepared(kit, draft)?;
         Ok(self.does(kit, Effect::Edit { id, draft })?)
     }
@@ -227,9 +230,9 @@ impl Work {
         ensures back { GoesBack self.old self.new }
         ensures limit { TellsLimits result self.old self.new }
         ensures memory { GrowsBehind result (passes (move_fault Move.Trash
-            (post_at self.old.stage.site.site.posts id))) }
+            (post_at self.old.machine.site.site.posts id))) }
     {
-        passes(move_fault(Move::Trash, self.stage.site.site().post(id)))?;
+        passes(move_fault(Move::Trash, self.machine.site.site().post(id)))?;
         let (before, after) = ("wp_trash_post", "trashed_post");
         let effect = Effect::Move {
             id,
@@ -246,9 +249,9 @@ impl Work {
         ensures back { GoesBack self.old self.new }
         ensures limit { TellsLimits result self.old self.new }
         ensures memory { GrowsBehind result (passes (move_fault Move.Untrash
-            (post_at self.old.stage.site.site.posts id))) }
+            (post_at self.old.machine.site.site.posts id))) }
     {
-        passes(move_fault(Move::Untrash, self.stage.site.site().post(id)))?;
+        passes(move_fault(Move::Untrash, self.machine.site.site().post(id)))?;
         let (before, after) = ("untrash_post", "untrashed_post");
         let effect = Effect::Move {
             id,
@@ -265,9 +268,9 @@ impl Work {
         ensures back { GoesBack self.old self.new }
         ensures limit { TellsLimits result self.old self.new }
         ensures memory { GrowsBehind result (passes (delete_fault
-            (post_at self.old.stage.site.site.posts id))) }
+            (post_at self.old.machine.site.site.posts id))) }
     {
-        passes(delete_fault(self.stage.site.site().post(id)))?;
+        passes(delete_fault(self.machine.site.site().post(id)))?;
         let (before, after) = ("before_delete_post", "deleted_post");
         let effect = Effect::Delete { id };
         Ok(self.between(kit, &Hooks { before, after }, effect, id)?)
@@ -278,7 +281,7 @@ impl Work {
             (changes (Effect.Take event.now) (state_in self.old))
             self.new result }
         ensures back { GoesBack self.old self.new }
-        ensures limit { self.new.stage.met_limit ≡ self.old.stage.met_limit }
+        ensures limit { self.new.machine.met_limit ≡ self.old.machine.met_limit }
     {
         let own = event.copied(self.alloc)?;
         Ok(self.change(Effect::Take(own))?)
@@ -324,7 +327,7 @@ impl Work {
 
     /// The site after the work, with what this answered.
     pub fn ended(self, id: Result<u64, ApplyFault>) -> (OpenSite, Result<u64, ApplyFault>)
-        ensures { result ≡ (self.stage.site, id) }
+        ensures { result ≡ (self.machine.site, id) }
     {
         (self.into_site(), id)
     }
@@ -336,14 +339,14 @@ impl Work {
         ensures back { GoesBack self.old self.new }
         ensures limit { TellsLimits result self.old self.new }
     {
-        let due = self.stage.site.site().due()?;
+        let due = self.machine.site.site().due()?;
         self.take_due(kit, due.as_slice())
     }
 
     #[tactic(auto, unfolding(crate::specs::Apply::ticks), using(crate::proofs::Refusals::no_id_refused))]
     fn take_due(&mut self, kit: &Kit, events: &[Event]) -> Result<u64, ApplyFault>
-        requires { events.now ≡ due self.old.stage.site.site.moment
-            self.old.stage.site.site.events }
+        requires { events.now ≡ due self.old.machine.site.site.moment
+            self.old.machine.site.site.events }
         ensures steps { Steps (λ s id. (s, id)) (ticks (meaning_in kit.now) (state_in self.old))
             self.new result }
         ensures back { GoesBack self.old self.new }

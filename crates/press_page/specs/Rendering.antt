@@ -9,7 +9,7 @@ use Rattle.press_run.specs.Standing.{standing}
 use Rattle.press_page.specs.declared.rendering.Rendering.{Rendering}
 
 abbrev pub state_in : Rendering → State
-state_in r = state_of (standing (λ link. link.0.now) (λ link. Some link.0.now) r.stage)
+state_in r = state_of (standing (λ link. link.0.now) (λ link. Some link.0.now) r.machine)
 
 -- what a kit's callbacks come to there
 abbrev pub meaning_in : {t : _} {F : _} {g : _} → Kit t F g → Meaning

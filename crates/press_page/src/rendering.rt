@@ -15,7 +15,7 @@ use crate::filtered::Filtered;
 use crate::{hooks, template};
 use press_callbacks::Kit;
 use press_posts::{Fire, Post};
-use press_run::{Job, Read, RunFault, Stage, boot_actions};
+use press_run::{Job, Machine, Read, RunFault, boot_actions};
 use press_site::Site;
 use press_text::{HookName, Items, Text, Texts};
 use std::alloc::{AllocError, Global};
@@ -23,12 +23,15 @@ use std::alloc::{AllocError, Global};
 /// A page that is being built, from one boot of a site that is only read.
 pub struct Rendering<'a> {
     alloc: Global,
-    stage: Stage<Read<'a>>,
+    machine: Machine<Read<'a>>,
 }
 
 impl Drop for Rendering<'_> {
     fn drop(self) {
-        let Rendering { alloc: _, stage: _ } = self;
+        let Rendering {
+            alloc: _,
+            machine: _,
+        } = self;
     }
 }
 
@@ -36,20 +39,20 @@ impl<'a> Rendering<'a> {
     /// Fresh tables, nothing counted and nothing written.
     pub fn new(alloc: Global, kit: &Kit, site: &'a Site) -> Result<Rendering<'a>, AllocError>
         ensures booted { IfOk result (λ r. state_in r ≡ booted (kit_view kit.now) site.now) }
-        ensures site { IfOk result (λ r. r.stage.site.0.now ≡ site.now) }
+        ensures site { IfOk result (λ r. r.machine.site.0.now ≡ site.now) }
     {
-        let stage = Stage::new(alloc, kit, Read(site))?;
-        Ok(Rendering { alloc, stage })
+        let machine = Machine::new(alloc, kit, Read(site))?;
+        Ok(Rendering { alloc, machine })
     }
 
     /// The boot's actions, then the page of the posts of these ids.
     #[tactic(auto, unfolding(crate::specs::Page::whole_page))]
     pub fn whole_page(&mut self, kit: &Kit, name: &str, ids: &[u64]) -> Result<(), RunFault>
         ensures { Steps (whole_page (meaning_in kit.now) name.now
-            self.old.stage.site.0.now.posts ids.now (state_in self.old))
+            self.old.machine.site.0.now.posts ids.now (state_in self.old))
             (state_in self.new) result }
     {
-        let site = self.stage.site.0;
+        let site = self.machine.site.0;
         self.opening(kit, name)?;
         self.articles(kit, site, ids)?;
         self.closing(kit)
@@ -57,10 +60,10 @@ impl<'a> Rendering<'a> {
 
     /// What was written.
     pub fn into_text(self) -> String
-        ensures { string_bytes result ≡ self.entry.stage.out }
+        ensures { string_bytes result ≡ self.entry.machine.out }
     {
-        let Rendering { alloc: _, stage } = self;
-        let (_, out) = stage.into_parts();
+        let Rendering { alloc: _, machine } = self;
+        let (_, out) = machine.into_parts();
         out.into_text()
     }
 
@@ -173,9 +176,9 @@ impl<'a> Rendering<'a> {
     fn fires(&mut self, kit: &Kit, actions: Items<Fire>) -> Result<(), RunFault>
         ensures steps { Steps (fires (meaning_in kit.now) actions (state_in self.old))
             (state_in self.new) result }
-        ensures limit { self.new.stage.met_limit ≡ is_limit result }
+        ensures limit { self.new.machine.met_limit ≡ is_limit result }
     {
-        self.stage.run(kit, Job::Fires(actions))?;
+        self.machine.run(kit, Job::Fires(actions))?;
         Ok(())
     }
 
@@ -184,9 +187,9 @@ impl<'a> Rendering<'a> {
     fn puts_filtered(&mut self, kit: &Kit, hook: HookName, args: Texts) -> Result<(), RunFault>
         ensures steps { Steps (puts_filtered (meaning_in kit.now) hook args (state_in self.old))
             (state_in self.new) result }
-        ensures limit { is_limit result ≡ false → self.new.stage.met_limit ≡ false }
+        ensures limit { is_limit result ≡ false → self.new.machine.met_limit ≡ false }
     {
-        let text = self.stage.run(kit, Job::Apply { hook, args })?;
+        let text = self.machine.run(kit, Job::Apply { hook, args })?;
         self.puts(text.as_str())
     }
 
@@ -194,17 +197,17 @@ impl<'a> Rendering<'a> {
     fn applied(&mut self, kit: &Kit, hook: HookName, args: Texts) -> Result<Text, RunFault>
         ensures answers { Answers (apply_hook (meaning_in kit.now) hook args (state_in self.old))
             (state_in self.new) result }
-        ensures limit { self.new.stage.met_limit ≡ is_limit result }
+        ensures limit { self.new.machine.met_limit ≡ is_limit result }
     {
-        let text = self.stage.run(kit, Job::Apply { hook, args })?;
+        let text = self.machine.run(kit, Job::Apply { hook, args })?;
         Ok(Text::from_string(text)?)
     }
 
     fn puts(&mut self, text: &str) -> Result<(), RunFault>
         ensures steps { Steps (puts text.now (state_in self.old)) (state_in self.new) result }
-        ensures full { within (self.old.stage.out ++ text.now) ≡ None → IsErrOf result RunFault.Limit }
-        ensures limit { self.new.stage.met_limit ≡ self.old.stage.met_limit }
+        ensures full { within (self.old.machine.out ++ text.now) ≡ None → IsErrOf result RunFault.Limit }
+        ensures limit { self.new.machine.met_limit ≡ self.old.machine.met_limit }
     {
-        self.stage.out.push(text)
+        self.machine.out.push(text)
     }
 }

@@ -12,7 +12,7 @@ use Rattle.press_run.specs.Run.{Answer, State, answer}
 use Rattle.press_run.specs.Links.{kept}
 use Rattle.press_run.specs.Outcome.{state_of, job_meaning}
 use Rattle.press_run.specs.Standing.{standing}
-use Rattle.press_run.specs.declared.stage.Stage.{Stage}
+use Rattle.press_run.specs.declared.machine.Machine.{Machine}
 use Rattle.press_site.specs.SiteView.{SiteView}
 use Rattle.press_kit.specs.declared.play_file.PlayKind.{PlayKind}
 use Rattle.press_kit.specs.declared.play_file.PlayKind.TheVariants.{Apply, Do}
@@ -45,12 +45,12 @@ unfoldable pub lines : Scripts → List Play → State → List ℕ
 lines scripts [] s = []
 lines scripts (p ∷ ps) s = lines_where (λ s'. lines scripts ps s') (job_meaning effect_on scripts (job_of p) s)
 
--- ---- what a stage of plays stands for, and what one play writes
+-- ---- what a machine of plays stands for, and what one play writes
 
-abbrev pub state_in : Stage SiteView → State
-state_in stage = state_of (standing (λ s. s) (λ s. Some (kept s)) stage)
+abbrev pub state_in : Machine SiteView → State
+state_in machine = state_of (standing (λ s. s) (λ s. Some (kept s)) machine)
 
--- a play was shown on the stage: its line was written, and the stage is as it left it
+-- a play was shown on the machine: its line was written, and the machine is as it left it
 pub record Shows (meaning : Option Answer) (after : State) (old new : List ℕ) : Type 0 where
   pub text : List ℕ
   pub comes : meaning ≡ answer text after

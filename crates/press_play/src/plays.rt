@@ -1,4 +1,4 @@
-//! Plays, each on the stage as the ones before it left it.
+//! Plays, each on the machine as the ones before it left it.
 
 ghost use Rattle.std.specs.Prelude.{◌≡◌, [], IfOk, string_bytes};
 ghost use Rattle.press_site.specs.Effects.{effect_on};
@@ -13,15 +13,15 @@ use crate::retold::Again;
 use press_callbacks::Kit;
 use press_kit::{Play, PlayKind};
 use press_posts::Fire;
-use press_run::{Job, RunFault, Stage};
+use press_run::{Job, Machine, RunFault};
 use press_site::Site;
 use press_text::Items;
 use std::alloc::{AllocError, Global};
 
-// The stage as the plays so far left it, and their lines.
+// The machine as the plays so far left it, and their lines.
 struct Playing {
     alloc: Global,
-    stage: Stage<Site>,
+    machine: Machine<Site>,
     lines: String,
     journal: Journal,
 }
@@ -30,7 +30,7 @@ impl Drop for Playing {
     fn drop(self) {
         let Playing {
             alloc: _,
-            stage: _,
+            machine: _,
             lines: _,
             journal: _,
         } = self;
@@ -40,17 +40,17 @@ impl Drop for Playing {
 impl Playing {
     // A fresh boot of the site, and no line.
     fn new(journal: &Journal, kit: &Kit, site: Site) -> Result<Playing, AllocError>
-        ensures started { IfOk result (λ p. state_in p.stage
+        ensures started { IfOk result (λ p. state_in p.machine
             ≡ started (booted_with (plugins_in kit.now) site.active) site) }
         ensures lines { IfOk result (λ p. string_bytes p.lines ≡ []) }
     {
         let alloc = journal.alloc();
         let journal = journal.copy()?;
-        let stage = Stage::new(alloc, kit, site)?;
+        let machine = Machine::new(alloc, kit, site)?;
         let lines = String::new(alloc);
         Ok(Playing {
             alloc,
-            stage,
+            machine,
             lines,
             journal,
         })
@@ -59,7 +59,7 @@ impl Playing {
     // Does a play once less than it says, each time from where it begins.
     fn rehearse(&self, kit: &Kit, play: &Play) -> Result<(), AllocError> {
         for _time in 1..play.times {
-            let mut again = self.stage.copy(self.alloc)?;
+            let mut again = self.machine.copy(self.alloc)?;
             if let Err(RunFault::NoMemory) = again.run(kit, job(self.alloc, play)?) {
                 return Err(AllocError);
             }
@@ -70,17 +70,17 @@ impl Playing {
     // One play, whose line is put at the end; whether the plays go on.
     fn play(&mut self, kit: &Kit, play: &Play) -> Result<bool, AllocError>
         ensures { Plays
-            (job_meaning effect_on (scripts_in kit.now) (job_of play.now) (state_in self.old.stage))
-            (state_in self.new.stage)
+            (job_meaning effect_on (scripts_in kit.now) (job_of play.now) (state_in self.old.machine))
+            (state_in self.new.machine)
             (string_bytes self.old.lines) (string_bytes self.new.lines) result }
     {
         if play.trace {
             self.journal.begin(play);
         }
-        match self.stage.run(kit, job(self.alloc, play)?) {
+        match self.machine.run(kit, job(self.alloc, play)?) {
             Ok(text) => {
                 self.journal.end(play);
-                let line = answer_line(self.alloc, text.as_str(), self.stage.out.as_str())?;
+                let line = answer_line(self.alloc, text.as_str(), self.machine.out.as_str())?;
                 self.lines.push_str(line.as_str())?;
                 Ok(true)
             }
@@ -98,7 +98,7 @@ impl Playing {
     {
         let Playing {
             alloc: _,
-            stage: _,
+            machine: _,
             lines,
             journal: _,
         } = self;
@@ -106,7 +106,7 @@ impl Playing {
     }
 }
 
-/// What the stage is asked for by a play.
+/// What the machine is asked for by a play.
 pub fn job(alloc: Global, play: &Play) -> Result<Job, AllocError>
     ensures { IfOk result (λ j. j ≡ job_of play.now) }
 {
@@ -132,7 +132,7 @@ pub fn lines_of(
         (started (booted_with (plugins_in kit.now) site.active) site)) }
 {
     let mut playing = Playing::new(journal, kit, site)?;
-    let again = Again::new(journal, &playing.stage)?;
+    let again = Again::new(journal, &playing.machine)?;
     for play in plays {
         playing.rehearse(kit, play)?;
         if !playing.play(kit, play)? {

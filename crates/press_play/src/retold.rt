@@ -4,16 +4,16 @@ use crate::journal::Journal;
 use crate::plays::job;
 use press_callbacks::Kit;
 use press_kit::Play;
-use press_run::{Job, Machine, RunFault, Stage};
+use press_run::{Counts, Job, Machine, RunFault};
 use press_site::Site;
 use press_text::{HookName, Texts};
 use std::alloc::{AllocError, Global};
 use std::mem;
 
-/// The stage as it stood before the first play.
+/// The machine as it stood before the first play.
 pub struct Again {
     alloc: Global,
-    stage: Stage<Site>,
+    machine: Machine<Site>,
     journal: Journal,
 }
 
@@ -21,7 +21,7 @@ impl Drop for Again {
     fn drop(self) {
         let Again {
             alloc: _,
-            stage: _,
+            machine: _,
             journal: _,
         } = self;
     }
@@ -30,31 +30,31 @@ impl Drop for Again {
 // Whether a machine that met a limit has no step left: it is asked for one more, on a boot without plugins, where
 // `the_content` has a built-in callback alone. No clause says what a limit leaves of a machine, and nothing but a note
 // rests on it.
-fn is_spent(alloc: Global, kit: &Kit, machine: &mut Machine) -> Result<bool, AllocError> {
+fn is_spent(alloc: Global, kit: &Kit, counts: &mut Counts) -> Result<bool, AllocError> {
     let hook = HookName::from_valid(alloc, "the_content")?;
     let args = Texts::new(alloc);
-    let mut bare = Stage::new(alloc, kit, Site::new(alloc))?;
-    mem::swap(&mut bare.machine, machine);
+    let mut bare = Machine::new(alloc, kit, Site::new(alloc))?;
+    mem::swap(&mut bare.counts, counts);
     let asked = bare.run(kit, Job::Apply { hook, args });
     Ok(matches!(asked, Err(RunFault::Limit)))
 }
 
 impl Again {
-    /// A copy of the stage.
-    pub fn new(journal: &Journal, stage: &Stage<Site>) -> Result<Again, AllocError> {
+    /// A copy of the machine.
+    pub fn new(journal: &Journal, machine: &Machine<Site>) -> Result<Again, AllocError> {
         let alloc = journal.alloc();
         let journal = journal.copy()?;
-        let stage = stage.copy(alloc)?;
+        let machine = machine.copy(alloc)?;
         Ok(Again {
             alloc,
-            stage,
+            machine,
             journal,
         })
     }
 
     // Whether a play met a limit.
     fn meets_limit(&mut self, kit: &Kit, play: &Play) -> Result<bool, AllocError> {
-        match self.stage.run(kit, job(self.alloc, play)?) {
+        match self.machine.run(kit, job(self.alloc, play)?) {
             Ok(_) => Ok(false),
             Err(RunFault::Limit) => Ok(true),
             Err(RunFault::NoMemory) => Err(AllocError),
@@ -65,7 +65,7 @@ impl Again {
     fn watch(&mut self, kit: &Kit, play: &Play) -> Result<(), AllocError> {
         self.journal.begin(play);
         if self.meets_limit(kit, play)? {
-            let is_spent = is_spent(self.alloc, kit, &mut self.stage.machine)?;
+            let is_spent = is_spent(self.alloc, kit, &mut self.machine.counts)?;
             self.journal.limit(is_spent);
         }
         self.journal.end(play);

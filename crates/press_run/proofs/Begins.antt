@@ -26,7 +26,7 @@ use Rattle.press_run.specs.declared.step.Step.{Step}
 use Rattle.press_run.specs.Links.{Changes, or_no_change, publishes, schedules}
 use Rattle.press_run.specs.Counts.{Counts}
 use Rattle.press_run.specs.Run.{◌>>=◌, only_if, Answer, answer, State, Meaning, most_turns, first_text, do_fires, run_hook, do_hook, scan, change_site, fire_change, one_if, publish, play, fuel, or_empty, at_depth, built_in, built_in_where, turn_step, answers, fits, or_one_empty}
-use Rattle.press_run.specs.Outcome.{Stage, Around, around, state_of, CountsTurn, Refuses}
+use Rattle.press_run.specs.Outcome.{Machine, Around, around, state_of, CountsTurn, Refuses}
 use Rattle.press_run.specs.Frames.{meant, taken, IsFew, turns_left, Goes, Gives, Leaves, Begins, awaited, BeginsAs, Steps, CountsAs, Turns, counted, turned, played, hooked}
 use Rattle.press_run.proofs.Resumed.{awaits, awaits_none}
 use Rattle.press_run.proofs.Steps.{some_depth, built_in_depth, more_turns, no_fires, more_fires}
@@ -41,28 +41,28 @@ turn_counted old new c =
     let lt : old.turns < most_turns = (let t = c.0 in grind (arith, nat_tests)) in
     ap (λ (x : Counts). turns_left x.turns + 2 ^ 70) c.1 ∙ turn_pays old.turns lt
 
-abbrev pub with_counts : Counts → Stage → Stage
+abbrev pub with_counts : Counts → Machine → Machine
 with_counts counts w = record w { counts = counts }
 
-same_around : (w : Stage) (new : Counts) → CountsTurn w.counts new true → around (with_counts new w) ≡ around w
+same_around : (w : Machine) (new : Counts) → CountsTurn w.counts new true → around (with_counts new w) ≡ around w
 same_around w new c = ap (λ x. around (with_counts x w)) c.1
 
 -- ---- what begins as something else
 
-more_goes : (changes : Changes) (scripts : Scripts) (whole : Option Answer) (beside : Around) (n k : ℕ) (f : Frame) (w : Stage) → n ≤ k → Goes changes scripts whole beside n f w → Goes changes scripts whole beside k f w
+more_goes : (changes : Changes) (scripts : Scripts) (whole : Option Answer) (beside : Around) (n k : ℕ) (f : Frame) (w : Machine) → n ≤ k → Goes changes scripts whole beside n f w → Goes changes scripts whole beside k f w
 more_goes changes scripts whole beside n k f w le g = record { same = g.same; stands = g.stands; ready = g.ready; less = omega (arith, g.less, le) }
 
-more_gives : (changes : Changes) (scripts : Scripts) (whole : Option Answer) (beside : Around) (n k : ℕ) (text : List ℕ) (w : Stage) → n ≤ k → Gives changes scripts whole beside n w text → Gives changes scripts whole beside k w text
+more_gives : (changes : Changes) (scripts : Scripts) (whole : Option Answer) (beside : Around) (n k : ℕ) (text : List ℕ) (w : Machine) → n ≤ k → Gives changes scripts whole beside n w text → Gives changes scripts whole beside k w text
 more_gives changes scripts whole beside n k text w le g = record { same = g.same; stands = g.stands; less = omega (arith, g.less, le) }
 
-more_begins : (changes : Changes) (scripts : Scripts) (whole : Option Answer) (beside : Around) (n k : ℕ) (w : Stage) (result : Result Begun RunFault) → n ≤ k
+more_begins : (changes : Changes) (scripts : Scripts) (whole : Option Answer) (beside : Around) (n k : ℕ) (w : Machine) (result : Result Begun RunFault) → n ≤ k
     → MatchResult result (λ b. Begins changes scripts whole beside n w b) (λ fault. Refuses fault whole)
     → MatchResult result (λ b. Begins changes scripts whole beside k w b) (λ fault. Refuses fault whole)
 more_begins changes scripts whole beside n k w (Ok (begun.Opens f)) le g = more_goes changes scripts whole beside n k f w le g
 more_begins changes scripts whole beside n k w (Ok (begun.Gives text)) le g = more_gives changes scripts whole beside n k text w le g
 more_begins changes scripts whole beside n k w (Err fault) le h = h
 
-pub begins_as : (changes : Changes) (scripts : Scripts) (whole whole' : Option Answer) (weighs bound : ℕ) (old old' new : Stage) (result : Result Begun RunFault) → whole' ≡ whole → around old' ≡ around old → turns_left old'.counts.turns + weighs ≤ turns_left old.counts.turns + bound
+pub begins_as : (changes : Changes) (scripts : Scripts) (whole whole' : Option Answer) (weighs bound : ℕ) (old old' new : Machine) (result : Result Begun RunFault) → whole' ≡ whole → around old' ≡ around old → turns_left old'.counts.turns + weighs ≤ turns_left old.counts.turns + bound
     → BeginsAs changes scripts whole' weighs old' new result → BeginsAs changes scripts whole bound old new result
 begins_as changes scripts whole whole' weighs bound old old' new result e a le h =
     let N = turns_left old'.counts.turns + weighs in
@@ -81,12 +81,12 @@ pub fires_answer : (m : Meaning) (fires : List Fire) (s : State) → (do_fires m
 fires_answer m [] s = rw (no_fires m s) refl
 fires_answer m (f ∷ fs) s = rw (more_fires m f fs s) (then_empty m fs (λ s'. fires_answer m fs s') (do_hook m f.hook f.args s))
 
-pub fires_begin : (changes : Changes) (scripts : Scripts) (room : ℕ) (fires : List Fire) (gives : List ℕ) (whole : Option Answer) (w : Stage) → (do_fires (at_depth changes room scripts) fires (state_of w) >>= λ x. answer gives x.state) ≡ whole → length fires < 2 ^ 64
+pub fires_begin : (changes : Changes) (scripts : Scripts) (room : ℕ) (fires : List Fire) (gives : List ℕ) (whole : Option Answer) (w : Machine) → (do_fires (at_depth changes room scripts) fires (state_of w) >>= λ x. answer gives x.state) ≡ whole → length fires < 2 ^ 64
     → Goes changes scripts whole (around w) (turns_left w.counts.turns + 2 ^ 66) (frame.Fires (record { room = room; done = 0; fires = fires; gives = gives })) w
 fires_begin changes scripts room fires gives whole w e few = record { same = e; stands = refl; ready = tt; less = omega (arith, few) }
 
 -- a change that fires nothing is done
-pub change_done : (changes : Changes) (m : Meaning) (w : Stage) (e : Effect) (site : SiteView) (changed : Changed) → (site, changed) ≡ or_no_change w.site (changes w.site e) → changed.fires ≡ []
+pub change_done : (changes : Changes) (m : Meaning) (w : Machine) (e : Effect) (site : SiteView) (changed : Changed) → (site, changed) ≡ or_no_change w.site (changes w.site e) → changed.fires ≡ []
     → answer (one_if changed.did) (record (state_of w) { site = site }) ≡ change_site changes m (state_of w) (Some e)
 change_done changes m w e site changed h none =
     sym (ap (λ fs. do_fires m fs (record (state_of w) { site = site }) >>= λ a. answer (one_if changed.did) a.state) none
@@ -97,7 +97,7 @@ id_answer : (id : List ℕ) (o : Option Answer) (text : List ℕ) (s : State) �
 id_answer id o text s h = ap (λ (x : Option Answer). x >>= λ a. answer id a.state) h
 
 -- and so is what publishes nothing that is fired
-pub publish_done : (changes : Changes) (m : Meaning) (w : Stage) (id : List ℕ) (e : Effect) (site : SiteView) (changed : Changed) → publishes id w.site.moment ≡ Some e → (site, changed) ≡ or_no_change w.site (changes w.site e) → changed.fires ≡ []
+pub publish_done : (changes : Changes) (m : Meaning) (w : Machine) (id : List ℕ) (e : Effect) (site : SiteView) (changed : Changed) → publishes id w.site.moment ≡ Some e → (site, changed) ≡ or_no_change w.site (changes w.site e) → changed.fires ≡ []
     → answer id (record (state_of w) { site = site }) ≡ publish changes m id (state_of w)
 publish_done changes m w id e site changed is h none =
     id_answer id (change_site changes m (state_of w) (Some e)) (one_if changed.did) (record (state_of w) { site = site }) (change_done changes m w e site changed h none)
@@ -118,7 +118,7 @@ pub built_in_late : (changes : Changes) (callback : Meaning) (id : List ℕ) (ca
 built_in_late changes callback id call s lt = ap (λ x. only_if x (record s { turns = s.turns + 1 }) >>= λ s'. built_in_where changes callback (first_text call.args) s' (bytes_eq id do_shortcode)) lt
 
 module _ (changes : Changes) (scripts : Scripts) where
-  pub built_in_begins : (room : ℕ) (id : List ℕ) (call : CallIn) (b : Bool) (argument : List ℕ) (weighs : ℕ) (old new : Stage) (counts : Counts) (result : Result Begun RunFault) → CountsTurn old.counts counts true → argument ≡ first_text call.args → bytes_eq id do_shortcode ≡ b → weighs ≤ 2 ^ 70
+  pub built_in_begins : (room : ℕ) (id : List ℕ) (call : CallIn) (b : Bool) (argument : List ℕ) (weighs : ℕ) (old new : Machine) (counts : Counts) (result : Result Begun RunFault) → CountsTurn old.counts counts true → argument ≡ first_text call.args → bytes_eq id do_shortcode ≡ b → weighs ≤ 2 ^ 70
       → BeginsAs changes scripts (built_in_where changes (at_depth changes room scripts) argument (state_of (with_counts counts old)) b) weighs (with_counts counts old) new result
       → BeginsAs changes scripts (built_in changes (at_depth changes room scripts) id call (state_of old)) 1 old new result
   built_in_begins room id call b argument weighs old new counts result counted first is le h =
@@ -130,7 +130,7 @@ module _ (changes : Changes) (scripts : Scripts) where
       ∙ sym (built_in_counted changes m id call (state_of old) b counted.0 is))
       (same_around old counts counted) (omega (arith, pays, le)) h
 
-  pub opens_built_in : (room : ℕ) (id : List ℕ) (call : CallIn) (old new : Stage) (result : Result Begun RunFault) → 0 < room → is_built_in id ≡ true
+  pub opens_built_in : (room : ℕ) (id : List ℕ) (call : CallIn) (old new : Machine) (result : Result Begun RunFault) → 0 < room → is_built_in id ≡ true
       → BeginsAs changes scripts (built_in changes (at_depth changes (room - 1) scripts) id call (state_of old)) 1 old new result
       → BeginsAs changes scripts (at_depth changes room scripts id call (state_of old)) 1 old new result
   opens_built_in room id call old new result lt own h =
@@ -138,7 +138,7 @@ module _ (changes : Changes) (scripts : Scripts) where
       subst (λ (o : Option Answer). BeginsAs changes scripts o 1 old new result)
       (sym (ap (λ n. at_depth changes n scripts id call (state_of old)) d ∙ built_in_depth changes (room - 1) scripts id call (state_of old) own)) h
 
-  pub opens_callback : (room : ℕ) (id : List ℕ) (place : Option ℕ) (call : CallIn) (w : Stage) → 0 < room → is_built_in id ≡ false → script_at place scripts ≡ script_of id scripts → call.turn ≡ 0
+  pub opens_callback : (room : ℕ) (id : List ℕ) (place : Option ℕ) (call : CallIn) (w : Machine) → 0 < room → is_built_in id ≡ false → script_at place scripts ≡ script_of id scripts → call.turn ≡ 0
       → Goes changes scripts (at_depth changes room scripts id call (state_of w)) (around w) (turns_left w.counts.turns + 1) (frame.Callback (record { room = room - 1; left = 10001; place = place; call = call })) w
   opens_callback room id place call w lt own at first =
       let d : room ≡ suc (room - 1) = omega arith in
@@ -163,7 +163,7 @@ module _ (changes : Changes) (scripts : Scripts) where
   turn_long c turn s lt long = after_counting c turn s true false lt long
 
   -- the rest of a turn that is counted
-  pub turn_counts : (c c' : OpenCallback) (turn : Turn) (old new : Stage) (counts : Counts) (result : Result Step RunFault) → CountsTurn old.counts counts true → fits turn ≡ true
+  pub turn_counts : (c c' : OpenCallback) (turn : Turn) (old new : Machine) (counts : Counts) (result : Result Step RunFault) → CountsTurn old.counts counts true → fits turn ≡ true
       → Turns changes scripts c turn c' (with_counts counts old) new result → CountsAs changes scripts c turn c' old new result
   turn_counts c c' turn old new counts result is_counted fit h =
       let before = counted changes scripts c turn (state_of old) in
@@ -174,7 +174,7 @@ module _ (changes : Changes) (scripts : Scripts) where
       subst (λ n. P before (around old) n) pays (subst (λ a. P before a (turns_left counts.turns + 2 ^ 70)) (same_around old counts is_counted) (subst (λ o. P o (around (with_counts counts old)) (turns_left counts.turns + 2 ^ 70)) meaning h))
 
   -- the turn of a callback is that of its script
-  pub turn_steps : (c c' : OpenCallback) (turn : Turn) (old new : Stage) (result : Result Step RunFault) → 0 < c.left → turn ≡ turn_of (or_empty (script_at c.place scripts)) c.call
+  pub turn_steps : (c c' : OpenCallback) (turn : Turn) (old new : Machine) (result : Result Step RunFault) → 0 < c.left → turn ≡ turn_of (or_empty (script_at c.place scripts)) c.call
       → CountsAs changes scripts (record c { left = c.left - 1 }) turn c' old new result → Steps changes scripts (frame.Callback c) (frame.Callback c') old new result
   turn_steps c c' turn old new result more is h =
       let n : c.left ≡ suc (c.left - 1) = omega arith in
@@ -203,7 +203,7 @@ module _ (changes : Changes) (scripts : Scripts) where
     its_answer None = refl
     its_answer (Some x) = refl
 
-  module _ (c : OpenCallback) (old : Stage) where
+  module _ (c : OpenCallback) (old : Machine) where
     abbrev pub m : Meaning
     m = at_depth changes c.room scripts
 
@@ -229,7 +229,7 @@ module _ (changes : Changes) (scripts : Scripts) where
     publish_comes turn id e is f = rw (is, f) (its_answer c turn (state_of old) (around old) (change_site changes m (state_of old) (publishes id (state_of old).site.moment)))
 
     -- the callback waits for what its turn begins
-    pub asks : (turn : Turn) (o : Option Answer) (weighs : ℕ) (new : Stage) (b : Begun) → ComesTo turn o → weighs ≤ 2 ^ 70 → IsFew 1 c → Begins changes scripts o (around old) (turns_left old.counts.turns + weighs) new b
+    pub asks : (turn : Turn) (o : Option Answer) (weighs : ℕ) (new : Machine) (b : Begun) → ComesTo turn o → weighs ≤ 2 ^ 70 → IsFew 1 c → Begins changes scripts o (around old) (turns_left old.counts.turns + weighs) new b
         → Leaves changes scripts (turned changes scripts c turn (state_of old)) (around old) (turns_left old.counts.turns + 2 ^ 70) (frame.Callback c) new (awaited b)
     asks turn o weighs new b comes le few h = awaits changes scripts o (turned changes scripts c turn (state_of old)) (around old) weighs (turns_left old.counts.turns + 2 ^ 70) (frame.Callback c) old new b comes refl few (omega (arith, le)) h
 

@@ -16,7 +16,7 @@ use Rattle.press_run.specs.declared.frame.Frame.TheVariants as frame
 use Rattle.press_run.specs.Links.{Changes}
 use Rattle.press_run.specs.Counts.{Counts}
 use Rattle.press_run.specs.Run.{◌>>=◌, Answer, answer, Meaning, at_depth, do_fires, do_hook, run_entries, first_text, hook_call, handed_on, without_last}
-use Rattle.press_run.specs.Outcome.{Stage, Around, around, state_of, innermost, Refuses}
+use Rattle.press_run.specs.Outcome.{Machine, Around, around, state_of, innermost, Refuses}
 use Rattle.press_run.specs.Frames.{meant, taken, round, shown, turns_left, weight, Gives, Leaves, Begins, Calls, Moves, awaited, moved}
 use Rattle.press_run.proofs.Resumed.{awaits, awaits_called, awaits_none}
 use Rattle.press_run.proofs.Steps.{no_entries, with_table, entries_step, around_kept, open_kept, one_fire, fires_end}
@@ -27,7 +27,7 @@ bind_assoc (Some x) f g = refl
 
 -- ---- the entries of a hook
 
-module _ (changes : Changes) (scripts : Scripts) (h : OpenHook) (w : Stage) where
+module _ (changes : Changes) (scripts : Scripts) (h : OpenHook) (w : Machine) where
   abbrev pub m : Meaning
   m = at_depth changes h.room scripts
 
@@ -82,7 +82,7 @@ module _ (changes : Changes) (scripts : Scripts) (h : OpenHook) (w : Stage) wher
           ∙ ap (λ (x : CallIn). (m e.callback x (state_of (with_table t w)) >>= goes_on) >>= run_answer) is
           ∙ sym (ap (λ o. o >>= run_answer) (entries_step m h.kind h.args h.run w t h.left (h.left - 1) left_more stands on (Some e) some))
 
-      pub entry_calls : (new : Stage) (b : Called) → Calls changes scripts asked (around (with_table t w)) (turns_left w.counts.turns + 1) new b → Moves changes scripts whole beside bound (frame.Hook one_less) new (moved b)
+      pub entry_calls : (new : Machine) (b : Called) → Calls changes scripts asked (around (with_table t w)) (turns_left w.counts.turns + 1) new b → Moves changes scripts whole beside bound (frame.Hook one_less) new (moved b)
       entry_calls new b g =
           awaits_called changes scripts asked whole beside 1 bound (frame.Hook one_less) (with_table t w) new b entry_comes beside_kept (open_kept m h.kind h.args h.run w t h.left (h.left - 1) left_more stands on) (omega arith) g
 
@@ -97,7 +97,7 @@ past fires i none = by (slice_get_cases fires i).1 where
   by (inl s) = (let clash = none ∙ s.2 in cc)
   by (inr p) = p.0
 
-module _ (changes : Changes) (scripts : Scripts) (f : OpenFires) (w : Stage) where
+module _ (changes : Changes) (scripts : Scripts) (f : OpenFires) (w : Machine) where
   abbrev pub fired : Option Answer
   fired = meant changes scripts (frame.Fires f) (around w) (state_of w)
 
@@ -128,7 +128,7 @@ module _ (changes : Changes) (scripts : Scripts) (f : OpenFires) (w : Stage) whe
         ∙ ap (λ a. (do_hook c fire.hook a (state_of w) >>= λ x. do_fires c (drop (f.done + 1) f.fires) x.state) >>= λ x. answer f.gives x.state) same
         ∙ sym (ap (λ o. o >>= λ x. answer f.gives x.state) (one_fire c f.fires f.done fire (state_of w) lt at))
 
-    pub fire_starts : (new : Stage) (b : Begun) → Begins changes scripts started (around w) (turns_left w.counts.turns + 3) new b → Leaves changes scripts fired (around w) (turns_left w.counts.turns + weight (frame.Fires f)) (frame.Fires next) new (awaited b)
+    pub fire_starts : (new : Machine) (b : Begun) → Begins changes scripts started (around w) (turns_left w.counts.turns + 3) new b → Leaves changes scripts fired (around w) (turns_left w.counts.turns + weight (frame.Fires f)) (frame.Fires next) new (awaited b)
     fire_starts new b g = awaits changes scripts started fired (around w) 3 (turns_left w.counts.turns + weight (frame.Fires f)) (frame.Fires next) w new b fire_comes refl tt (omega (arith, lt)) g
 
     pub fire_stops : (fault : RunFault) → Refuses fault started → Refuses fault fired

@@ -11,13 +11,13 @@ use Rattle.press_run.specs.declared.frame.OpenScan.{OpenScan}
 use Rattle.press_run.specs.declared.frame.Frame.TheVariants as frame
 use Rattle.press_run.specs.Links.{Changes}
 use Rattle.press_run.specs.Run.{◌>>=◌, Answer, at_depth, is_short, shortcode_call, tag_answer}
-use Rattle.press_run.specs.Outcome.{Stage, around, state_of, Refuses}
+use Rattle.press_run.specs.Outcome.{Machine, around, state_of, Refuses}
 use Rattle.press_run.specs.Frames.{meant, taken, put, scanned, turns_left, weight, Awaits, GoesOn, Goes, Gives, Moves, moved}
 use Rattle.press_run.specs.Frames as frames
 use Rattle.press_run.proofs.Resumed.{awaits_called, awaits_none}
 use Rattle.press_run.proofs.Scans.{ComputesSome, ComputesNone, EndsWithin, text_taken, text_inside, shortcode_waits, scan_ends}
 
-module _ (some : ComputesSome) (none : ComputesNone) (ends : EndsWithin) (changes : Changes) (scripts : Scripts) (old : OpenScan) (w : Stage) (short : is_short old.scan.output ≡ true) (ready : GoesOn old.scan) where
+module _ (some : ComputesSome) (none : ComputesNone) (ends : EndsWithin) (changes : Changes) (scripts : Scripts) (old : OpenScan) (w : Machine) (short : is_short old.scan.output ≡ true) (ready : GoesOn old.scan) where
   abbrev pub whole : Option Answer
   whole = meant changes scripts (frame.Scan old) (around w) (state_of w)
 
@@ -54,7 +54,7 @@ module _ (some : ComputesSome) (none : ComputesNone) (ends : EndsWithin) (change
     call_awaits : Awaits new
     call_awaits = rw calls.waits (let w' = ends old.scan.text (names_of w.tags) old.scan.at c calls.stands in record { shortcode = c; waiting = refl; short = ready.1; more = w'.0; inside = w'.1 })
 
-    pub call_begins : (after : Stage) (b : Called) → frames.Calls changes scripts (called_on text) (around w) (turns_left w.counts.turns + 2) after b → Moves changes scripts whole (around w) bound (frame.Scan (with_scan new)) after (moved b)
+    pub call_begins : (after : Machine) (b : Called) → frames.Calls changes scripts (called_on text) (around w) (turns_left w.counts.turns + 2) after b → Moves changes scripts whole (around w) bound (frame.Scan (with_scan new)) after (moved b)
     call_begins after b g =
         let length_same : length new.text ≡ length old.scan.text = ap (λ (p : Progress). length p.text) calls.waits in
         let at_same : new.at ≡ old.scan.at = ap (λ (p : Progress). p.at) calls.waits in

@@ -13,13 +13,13 @@ use Rattle.press_run.specs.declared.step.Step.{Step}
 use Rattle.press_run.specs.declared.step.Step.TheVariants as step
 use Rattle.press_run.specs.Links.{Changes}
 use Rattle.press_run.specs.Run.{◌>>=◌, Answer, answer}
-use Rattle.press_run.specs.Outcome.{Stage, Around, around, state_of, GivesText, Refuses}
+use Rattle.press_run.specs.Outcome.{Machine, Around, around, state_of, GivesText, Refuses}
 use Rattle.press_run.specs.Frames.{meant, taken, round, resumed, Ready, Waits, TakesAnswer, Stand, turns_left, weight, weight_waiting, all_wait, Goes, Opens, Nests, Takes, Gives, Leaves, Begins, Calls, Moves, awaited, moved}
 
 -- ---- what is awaited comes to what it began as
 
 module _ (changes : Changes) (scripts : Scripts) where
-  module _ (o whole : Option Answer) (beside : Around) (weighs bound : ℕ) (f : Frame) (old new : Stage) where
+  module _ (o whole : Option Answer) (beside : Around) (weighs bound : ℕ) (f : Frame) (old new : Machine) where
     abbrev pub Comes : Type 0
     Comes = (o >>= λ x. meant changes scripts (taken f x.text) (around old) x.state) ≡ whole
 
@@ -63,13 +63,13 @@ module _ (changes : Changes) (scripts : Scripts) where
     awaits_called (called.Begun b) comes stands waits le g = awaits b comes stands waits le g
     awaits_called (called.Waits callback inner) comes stands waits le g = nests_awaited callback inner comes stands waits le g
 
-  pub awaits_none : (o whole : Option Answer) (f : Frame) (old : Stage) (fault : RunFault) → (o >>= λ x. meant changes scripts (taken f x.text) (around old) x.state) ≡ whole → Refuses fault o → Refuses fault whole
+  pub awaits_none : (o whole : Option Answer) (f : Frame) (old : Machine) (fault : RunFault) → (o >>= λ x. meant changes scripts (taken f x.text) (around old) x.state) ≡ whole → Refuses fault o → Refuses fault whole
   awaits_none o whole f old Limit comes none = sym comes ∙ ap (λ p. p >>= λ x. meant changes scripts (taken f x.text) (around old) x.state) none
   awaits_none o whole f old NoMemory comes none = tt
 
 -- ---- what is left of a whole run, with its innermost frame on top
 
-pub record Playing (changes : Changes) (scripts : Scripts) (whole : Option Answer) (base : Around) (waiting : List Frame) (top : Frame) (w : Stage) : Type 0 where
+pub record Playing (changes : Changes) (scripts : Scripts) (whole : Option Answer) (base : Around) (waiting : List Frame) (top : Frame) (w : Machine) : Type 0 where
   pub same : resumed changes scripts waiting (round top (around w)) (meant changes scripts top (around w) (state_of w)) ≡ whole
   pub stands : Stand waiting (round top (around w)) base
   pub ready : Ready top (around w)
@@ -142,20 +142,20 @@ stand_fixed : (fs : List Frame) (a base : Around) → Stand fs a base → a.fixe
 stand_fixed [] a base h = ap (λ (x : Around). x.fixed) (none_stood a base h)
 stand_fixed (f ∷ fs) a base h = sym (round_fixed f a) ∙ stand_fixed fs (round f a) base (more_stood f fs a base h).1
 
-pub plays_fixed : (changes : Changes) (scripts : Scripts) (whole : Option Answer) (waiting : List Frame) (top first : Frame) (w start : Stage) → Playing changes scripts whole (round first (around start)) waiting top w → w.fixed ≡ start.fixed
+pub plays_fixed : (changes : Changes) (scripts : Scripts) (whole : Option Answer) (waiting : List Frame) (top first : Frame) (w start : Machine) → Playing changes scripts whole (round first (around start)) waiting top w → w.fixed ≡ start.fixed
 plays_fixed changes scripts whole waiting top first w start p =
     sym (round_fixed top (around w)) ∙ stand_fixed waiting (round top (around w)) (round first (around start)) p.stands ∙ round_fixed first (around start)
 
 module _ (changes : Changes) (scripts : Scripts) where
   -- a run at its start
-  pub begins : (top : Frame) (w : Stage) → Ready top (around w) → Playing changes scripts (meant changes scripts top (around w) (state_of w)) (round top (around w)) [] top w
+  pub begins : (top : Frame) (w : Machine) → Ready top (around w) → Playing changes scripts (meant changes scripts top (around w) (state_of w)) (round top (around w)) [] top w
   begins top w ready = record {
     same = no_frames changes scripts (round top (around w)) (meant changes scripts top (around w) (state_of w));
     stands = none_stand (round top (around w));
     ready = ready;
   }
 
-  module _ (whole : Option Answer) (base : Around) (waiting : List Frame) (top : Frame) (old : Stage) (p : Playing changes scripts whole base waiting top old) where
+  module _ (whole : Option Answer) (base : Around) (waiting : List Frame) (top : Frame) (old : Machine) (p : Playing changes scripts whole base waiting top old) where
     abbrev pub bound : ℕ
     bound = turns_left old.counts.turns + weight top
 
@@ -163,7 +163,7 @@ module _ (changes : Changes) (scripts : Scripts) where
     same_as : (o : Option Answer) (a : Around) → o ≡ meant changes scripts top (around old) (state_of old) → a ≡ round top (around old) → resumed changes scripts waiting a o ≡ whole
     same_as o a e r = ap (λ x. resumed changes scripts waiting x o) r ∙ ap (resumed changes scripts waiting (round top (around old))) e ∙ p.same
 
-    pub opens : (top' inner inner' : Frame) (waiting' : List Frame) (w : Stage) → inner' ≡ inner → waiting' ≡ top' ∷ waiting → Opens changes scripts (meant changes scripts top (around old) (state_of old)) (round top (around old)) bound top' w inner → Playing changes scripts whole base waiting' inner' w
+    pub opens : (top' inner inner' : Frame) (waiting' : List Frame) (w : Machine) → inner' ≡ inner → waiting' ≡ top' ∷ waiting → Opens changes scripts (meant changes scripts top (around old) (state_of old)) (round top (around old)) bound top' w inner → Playing changes scripts whole base waiting' inner' w
     opens top' inner inner' waiting' w on_top pushed g = subst (λ x. Playing changes scripts whole base waiting' x w) (sym on_top) (
         let a = round inner (around w) in
         let o = meant changes scripts inner (around w) (state_of w) in
@@ -173,13 +173,13 @@ module _ (changes : Changes) (scripts : Scripts) where
           ready = g.ready;
         })
 
-    pub opens_less : (top' inner inner' : Frame) (waiting' : List Frame) (w : Stage) → inner' ≡ inner → waiting' ≡ top' ∷ waiting → Opens changes scripts (meant changes scripts top (around old) (state_of old)) (round top (around old)) bound top' w inner → turns_left w.counts.turns + (weight inner' + all_wait waiting') < turns_left old.counts.turns + (weight top + all_wait waiting)
+    pub opens_less : (top' inner inner' : Frame) (waiting' : List Frame) (w : Machine) → inner' ≡ inner → waiting' ≡ top' ∷ waiting → Opens changes scripts (meant changes scripts top (around old) (state_of old)) (round top (around old)) bound top' w inner → turns_left w.counts.turns + (weight inner' + all_wait waiting') < turns_left old.counts.turns + (weight top + all_wait waiting)
     opens_less top' inner inner' waiting' w on_top pushed g =
         let i : weight inner' ≡ weight inner = ap weight on_top in
         let e : all_wait waiting' ≡ weight_waiting top' + all_wait waiting = ap all_wait pushed ∙ more_wait top' waiting in
         omega (arith, e, i, g.less)
 
-    module _ (top' callback inner inner' : Frame) (waiting' waiting'' : List Frame) (w : Stage) (on_top : inner' ≡ inner) (first : waiting' ≡ top' ∷ waiting) (second : waiting'' ≡ callback ∷ waiting') (g : Nests changes scripts (meant changes scripts top (around old) (state_of old)) (round top (around old)) bound top' w callback inner) where
+    module _ (top' callback inner inner' : Frame) (waiting' waiting'' : List Frame) (w : Machine) (on_top : inner' ≡ inner) (first : waiting' ≡ top' ∷ waiting) (second : waiting'' ≡ callback ∷ waiting') (g : Nests changes scripts (meant changes scripts top (around old) (state_of old)) (round top (around old)) bound top' w callback inner) where
       all_pushed : waiting'' ≡ callback ∷ (top' ∷ waiting)
       all_pushed = second ∙ ap (λ fs. callback ∷ fs) first
 
@@ -202,7 +202,7 @@ module _ (changes : Changes) (scripts : Scripts) where
           let e' : all_wait (top' ∷ waiting) ≡ weight_waiting top' + all_wait waiting = more_wait top' waiting in
           omega (arith, e, e', i, g.less)
 
-    module _ (text : List ℕ) (w : Stage) (g : Gives changes scripts (meant changes scripts top (around old) (state_of old)) (round top (around old)) bound w text) where
+    module _ (text : List ℕ) (w : Machine) (g : Gives changes scripts (meant changes scripts top (around old) (state_of old)) (round top (around old)) bound w text) where
       pub ends : waiting ≡ [] → (whole ≡ answer text (state_of w)) × (around w ≡ base)
       ends e =
           let all : resumed changes scripts [] (around w) (answer text (state_of w)) ≡ whole = ap (λ fs. resumed changes scripts fs (around w) (answer text (state_of w))) (sym e) ∙ same_as (answer text (state_of w)) (around w) g.same g.stands in
@@ -241,17 +241,17 @@ module _ (changes : Changes) (scripts : Scripts) where
     stops NoMemory none = tt
 
 -- a run of what a job began with is the job's
-pub job_runs : (o whole : Option Answer) (a beside : Around) (w : Stage) (result : Result (List ℕ) RunFault) → o ≡ whole → a ≡ beside → GivesText o a w result → GivesText whole beside w result
+pub job_runs : (o whole : Option Answer) (a beside : Around) (w : Machine) (result : Result (List ℕ) RunFault) → o ≡ whole → a ≡ beside → GivesText o a w result → GivesText whole beside w result
 job_runs o whole a beside w result e r h = subst (λ x. GivesText x beside w result) e (subst (λ x. GivesText o x w result) r h)
 
 -- ---- a callback that takes its turns where it is called
 
 module _ (changes : Changes) (scripts : Scripts) (whole : Option Answer) (beside : Around) (bound : ℕ) where
-  pub turns_begin : (f : Frame) (w : Stage) → Ready f (around w) → turns_left w.counts.turns + weight f < bound → meant changes scripts f (around w) (state_of w) ≡ whole → round f (around w) ≡ beside → Goes changes scripts whole beside bound f w
+  pub turns_begin : (f : Frame) (w : Machine) → Ready f (around w) → turns_left w.counts.turns + weight f < bound → meant changes scripts f (around w) (state_of w) ≡ whole → round f (around w) ≡ beside → Goes changes scripts whole beside bound f w
   turns_begin f w ready less same stands = record { same = same; stands = stands; ready = ready; less = less }
 
-  module _ (f : Frame) (old : Stage) (g : Goes changes scripts whole beside bound f old) where
-    pub then_leaves : (f' : Frame) (w : Stage) (s : Step) → Leaves changes scripts (meant changes scripts f (around old) (state_of old)) (round f (around old)) (turns_left old.counts.turns + weight f) f' w s → Leaves changes scripts whole beside bound f' w s
+  module _ (f : Frame) (old : Machine) (g : Goes changes scripts whole beside bound f old) where
+    pub then_leaves : (f' : Frame) (w : Machine) (s : Step) → Leaves changes scripts (meant changes scripts f (around old) (state_of old)) (round f (around old)) (turns_left old.counts.turns + weight f) f' w s → Leaves changes scripts whole beside bound f' w s
     then_leaves f' w step.Goes h = record { same = h.same ∙ g.same; stands = h.stands ∙ g.stands; ready = h.ready; less = omega (arith, h.less, g.less) }
     then_leaves f' w (step.Opens inner) h = record { same = h.same ∙ g.same; stands = h.stands ∙ g.stands; waits = h.waits; ready = h.ready; less = omega (arith, h.less, g.less) }
     then_leaves f' w (step.Takes text) h = record { same = h.same ∙ g.same; stands = h.stands ∙ g.stands; waits = h.waits; less = omega (arith, h.less, g.less) }
@@ -260,7 +260,7 @@ module _ (changes : Changes) (scripts : Scripts) (whole : Option Answer) (beside
     pub then_refused : (fault : RunFault) → Refuses fault (meant changes scripts f (around old) (state_of old)) → Refuses fault whole
     then_refused fault h = subst (Refuses fault) g.same h
 
-  pub takes_on : (f f' : Frame) (w : Stage) (text : List ℕ) → f' ≡ taken f text → Takes changes scripts whole beside bound f w text → Goes changes scripts whole beside bound f' w
+  pub takes_on : (f f' : Frame) (w : Machine) (text : List ℕ) → f' ≡ taken f text → Takes changes scripts whole beside bound f w text → Goes changes scripts whole beside bound f' w
   takes_on f f' w text e t = subst (λ x. Goes changes scripts whole beside bound x w) (sym e) (
       let l : weight (taken f text) ≤ weight_waiting f + 1 = taken_less f text (around w) t.waits in
       record { same = t.same; stands = same_round f text (around w) ∙ t.stands; ready = taken_ready f text (around w) t.waits; less = omega (arith, t.less, l) })

@@ -16,7 +16,7 @@ use Rattle.press_run.specs.declared.step.Kind.{Kind}
 use Rattle.press_posts.specs.declared.fire.Fire.{Fire}
 use Rattle.press_run.specs.Links.{Changes}
 use Rattle.press_run.specs.Run.{◌>>=◌, State, Answer, answer, Meaning, Stepped, run_entries, do_hook, do_fires, play, at_depth, call_entry, after_step, counted_step, handed_on, fuel, or_empty, without_last, built_in, callback_where, fits, most_turns, only_if, turn_step}
-use Rattle.press_run.specs.Outcome.{Stage, innermost, state_of}
+use Rattle.press_run.specs.Outcome.{Machine, innermost, state_of}
 
 pub no_depth : (changes : Changes) (scripts : Scripts) (id : List ℕ) (call : CallIn) (s : State) → at_depth changes 0 scripts id call s ≡ None
 unfolding at_depth
@@ -82,12 +82,12 @@ innermost_entry : (rows : List Row) (runs : List OpenRun) (id : ℕ) → is_inne
 innermost_entry rows [] id h = cc
 innermost_entry rows (r ∷ rs) id h = refl
 
-abbrev pub with_table : Table → Stage → Stage
+abbrev pub with_table : Table → Machine → Machine
 with_table t w = record w { hooks = t }
 
 -- ---- the next entry of a run
 
-module _ (m : Meaning) (kind : Kind) (args : List (List ℕ)) (id : ℕ) (w : Stage) (t : Table) (k n : ℕ) (long : k ≡ suc n) (open_run : is_innermost id w.hooks.open_runs ≡ true) (on : t ≡ run_advanced w.hooks) where
+module _ (m : Meaning) (kind : Kind) (args : List (List ℕ)) (id : ℕ) (w : Machine) (t : Table) (k n : ℕ) (long : k ≡ suc n) (open_run : is_innermost id w.hooks.open_runs ≡ true) (on : t ≡ run_advanced w.hooks) where
   pub entries_step : (o : Option Entry) → o ≡ entry_next w.hooks.rows w.hooks.open_runs → run_entries m kind k args (innermost w.hooks.open_runs) (state_of w) ≡ call_entry m (λ text s'. run_entries m kind n (handed_on kind text args) (innermost t.open_runs) s') args (state_of (with_table t w)) o
   entries_step o e =
       let inner : innermost t.open_runs ≡ next_run w.hooks.rows (innermost w.hooks.open_runs) = ap (λ (x : Table). innermost x.open_runs) on ∙ innermost_advanced w.hooks.rows w.hooks.open_runs id open_run in

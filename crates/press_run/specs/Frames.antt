@@ -22,7 +22,7 @@ use Rattle.press_run.specs.declared.step.Moved.{Moved}
 use Rattle.press_run.specs.declared.step.Moved.TheVariants as moves
 use Rattle.press_run.specs.Links.{Changes}
 use Rattle.press_run.specs.Run.{◌>>=◌, without_last, Answer, answer, State, Meaning, Stepped, within, scan_from, run_hook, run_entries, do_fires, play, at_depth, or_empty, after_step, counted_step, turn_step, handed_on, next_call, most_turns}
-use Rattle.press_run.specs.Outcome.{Stage, Around, around, state_of, innermost, Refuses}
+use Rattle.press_run.specs.Outcome.{Machine, Around, around, state_of, innermost, Refuses}
 
 -- ---- what a frame comes to
 
@@ -144,14 +144,14 @@ all_wait (f ∷ fs) = weight_waiting f + all_wait fs
 
 module _ (changes : Changes) (scripts : Scripts) (whole : Option Answer) (beside : Around) (bound : ℕ) where
   -- a frame that goes on
-  pub record Goes (f : Frame) (w : Stage) : Type 0 where
+  pub record Goes (f : Frame) (w : Machine) : Type 0 where
     pub same : meant changes scripts f (around w) (state_of w) ≡ whole
     pub stands : round f (around w) ≡ beside
     pub ready : Ready f (around w)
     pub less : turns_left w.counts.turns + weight f < bound
 
   -- a frame that waits for another one
-  pub record Opens (f : Frame) (w : Stage) (inner : Frame) : Type 0 where
+  pub record Opens (f : Frame) (w : Machine) (inner : Frame) : Type 0 where
     pub same : (meant changes scripts inner (around w) (state_of w) >>= λ x. meant changes scripts (taken f x.text) (round inner (around w)) x.state) ≡ whole
     pub stands : round f (round inner (around w)) ≡ beside
     pub waits : Waits f (round inner (around w))
@@ -159,7 +159,7 @@ module _ (changes : Changes) (scripts : Scripts) (whole : Option Answer) (beside
     pub less : turns_left w.counts.turns + (weight inner + weight_waiting f) < bound
 
   -- a frame that waits for a callback, which waits for another one
-  pub record Nests (f : Frame) (w : Stage) (callback inner : Frame) : Type 0 where
+  pub record Nests (f : Frame) (w : Machine) (callback inner : Frame) : Type 0 where
     pub same : ((meant changes scripts inner (around w) (state_of w) >>= λ x. meant changes scripts (taken callback x.text) (round inner (around w)) x.state)
         >>= λ y. meant changes scripts (taken f y.text) (round callback (round inner (around w))) y.state) ≡ whole
     pub stands : round f (round callback (round inner (around w))) ≡ beside
@@ -169,33 +169,33 @@ module _ (changes : Changes) (scripts : Scripts) (whole : Option Answer) (beside
     pub less : turns_left w.counts.turns + (weight inner + (weight_waiting callback + weight_waiting f)) < bound
 
   -- a frame that waits for this text
-  pub record Takes (f : Frame) (w : Stage) (text : List ℕ) : Type 0 where
+  pub record Takes (f : Frame) (w : Machine) (text : List ℕ) : Type 0 where
     pub same : meant changes scripts (taken f text) (around w) (state_of w) ≡ whole
     pub stands : round f (around w) ≡ beside
     pub waits : Waits f (around w)
     pub less : turns_left w.counts.turns + (weight_waiting f + 1) < bound
 
   -- an answer
-  pub record Gives (w : Stage) (text : List ℕ) : Type 0 where
+  pub record Gives (w : Machine) (text : List ℕ) : Type 0 where
     pub same : answer text (state_of w) ≡ whole
     pub stands : around w ≡ beside
     pub less : turns_left w.counts.turns + 1 < bound
 
-  abbrev pub Leaves : Frame → Stage → Step → Type 0
+  abbrev pub Leaves : Frame → Machine → Step → Type 0
   Leaves f w step.Goes = Goes f w
   Leaves f w (step.Opens inner) = Opens f w inner
   Leaves f w (step.Takes text) = Takes f w text
   Leaves f w (step.Gives text) = Gives w text
 
-  abbrev pub Begins : Stage → Begun → Type 0
+  abbrev pub Begins : Machine → Begun → Type 0
   Begins w (begun.Opens f) = Goes f w
   Begins w (begun.Gives text) = Gives w text
 
-  abbrev pub Calls : Stage → Called → Type 0
+  abbrev pub Calls : Machine → Called → Type 0
   Calls w (called.Begun b) = Begins w b
   Calls w (called.Waits callback inner) = Opens callback w inner
 
-  abbrev pub Moves : Frame → Stage → Moved → Type 0
+  abbrev pub Moves : Frame → Machine → Moved → Type 0
   Moves f w (moves.By s) = Leaves f w s
   Moves f w (moves.Calls callback inner) = Nests f w callback inner
 
@@ -209,23 +209,23 @@ moved (called.Begun b) = moves.By (awaited b)
 moved (called.Waits callback inner) = moves.Calls callback inner
 
 -- what began is to come to this
-abbrev pub BeginsAs : Changes → Scripts → Option Answer → ℕ → Stage → Stage → Result Begun RunFault → Type 0
+abbrev pub BeginsAs : Changes → Scripts → Option Answer → ℕ → Machine → Machine → Result Begun RunFault → Type 0
 BeginsAs changes scripts whole weighs old new result =
     MatchResult result (λ b. Begins changes scripts whole (around old) (turns_left old.counts.turns + weighs) new b) (λ fault. Refuses fault whole)
 
 -- a frame makes one step
-abbrev pub Steps : Changes → Scripts → Frame → Frame → Stage → Stage → Result Step RunFault → Type 0
+abbrev pub Steps : Changes → Scripts → Frame → Frame → Machine → Machine → Result Step RunFault → Type 0
 Steps changes scripts f f' old new result = MatchResult result
     (λ s. Leaves changes scripts (meant changes scripts f (around old) (state_of old)) (round f (around old)) (turns_left old.counts.turns + weight f) f' new s)
     (λ fault. Refuses fault (meant changes scripts f (around old) (state_of old)))
 
 -- what a callback began with is to come to this
-abbrev pub CallsAs : Changes → Scripts → Option Answer → ℕ → Stage → Stage → Result Called RunFault → Type 0
+abbrev pub CallsAs : Changes → Scripts → Option Answer → ℕ → Machine → Machine → Result Called RunFault → Type 0
 CallsAs changes scripts whole weighs old new result =
     MatchResult result (λ c. Calls changes scripts whole (around old) (turns_left old.counts.turns + weighs) new c) (λ fault. Refuses fault whole)
 
 -- the innermost frame moves
-abbrev pub MovesTo : Changes → Scripts → Frame → Frame → Stage → Stage → Result Moved RunFault → Type 0
+abbrev pub MovesTo : Changes → Scripts → Frame → Frame → Machine → Machine → Result Moved RunFault → Type 0
 MovesTo changes scripts f f' old new result = MatchResult result
     (λ m. Moves changes scripts (meant changes scripts f (around old) (state_of old)) (round f (around old)) (turns_left old.counts.turns + weight f) f' new m)
     (λ fault. Refuses fault (meant changes scripts f (around old) (state_of old)))
@@ -243,12 +243,12 @@ turned changes scripts c turn s = turn_step changes (at_depth changes c.room scr
 abbrev pub counted : Changes → Scripts → OpenCallback → Turn → State → Option Answer
 counted changes scripts c turn s = counted_step changes (at_depth changes c.room scripts) c.call turn s >>= played changes scripts c
 
-abbrev pub PlaysAs : Changes → Scripts → Option Answer → ℕ → OpenCallback → Stage → Stage → Result Step RunFault → Type 0
+abbrev pub PlaysAs : Changes → Scripts → Option Answer → ℕ → OpenCallback → Machine → Machine → Result Step RunFault → Type 0
 PlaysAs changes scripts whole weighs c' old new result = MatchResult result
     (λ s. Leaves changes scripts whole (around old) (turns_left old.counts.turns + weighs) (frame.Callback c') new s)
     (λ fault. Refuses fault whole)
 
-abbrev pub CountsAs : Changes → Scripts → OpenCallback → Turn → OpenCallback → Stage → Stage → Result Step RunFault → Type 0
+abbrev pub CountsAs : Changes → Scripts → OpenCallback → Turn → OpenCallback → Machine → Machine → Result Step RunFault → Type 0
 CountsAs changes scripts c turn c' old new result = PlaysAs changes scripts (counted changes scripts c turn (state_of old)) 0 c' old new result
 
 -- a turn that the callback goes on from or ends by, one that begins what it waits for, one that edits the hooks, and one that edits the tags or asks
@@ -271,5 +271,5 @@ group (turns.RemoveTag t) = 3
 group (turns.Ask a) = 3
 
 -- the turn is counted already
-abbrev pub Turns : Changes → Scripts → OpenCallback → Turn → OpenCallback → Stage → Stage → Result Step RunFault → Type 0
+abbrev pub Turns : Changes → Scripts → OpenCallback → Turn → OpenCallback → Machine → Machine → Result Step RunFault → Type 0
 Turns changes scripts c turn c' old new result = PlaysAs changes scripts (turned changes scripts c turn (state_of old)) (2 ^ 70) c' old new result

@@ -17,8 +17,8 @@ use Rattle.press_run.specs.Run.{Answer, answer, State, within, do_fires, apply_h
 use Rattle.press_callbacks.specs.Kits.{Scripts}
 use Rattle.std.specs.Prelude.{String, string_bytes}
 
--- the tables, the counts of a machine, a site, that site where it is only read, and an output
-pub record Stage : Type 0 where
+-- the tables, the counts, a site, that site where it is only read, and an output
+pub record Machine : Type 0 where
   pub hooks : Table
   pub tags : List TagRow
   pub counts : Counts
@@ -26,10 +26,10 @@ pub record Stage : Type 0 where
   pub fixed : Option SiteView
   pub output : List ℕ
 
-abbrev pub stage : Tables → Counts → SiteView → Option SiteView → List ℕ → Stage
-stage tables counts site fixed output = record { hooks = tables.hooks; tags = tables.tags; counts = counts; site = site; fixed = fixed; output = output }
+abbrev pub machine : Tables → Counts → SiteView → Option SiteView → List ℕ → Machine
+machine tables counts site fixed output = record { hooks = tables.hooks; tags = tables.tags; counts = counts; site = site; fixed = fixed; output = output }
 
-abbrev pub state_of : Stage → State
+abbrev pub state_of : Machine → State
 state_of w = record { rows = w.hooks.rows; tags = w.tags; did = w.counts.did; doing = w.counts.doing; turns = w.counts.turns; output = w.output; site = w.site }
 
 -- what stands round a run: the open runs, the stack of running hooks, and a site that is only read
@@ -38,7 +38,7 @@ pub record Around : Type 0 where
   pub doing : List (List ℕ)
   pub fixed : Option SiteView
 
-abbrev pub around : Stage → Around
+abbrev pub around : Machine → Around
 around w = record { open_runs = w.hooks.open_runs; doing = w.counts.doing; fixed = w.fixed }
 
 -- what a fault says of a meaning: Limit is returned only where there is none, and out of memory says nothing
@@ -47,7 +47,7 @@ Refuses Limit meaning = meaning ≡ None
 Refuses NoMemory meaning = Unit {0}
 
 -- the text is that of the meaning, and what stood round it stands as before
-abbrev pub GivesText : Option Answer → Around → Stage → Result (List ℕ) RunFault → Type 0
+abbrev pub GivesText : Option Answer → Around → Machine → Result (List ℕ) RunFault → Type 0
 GivesText meaning before after result = MatchResult result (λ text. (meaning ≡ answer text (state_of after)) × (around after ≡ before)) (λ fault. Refuses fault meaning)
 
 -- the innermost open run
@@ -69,7 +69,7 @@ job_meaning changes scripts (Fires fires) s = do_fires (callbacks_of changes scr
 job_meaning changes scripts (Apply hook args) s = apply_hook (callbacks_of changes scripts) hook args s
 
 -- `GivesText` at a string
-abbrev pub GivesJob : {A : Type 0} → Option Answer → Around → Stage → Result (String A) RunFault → Type 0
+abbrev pub GivesJob : {A : Type 0} → Option Answer → Around → Machine → Result (String A) RunFault → Type 0
 GivesJob meaning before after result =
     MatchResult result (λ text. (meaning ≡ answer (string_bytes text) (state_of after)) × (around after ≡ before)) (λ fault. Refuses fault meaning)
 

@@ -1,8 +1,8 @@
--- What a stage stands for.
+-- What a machine stands for.
 use Rattle.std.specs.Prelude.{Option}
 use Rattle.press_site.specs.SiteView.{SiteView}
-use Rattle.press_run.specs.declared.stage.Stage.{Stage as OnStage}
-use Rattle.press_run.specs.Outcome.{Stage, stage}
+use Rattle.press_run.specs.declared.machine.Machine.{Machine as AnyMachine}
+use Rattle.press_run.specs.Outcome.{Machine, machine}
 
-abbrev pub standing : {L : Type 0} → (L → SiteView) → (L → Option SiteView) → OnStage L → Stage
-standing view fixed s = stage s.tables s.machine (view s.site) (fixed s.site) s.out
+abbrev pub standing : {L : Type 0} → (L → SiteView) → (L → Option SiteView) → AnyMachine L → Machine
+standing view fixed s = machine s.tables s.counts (view s.site) (fixed s.site) s.out

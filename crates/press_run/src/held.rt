@@ -11,8 +11,8 @@ ghost use Rattle.press_run.specs.declared.frame.Frame.TheVariants as frame;
 use crate::callbacks::Callbacks;
 use crate::frame::{OpenCallback, OpenFires, OpenHook, OpenScan};
 use crate::link::SiteLink;
+use crate::machine::Machine;
 use crate::run_fault::RunFault;
-use crate::stage::Stage;
 use crate::step::{Moved, Step};
 use press_text::Text;
 use std::alloc::{AllocError, Global};
@@ -52,16 +52,16 @@ impl Held<OpenCallback> {
     /// Its next turn.
     pub fn turn<L: SiteLink + Drop, K: Callbacks>(
         &mut self,
-        stage: &mut Stage<L>,
+        machine: &mut Machine<L>,
         kit: &K,
     ) -> Result<Step, RunFault>
         requires { IsFew 0 self.old }
         ensures steps { Steps L.changes (K.scripts kit.now)
             (frame.Callback self.old) (frame.Callback self.new)
-            (standing L.view L.fixed stage.old) (standing L.view L.fixed stage.new) result }
-        ensures fixed { L.fixed stage.new.site ≡ L.fixed stage.old.site }
+            (standing L.view L.fixed machine.old) (standing L.view L.fixed machine.new) result }
+        ensures fixed { L.fixed machine.new.site ≡ L.fixed machine.old.site }
     {
-        stage.turn(kit, &mut self.inside)
+        machine.turn(kit, &mut self.inside)
     }
 
     pub fn with_last(&mut self, last: Text) -> Step
@@ -78,16 +78,16 @@ impl Held<OpenHook> {
     /// Its next entry.
     pub fn entry<L: SiteLink + Drop, K: Callbacks>(
         &mut self,
-        stage: &mut Stage<L>,
+        machine: &mut Machine<L>,
         kit: &K,
     ) -> Result<Moved, RunFault>
-        requires { IsTrue (is_innermost self.old.run stage.old.tables.hooks.open_runs) }
+        requires { IsTrue (is_innermost self.old.run machine.old.tables.hooks.open_runs) }
         ensures steps { MovesTo L.changes (K.scripts kit.now)
             (frame.Hook self.old) (frame.Hook self.new)
-            (standing L.view L.fixed stage.old) (standing L.view L.fixed stage.new) result }
-        ensures fixed { L.fixed stage.new.site ≡ L.fixed stage.old.site }
+            (standing L.view L.fixed machine.old) (standing L.view L.fixed machine.new) result }
+        ensures fixed { L.fixed machine.new.site ≡ L.fixed machine.old.site }
     {
-        stage.entry(kit, &mut self.inside)
+        machine.entry(kit, &mut self.inside)
     }
 
     /// The arguments of the next callback, after one has answered.
@@ -102,13 +102,13 @@ impl Held<OpenHook> {
 
 impl Held<OpenFires> {
     /// Its next action.
-    pub fn fire<L: SiteLink + Drop>(&mut self, stage: &mut Stage<L>) -> Result<Step, RunFault>
+    pub fn fire<L: SiteLink + Drop>(&mut self, machine: &mut Machine<L>) -> Result<Step, RunFault>
         ensures steps { (scripts : Scripts) → Steps L.changes scripts
             (frame.Fires self.old) (frame.Fires self.new)
-            (standing L.view L.fixed stage.old) (standing L.view L.fixed stage.new) result }
-        ensures fixed { L.fixed stage.new.site ≡ L.fixed stage.old.site }
+            (standing L.view L.fixed machine.old) (standing L.view L.fixed machine.new) result }
+        ensures fixed { L.fixed machine.new.site ≡ L.fixed machine.old.site }
     {
-        stage.fire(&mut self.inside)
+        machine.fire(&mut self.inside)
     }
 }
 
@@ -116,16 +116,16 @@ impl Held<OpenScan> {
     /// Its next piece.
     pub fn piece<L: SiteLink + Drop, K: Callbacks>(
         &mut self,
-        stage: &mut Stage<L>,
+        machine: &mut Machine<L>,
         kit: &K,
     ) -> Result<Moved, RunFault>
         requires { GoesOn self.old.scan }
         ensures steps { MovesTo L.changes (K.scripts kit.now)
             (frame.Scan self.old) (frame.Scan self.new)
-            (standing L.view L.fixed stage.old) (standing L.view L.fixed stage.new) result }
-        ensures fixed { L.fixed stage.new.site ≡ L.fixed stage.old.site }
+            (standing L.view L.fixed machine.old) (standing L.view L.fixed machine.new) result }
+        ensures fixed { L.fixed machine.new.site ≡ L.fixed machine.old.site }
     {
-        stage.piece(kit, &mut self.inside)
+        machine.piece(kit, &mut self.inside)
     }
 
     /// The answer to the shortcode that the scan waits for.

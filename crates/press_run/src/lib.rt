@@ -7,6 +7,7 @@
 mod answers;
 mod boots;
 mod callbacks;
+mod counts;
 mod frame;
 mod frames;
 mod held;
@@ -17,15 +18,14 @@ mod machine;
 mod out;
 mod run_fault;
 mod shortcodes;
-mod stage;
 mod step;
 mod texts;
 
 pub use boots::{boot, boot_actions};
 pub use callbacks::Callbacks;
+pub use counts::Counts;
 pub use job::Job;
 pub use link::{Read, SiteLink};
 pub use machine::Machine;
 pub use out::Out;
 pub use run_fault::RunFault;
-pub use stage::Stage;

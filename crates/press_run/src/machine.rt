@@ -1,131 +1,139 @@
-ghost use Rattle.std.specs.Prelude.{◌≡◌, ◌++◌, ◌∷◌, [], None, IfOk, OnOk, ltb};
-ghost use Rattle.press_run.specs.Counts.{no_counts};
-ghost use Rattle.press_run.specs.Run.{answer_of, most_turns, without_last};
-ghost use Rattle.press_run.specs.Outcome.{CountsTurn, stage, state_of};
+//! What runs go on with, and one run on it.
 
-use crate::answers::{count_of, decimal, decimal_or_empty, has_hook, one_if, or_no_text};
-use press_callbacks::{Ask, Tables};
+mod callback;
+mod fires;
+mod hooks;
+mod play;
+mod scans;
+mod turns;
+
+ghost use Rattle.std.specs.Prelude.{◌≡◌, IfOk, Some, false};
+ghost use Rattle.press_callbacks.specs.Kits.{plugins_in, scripts_in};
+ghost use Rattle.press_run.specs.Boot.{booted_with};
+ghost use Rattle.press_run.specs.Links.{kept};
+ghost use Rattle.press_run.specs.Outcome.{GivesJob, around, is_limit, job_meaning, loaded_in, started, state_of};
+ghost use Rattle.press_run.specs.Standing.{standing};
+
+use crate::boots::boot;
+use crate::counts::Counts;
+use crate::job::Job;
+use crate::link::SiteLink;
+use crate::out::Out;
+use crate::run_fault::{RunFault, is_limit};
+use press_callbacks::{Kit, Tables};
 use press_site::Site;
-use press_text::{HookName, Text, copied_all};
 use std::alloc::{AllocError, Global};
-use std::marker::Model;
 
-// How many turns one page or command may play.
-const MOST_TURNS: u32 = 10_000;
-
-/// What one boot counts: the starts of actions, the hooks that are running, and the turns played.
+/// What one boot has and counts: its tables, its counts, the site as runs have it, and what was written.
 #[derive(Debug)]
-pub struct Machine {
-    alloc: Global,
-    did: Vec<HookName>,
-    doing: Vec<HookName>,
-    turns: u32,
+pub struct Machine<L> {
+    pub tables: Tables,
+    pub counts: Counts,
+    pub site: L,
+    pub out: Out,
+    /// Whether the last run met a limit.
+    pub met_limit: bool,
 }
 
-impl Drop for Machine {
+impl<L: Drop> Drop for Machine<L> {
     fn drop(self) {
         let Machine {
-            alloc: _,
-            did: _,
-            doing: _,
-            turns: _,
+            tables: _,
+            counts: _,
+            site: _,
+            out: _,
+            met_limit: _,
         } = self;
     }
 }
 
-impl Model for Machine {
-    ghost use Rattle.press_run.specs.Counts.{Counts};
+impl<L: SiteLink + Drop> Machine<L> {
+    /// A fresh boot of the site: its tables, nothing counted and nothing written.
+    pub fn new(alloc: Global, kit: &Kit, site: L) -> Result<Machine<L>, AllocError>
+        ensures started { IfOk result (λ s. state_of (standing L.view L.fixed s)
+            ≡ started (booted_with (plugins_in kit.now) (L.view site).active) (L.view site)) }
+        ensures site { IfOk result (λ s. s.site ≡ site) }
+        ensures limit { IfOk result (λ s. s.met_limit ≡ false) }
+    {
+        let tables = boot(alloc, kit, site.site())?;
+        Ok(Machine::over(alloc, tables, site))
+    }
 
-    ghost Value = { Counts };
+    /// The same over tables that were made before; takes no memory.
+    pub fn over(alloc: Global, tables: Tables, site: L) -> Machine<L>
+        ensures started { state_of (standing L.view L.fixed result)
+            ≡ started (loaded_in tables) (L.view site) }
+        ensures site { result.site ≡ site }
+        ensures limit { result.met_limit ≡ false }
+    {
+        let (counts, out) = (Counts::new(alloc), Out::new(alloc));
+        Machine {
+            tables,
+            counts,
+            site,
+            out,
+            met_limit: false,
+        }
+    }
 
-    ghost view = { λ m. record { did = m.did.items; doing = m.doing.items; turns = m.turns } };
+    /// Runs a job: actions one after the other, which answer the empty text, or one filter, which answers what its last
+    /// callback gave.
+    ///
+    /// Callbacks may edit the tables, change the site, and write to the output. What a change of the site fires is done
+    /// within the run. Limit is returned where a 33rd callback would be open at once, a 10,001st turn would be played,
+    /// or a text would pass 1,048,576 bytes. After a fault the machine is in no stated state, but for what no change of
+    /// the site touches, and that it shows whether a limit was met.
+    pub fn run(&mut self, kit: &Kit, job: Job) -> Result<String, RunFault>
+        ensures gives { GivesJob
+            (job_meaning L.changes (scripts_in kit.now) job
+            (state_of (standing L.view L.fixed self.old)))
+            (around (standing L.view L.fixed self.old)) (standing L.view L.fixed self.new) result }
+        ensures fixed { L.fixed self.new.site ≡ L.fixed self.old.site }
+        ensures limit { self.new.met_limit ≡ is_limit result }
+    {
+        let given = self.given(kit, job);
+        self.met_limit = is_limit(&given);
+        given
+    }
+
+    fn given(&mut self, kit: &Kit, job: Job) -> Result<String, RunFault>
+        ensures gives { GivesJob
+            (job_meaning L.changes (scripts_in kit.now) job
+            (state_of (standing L.view L.fixed self.old)))
+            (around (standing L.view L.fixed self.old)) (standing L.view L.fixed self.new) result }
+        ensures fixed { L.fixed self.new.site ≡ L.fixed self.old.site }
+    {
+        let text = self.answer(kit, job)?;
+        Ok(text.into_string()?)
+    }
+
+    /// The site as the runs left it, and what was written.
+    pub fn into_parts(self) -> (L, Out)
+        ensures { result ≡ (self.site, self.out) }
+    {
+        let Machine {
+            tables: _,
+            counts: _,
+            site,
+            out,
+            met_limit: _,
+        } = self;
+        (site, out)
+    }
 }
 
-impl Machine {
-    /// Nothing counted yet; takes no memory.
-    pub fn new(alloc: Global) -> Machine
-        ensures { result ≡ no_counts }
-    {
-        Machine {
-            alloc,
-            did: Vec::new(alloc),
-            doing: Vec::new(alloc),
-            turns: 0,
-        }
-    }
-
-    /// A copy of the counts.
-    pub fn copy(&self) -> Result<Machine, AllocError>
-        ensures { IfOk result (λ m. m ≡ self.now) }
+impl Machine<Site> {
+    /// A machine with the same rows, tags, counts, site and output, and no open run.
+    pub fn copy(&self, alloc: Global) -> Result<Machine<Site>, AllocError>
+        ensures { IfOk result (λ s. state_of (standing (λ x. x) (λ x. Some (kept x)) s)
+            ≡ state_of (standing (λ x. x) (λ x. Some (kept x)) self.now)) }
     {
         Ok(Machine {
-            alloc: self.alloc,
-            did: copied_all(self.alloc, self.did.as_slice())?,
-            doing: copied_all(self.alloc, self.doing.as_slice())?,
-            turns: self.turns,
+            tables: self.tables.copy()?,
+            counts: self.counts.copy()?,
+            site: self.site.copy()?,
+            out: self.out.copy(alloc)?,
+            met_limit: self.met_limit,
         })
-    }
-
-    /// Where its counts take memory from.
-    pub(crate) fn allocator(&self) -> Global {
-        self.alloc
-    }
-
-    /// Whether one more turn is within the turns.
-    pub(crate) fn has_turns(&self) -> bool
-        ensures { result ≡ ltb self.now.turns most_turns }
-    {
-        self.turns < MOST_TURNS
-    }
-
-    /// Counts a turn, where it is within the turns.
-    pub(crate) fn counts_turn(&mut self) -> bool
-        ensures { CountsTurn self.old self.new result }
-    {
-        if self.turns >= MOST_TURNS {
-            return false;
-        }
-        self.turns += 1;
-        true
-    }
-
-    /// Counts the start of an action.
-    pub(crate) fn start(&mut self, hook: &HookName) -> Result<(), AllocError>
-        ensures { OnOk result (self.new
-            ≡ record self.old { did = self.old.did ++ hook.now ∷ [] }) }
-    {
-        self.did.push(hook.copy(self.alloc)?)?;
-        Ok(())
-    }
-
-    /// Puts a hook on the stack of running hooks.
-    pub(crate) fn enter(&mut self, hook: &HookName) -> Result<(), AllocError>
-        ensures { OnOk result (self.new
-            ≡ record self.old { doing = self.old.doing ++ hook.now ∷ [] }) }
-    {
-        self.doing.push(hook.copy(self.alloc)?)?;
-        Ok(())
-    }
-
-    /// Takes the last hook off the stack of running hooks.
-    pub(crate) fn leave(&mut self)
-        ensures { self.new ≡ record self.old { doing = without_last self.old.doing } }
-    {
-        self.doing.pop();
-    }
-
-    /// The answer to a question.
-    pub(crate) fn answer(&self, tables: &Tables, site: &Site, ask: &Ask) -> Result<Text, AllocError>
-        ensures { IfOk result (λ t. t
-            ≡ answer_of ask.now (state_of (stage tables.now self.now site.now None []))) }
-    {
-        let alloc = self.alloc;
-        match ask {
-            Ask::Did(hook) => decimal(alloc, count_of(self.did.as_slice(), hook)),
-            Ask::Doing(hook) => one_if(alloc, has_hook(self.doing.as_slice(), hook)),
-            Ask::Has(hook, callback) => decimal_or_empty(alloc, tables.hooks.has(hook, *callback)),
-            Ask::Option(name) => or_no_text(alloc, site.option(name)),
-            Ask::Tag(tag) => one_if(alloc, tables.tags.get(tag.as_str()).is_some()),
-        }
     }
 }

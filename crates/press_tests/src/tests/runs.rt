@@ -1,6 +1,6 @@
 use super::scripts::{appending, fails_once, plugin};
 use press_callbacks::{BoxedTurns, CallIn, Kit, Stored, script_turn};
-use press_run::{Job, RunFault, Stage};
+use press_run::{Job, Machine, RunFault};
 use press_site::{Effect, Site};
 use press_text::{CallbackId, HookName, Name, Text, Texts};
 use std::alloc::Global;
@@ -32,8 +32,8 @@ fn filter_of(alloc: Global, text: &str) -> Result<Job, Fail> {
 
 // What the filter gives from a fresh boot.
 fn filtered(alloc: Global, kit: &Kit, site: Site, job: Job) -> Result<String, RunFault> {
-    let mut stage = Stage::new(alloc, kit, site)?;
-    stage.run(kit, job)
+    let mut machine = Machine::new(alloc, kit, site)?;
+    machine.run(kit, job)
 }
 
 // The script has two turns, and its closure runs out of memory at its second call.

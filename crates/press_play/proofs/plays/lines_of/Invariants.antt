@@ -7,4 +7,4 @@ use Rattle.press_play.proofs.Onward.{rest}
 use Rattle.press_play.proofs.plays.lines_of.Given as goal
 
 abbrev pub invariant-loop-play : goal.invariant-loop-play
-invariant-loop-play g l = string_bytes l.playing.lines ++ rest (scripts_in l.kit) l.plays l.play-index (state_in l.playing.stage) ≡ lines (scripts_in l.kit) l.plays (started (booted_with (plugins_in l.kit) l.fn.site.active) l.fn.site)
+invariant-loop-play g l = string_bytes l.playing.lines ++ rest (scripts_in l.kit) l.plays l.play-index (state_in l.playing.machine) ≡ lines (scripts_in l.kit) l.plays (started (booted_with (plugins_in l.kit) l.fn.site.active) l.fn.site)

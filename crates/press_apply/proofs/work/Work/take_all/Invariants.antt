@@ -8,5 +8,5 @@ abbrev pub invariant-loop-event : goal.invariant-loop-event
 invariant-loop-event g l = record {
   meaning : takes_all (callbacks_on (kit_view l.kit)) (drop l.event-index l.events) (state_in l.self) ≡ takes_all (callbacks_on (kit_view l.kit)) l.events (state_in l.fn.self);
   back : GoesBack l.fn.self l.self;
-  limit : l.self.stage.met_limit ≡ true → l.fn.self.stage.met_limit ≡ true;
+  limit : l.self.machine.met_limit ≡ true → l.fn.self.machine.met_limit ≡ true;
 }

@@ -1,4 +1,0 @@
-use Rattle.press_run.proofs.stage.Stage.begin_action.Goals as goal
-
-pub returns-clause-begins : goal.returns-clause-begins
-returns-clause-begins g c = λ scripts. rw (c.in_ok-start.ensures, c.in_ok-args.ensures) at (c.begin.ensures.begins scripts)

@@ -1,0 +1,206 @@
+//! A callback is opened, built in or of the kit, and takes its turns.
+
+ghost use Rattle.std.specs.Prelude.{◌≡◌, ◌++◌, ℕ, List, None, false, IsErrOf};
+ghost use Rattle.press_callbacks.specs.Kits.{Scripts};
+ghost use Rattle.press_callbacks.specs.declared.script.Turn.TheVariants as turn;
+ghost use Rattle.press_callbacks.specs.declared.script.Turn.TheVariants.{Echo};
+ghost use Rattle.press_run.specs.Frames.{BeginsAs, CallsAs, CountsAs, IsFew, Steps, Turns, meant};
+ghost use Rattle.press_run.specs.Run.{at_depth, built_in, fits, is_short, one_turn, within};
+ghost use Rattle.press_run.specs.Outcome.{around, state_of};
+ghost use Rattle.press_run.specs.Standing.{standing};
+ghost use Rattle.press_run.specs.declared.frame.Frame.TheVariants as frame;
+
+use super::Machine;
+use crate::callbacks::Callbacks;
+use crate::frame::{FUEL, Frame, OpenCallback};
+use crate::held::Held;
+use crate::link::SiteLink;
+use crate::run_fault::RunFault;
+use crate::step::{Begun, Called, Step};
+use crate::texts;
+use press_callbacks::{CallIn, Turn, is_built_in, is_do_shortcode};
+use press_text::{CallbackId, Text};
+
+impl<L: SiteLink + Drop> Machine<L> {
+    /// A callback on its call, where a number may be open from it on.
+    pub(super) fn open<K: Callbacks>(
+        &mut self,
+        kit: &K,
+        room: u32,
+        id: CallbackId,
+        call: CallIn,
+    ) -> Result<Called, RunFault>
+        requires { call.turn ≡ 0 }
+        ensures shut { room ≡ 0 → IsErrOf result RunFault.Limit }
+        ensures begins { CallsAs L.changes (K.scripts kit.now)
+            (at_depth L.changes room (K.scripts kit.now) id call
+            (state_of (standing L.view L.fixed self.old)))
+            1 (standing L.view L.fixed self.old) (standing L.view L.fixed self.new) result }
+        ensures fixed { L.fixed self.new.site ≡ L.fixed self.old.site }
+    {
+        if room == 0 {
+            drop(call);
+            return Err(RunFault::Limit);
+        }
+        if is_built_in(id.as_bytes()) {
+            let begun = self.open_built_in(room - 1, id, &call)?;
+            return Ok(Called::Begun(begun));
+        }
+        let place = kit.place(id);
+        let callback = OpenCallback {
+            room: room - 1,
+            left: FUEL,
+            place,
+            call,
+        };
+        self.turns(kit, callback)
+    }
+
+    // The turns of a callback up to its answer, or to a frame that it waits for.
+    fn turns<K: Callbacks>(
+        &mut self,
+        kit: &K,
+        mut callback: OpenCallback,
+    ) -> Result<Called, RunFault>
+        requires { IsFew 0 callback }
+        ensures begins { CallsAs L.changes (K.scripts kit.now)
+            (meant L.changes (K.scripts kit.now) (frame.Callback callback)
+            (around (standing L.view L.fixed self.old))
+            (state_of (standing L.view L.fixed self.old)))
+            1 (standing L.view L.fixed self.old) (standing L.view L.fixed self.new) result }
+        ensures fixed { L.fixed self.new.site ≡ L.fixed self.old.site }
+    {
+        loop {
+            match self.turn(kit, &mut callback)? {
+                Step::Goes => {}
+                Step::Takes(text) => {
+                    callback.with_last(text);
+                }
+                Step::Gives(text) => return Ok(Called::Begun(Begun::Gives(text))),
+                Step::Opens(inner) => {
+                    let held = Held::new(self.counts.allocator(), callback)?;
+                    return Ok(Called::Waits(Frame::Callback(held), inner));
+                }
+            }
+        }
+    }
+
+    // One of the built-in callbacks on its first argument: one turn.
+    #[inline(never)]
+    fn open_built_in(&mut self, room: u32, id: CallbackId, call: &CallIn) -> Result<Begun, RunFault>
+        ensures late { one_turn (state_of (standing L.view L.fixed self.old)) ≡ None
+            → IsErrOf result RunFault.Limit }
+        ensures begins { (scripts : Scripts) → BeginsAs L.changes scripts
+            (built_in L.changes (at_depth L.changes room scripts) id call.now
+            (state_of (standing L.view L.fixed self.old)))
+            1 (standing L.view L.fixed self.old) (standing L.view L.fixed self.new) result }
+        ensures fixed { L.fixed self.new.site ≡ L.fixed self.old.site }
+    {
+        if !self.counts.take_turn() {
+            return Err(RunFault::Limit);
+        }
+        let argument = texts::first_text(self.counts.allocator(), &call.args)?;
+        if is_do_shortcode(id.as_bytes()) {
+            self.begin_scan(room, argument)
+        } else {
+            self.begin_publish(room, argument)
+        }
+    }
+
+    /// The next turn. The limit of turns is looked at before the kit, which may want memory.
+    pub(crate) fn turn<K: Callbacks>(
+        &mut self,
+        kit: &K,
+        callback: &mut OpenCallback,
+    ) -> Result<Step, RunFault>
+        requires { IsFew 0 callback.old }
+        ensures steps { Steps L.changes (K.scripts kit.now)
+            (frame.Callback callback.old) (frame.Callback callback.new)
+            (standing L.view L.fixed self.old) (standing L.view L.fixed self.new) result }
+        ensures spent { callback.old.left ≡ 0 → IsErrOf result RunFault.Limit }
+        ensures late { one_turn (state_of (standing L.view L.fixed self.old)) ≡ None
+            → IsErrOf result RunFault.Limit }
+        ensures fixed { L.fixed self.new.site ≡ L.fixed self.old.site }
+    {
+        if callback.left == 0 {
+            return Err(RunFault::Limit);
+        }
+        if !self.counts.has_turns() {
+            return Err(RunFault::Limit);
+        }
+        callback.left -= 1;
+        match kit.turn(self.counts.allocator(), callback.place, &callback.call) {
+            Ok(Turn::Go(value)) => self.goes(callback, value),
+            Ok(Turn::Return(text)) => self.gives(callback, text),
+            Ok(turn) => self.counted(callback, turn),
+            Err(_) => Err(RunFault::NoMemory),
+        }
+    }
+
+    // The turn Go, counted. It and Return are the commonest, so that what is moved is their text alone.
+    fn goes(&mut self, callback: &mut OpenCallback, value: Text) -> Result<Step, RunFault>
+        requires { IsFew 1 callback.old }
+        ensures late { one_turn (state_of (standing L.view L.fixed self.old)) ≡ None
+            → IsErrOf result RunFault.Limit }
+        ensures long { is_short value ≡ false → IsErrOf result RunFault.Limit }
+        ensures steps { (scripts : Scripts) → CountsAs L.changes scripts
+            callback.old (turn.Go value) callback.new
+            (standing L.view L.fixed self.old) (standing L.view L.fixed self.new) result }
+        ensures fixed { L.fixed self.new.site ≡ L.fixed self.old.site }
+    {
+        if !self.counts.take_turn() || !texts::is_short(&value) {
+            drop(value);
+            return Err(RunFault::Limit);
+        }
+        self.gone(callback, value)
+    }
+
+    // The same, which is counted already.
+    fn gone(&self, callback: &mut OpenCallback, value: Text) -> Result<Step, RunFault>
+        requires { IsFew 1 callback.old }
+        ensures { (scripts : Scripts) → Turns L.changes scripts
+            callback.old (turn.Go value) callback.new
+            (standing L.view L.fixed self.now) (standing L.view L.fixed self.now) result }
+    {
+        Ok(callback.with_value(value))
+    }
+
+    // The turn Return, counted.
+    fn gives(&mut self, callback: &OpenCallback, text: Text) -> Result<Step, RunFault>
+        requires { IsFew 1 callback.now }
+        ensures late { one_turn (state_of (standing L.view L.fixed self.old)) ≡ None
+            → IsErrOf result RunFault.Limit }
+        ensures long { is_short text ≡ false → IsErrOf result RunFault.Limit }
+        ensures steps { (scripts : Scripts) → CountsAs L.changes scripts
+            callback.now (turn.Return text) callback.now
+            (standing L.view L.fixed self.old) (standing L.view L.fixed self.new) result }
+        ensures fixed { L.fixed self.new.site ≡ L.fixed self.old.site }
+    {
+        if !self.counts.take_turn() || !texts::is_short(&text) {
+            drop(text);
+            return Err(RunFault::Limit);
+        }
+        Ok(Step::Gives(text))
+    }
+
+    // A turn, counted, with texts that are within the bytes.
+    #[inline(never)]
+    fn counted(&mut self, callback: &mut OpenCallback, turn: Turn) -> Result<Step, RunFault>
+        requires { IsFew 1 callback.old }
+        ensures late { one_turn (state_of (standing L.view L.fixed self.old)) ≡ None
+            → IsErrOf result RunFault.Limit }
+        ensures long { fits turn ≡ false → IsErrOf result RunFault.Limit }
+        ensures full { (text : List ℕ) → turn ≡ Echo text → within (self.old.out ++ text) ≡ None
+            → IsErrOf result RunFault.Limit }
+        ensures steps { (scripts : Scripts) → CountsAs L.changes scripts
+            callback.old turn callback.new
+            (standing L.view L.fixed self.old) (standing L.view L.fixed self.new) result }
+        ensures fixed { L.fixed self.new.site ≡ L.fixed self.old.site }
+    {
+        if !self.counts.take_turn() || !texts::fits(&turn) {
+            drop(turn);
+            return Err(RunFault::Limit);
+        }
+        self.asked(callback, turn)
+    }
+}

@@ -1,0 +1,170 @@
+//! What the turns of a callback ask for.
+
+ghost use Rattle.std.specs.Prelude.{◌≡◌, ◌≤◌, ◌++◌, ℕ, List, None, IsErrOf};
+ghost use Rattle.press_callbacks.specs.Kits.{Scripts};
+ghost use Rattle.press_callbacks.specs.declared.script.Turn.TheVariants.{Echo};
+ghost use Rattle.press_run.specs.Frames.{IsFew, Turns, group};
+ghost use Rattle.press_run.specs.Run.{within};
+ghost use Rattle.press_run.specs.Standing.{standing};
+
+use super::Machine;
+use crate::answers::one_if;
+use crate::frame::OpenCallback;
+use crate::link::SiteLink;
+use crate::links::{self, FromNow};
+use crate::run_fault::RunFault;
+use crate::step::{Kind, Step};
+use press_callbacks::Turn;
+use press_site::Effect;
+use press_text::Text;
+
+impl<L: SiteLink + Drop> Machine<L> {
+    /// What a turn asks for, which is counted already.
+    pub(super) fn asked(
+        &mut self,
+        callback: &mut OpenCallback,
+        turn: Turn,
+    ) -> Result<Step, RunFault>
+        requires { IsFew 1 callback.old }
+        ensures full { (text : List ℕ) → turn ≡ Echo text → within (self.old.out ++ text) ≡ None
+            → IsErrOf result RunFault.Limit }
+        ensures steps { (scripts : Scripts) → Turns L.changes scripts callback.old turn callback.new
+            (standing L.view L.fixed self.old) (standing L.view L.fixed self.new) result }
+        ensures fixed { L.fixed self.new.site ≡ L.fixed self.old.site }
+    {
+        match turn {
+            Turn::Go(value) => Ok(callback.with_value(value)),
+            Turn::Skip(n) => {
+                drop(turn);
+                Ok(callback.further(n))
+            }
+            Turn::Echo(text) => {
+                let pushed = self.out.push(text.as_str());
+                drop(text);
+                pushed?;
+                Ok(callback.further(0))
+            }
+            Turn::Return(text) => Ok(Step::Gives(text)),
+            _ => self.begun(callback, turn),
+        }
+    }
+
+    // A turn that begins something, for which the callback waits.
+    #[inline(never)]
+    fn begun(&mut self, callback: &mut OpenCallback, turn: Turn) -> Result<Step, RunFault>
+        requires few { IsFew 1 callback.old }
+        requires begins { 1 ≤ group turn }
+        ensures steps { (scripts : Scripts) → Turns L.changes scripts callback.old turn callback.new
+            (standing L.view L.fixed self.old) (standing L.view L.fixed self.new) result }
+        ensures fixed { L.fixed self.new.site ≡ L.fixed self.old.site }
+    {
+        let room = callback.room;
+        match turn {
+            Turn::Apply { hook, texts } => {
+                let begun = self.begin(room, Kind::Filter, &hook, texts);
+                drop(hook);
+                Ok(begun?.awaited())
+            }
+            Turn::Do { hook, texts } => {
+                let begun = self.begin_action(room, &hook, texts);
+                drop(hook);
+                Ok(begun?.awaited())
+            }
+            Turn::Shortcodes(text) => Ok(self.begin_scan(room, text)?.awaited()),
+            Turn::SetOption { name, value } => {
+                let effect = Some(Effect::SetOption { name, value });
+                Ok(self.begin_change(room, effect)?.awaited())
+            }
+            Turn::Schedule {
+                after,
+                every,
+                hook,
+                arg,
+            } => {
+                let event = FromNow {
+                    after,
+                    every,
+                    hook,
+                    arg,
+                };
+                let effect = event.scheduled(self.site.site().now());
+                Ok(self.begin_change(room, effect)?.awaited())
+            }
+            Turn::Publish(id) => {
+                let effect = links::publishes(&id, self.site.site().now());
+                drop(id);
+                Ok(self.begin_change(room, effect)?.awaited())
+            }
+            _ => self.edited(callback, turn),
+        }
+    }
+
+    // A turn that edits the hooks.
+    #[inline(never)]
+    fn edited(&mut self, callback: &mut OpenCallback, turn: Turn) -> Result<Step, RunFault>
+        requires few { IsFew 1 callback.old }
+        requires edits { 2 ≤ group turn }
+        ensures steps { (scripts : Scripts) → Turns L.changes scripts callback.old turn callback.new
+            (standing L.view L.fixed self.old) (standing L.view L.fixed self.new) result }
+        ensures fixed { L.fixed self.new.site ≡ L.fixed self.old.site }
+    {
+        let alloc = self.counts.allocator();
+        match turn {
+            Turn::AddHook {
+                hook,
+                callback: id,
+                priority,
+                accepted,
+            } => {
+                let added = self.tables.hooks.add(&hook, id, priority, accepted);
+                drop(hook);
+                Ok(callback.with_last(one_if(alloc, added?)?))
+            }
+            Turn::RemoveHook {
+                hook,
+                callback: id,
+                priority,
+            } => {
+                let stood = self.tables.hooks.remove(&hook, id, priority);
+                drop(hook);
+                Ok(callback.with_last(one_if(alloc, stood)?))
+            }
+            Turn::RemoveAll { hook, priority } => {
+                self.tables.hooks.remove_all(&hook, priority);
+                drop(hook);
+                Ok(callback.with_last(Text::from_str(alloc, "1")?))
+            }
+            _ => self.told(callback, turn),
+        }
+    }
+
+    // A turn that edits the tags or asks a question.
+    #[inline(never)]
+    fn told(&mut self, callback: &mut OpenCallback, turn: Turn) -> Result<Step, RunFault>
+        requires few { IsFew 1 callback.old }
+        requires tells { 3 ≤ group turn }
+        ensures steps { (scripts : Scripts) → Turns L.changes scripts callback.old turn callback.new
+            (standing L.view L.fixed self.old) (standing L.view L.fixed self.new) result }
+        ensures fixed { L.fixed self.new.site ≡ L.fixed self.old.site }
+    {
+        let alloc = self.counts.allocator();
+        match turn {
+            Turn::AddTag { tag, callback: id } => {
+                let added = self.tables.tags.add(tag.as_str(), id);
+                drop(tag);
+                Ok(callback.with_last(one_if(alloc, added?)?))
+            }
+            Turn::RemoveTag { tag } => {
+                let stood = self.tables.tags.remove(tag.as_str());
+                drop(tag);
+                Ok(callback.with_last(one_if(alloc, stood)?))
+            }
+            Turn::Ask(ask) => {
+                let last = self.counts.answer(&self.tables, self.site.site(), &ask);
+                drop(ask);
+                Ok(callback.with_last(last?))
+            }
+            _ => unreachable!(),
+        }
+    }
+}
