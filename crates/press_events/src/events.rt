@@ -88,8 +88,8 @@ impl Events {
         Ok(Some(came))
     }
 
-    /// Schedules an event, without a look whether one of its identity is scheduled, or whether too many are; what takes that back.
-    pub fn put_in(&mut self, event: Event) -> Result<Shift, EventFault>
+    // Schedules an event, without a look whether one of its identity is scheduled, or whether too many are; what takes that back.
+    fn put_in(&mut self, event: Event) -> Result<Shift, EventFault>
         ensures ok { OnOk result (self.new ≡ scheduled event self.old) }
         ensures back { IfOk result (λ s. ShiftsBack s self.new self.old) }
         ensures err { IfErr result (λ f. (f ≡ NoMemory) × (self.new ≡ self.old)) }

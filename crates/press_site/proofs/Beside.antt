@@ -1,5 +1,5 @@
 -- The events beside a post: once those of its id are out, its own is put in wherever there is room.
-use Rattle.std.proofs.Common.{◌≡◌, refl, sym, ◌∙◌, ap, ℕ, ◌+◌, ◌<◌, ◌≤◌, ◌^◌, Bool, true, false, not, cond, List, [], ◌∷◌, length, Some, arith, codes}
+use Rattle.std.proofs.Common.{◌≡◌, refl, sym, subst, ◌∙◌, ap, ℕ, ◌+◌, ◌<◌, ◌≤◌, ◌^◌, Bool, true, false, not, cond, List, [], ◌∷◌, length, Some, arith, codes}
 use Rattle.std.specs.Prelude.{remove, nat_eq, nat_lt, nat_le, if◌then◌else◌, decimal, Result, Ok, Err}
 use Rattle.std.proofs.lemmas.Bool.{and_right, le-ltb}
 use Rattle.std.proofs.lemmas.Bool.Decides.{nat_tests}
@@ -96,3 +96,10 @@ pub own_new : (id date : ℕ) (es : List Event) → cancels (codes "publish_futu
 own_new id date es n room =
     ap (λ (b : Bool). limited b (scheduled (publish_event id date) (events_without id es))) room
     ∙ ap (λ (xs : List Event). Ok (scheduled (publish_event id date) xs)) (sym (none_out id es n))
+
+-- and it may be scheduled
+pub may_come : (id date : ℕ) (es : List Event) → id < 2 ^ 64 → cancels (codes "publish_future_post") (decimal id) es ≡ false → nat_le 4096 (length (events_without id es)) ≡ false → add_event (publish_event id date) es ≡ put_new (scheduled (publish_event id date) es)
+may_come id date es small n room =
+    let out = none_out id es n in
+    subst (λ (xs : List Event). add_event (publish_event id date) xs ≡ put_new (scheduled (publish_event id date) xs)) (sym out)
+    (added id date es small ∙ ap (λ (b : Bool). if b then Err event.TooManyEvents else put_new (scheduled (publish_event id date) (events_without id es))) room)

@@ -284,7 +284,7 @@ impl Content {
     {
         match beside {
             Beside::Same => Ok(None),
-            Beside::Came(event) => Ok(Some(self.events.put_in(event)?)),
+            Beside::Came(event) => Ok(self.events.enter(event)?),
             Beside::Moved { place, event } => Ok(Some(self.events.move_to(place, event))),
             Beside::Gone { place } => Ok(Some(self.events.leave(place)?)),
             Beside::Others(events) => Ok(Some(Shift::All(mem::replace(&mut self.events, events)))),
