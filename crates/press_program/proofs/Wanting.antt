@@ -1,31 +1,31 @@
 -- What a run comes to, by what it was asked, where there is no memory to read its words.
-use Rattle.std.proofs.Common.{◌≡◌, ℕ, List, inl, inr}
-use Rattle.std.specs.Prelude.{Option, Some, None}
+use Rattle.std.proofs.Common.{◌≡◌, ℕ, List, inl, inr, refl}
+use Rattle.std.specs.Prelude.{Option, Some, None, Err}
 use Rattle.std.specs.Io.KnownBytes.{Keeps}
 use Rattle.press_callbacks.specs.Kits.{KitView}
 use Rattle.press_text.specs.Streams.{AppendsFront}
 use Rattle.press_program.specs.declared.ending.Ending.TheVariants.{Fault}
 use Rattle.press_world.specs.declared.replay_fault.ReplayFault.TheVariants.{NoMemory}
-use Rattle.press_sockets.specs.Listening.{listening_line}
+use Rattle.press_sockets.specs.declared.serve_fault.ServeFault.TheVariants as fault
 use Rattle.press_demonstration.specs.Demonstration.{demonstration}
-use Rattle.press_program.specs.Endings.{known_of, Does, Runs, RunsOver}
+use Rattle.press_program.specs.Endings.{known_of, Does, Runs, RunsOver, Served}
 use Rattle.press_program.specs.KitFiles.{fault_line}
 use Rattle.press_program.specs.declared.kitting.KitFault.TheVariants as kit
 use Rattle.press_program.specs.Words.{Asked, Job, of_file, serve}
-use Rattle.press_program.proofs.Ends.{nothing, outside_task}
+use Rattle.press_program.proofs.Ends.{outside_task}
 
-no_memory_for : (kit : KitView) (job : Job) (remaining : Option (List ℕ)) (status : ℕ) (out err err' : Option (List ℕ))
-    → status ≡ 2 → Keeps out out → AppendsFront err err' (fault_line NoMemory) → Does kit job remaining status out out err err'
-no_memory_for kit (of_file wanted) remaining status out err err' is kept told =
+no_memory_for : (served : Served) (kit : KitView) (job : Job) (remaining : Option (List ℕ)) (status : ℕ) (out err err' : Option (List ℕ))
+    → status ≡ 2 → Keeps out out → AppendsFront err err' (fault_line NoMemory) → Does served kit job remaining status out out err err'
+no_memory_for served kit (of_file wanted) remaining status out err err' is kept told =
     (Fault NoMemory, out, outside_task kit wanted.1 (known_of wanted.0 remaining) out NoMemory tt, (is, kept, told))
-no_memory_for kit (serve server) remaining status out err err' is kept told = (inr is, nothing (listening_line server.place) out)
+no_memory_for served kit (serve server) remaining status out err err' is kept told = (Err fault.NoMemory, inl (refl, kept), is)
 
-no_memory_over : (file : Option (List ℕ)) (job : Job) (remaining : Option (List ℕ)) (status : ℕ) (out err err' : Option (List ℕ))
-    → status ≡ 2 → Keeps out out → AppendsFront err err' (fault_line NoMemory) → RunsOver file job remaining status out out err err'
-no_memory_over None job remaining status out err err' is kept told = no_memory_for demonstration job remaining status out err err' is kept told
-no_memory_over (Some file) job remaining status out err err' is kept told = inl (is, kept, kit.NoMemory, tt, told)
+no_memory_over : (served : Served) (file : Option (List ℕ)) (job : Job) (remaining : Option (List ℕ)) (status : ℕ) (out err err' : Option (List ℕ))
+    → status ≡ 2 → Keeps out out → AppendsFront err err' (fault_line NoMemory) → RunsOver served file job remaining status out out err err'
+no_memory_over served None job remaining status out err err' is kept told = no_memory_for served demonstration job remaining status out err err' is kept told
+no_memory_over served (Some file) job remaining status out err err' is kept told = inl (is, kept, kit.NoMemory, tt, told)
 
-pub no_memory : (asked : Option Asked) (remaining : Option (List ℕ)) (status : ℕ) (out err err' : Option (List ℕ))
-    → status ≡ 2 → Keeps out out → AppendsFront err err' (fault_line NoMemory) → Runs asked remaining status out out err err'
-no_memory None remaining status out err err' is kept told = (is, kept, inr told)
-no_memory (Some asked) remaining status out err err' is kept told = no_memory_over asked.kit asked.job remaining status out err err' is kept told
+pub no_memory : (served : Served) (asked : Option Asked) (remaining : Option (List ℕ)) (status : ℕ) (out err err' : Option (List ℕ))
+    → status ≡ 2 → Keeps out out → AppendsFront err err' (fault_line NoMemory) → Runs served asked remaining status out out err err'
+no_memory served None remaining status out err err' is kept told = (is, kept, inr told)
+no_memory served (Some asked) remaining status out err err' is kept told = no_memory_over served asked.kit asked.job remaining status out err err' is kept told

@@ -17,9 +17,11 @@ use Rattle.press_program.specs.declared.ending.Ending.{Ending}
 use Rattle.press_program.specs.declared.ending.Ending.TheVariants.{Printed, Replayed, Fault}
 use Rattle.press_kit.specs.declared.place.Place.{Place}
 use Rattle.press_kit.specs.SiteFile.{site_in}
-use Rattle.press_sockets.specs.Listening.{Where, listening_line}
+use Rattle.press_sockets.specs.Listening.{listening_line}
+use Rattle.press_sockets.specs.declared.serve_fault.ServeFault.{ServeFault}
+use Rattle.press_sockets.specs.declared.serve_fault.ServeFault.TheVariants as fault
 use Rattle.press_loop.specs.Loops.{Loops}
-use Rattle.press_program.specs.Words.{Asked, Job, OfFile, of_file, serve, is_input}
+use Rattle.press_program.specs.Words.{Asked, Job, OfFile, Server, of_file, serve, is_input}
 use Rattle.press_program.specs.declared.task.Task.{Task}
 use Rattle.press_program.specs.declared.task.Task.TheVariants.{Page, Replay, Loop}
 use Rattle.press_text.specs.Streams.{AppendsFront}
@@ -130,24 +132,42 @@ ReadsAsked (Some asked) input input' = ReadsFor asked.job input input'
 abbrev pub Shows : KitView → OfFile → Option (List ℕ) → ℕ → Option (List ℕ) → Option (List ℕ) → Option (List ℕ) → Option (List ℕ) → Type 0
 Shows kit wanted remaining result out out' err err' = (end : Ending) × (by_then : Option (List ℕ)) × EndsTask kit wanted.1 (known_of wanted.0 remaining) out by_then end × Finishes end result by_then out' err err'
 
--- A server's run: what it printed on the output, as far as that took it. Contracts see no bytes of sockets, and its lines on standard error depend on them.
-abbrev pub Listens : Where → ℕ → Option (List ℕ) → Option (List ℕ) → Type 0
-Listens place result out out' = ((result ≡ 0) ⊎ (result ≡ 2)) × AppendsFront out out' (listening_line place)
+-- that somebody served over a kit, as the words have it, and how that ended: each who serves says it in a way of its own
+abbrev pub Served : Type 1
+Served = KitView → Server → Result (Unit {0}) ServeFault → Type 0
+
+-- said of whoever serves
+abbrev pub any_server : Served
+any_server kit server ended = Unit {0}
+
+-- One served over the kit, as the words have it, and printed its line on the output, as far as that took it; or there was no memory for the kit, and nobody did.
+abbrev pub IsServed : Served → KitView → Server → Result (Unit {0}) ServeFault → Option (List ℕ) → Option (List ℕ) → Type 0
+IsServed served kit server ended out out' =
+    ((ended ≡ Err fault.NoMemory) × Keeps out out') ⊎ (served kit server ended × AppendsFront out out' (listening_line server.place))
+
+-- 0 for a server that ended without a fault
+abbrev pub server_status : Result (Unit {0}) ServeFault → ℕ
+server_status (Ok done) = 0
+server_status (Err fault) = 2
+
+-- A server's run, and its status. Contracts see no bytes of sockets, and its lines on standard error depend on them.
+abbrev pub Listens : Served → KitView → Server → ℕ → Option (List ℕ) → Option (List ℕ) → Type 0
+Listens served kit server result out out' = (ended : Result (Unit {0}) ServeFault) × IsServed served kit server ended out out' × (result ≡ server_status ended)
 
 -- what is to be done, over a kit
-abbrev pub Does : KitView → Job → Option (List ℕ) → ℕ → Option (List ℕ) → Option (List ℕ) → Option (List ℕ) → Option (List ℕ) → Type 0
-Does kit (of_file wanted) remaining result out out' err err' = Shows kit wanted remaining result out out' err err'
-Does kit (serve server) remaining result out out' err err' = Listens server.place result out out'
+abbrev pub Does : Served → KitView → Job → Option (List ℕ) → ℕ → Option (List ℕ) → Option (List ℕ) → Option (List ℕ) → Option (List ℕ) → Type 0
+Does served kit (of_file wanted) remaining result out out' err err' = Shows kit wanted remaining result out out' err err'
+Does served kit (serve server) remaining result out out' err err' = Listens served kit server result out out'
 
 -- Over the demonstration kit, or over that of a kit file, whose slips are reported before anything else; a kit file that can't be used is reported, and nothing else is done.
-abbrev pub RunsOver : Option (List ℕ) → Job → Option (List ℕ) → ℕ → Option (List ℕ) → Option (List ℕ) → Option (List ℕ) → Option (List ℕ) → Type 0
-RunsOver None job remaining result out out' err err' = Does demonstration job remaining result out out' err err'
-RunsOver (Some file) job remaining result out out' err err' =
+abbrev pub RunsOver : Served → Option (List ℕ) → Job → Option (List ℕ) → ℕ → Option (List ℕ) → Option (List ℕ) → Option (List ℕ) → Option (List ℕ) → Type 0
+RunsOver served None job remaining result out out' err err' = Does served demonstration job remaining result out out' err err'
+RunsOver served (Some file) job remaining result out out' err err' =
     RefusesKit file result out out' err err'
     ⊎ ((bytes : List ℕ) × (kit : KitParts) × IsKitOf bytes kit
-    × (by_then : Option (List ℕ)) × AppendsFront err by_then (slips (slip_front file) kit []) × Does (view_in kit) job remaining result out out' by_then err')
+    × (by_then : Option (List ℕ)) × AppendsFront err by_then (slips (slip_front file) kit []) × Does served (view_in kit) job remaining result out out' by_then err')
 
 -- A run for what is asked.
-abbrev pub Runs : Option Asked → Option (List ℕ) → ℕ → Option (List ℕ) → Option (List ℕ) → Option (List ℕ) → Option (List ℕ) → Type 0
-Runs None remaining result out out' err err' = TellsUsage result out out' err err'
-Runs (Some asked) remaining result out out' err err' = RunsOver asked.kit asked.job remaining result out out' err err'
+abbrev pub Runs : Served → Option Asked → Option (List ℕ) → ℕ → Option (List ℕ) → Option (List ℕ) → Option (List ℕ) → Option (List ℕ) → Type 0
+Runs served None remaining result out out' err err' = TellsUsage result out out' err err'
+Runs served (Some asked) remaining result out out' err err' = RunsOver served asked.kit asked.job remaining result out out' err err'

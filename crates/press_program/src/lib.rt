@@ -4,13 +4,16 @@
 mod boxing;
 mod commands;
 mod ending;
+mod hosting;
 mod kitting;
 mod over;
 mod running;
+mod serves;
 mod task;
 mod telling;
 mod wanted;
 mod words;
 
-pub use running::run;
+pub use running::{Program, run};
+pub use serves::{Serves, Sockets};
 pub use telling::{fail, refuse};

@@ -3,24 +3,22 @@
 ghost use Rattle.std.specs.Prelude.{◌≡◌, ◌+◌, None, false, IfOk, IfErr};
 ghost use Rattle.std.specs.Io.KnownBytes.{Keeps};
 ghost use Rattle.press_kit.specs.KitFile.{file_limit, kit_in};
-ghost use Rattle.press_text.specs.Streams.{AppendsFront, TakesAtMost};
+ghost use Rattle.press_text.specs.Streams.{TakesAtMost};
 ghost use Rattle.press_program.specs.Endings as spec;
-ghost use Rattle.press_program.specs.Endings.{known_of, Does, EndsTask, Listens, ReadsFor, Shows};
+ghost use Rattle.press_program.specs.Endings.{known_of, EndsTask, Shows};
 ghost use Rattle.press_program.specs.KitFiles.{view_chosen, view_where};
-ghost use Rattle.press_sockets.specs.Listening.{listening_line, where_of};
-ghost use Rattle.press_program.specs.Words.{is_input, job_of, wanted_of};
+ghost use Rattle.press_program.specs.Words.{is_input, wanted_of};
 ghost use Rattle.press_demonstration.specs.Demonstration.{demonstration};
 
 use crate::ending::{Ending, end_over};
 use crate::kitting::Chosen;
 use crate::task::Task;
-use crate::telling::{finish, tell};
-use crate::wanted::{Job, Wanted};
+use crate::telling::finish;
+use crate::wanted::Wanted;
 use crate::{demonstration_kit, filed_kit};
 use press_callbacks::{BoxedTurns, CallIn, Kit, Stored, script_turn};
 use press_demonstration::{grow, grow_turn, parts};
 use press_kit::read_kit_file;
-use press_sockets::{ServeFault, Setup};
 use press_text::Copied;
 use press_world::ReplayFault;
 use std::io::{Read, Write};
@@ -170,8 +168,8 @@ impl<Rt: AllocGlobal + Files + Net> Over<'_, Rt> {
         }
     }
 
-    // Prints what is asked of a file.
-    fn show<R: Read, W: Write, E: Write>(
+    /// Prints what is asked of a file.
+    pub fn show<R: Read, W: Write, E: Write>(
         &self,
         wanted: &Wanted<'_>,
         reader: &mut R,
@@ -188,98 +186,5 @@ impl<Rt: AllocGlobal + Files + Net> Over<'_, Rt> {
     {
         let end = self.ended(wanted, reader, writer);
         finish(end, writer, error)
-    }
-}
-
-fn serve_line(fault: ServeFault) -> &'static [u8] {
-    match fault {
-        ServeFault::BadPeers => b"press: usage\n",
-        ServeFault::NoMemory => b"press: fault 0\n",
-        ServeFault::NoConnections | ServeFault::ReadFault => b"press: fault 40\n",
-        ServeFault::WriteFault => b"press: fault 42\n",
-        ServeFault::Disk => b"press: fault 50\n",
-        ServeFault::Damaged => b"press: fault 51\n",
-    }
-}
-
-impl Over<'_, HostRuntime> {
-    // A server over the demonstration kit.
-    #[tactic(auto, using(crate::proofs::Ends::nothing))]
-    fn served<W: Write, E: Write>(
-        &self,
-        setup: &Setup<'_>,
-        writer: &mut W,
-        error: &mut E,
-    ) -> Result<(), ServeFault>
-        ensures { AppendsFront (W.contents writer.old) (W.contents writer.new)
-            (listening_line (where_of setup.now.place)) }
-    {
-        let alloc = self.rt.alloc();
-        match demonstration_kit!(alloc) {
-            Ok(kit) => setup.serve(self.rt, kit, writer, error),
-            Err(_) => Err(ServeFault::NoMemory),
-        }
-    }
-
-    // A server over the kit of a kit file with these bytes.
-    #[tactic(auto, using(crate::proofs::Ends::nothing))]
-    fn served_filed<W: Write, E: Write>(
-        &self,
-        bytes: &[u8],
-        setup: &Setup<'_>,
-        writer: &mut W,
-        error: &mut E,
-    ) -> Result<(), ServeFault>
-        ensures { AppendsFront (W.contents writer.old) (W.contents writer.new)
-            (listening_line (where_of setup.now.place)) }
-    {
-        let alloc = self.rt.alloc();
-        let Ok(parts) = read_kit_file(alloc, bytes) else {
-            return Err(ServeFault::NoMemory);
-        };
-        match filed_kit!(alloc, parts) {
-            Ok(kit) => setup.serve(self.rt, kit, writer, error),
-            Err(_) => Err(ServeFault::NoMemory),
-        }
-    }
-
-    // Runs a server, and reports its fault.
-    fn serve<W: Write, E: Write>(&self, setup: &Setup<'_>, writer: &mut W, error: &mut E) -> u8
-        ensures { Listens (where_of setup.now.place) result
-            (W.contents writer.old) (W.contents writer.new) }
-    {
-        let served = match self.kit {
-            Chosen::Demonstration => self.served(setup, writer, error),
-            Chosen::OfFile(bytes) => self.served_filed(bytes, setup, writer, error),
-        };
-        match served {
-            Ok(()) => 0,
-            Err(fault) => {
-                tell(error, serve_line(fault));
-                2
-            }
-        }
-    }
-
-    /// What is to be done, over this kit.
-    pub fn does<R: Read, W: Write, E: Write>(
-        &self,
-        job: &Job<'_>,
-        reader: &mut R,
-        writer: &mut W,
-        error: &mut E,
-    ) -> u8
-        ensures took { TakesAtMost (R.remaining reader.old)
-            (R.remaining reader.new) (file_limit + 1) }
-        ensures reads { ReadsFor (job_of job.now) (R.remaining reader.old)
-            (R.remaining reader.new) }
-        ensures does { Does (view_chosen self.now.kit.now) (job_of job.now) (R.remaining reader.old)
-            result (W.contents writer.old) (W.contents writer.new)
-            (E.contents error.old) (E.contents error.new) }
-    {
-        match job {
-            Job::OfFile(wanted) => self.show(wanted, reader, writer, error),
-            Job::Serve(setup) => self.serve(setup, writer, error),
-        }
     }
 }

@@ -3,11 +3,13 @@
 ghost use Rattle.std.specs.Prelude.{◌≡◌, ◌+◌, map, option_map, string_bytes};
 ghost use Rattle.press_kit.specs.KitFile.{file_limit};
 ghost use Rattle.press_text.specs.Streams.{TakesAtMost};
-ghost use Rattle.press_program.specs.Endings.{ReadsAsked, ReadsFor, RefusesWords, Runs, RunsOver};
+ghost use Rattle.press_program.specs.Endings.{ReadsAsked, ReadsFor, RefusesWords, Runs, RunsOver, any_server};
 ghost use Rattle.press_program.specs.Words.{asked_by, asked_of, job_of};
 
+use crate::hosting::Hosting;
 use crate::kitting::{Chosen, ReadKit, read_kit};
 use crate::over::Over;
+use crate::serves::{Serves, Sockets};
 use crate::telling::{fail, refuse, refuse_kit, tell};
 use crate::wanted::Asked;
 use crate::words::read_words;
@@ -16,9 +18,9 @@ use std::io::{Read, Write};
 
 impl Asked<'_> {
     // What is asked, over its kit.
-    fn runs<R: Read, W: Write, E: Write>(
+    fn runs<S: Serves, R: Read, W: Write, E: Write>(
         &self,
-        rt: &HostRuntime,
+        program: &Program<'_, S>,
         reader: &mut R,
         writer: &mut W,
         error: &mut E,
@@ -27,47 +29,87 @@ impl Asked<'_> {
             (R.remaining reader.new) (file_limit + 1) }
         ensures reads { ReadsFor (job_of self.now.job) (R.remaining reader.old)
             (R.remaining reader.new) }
-        ensures runs { RunsOver (option_map (λ kit. kit.now) self.now.kit) (job_of self.now.job)
-            (R.remaining reader.old) result (W.contents writer.old) (W.contents writer.new)
+        ensures runs { RunsOver S.served (option_map (λ kit. kit.now) self.now.kit)
+            (job_of self.now.job) (R.remaining reader.old) result (W.contents writer.old) (W.contents writer.new)
             (E.contents error.old) (E.contents error.new) }
     {
+        let Program { rt, serves } = *program;
         let Some(file) = self.kit else {
             let kit = Chosen::Demonstration;
-            return Over { rt, kit: &kit }.does(&self.job, reader, writer, error);
+            let over = Over { rt, kit: &kit };
+            return Hosting { over, serves }.does(&self.job, reader, writer, error);
         };
         match read_kit(rt, file) {
             Ok(ReadKit { bytes, slips }) => {
                 tell(error, slips.as_bytes());
                 let kit = Chosen::OfFile(bytes);
-                Over { rt, kit: &kit }.does(&self.job, reader, writer, error)
+                let over = Over { rt, kit: &kit };
+                Hosting { over, serves }.does(&self.job, reader, writer, error)
             }
             Err(fault) => refuse_kit(rt.alloc(), file, &fault, error),
         }
     }
 }
 
-// What is asked for, if anything is. Refused arguments read nothing.
-fn answered<R: Read, W: Write, E: Write>(
-    rt: &HostRuntime,
-    asked: &Option<Asked<'_>>,
-    reader: &mut R,
-    writer: &mut W,
-    error: &mut E,
-) -> u8
-    ensures took { TakesAtMost (R.remaining reader.old) (R.remaining reader.new) (file_limit + 1) }
-    ensures asked { ReadsAsked (option_map (λ a. asked_of a) asked.now)
-        (R.remaining reader.old) (R.remaining reader.new) }
-    ensures runs { Runs (option_map (λ a. asked_of a) asked.now) (R.remaining reader.old) result
-        (W.contents writer.old) (W.contents writer.new)
-        (E.contents error.old) (E.contents error.new) }
-    ensures refused { RefusesWords (option_map (λ a. asked_of a) asked.now) result
-        (R.remaining reader.old) (R.remaining reader.new)
-        (W.contents writer.old) (W.contents writer.new)
-        (E.contents error.old) (E.contents error.new) }
-{
-    match asked {
-        Some(asked) => asked.runs(rt, reader, writer, error),
-        None => refuse(error),
+/// The program over whoever serves for it.
+#[derive(Clone, Copy)]
+pub struct Program<'r, S> {
+    pub rt: &'r HostRuntime,
+    pub serves: &'r S,
+}
+
+impl<S: Serves> Program<'_, S> {
+    // What is asked for, if anything is. Refused arguments read nothing.
+    fn answers<R: Read, W: Write, E: Write>(
+        &self,
+        asked: &Option<Asked<'_>>,
+        reader: &mut R,
+        writer: &mut W,
+        error: &mut E,
+    ) -> u8
+        ensures took { TakesAtMost (R.remaining reader.old)
+            (R.remaining reader.new) (file_limit + 1) }
+        ensures asked { ReadsAsked (option_map (λ a. asked_of a) asked.now)
+            (R.remaining reader.old) (R.remaining reader.new) }
+        ensures runs { Runs S.served (option_map (λ a. asked_of a) asked.now)
+            (R.remaining reader.old) result (W.contents writer.old) (W.contents writer.new)
+            (E.contents error.old) (E.contents error.new) }
+        ensures refused { RefusesWords (option_map (λ a. asked_of a) asked.now) result
+            (R.remaining reader.old) (R.remaining reader.new)
+            (W.contents writer.old) (W.contents writer.new)
+            (E.contents error.old) (E.contents error.new) }
+    {
+        match asked {
+            Some(asked) => asked.runs(self, reader, writer, error),
+            None => refuse(error),
+        }
+    }
+
+    /// One run, as `run` has it, with a server by whoever serves: over the kit of the run, and the place, the store, the page and the limits that the arguments
+    /// name. Its status is 0 where it ended without a fault, and else 2.
+    pub fn run<R: Read, W: Write, E: Write>(
+        &self,
+        words: &[String],
+        reader: &mut R,
+        writer: &mut W,
+        error: &mut E,
+    ) -> u8
+        ensures read { TakesAtMost (R.remaining reader.old)
+            (R.remaining reader.new) (file_limit + 1) }
+        ensures asked { ReadsAsked (asked_by (map string_bytes words.now))
+            (R.remaining reader.old) (R.remaining reader.new) }
+        ensures runs { Runs S.served (asked_by (map string_bytes words.now))
+            (R.remaining reader.old) result (W.contents writer.old) (W.contents writer.new)
+            (E.contents error.old) (E.contents error.new) }
+        ensures refused { RefusesWords (asked_by (map string_bytes words.now)) result
+            (R.remaining reader.old) (R.remaining reader.new)
+            (W.contents writer.old) (W.contents writer.new)
+            (E.contents error.old) (E.contents error.new) }
+    {
+        let Ok(asked) = read_words(self.rt.alloc(), words) else {
+            return fail(ReplayFault::NoMemory, error);
+        };
+        self.answers(&asked, reader, writer, error)
     }
 }
 
@@ -84,9 +126,9 @@ fn answered<R: Read, W: Write, E: Write>(
 /// ..` before anything else. A fault is a line `press: fault N` on standard error, and status 2; so is `press: usage`
 /// for any other arguments, and then nothing is read.
 ///
-/// Of a server the clauses say that its options are taken as given, and which line it prints: what goes over its
-/// sockets is outside them, since contracts see no bytes of a socket. `serve_turn` has the contract of each of its
-/// connections.
+/// A server runs over the sockets and files of the operating system (`Sockets`). Of it `Program::run` says over what it
+/// is, with which line and which status: what goes over its sockets is outside the clauses, since contracts see no bytes
+/// of a socket. `serve_turn` has the contract of each of its connections.
 pub fn run<R: Read, W: Write, E: Write>(
     rt: &HostRuntime,
     words: &[String],
@@ -97,16 +139,18 @@ pub fn run<R: Read, W: Write, E: Write>(
     ensures read { TakesAtMost (R.remaining reader.old) (R.remaining reader.new) (file_limit + 1) }
     ensures asked { ReadsAsked (asked_by (map string_bytes words.now))
         (R.remaining reader.old) (R.remaining reader.new) }
-    ensures runs { Runs (asked_by (map string_bytes words.now)) (R.remaining reader.old) result
-        (W.contents writer.old) (W.contents writer.new)
+    ensures runs { Runs any_server (asked_by (map string_bytes words.now))
+        (R.remaining reader.old) result (W.contents writer.old) (W.contents writer.new)
         (E.contents error.old) (E.contents error.new) }
     ensures refused { RefusesWords (asked_by (map string_bytes words.now)) result
         (R.remaining reader.old) (R.remaining reader.new)
         (W.contents writer.old) (W.contents writer.new)
         (E.contents error.old) (E.contents error.new) }
 {
-    let Ok(asked) = read_words(rt.alloc(), words) else {
-        return fail(ReplayFault::NoMemory, error);
+    let serves = Sockets { rt };
+    let program = Program {
+        rt,
+        serves: &serves,
     };
-    answered(rt, &asked, reader, writer, error)
+    program.run(words, reader, writer, error)
 }
