@@ -4,7 +4,7 @@ use Rattle.std.specs.Prelude.{insert, remove, unwrap_or}
 use Rattle.std.specs.List.{position_or_len}
 use Rattle.std.proofs.lemmas.Bool.Decides.{nat_tests}
 use Rattle.press_events.specs.declared.event.Event.{Event}
-use Rattle.press_events.specs.DueEvents.{NoneBefore, IsByTime, is_later, place_in, stands, scheduled, put_again}
+use Rattle.press_events.specs.DueEvents.{NoneBefore, IsByTime, is_later, place_in, scheduled}
 
 none_weaker : (s t : ℕ) (es : List Event) → s ≤ t → NoneBefore t es → NoneBefore s es
 none_weaker s t [] h k = tt
@@ -42,7 +42,7 @@ by_time_remove (e ∷ es) (suc i) h = (none_remove e.time es i h.0, by_time_remo
 
 -- ---- one event more, put in by recursion
 
-abbrev put : Event → List Event → List Event
+abbrev pub put : Event → List Event → List Event
 put e [] = e ∷ []
 put e (x ∷ xs) = cond (is_later e.time x) (e ∷ x ∷ xs) (x ∷ put e xs)
 
@@ -79,7 +79,7 @@ none_put t e (x ∷ xs) h k = none_put_by (is_later e.time x) t e x xs h k.0 k.1
 is_after : (s t : ℕ) → nat_lt s t ≡ true → s ≤ t
 is_after s t h = grind (arith, nat_tests)
 
-is_before : (s t : ℕ) → nat_lt s t ≡ false → t ≤ s
+pub is_before : (s t : ℕ) → nat_lt s t ≡ false → t ≤ s
 is_before s t h = grind (arith, nat_tests)
 
 by_time_put_by : (b : Bool) (e x : Event) (xs : List Event) → is_later e.time x ≡ b → IsByTime (x ∷ xs) → IsByTime (put e xs) → IsByTime (cond b (e ∷ x ∷ xs) (x ∷ put e xs))
@@ -90,16 +90,10 @@ by_time_put : (e : Event) (es : List Event) → IsByTime es → IsByTime (put e 
 by_time_put e [] h = (tt, tt)
 by_time_put e (x ∷ xs) h = by_time_put_by (is_later e.time x) e x xs refl h (by_time_put e xs h.1)
 
-pub by_time_scheduled : (e : Event) (es : List Event) → IsByTime es → IsByTime (scheduled e es)
-by_time_scheduled e es h =
+pub scheduled_put : (e : Event) (es : List Event) → scheduled e es ≡ put e es
+scheduled_put e es =
     let at : place_in e.time es ≡ place e es = or_last (place e es) (length es) (within e es) in
-    rw (at, puts e es) (by_time_put e es h)
+    rw (at, puts e es) refl
 
--- ---- taking an event
-
-by_time_cond_two : (b : Bool) (xs ys : List Event) → IsByTime xs → IsByTime ys → IsByTime (cond b xs ys)
-by_time_cond_two true xs ys h k = h
-by_time_cond_two false xs ys h k = k
-
-pub by_time_again : (e : Event) (es : List Event) → IsByTime es → IsByTime (put_again e es)
-by_time_again e es h = by_time_cond_two (stands e es) es (scheduled e es) h (by_time_scheduled e es h)
+pub by_time_scheduled : (e : Event) (es : List Event) → IsByTime es → IsByTime (scheduled e es)
+by_time_scheduled e es h = rw (scheduled_put e es) (by_time_put e es h)

@@ -1,7 +1,9 @@
 pub mod ByTime
 pub mod Halves
+pub mod Made
 pub mod Numbers
 pub mod Moments
 pub mod Once
+pub mod Schedules
 pub mod Shifting
 pub mod Vectors

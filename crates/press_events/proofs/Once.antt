@@ -20,14 +20,14 @@ bytes_flip a b = alike (bytes_eq a b) (bytes_eq b a) refl refl
 nat_flip : (m n : ℕ) → nat_eq m n ≡ nat_eq n m
 nat_flip m n = grind (arith, nat_tests)
 
-same_flip : (a b : Event) → is_same a b ≡ is_same b a
+pub same_flip : (a b : Event) → is_same a b ≡ is_same b a
 same_flip a b = ap₂ (λ (x y : Bool). x && y) (nat_flip a.time b.time) (ap₂ (λ (x y : Bool). x && y) (bytes_flip a.hook b.hook) (bytes_flip a.arg b.arg))
 
-neither : (a b : Bool) → (a || b) ≡ false → (a ≡ false) × (b ≡ false)
+pub neither : (a b : Bool) → (a || b) ≡ false → (a ≡ false) × (b ≡ false)
 neither true b e = absurd (cc)
 neither false b e = (refl, e)
 
-or_false : (a b : Bool) → a ≡ false → b ≡ false → (a || b) ≡ false
+pub or_false : (a b : Bool) → a ≡ false → b ≡ false → (a || b) ≡ false
 or_false a b e f = rw (e, f) refl
 
 -- ---- one more, one less
@@ -38,7 +38,7 @@ none_insert p e [] (suc i) h k = or_false (p e) false h refl
 none_insert p e (x ∷ xs) zero h k = or_false (p e) (list_any p (x ∷ xs)) h k
 none_insert p e (x ∷ xs) (suc i) h k = let n = neither (p x) (list_any p xs) k in or_false (p x) (list_any p (insert xs i e)) n.0 (none_insert p e xs i h n.1)
 
-once_insert : (e : Event) (es : List Event) (i : ℕ) → stands e es ≡ false → HasEachOnce es → HasEachOnce (insert es i e)
+pub once_insert : (e : Event) (es : List Event) (i : ℕ) → stands e es ≡ false → HasEachOnce es → HasEachOnce (insert es i e)
 once_insert e [] zero h o = (refl, tt)
 once_insert e [] (suc i) h o = (refl, tt)
 once_insert e (x ∷ xs) zero h o = (h, o)
@@ -52,7 +52,7 @@ none_remove p [] (suc i) k = refl
 none_remove p (x ∷ xs) zero k = (neither (p x) (list_any p xs) k).1
 none_remove p (x ∷ xs) (suc i) k = let n = neither (p x) (list_any p xs) k in or_false (p x) (list_any p (remove xs i)) n.0 (none_remove p xs i n.1)
 
-once_remove : (es : List Event) (i : ℕ) → HasEachOnce es → HasEachOnce (remove es i)
+pub once_remove : (es : List Event) (i : ℕ) → HasEachOnce es → HasEachOnce (remove es i)
 once_remove [] zero o = tt
 once_remove [] (suc i) o = tt
 once_remove (x ∷ xs) zero o = o.1
@@ -89,7 +89,7 @@ once_taken event now es o = once_at (place_of event es) event now es o
 
 -- ---- how many
 
-length_insert : (e : Event) (es : List Event) (i : ℕ) → length (insert es i e) ≡ length es + 1
+pub length_insert : (e : Event) (es : List Event) (i : ℕ) → length (insert es i e) ≡ length es + 1
 length_insert e [] zero = omega arith
 length_insert e [] (suc i) = omega arith
 length_insert e (x ∷ xs) zero = omega arith

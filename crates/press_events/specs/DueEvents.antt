@@ -128,6 +128,27 @@ abbrev pub HasEachOnce : List Event → Type 0
 HasEachOnce [] = Unit {0}
 HasEachOnce (e ∷ es) = (stands e es ≡ false) × HasEachOnce es
 
+-- ---- what scheduling makes: events by time, one of each identity, with no argument over 256 bytes, and at most 4,096
+
+abbrev pub AreShort : List Event → Type 0
+AreShort [] = Unit {0}
+AreShort (e ∷ es) = (length e.arg ≤ 256) × AreShort es
+
+pub record IsSchedule (events : List Event) : Type 0 where
+  pub by_time : IsByTime events
+  pub once : HasEachOnce events
+  pub short : AreShort events
+  pub few : length events ≤ 4096
+
+-- events that are added to others one by one; a refused one leaves what was there
+abbrev pub after_adding : Result (List Event × Bool) EventFault → List Event → List Event
+after_adding (Ok after) events = after.0
+after_adding (Err fault) events = events
+
+abbrev pub add_all : List Event → List Event → List Event
+add_all [] events = events
+add_all (e ∷ es) events = add_all es (after_adding (add_event e events) events)
+
 -- ---- what `add` answers: a fault leaves the events as they were; out of memory comes only where the event would be put in
 
 abbrev pub IsPutIn : Result (List Event × Bool) EventFault → Type 0

@@ -1,7 +1,7 @@
 -- Changes of events, and the way back: an event that came in goes out, one that was moved goes to its old place, one that went comes in there, or all that stood
 -- come back (own).
 use Rattle.press_text.specs.Gives.{GivesOrStays}
-use Rattle.std.specs.Prelude.{◌≡◌, ℕ, ◌<◌, ◌≤◌, List, [], length, insert, remove, slice_index_or, Bool, true, false, not, ◌&&◌, nat_eq, nat_le, Option, Some, None, is_some, Result, Ok, vec_capacity}
+use Rattle.std.specs.Prelude.{◌≡◌, ℕ, ◌<◌, ◌≤◌, List, [], length, insert, remove, slice_index_or, Bool, true, false, not, ◌&&◌, nat_eq, nat_le, if◌then◌else◌, Option, Some, None, is_some, Result, Ok, vec_capacity}
 use Rattle.std.specs.Global.{Vec}
 use Rattle.std.specs.List.{count_by, slice_get}
 use Rattle.press_text.specs.declared.every.Every.{Every}
@@ -11,7 +11,7 @@ use Rattle.press_events.specs.declared.fault.EventFault.{EventFault}
 use Rattle.press_events.specs.declared.shift.Shift.{Shift}
 use Rattle.press_events.specs.declared.shift.Shift.TheVariants.{Came, Moved, Went, All}
 use Rattle.press_events.specs.Marks.{mark}
-use Rattle.press_events.specs.DueEvents.{IsByTime, Refuses, cancelled, is_of, moment_next, place_of, stands}
+use Rattle.press_events.specs.DueEvents.{IsSchedule, Refuses, cancelled, is_of, moment_next, place_of, scheduled, stands}
 
 -- ---- the way back
 
@@ -26,18 +26,18 @@ shift_back (Moved to from time every) events = put_at (slice_get events to) from
 shift_back (Went place event room marks) events = insert events place event
 shift_back (All stood) events = stood
 
--- an event that went, where it comes in again
+-- an event that went, where it comes in again: they are then such as scheduling makes
 abbrev pub FitsIn : ℕ → Event → List Event → Type 0
-FitsIn place event events = (place ≤ length events) × IsByTime (insert events place event)
+FitsIn place event events = (place ≤ length events) × IsSchedule (insert events place event)
 
 -- room for one more than so many, with nothing in it
 abbrev pub HasRoom : {T : Type 0} → Vec T → ℕ → Type 0
 HasRoom room n = (room.items ≡ []) × (n < vec_capacity room)
 
--- where there is such a way; one that went has room for all
+-- where there is such a way, which leaves what scheduling makes; one that went has room for all
 abbrev pub MayShiftBack : Shift → List Event → Type 0
 MayShiftBack (Came place) events = place < length events
-MayShiftBack (Moved to from time every) events = (to < length events) × (from < length events) × IsByTime (shift_back (Moved to from time every) events)
+MayShiftBack (Moved to from time every) events = (to < length events) × (from < length events) × IsSchedule (shift_back (Moved to from time every) events)
 MayShiftBack (Went place event room marks) events = FitsIn place event events × HasRoom room (length events) × HasRoom marks (length events)
 MayShiftBack (All stood) events = Unit {0}
 
@@ -54,6 +54,16 @@ MayGoBack (Some shift) new old = ShiftsBack shift new old
 
 abbrev pub Enters : Result (Option Shift) EventFault → Result (List Event × Bool) EventFault → List Event → List Event → Type 0
 Enters result meant old new = GivesOrStays Refuses (λ shift. Ok (new, is_some shift)) result meant old new
+
+-- ---- an event that gets another time and recurrence: None where there is none at the place, or another has the identity that it would get
+
+abbrev pub moved_beside : Option Event → ℕ → Every → List Event → Option (List Event)
+moved_beside None time every others = None
+moved_beside (Some e) time every others =
+    let new = record e { time = time; every = every } in if stands new others then None else Some (scheduled new others)
+
+abbrev pub move_event : ℕ → ℕ → Every → List Event → Option (List Event)
+move_event place time every events = moved_beside (slice_get events place) time every (remove events place)
 
 -- ---- whether an event comes again once it is taken
 
@@ -74,13 +84,12 @@ comes_again event now events = comes_of (place_of event events) event now events
 abbrev pub event_at : ℕ → List ℕ → List ℕ → Event
 event_at time hook arg = record { time = time; hook = hook; arg = arg; every = Once }
 
--- whether one stands, no other has an argument of its argument's number, and not too many stand
+-- whether one stands, and no other has an argument of its argument's number
 abbrev pub stands_alone : ℕ → List ℕ → List ℕ → List Event → Bool
-stands_alone time hook arg events = nat_le (length events) 4096 && (nat_le (count_by (λ e. nat_eq (mark arg) (mark e.arg)) events) 1 && is_some (place_of (event_at time hook arg) events))
+stands_alone time hook arg events = nat_le (count_by (λ e. nat_eq (mark arg) (mark e.arg)) events) 1 && is_some (place_of (event_at time hook arg) events)
 
--- whether the event at a place is the only one of its hook and argument, and not too many stand
+-- whether the event at a place is the only one of its hook and argument
 pub record IsOnly (hook arg : List ℕ) (place : ℕ) (events : List Event) : Type 0 where
   pub within : place < length events
   pub of_it : (d : Event) → is_of hook arg (slice_index_or events place d) ≡ true
   pub only : cancelled hook arg events ≡ remove events place
-  pub few : length events ≤ 4096

@@ -1,9 +1,9 @@
 //! The scheduled events.
 
-ghost use Rattle.std.specs.Prelude.{◌≡◌, ℕ, [], ◌<◌, ◌≤◌, length, take, true, false, IfOk, IfErr, OnOk, OnErr, IfSome, IfNone, Some, insert, remove, slice_index_or, is_some, not, vec_len, vec_capacity};
+ghost use Rattle.std.specs.Prelude.{◌≡◌, ℕ, [], ◌<◌, ◌≤◌, length, take, true, false, IfOk, IfErr, OnOk, OnErr, IfSome, IfNone, insert, remove, slice_index_or, is_some, not, option_map, vec_len, vec_capacity};
 ghost use Rattle.std.specs.List.Sorted.{IsPartitionPoint};
-ghost use Rattle.press_events.specs.DueEvents.{is_earlier, is_later, place_of, stands, place_in, IsByTime, Adds, add_event, cancelled, cancels, is_full_without, fault_of, due, take_event, put_again, scheduled, is_of, moment_next};
-ghost use Rattle.press_events.specs.Shifts.{comes_again, comes_at, Enters, IsOnly, MayGoBack, MayShiftBack, ShiftsBack, event_at, shift_back, stands_alone};
+ghost use Rattle.press_events.specs.DueEvents.{is_earlier, is_later, place_of, stands, place_in, HasEachOnce, IsByTime, IsSchedule, Adds, add_event, cancelled, cancels, is_full_without, fault_of, due, take_event, put_again, scheduled};
+ghost use Rattle.press_events.specs.Shifts.{comes_again, Enters, IsOnly, MayGoBack, MayShiftBack, ShiftsBack, event_at, move_event, shift_back, stands_alone};
 ghost use Rattle.press_events.specs.declared.fault.EventFault.TheVariants.{NoMemory};
 ghost use Rattle.press_events.specs.declared.shift.Shift.TheVariants.{Moved, Went};
 
@@ -39,7 +39,7 @@ impl Drop for Events {
 
 impl Model for Events {
     ghost use Rattle.std.specs.Prelude.{List};
-    ghost use Rattle.press_events.specs.DueEvents.{IsByTime};
+    ghost use Rattle.press_events.specs.DueEvents.{IsSchedule};
     ghost use Rattle.press_events.specs.Marks.{Covers};
     ghost use Rattle.press_events.specs.declared.event.Event.{Event};
 
@@ -47,7 +47,7 @@ impl Model for Events {
 
     ghost view = { λ e. e.events.items };
 
-    ghost invariant = { λ e. IsByTime e.events.items × Covers e.marks e.events.items };
+    ghost invariant = { λ e. IsSchedule e.events.items × Covers e.marks e.events.items };
 }
 
 impl Events {
@@ -60,6 +60,13 @@ impl Events {
             events: Vec::new(alloc),
             marks: Marks::new(alloc),
         }
+    }
+
+    /// Whatever was called before, the events are such as scheduling makes.
+    pub fn are_scheduled(&self)
+        ensures { IsSchedule self.now }
+    {
+        let _events = &self.events;
     }
 
     /// Schedules an event; false, and no change, where one of its identity is scheduled already (`wp_schedule_event`).
@@ -88,8 +95,11 @@ impl Events {
         Ok(Some(came))
     }
 
-    // Schedules an event, without a look whether one of its identity is scheduled, or whether too many are; what takes that back.
+    // Schedules an event that may be scheduled; what takes that back.
     fn put_in(&mut self, event: Event) -> Result<Shift, EventFault>
+        requires short { length event.arg ≤ 256 }
+        requires new { stands event self.old ≡ false }
+        requires room { length self.old < 4096 }
         ensures ok { OnOk result (self.new ≡ scheduled event self.old) }
         ensures back { IfOk result (λ s. ShiftsBack s self.new self.old) }
         ensures err { IfErr result (λ f. (f ≡ NoMemory) × (self.new ≡ self.old)) }
@@ -116,8 +126,9 @@ impl Events {
         ensures stays { IfNone result (self.new ≡ self.old) }
     {
         let place = place_of(&self.events, event)?;
-        let time = time_again(&self.events, place, now)?;
-        Some(self.give_time(place, time))
+        let stood = &self.events[place];
+        let (time, every) = (stood.next(now)?, stood.every);
+        self.move_to(place, time, every)
     }
 
     /// The place of the event of that time, hook and argument, where no other has that hook and argument. None also where another
@@ -126,9 +137,6 @@ impl Events {
         ensures told { is_some result ≡ stands_alone time hook.now arg.now self.now }
         ensures place { IfSome result (λ place. IsOnly hook.now arg.now place self.now) }
     {
-        if self.events.len() > MOST_EVENTS {
-            return None;
-        }
         let mark = mark(arg);
         if !self.marks.has(mark) {
             return None;
@@ -139,22 +147,19 @@ impl Events {
         place_at(&self.events, time, hook, arg)
     }
 
-    /// Schedules an event in place of one of its hook and argument; what takes that back. Takes no memory.
-    pub fn move_to(&mut self, place: usize, event: Event) -> Shift
-        requires within { place < length self.old }
-        requires same { is_of event.hook event.arg (slice_index_or self.old place event) ≡ true }
-        ensures after { self.new ≡ scheduled event (remove self.old place) }
-        ensures back { ShiftsBack result self.new self.old }
+    /// Gives the event at a place another time and recurrence; what takes that back. None, and no change, where no event is at that
+    /// place, or another has the identity that it would get. Takes no memory.
+    pub fn move_to(&mut self, place: usize, time: Moment, every: Every) -> Option<Shift>
+        ensures does { option_map (λ _. self.new) result ≡ move_event place time every self.old }
+        ensures back { MayGoBack result self.new self.old }
     {
-        let stood = self.events.remove(place);
-        let (time, every) = (stood.time, stood.every);
-        let to = put_over(&mut self.events, event);
-        Shift::Moved {
-            to,
-            from: place,
-            time,
-            every,
+        if place >= self.events.len() {
+            return None;
         }
+        if stands_beside(&self.events, place, time) {
+            return None;
+        }
+        Some(self.give_time(place, time, every))
     }
 
     /// Takes out the event at a place; what takes that back, for which there is room then.
@@ -288,22 +293,26 @@ impl Events {
         true
     }
 
-    // Gives the event at a place another time.
-    fn give_time(&mut self, place: usize, time: Moment) -> Shift
-        requires { place < length self.old }
+    // Gives the event at a place another time and recurrence.
+    fn give_time(&mut self, place: usize, time: Moment, every: Every) -> Shift
+        requires within { place < length self.old }
+        requires free { (d : Event) → stands (record (slice_index_or self.old place d)
+            { time = time }) (remove self.old place) ≡ false }
         ensures after { (d : Event) → self.new ≡ scheduled
-            (record (slice_index_or self.old place d) { time = time }) (remove self.old place) }
+            (record (slice_index_or self.old place d) { time = time; every = every })
+            (remove self.old place) }
         ensures back { ShiftsBack result self.new self.old }
     {
         let mut event = self.events.remove(place);
-        let (stood, every) = (event.time, event.every);
+        let (stood, came) = (event.time, event.every);
         event.time = time;
+        event.every = every;
         let to = put_over(&mut self.events, event);
         Shift::Moved {
             to,
             from: place,
             time: stood,
-            every,
+            every: came,
         }
     }
 
@@ -413,24 +422,19 @@ fn place_among(events: &[Event], time: Moment, hook: &str, arg: &str) -> Option<
     events.iter().position(|e| e.is_at(time, hook, arg))
 }
 
-// When the event at a place comes again, where it does, and none of that identity is scheduled.
-fn time_again(events: &[Event], place: usize, now: Moment) -> Option<Moment>
+// Whether another event than that at a place has its hook and argument at a time.
+fn stands_beside(events: &[Event], place: usize, time: Moment) -> bool
     requires order { IsByTime events.now }
+    requires once { HasEachOnce events.now }
     requires within { place < length events.now }
-    ensures told { (d : Event) → is_some result ≡ comes_at
-        (moment_next now (slice_index_or events.now place d))
-        (slice_index_or events.now place d) events.now }
-    ensures next { IfSome result (λ time. (d : Event)
-        → moment_next now (slice_index_or events.now place d) ≡ Some time) }
-    ensures free { IfSome result (λ time. (d : Event)
-        → stands (record (slice_index_or events.now place d) { time = time }) events.now ≡ false) }
+    ensures { (d : Event) → result ≡ stands (record (slice_index_or events.now place d)
+        { time = time }) (remove events.now place) }
 {
     let event = &events[place];
-    let time = event.next(now)?;
-    if place_at(events, time, event.hook.as_str(), event.arg.as_str()).is_some() {
-        return None;
+    match place_at(events, time, event.hook.as_str(), event.arg.as_str()) {
+        Some(other) => other != place,
+        None => false,
     }
-    Some(time)
 }
 
 // Where the earlier events end, by binary search.

@@ -13,5 +13,8 @@ mod shift;
 pub use event::Event;
 pub use events::Events;
 pub use fault::EventFault;
-pub use laws::{comes_again_first, schedules_each_once, schedules_few, takes_each_once};
+pub use laws::{
+    are_made_by_scheduling, comes_again_first, schedules_each_once, schedules_few, schedules_such,
+    takes_each_once,
+};
 pub use shift::Shift;

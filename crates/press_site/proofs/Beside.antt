@@ -1,16 +1,19 @@
 -- The events beside a post: once those of its id are out, its own is put in wherever there is room.
-use Rattle.std.proofs.Common.{◌≡◌, refl, sym, subst, ◌∙◌, ap, ℕ, ◌+◌, ◌<◌, ◌≤◌, ◌^◌, Bool, true, false, not, cond, List, [], ◌∷◌, length, Some, arith, codes}
-use Rattle.std.specs.Prelude.{remove, nat_eq, nat_lt, nat_le, if◌then◌else◌, decimal, Result, Ok, Err}
+use Rattle.std.proofs.Common.{◌≡◌, refl, sym, subst, ◌∙◌, ap, ℕ, ◌+◌, ◌<◌, ◌≤◌, ◌^◌, Bool, true, false, not, cond, zero, suc, List, [], ◌∷◌, length, Option, Some, None, arith, codes}
+use Rattle.std.specs.Prelude.{◌&&◌, remove, slice_index_or, bytes_eq, is_some, unwrap_or, nat_eq, nat_lt, nat_le, if◌then◌else◌, decimal, Result, Ok, Err}
 use Rattle.std.proofs.lemmas.Bool.{and_right, le-ltb}
 use Rattle.std.proofs.lemmas.Bool.Decides.{nat_tests}
 use Rattle.std.proofs.lemmas.Fmt.{length-decimal-le}
 use Rattle.std.proofs.lemmas.List.Edits.{length-remove}
-use Rattle.press_events.specs.Shifts.{IsOnly}
+use Rattle.std.specs.List.{slice_get}
+use Rattle.std.proofs.lemmas.Slice.Eq.{bytes_eq-Decides}
+use Rattle.press_text.specs.declared.every.Every.TheVariants.{Once}
+use Rattle.press_events.specs.Shifts.{IsOnly, move_event, moved_beside}
 use Rattle.press_events.specs.declared.event.Event.{Event}
 use Rattle.press_events.specs.declared.fault.EventFault.{EventFault}
 use Rattle.press_events.specs.declared.fault.EventFault.TheVariants as event
 use Rattle.press_events.specs.DueEvents as events
-use Rattle.press_events.specs.DueEvents.{is_of, is_same, stands, cancelled, cancels, add_event, scheduled}
+use Rattle.press_events.specs.DueEvents.{IsSchedule, is_of, is_same, stands, cancelled, cancels, add_event, scheduled}
 use Rattle.press_site.specs.declared.fault.SiteFault.{SiteFault}
 use Rattle.press_site.specs.declared.fault.SiteFault.TheVariants.{TooManyEvents}
 use Rattle.press_site.specs.Becomes.{Refuses}
@@ -85,11 +88,44 @@ none_out id es n = sym (none_cancelled (codes "publish_future_post") (decimal id
 own_room : (m n k : ℕ) → m + 1 ≡ n → n ≤ k → nat_le k m ≡ false
 own_room m n k e h = grind (arith, nat_tests)
 
-pub own_moved : (id date place : ℕ) (es : List Event) → IsOnly (codes "publish_future_post") (decimal id) place es → events_of (Some date) id es ≡ Ok (scheduled (publish_event id date) (remove es place))
-own_moved id date place es o = rw (o.only, own_room (length (remove es place)) (length es) 4096 (length-remove es place o.within) o.few) refl
-
 abbrev limited : Bool → List Event → Result (List Event) SiteFault
 limited b xs = if b then Err TooManyEvents else Ok xs
+
+-- it is there, with its hook and argument
+own_there : (hook arg : List ℕ) (es : List Event) (i : ℕ) → i < length es → ((d : Event) → is_of hook arg (slice_index_or es i d) ≡ true) → (e : Event) × (slice_get es i ≡ Some e) × (is_of hook arg e ≡ true)
+own_there hook arg [] i lt s = absurd (omega arith)
+own_there hook arg (x ∷ xs) zero lt s = (x, refl, s x)
+own_there hook arg (x ∷ xs) (suc i) lt s = own_there hook arg xs i (omega arith) s
+
+both : (a b : Bool) → (a && b) ≡ true → (a ≡ true) × (b ≡ true)
+both true b e = (refl, e)
+both false b e = absurd (cc)
+
+same_of : (date : ℕ) (hook arg : List ℕ) (e : Event) → is_of hook arg e ≡ true → record e { time = date; every = Once } ≡ record { time = date; hook = hook; arg = arg; every = Once }
+same_of date hook arg e s =
+    let p = both (bytes_eq e.hook hook) (bytes_eq e.arg arg) s in
+    let h = (bytes_eq-Decides e.hook hook).0 p.0 in
+    let a = (bytes_eq-Decides e.arg arg).0 p.1 in
+    λ i. record { time = date; hook = h i; arg = a i; every = Once }
+
+pub moves_own : (id date place : ℕ) (es : List Event) → IsOnly (codes "publish_future_post") (decimal id) place es → move_event place date Once es ≡ Some (scheduled (publish_event id date) (remove es place))
+moves_own id date place es o =
+    let own = own_there (codes "publish_future_post") (decimal id) es place o.within o.of_it in
+    let new : Event = publish_event id date in
+    let free : stands new (remove es place) ≡ false = subst (λ (xs : List Event). stands new xs ≡ false) o.only (stands_not new es) in
+    ap (λ (e : Option Event). moved_beside e date Once (remove es place)) own.1
+    ∙ ap (λ (e : Event). if stands e (remove es place) then None else Some (scheduled e (remove es place))) (same_of date (codes "publish_future_post") (decimal id) own.0 own.2)
+    ∙ ap (λ (b : Bool). if b then None else Some (scheduled new (remove es place))) free
+
+pub own_moved : (id date place : ℕ) (es : List Event) → IsSchedule es → IsOnly (codes "publish_future_post") (decimal id) place es → events_of (Some date) id es ≡ Ok (unwrap_or (move_event place date Once es) es)
+own_moved id date place es s o =
+    let room : nat_le 4096 (length (events_without id es)) ≡ false = ap (λ (xs : List Event). nat_le 4096 (length xs)) o.only ∙ own_room (length (remove es place)) (length es) 4096 (length-remove es place o.within) s.few in
+    ap (λ (b : Bool). limited b (scheduled (publish_event id date) (events_without id es))) room
+    ∙ ap (λ (xs : List Event). Ok (scheduled (publish_event id date) xs)) o.only
+    ∙ sym (ap (λ (x : Option (List Event)). Ok (unwrap_or x es)) (moves_own id date place es o))
+
+pub may_move : (id date place : ℕ) (es : List Event) → IsOnly (codes "publish_future_post") (decimal id) place es → is_some (move_event place date Once es) ≡ true
+may_move id date place es o = ap is_some (moves_own id date place es o)
 
 -- where none is for it
 pub own_new : (id date : ℕ) (es : List Event) → cancels (codes "publish_future_post") (decimal id) es ≡ false → nat_le 4096 (length (events_without id es)) ≡ false → events_of (Some date) id es ≡ Ok (scheduled (publish_event id date) es)

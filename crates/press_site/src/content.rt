@@ -285,7 +285,7 @@ impl Content {
         match beside {
             Beside::Same => Ok(None),
             Beside::Came(event) => Ok(self.events.enter(event)?),
-            Beside::Moved { place, event } => Ok(Some(self.events.move_to(place, event))),
+            Beside::Moved { place, date } => Ok(self.events.move_to(place, date, Every::Once)),
             Beside::Gone { place } => Ok(Some(self.events.leave(place)?)),
             Beside::Others(events) => Ok(Some(Shift::All(mem::replace(&mut self.events, events)))),
         }
@@ -355,14 +355,15 @@ impl Content {
     }
 
     // The events beside a post whose own comes at that date: in its place, where it is the only one.
+    #[tactic(auto, using(crate::proofs::Beside::own_moved, crate::proofs::Beside::may_move))]
     fn beside_own(&self, id: u64, date: Moment, near: Moment) -> Result<Beside, SiteFault>
         ensures does { Gives Refuses (λ b. Ok (events_beside b self.now.events)) result
             (events_of (Some date) id self.now.events) }
         ensures may { IfOk result (λ b. MayStandBeside b self.now.events) }
     {
         if let Some(place) = self.own_place(id, near) {
-            let event = publish_event(self.alloc, id, date)?;
-            return Ok(Beside::Moved { place, event });
+            self.events.are_scheduled();
+            return Ok(Beside::Moved { place, date });
         }
         if self.has_event(id) {
             Ok(Beside::Others(self.events_with(id, date)?))
@@ -439,8 +440,8 @@ impl Content {
 enum Beside {
     Same,
     Came(Event),
-    // An event comes in place of the one at that place.
-    Moved { place: usize, event: Event },
+    // The event at that place comes once, at that date.
+    Moved { place: usize, date: Moment },
     // The event at that place goes.
     Gone { place: usize },
     // These come in place of all.

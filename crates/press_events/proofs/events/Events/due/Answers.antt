@@ -7,4 +7,4 @@ use Rattle.press_events.proofs.events.Events.due.Goals as goal
 
 pub returns-clause-order : goal.returns-clause-order
 returns-clause-order c =
-    IfOk-weaker _ (λ (es : List Event). es ≡ due c.args.now c.as_slice.result.now) IsByTime (λ es h. rw (h, c.as_slice.ensures.value) (by_time_filter (is_due c.args.now) c.self.inside.events.items c.self.invariant.0)) c.due.ensures.events
+    IfOk-weaker _ (λ (es : List Event). es ≡ due c.args.now c.as_slice.result.now) IsByTime (λ es h. rw (h, c.as_slice.ensures.value) (by_time_filter (is_due c.args.now) c.self.inside.events.items c.self.invariant.0.by_time)) c.due.ensures.events

@@ -5,8 +5,8 @@ use Rattle.press_events.specs.Marks.{mark}
 use Rattle.press_events.specs.Shifts.{ShiftsBack}
 use Rattle.press_events.specs.declared.event.Event.{Event}
 use Rattle.press_events.specs.declared.shift.Shift.TheVariants.{Went}
-use Rattle.press_events.proofs.ByTime.{by_time_remove}
 use Rattle.press_events.proofs.Numbers.{covers_without}
+use Rattle.press_events.proofs.Schedules.{schedule_removed}
 use Rattle.press_events.proofs.Shifting.{went_fits, in_again}
 use Rattle.press_events.proofs.events.Events.leave.Goals as goal
 
@@ -14,7 +14,7 @@ pub invariant_of-self : goal.invariant_of-self
 invariant_of-self c =
     let lt : c.args.place < length c.self.inside.events.items = subst (λ (es : List Event). c.args.place < length es) (sym c.self.view_is) c.requires in
     rw c.remove-event.ensures.items (
-      by_time_remove c.self.inside.events.items c.args.place c.self.invariant.0,
+      schedule_removed c.self.inside.events.items c.args.place lt c.self.invariant.0,
       covers_without c.self.inside.events.items c.args.place c.remove-event.result c.self.inside.marks c.remove.new.self c.mark.result lt c.remove-event.ensures.value (c.mark.ensures ∙ ap mark c.as_str.ensures)
           c.self.invariant.1 c.remove.ensures,
     )
