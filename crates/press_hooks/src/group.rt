@@ -129,8 +129,8 @@ impl Group {
 }
 
 impl Copied for Group {
-    fn copied(&self, alloc: Global) -> Result<Group, AllocError> {
-        let _ = alloc;
+    // A map copies itself by the allocator that it has.
+    fn copied(&self, _alloc: Global) -> Result<Group, AllocError> {
         Ok(Group {
             priority: self.priority,
             members: self.members.clone()?,
