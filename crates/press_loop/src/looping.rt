@@ -73,7 +73,7 @@ impl<Rt: Net> Looped<'_, Rt> {
         ensures step { IfOk result (λ played. (kit : KitView) →
             HaveKit kit (statics self.old.world) → Steps kit (size self.old.world)
             (model self.old.world) step.now (model self.new.world) played) }
-        ensures told { IfOk result (λ played. Tells connection.new.client.front
+        ensures hears { IfOk result (λ played. Tells connection.new.client.front
             (status_to step.now played)) }
         ensures fault { IfErr result (λ e. e ≢ ReplayFault.BadSchedule) }
     {
