@@ -1,6 +1,6 @@
 -- Which calls of its store each event makes, where it may take memory of its own, and what it saves (own): a message that is ignored takes no memory, nor does a
--- refusal, a promise that doesn't count, a vote that isn't kept where nothing is chosen, or a query for a slot without a vote.
-use Rattle.std.specs.Prelude.{ℕ, ◌≡◌, ◌⊎◌, IsTrue, IsSome, Bool, true, false, None, List, []}
+-- refusal, a promise that doesn't count, a vote that isn't the first of all that are kept, where nothing is chosen, or a query for a slot without a vote.
+use Rattle.std.specs.Prelude.{ℕ, ◌≡◌, ◌⊎◌, IsTrue, IsSome, Bool, true, false, List, []}
 use Rattle.press_wire.specs.declared.message.Body.{Body}
 use Rattle.press_wire.specs.declared.message.Body.TheVariants.{Prepare, Promise, Nack, Accept, Accepted, Query}
 use Rattle.press_wire.specs.declared.message.Message.{Message}
@@ -10,7 +10,7 @@ use Rattle.press_acceptor.specs.Seen.{Call}
 use Rattle.press_acceptor.specs.StoreMap.{StoreMap}
 use Rattle.press_acceptor.specs.Turned.{Plan}
 use Rattle.press_learner.specs.Chosen.{chosen_next, has_gap}
-use Rattle.press_learner.specs.Kept.{Kept, is_in_window, vote_at, with_vote}
+use Rattle.press_learner.specs.Kept.{Kept, KeepsNone, is_in_window, with_vote}
 use Rattle.press_proposer.specs.Phases.{awaits}
 use Rattle.press_proposer.specs.Turns.{is_content}
 use Rattle.press_proposer.specs.Wakes.{wake_calls}
@@ -18,9 +18,9 @@ use Rattle.press_node.specs.declared.event.Event.{Event}
 use Rattle.press_node.specs.declared.event.Event.TheVariants.{Submit, Wake, Deliver}
 use Rattle.press_node.specs.NodeEvent.{Running, is_for, on_body, on_event}
 
--- a member's first vote for a slot is kept, or with the vote a value is chosen, which is applied
+-- the vote is for a slot of the window, and the first of all that are kept; or with it a value is chosen, which is applied
 abbrev pub TakesForVote : Kept → ℕ → ℕ → Vote → Type 0
-TakesForVote learner from slot vote = (IsTrue (is_in_window learner.applied slot) × (vote_at learner slot from ≡ None)) ⊎ IsSome (chosen_next (with_vote learner from slot vote))
+TakesForVote learner from slot vote = (IsTrue (is_in_window learner.applied slot) × KeepsNone learner) ⊎ IsSome (chosen_next (with_vote learner from slot vote))
 
 abbrev pub TakesForBody : Running → Message → Body → StoreMap → Type 0
 TakesForBody node message (Prepare round) kept = TakesForAnswer message.slot (Prepare round) kept

@@ -1,15 +1,18 @@
 //! A node without its kit and its store.
 
 ghost use Rattle.std.specs.Prelude.{◌≡◌, ◌⊎◌, ◌≤◌, Err, IfOk, IfErr, true, option_map, option_copied};
+ghost use Rattle.press_acceptor.specs.StoreMap.{StoreMap};
 ghost use Rattle.press_callbacks.specs.Kits.{kit_view};
 ghost use Rattle.press_node.specs.Nodes.{IsPageAt};
 ghost use Rattle.press_node.specs.Plays.{StatePlays};
+ghost use Rattle.press_node.specs.Refusals.{refusal};
 ghost use Rattle.press_node.specs.States.{
   applied_count,
   is_down,
   IsFolded,
   IsMemberOf,
   IsWhole,
+  running_in,
   started_at,
   stopped,
 };
@@ -19,6 +22,7 @@ use crate::fault::NodeFault;
 use crate::fixed::Fixed;
 use crate::up::Up;
 use press_acceptor::PromiseStore;
+use press_apply::Stamped;
 use press_callbacks::Kit;
 use press_page::{Reply, Target, page};
 use press_site::Site;
@@ -123,6 +127,39 @@ impl State {
         match page(self.alloc, &up.site, kit, target) {
             Ok(reply) => Ok(reply),
             Err(_) => Err(NodeFault::NoMemory),
+        }
+    }
+
+    /// Why a command is refused, if it is. It takes no memory.
+    pub fn refusal_of_command(&self, command: &Stamped) -> Option<NodeFault>
+        ensures { (store : StoreMap) →
+            result ≡ refusal store (running_in self.now) (Event.Submit command.now) }
+    {
+        match &self.up {
+            Some(up) => up.refusal_of_command(command),
+            None => Some(NodeFault::Down),
+        }
+    }
+
+    /// Why a wake is refused, if it is, where this is the last round of the store. It takes no memory.
+    pub fn refusal_of_wake(&self, last_round: u64) -> Option<NodeFault>
+        ensures { (store : StoreMap) → store.last_round ≡ last_round →
+            result ≡ refusal store (running_in self.now) Event.Wake }
+    {
+        match &self.up {
+            Some(up) => up.refusal_of_wake(last_round),
+            None => Some(NodeFault::Down),
+        }
+    }
+
+    /// Why a message is refused, if it is: only since the node is down.
+    pub fn refusal_of_message(&self) -> Option<NodeFault>
+        ensures { (store : StoreMap) (message : Message) →
+            result ≡ refusal store (running_in self.now) (Event.Deliver message) }
+    {
+        match &self.up {
+            Some(_) => None,
+            None => Some(NodeFault::Down),
         }
     }
 

@@ -4,20 +4,19 @@ ghost use Rattle.std.specs.Prelude.{◌≡◌, ◌⊎◌, ◌≤◌, ◌+◌, �
 ghost use Rattle.press_callbacks.specs.Kits.{kit_view};
 ghost use Rattle.press_acceptor.specs.Answers.{acceptor_answer};
 ghost use Rattle.press_acceptor.specs.Plans.{answer_calls, answer_plan};
+ghost use Rattle.press_acceptor.specs.StoreMap.{StoreMap};
 ghost use Rattle.press_acceptor.specs.Turned.{Says, Turned, moved};
 ghost use Rattle.press_acceptor.specs.declared.fault.StoreFault.{StoreFault};
-ghost use Rattle.press_apply.specs.declared.value.Value.TheVariants.{Cmd};
 ghost use Rattle.press_learner.specs.Chosen.{chosen_next, has_gap};
 ghost use Rattle.press_learner.specs.Kept.{with_vote};
 ghost use Rattle.press_proposer.specs.Phases.{awaits};
 ghost use Rattle.press_proposer.specs.Turns.{queued_by, promise_turn, nacked_by};
 ghost use Rattle.press_site.specs.Effects.{no_site};
-ghost use Rattle.press_wire.specs.Spelling as spell;
 ghost use Rattle.press_node.specs.EventPlans.{TakesForVote, body_plan};
 ghost use Rattle.press_node.specs.Faults.{of_store, stops};
 ghost use Rattle.press_node.specs.NodeEvent.{fresh, is_for, on_body, settled, with_learner};
 ghost use Rattle.press_node.specs.Plays.{Plays, PlaysBy, PlaysUp, sent};
-ghost use Rattle.press_node.specs.Refusals.{is_at_end, refusal_up};
+ghost use Rattle.press_node.specs.Refusals.{is_at_end, refusal, refusal_up};
 ghost use Rattle.press_node.specs.Views.{Applies, IsBeside, IsUpAt, IsUpFolded, running_of, up_moved};
 
 use crate::event::Event;
@@ -29,7 +28,7 @@ use press_callbacks::Kit;
 use press_learner::{Learner, none_is_chosen_after_64};
 use press_proposer::Proposer;
 use press_site::Site;
-use press_wire::{Ballot, Body, Message, Node as Member, Slot, Vote, is_too_long};
+use press_wire::{Ballot, Body, Message, Node as Member, Slot, Vote, is_command_too_long};
 use std::alloc::Global;
 
 // How many slots there are.
@@ -65,22 +64,6 @@ fn slot_behind(applied: u64) -> Slot
         unreachable!()
     };
     slot
-}
-
-// The command, if it isn't too long.
-fn short(command: Stamped) -> Result<Stamped, NodeFault>
-    ensures ok { IfOk result (λ c. (c ≡ command) × (spell.is_too_long (Cmd command) ≡ false)) }
-    ensures err { IfErr result
-        (λ fault. (fault ≡ NodeFault.TooLong) × (spell.is_too_long (Cmd command) ≡ true)) }
-{
-    let value = Value::Cmd(command);
-    if is_too_long(&value) {
-        return Err(NodeFault::TooLong);
-    }
-    let Value::Cmd(command) = value else {
-        unreachable!()
-    };
-    Ok(command)
 }
 
 // What the acceptor answers to a request or a query.
@@ -222,6 +205,19 @@ impl Up {
         }
     }
 
+    /// Why a command is refused, if it is.
+    pub(crate) fn refusal_of_command(&self, command: &Stamped) -> Option<NodeFault>
+        ensures { result ≡ refusal_up (running_of self.now) (Event.Submit command.now) }
+    {
+        if is_command_too_long(command) {
+            return Some(NodeFault::TooLong);
+        }
+        if self.proposer.is_full() {
+            return Some(NodeFault::Full);
+        }
+        None
+    }
+
     fn submit(&mut self, alloc: Global, command: Stamped) -> Result<(), NodeFault>
         ensures rest { IsBeside self.old self.new }
         ensures queued { OnOk result (self.new.proposer ≡ queued_by self.old.proposer command) }
@@ -235,10 +231,10 @@ impl Up {
         ensures memory { IfErr result (λ fault. stops fault ≡ true → fault ≡ NodeFault.NoMemory) }
         ensures err { OnErr result (self.new ≡ self.old) }
     {
-        let command = match short(command) {
-            Ok(command) => command,
-            Err(fault) => return Err(fault),
-        };
+        if let Some(fault) = self.refusal_of_command(&command) {
+            drop(command);
+            return Err(fault);
+        }
         match self.proposer.submit(command) {
             Ok(()) => Ok(()),
             Err(fault) => Err(NodeFault::of_proposer(fault)),
@@ -252,6 +248,20 @@ impl Up {
         ensures more { result ≡ false → self.now.learner.applied < 1000000 }
     {
         self.learner.applied() >= SLOTS
+    }
+
+    /// Why a wake is refused, if it is, where this is the last round of the store.
+    pub(crate) fn refusal_of_wake(&self, last_round: u64) -> Option<NodeFault>
+        ensures { (store : StoreMap) → store.last_round ≡ last_round →
+            result ≡ refusal store (Some (running_of self.now)) Event.Wake }
+    {
+        if self.is_at_end() {
+            return Some(NodeFault::SlotsUsedUp);
+        }
+        if self.proposer.is_used_up(last_round, self.learner.has_gap()) {
+            return Some(NodeFault::RoundsUsedUp);
+        }
+        None
     }
 
     fn wake<S: PromiseStore>(

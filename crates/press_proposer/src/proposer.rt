@@ -4,6 +4,7 @@ ghost use Rattle.std.specs.Prelude.{◌≡◌, ◌≢◌, ◌<◌, ◌≤◌, �
 ghost use Rattle.press_acceptor.specs.Messages as messages;
 ghost use Rattle.press_acceptor.specs.Seen.{Calls, Looks, fault_in};
 ghost use Rattle.press_acceptor.specs.Seen.Call.{LoadsRound};
+ghost use Rattle.press_acceptor.specs.StoreMap.{StoreMap};
 ghost use Rattle.press_acceptor.specs.Turned.{Says, moved};
 ghost use Rattle.press_acceptor.specs.declared.fault.StoreFault.TheVariants.{NoMemory};
 ghost use Rattle.press_wire.specs.Ranges.{round_of};
@@ -12,7 +13,7 @@ ghost use Rattle.press_proposer.specs.Faults.{store_fault};
 ghost use Rattle.press_proposer.specs.Phases.{awaits};
 ghost use Rattle.press_proposer.specs.Proposing.{started, in_phase};
 ghost use Rattle.press_proposer.specs.Queues.{is_full};
-ghost use Rattle.press_proposer.specs.Turns.{queued_by, is_content, next_round, wake_turn, promise_turn, nacked_by, applied_by};
+ghost use Rattle.press_proposer.specs.Turns.{queued_by, is_content, is_used_up, next_round, wake_turn, promise_turn, nacked_by, applied_by};
 ghost use Rattle.press_proposer.specs.Wakes.{Wakes, wake_calls};
 
 use crate::fault::ProposerFault;
@@ -84,6 +85,21 @@ impl Proposer {
         }
     }
 
+    /// Whether 256 commands wait, so that no further one is taken.
+    pub fn is_full(&self) -> bool
+        ensures { result ≡ is_full self.now.queue }
+    {
+        self.queue.is_full()
+    }
+
+    /// Whether a wake would want a round, and none is left, where this is the last round of the store.
+    pub fn is_used_up(&self, last_round: u64, gap: bool) -> bool
+        ensures { (store : StoreMap) → store.last_round ≡ last_round →
+            result ≡ is_used_up store self.now gap }
+    {
+        !self.is_content(gap) && round_after(last_round.max(self.nacked)).is_none()
+    }
+
     /// Puts a command at the end of the queue. Full where 256 wait, which is checked before any memory is taken.
     pub fn submit(&mut self, command: Stamped) -> Result<(), ProposerFault>
         ensures queued { OnOk result (self.new ≡ queued_by self.old command) }
@@ -93,7 +109,7 @@ impl Proposer {
             (if is_full self.old.queue then ProposerFault.Full else ProposerFault.Store NoMemory)) }
         ensures unchanged { OnErr result (self.new ≡ self.old) }
     {
-        if self.queue.is_full() {
+        if self.is_full() {
             return Err(ProposerFault::Full);
         }
         self.queue.push(command)?;

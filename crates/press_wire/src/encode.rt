@@ -1,6 +1,7 @@
 //! From values and messages to bytes.
 
 ghost use Rattle.std.specs.Prelude.{◌≡◌, ◌≤◌, true, false, Ok, IfOk, IfErr, MatchOption, if◌then◌else◌};
+ghost use Rattle.press_apply.specs.declared.value.Value.TheVariants.{Cmd};
 ghost use Rattle.press_wire.specs.Held.{IsShort};
 ghost use Rattle.press_wire.specs.Reading.{read_command, read_message};
 ghost use Rattle.press_wire.specs.Spelling as spell;
@@ -9,19 +10,19 @@ ghost use Rattle.press_wire.specs.Spelling.{longest, spelled_command, spelled_me
 use crate::fault::WireFault;
 use crate::held::{hold_message, hold_value};
 use crate::message::Message;
-use crate::write_value::spelled_len;
+use crate::write_value::{spelled_len, stamped_len};
 use crate::writer::Writer;
-use press_apply::Value;
+use press_apply::{Stamped, Value};
 use std::alloc::{AllocError, Global};
 
 // The most bytes of a message beside those of the value in it.
 const BESIDE: usize = 30;
 
-/// Whether more than 16,384 bytes spell the value, which `encode_cmd` refuses. It takes no memory.
-pub fn is_too_long(value: &Value) -> bool
-    ensures { result ≡ spell.is_too_long value.now }
+/// Whether more than 16,384 bytes spell the command as a value, which `encode_cmd` refuses. It takes no memory.
+pub fn is_command_too_long(command: &Stamped) -> bool
+    ensures { result ≡ spell.is_too_long (Cmd command.now) }
 {
-    spelled_len(value).is_none()
+    stamped_len(command).is_none()
 }
 
 /// The bytes that spell the value. TooLong where they are more than 16,384, which is checked before any memory is taken.

@@ -25,7 +25,7 @@ mod writer;
 
 pub use ballot::Ballot;
 pub use decode::{decode_cmd, decode_msg};
-pub use encode::{encode_cmd, encode_msg, is_too_long};
+pub use encode::{encode_cmd, encode_msg, is_command_too_long};
 pub use fault::WireFault;
 pub use laws::{
     messages_have_one_spelling, messages_read_back, values_have_one_spelling, values_read_back,

@@ -2,6 +2,7 @@
 #![tactic(auto, using(crate::proofs::Lengths::regroup))]
 
 ghost use Rattle.std.specs.Prelude.{◌≡◌, ◌≤◌, ◌+◌, ◌++◌, length, OnOk};
+ghost use Rattle.press_apply.specs.declared.value.Value.TheVariants.{Cmd};
 ghost use Rattle.press_wire.specs.Held.{HasShortTexts, IsShort};
 ghost use Rattle.press_wire.specs.Spelling as spell;
 ghost use Rattle.press_wire.specs.Spelling.{longest};
@@ -116,22 +117,25 @@ fn fields_len(command: &Command) -> Option<usize>
     }
 }
 
+/// How many bytes spell the command; None if they are too many.
+#[tactic(auto, using(crate::proofs::Lengths::length_spelled))]
+pub fn stamped_len(stamped: &Stamped) -> Option<usize>
+    ensures { Measures result (length (spell.spelled_command (Cmd stamped.now))) }
+{
+    let len = 18 + stamped.token.editor.as_str().len() + fields_len(&stamped.command)?;
+    if len > LONGEST {
+        return None;
+    }
+    Some(len)
+}
+
 /// How many bytes spell the value; None if they are too many.
 #[tactic(auto, using(crate::proofs::Lengths::length_spelled))]
 pub fn spelled_len(value: &Value) -> Option<usize>
     ensures { Measures result (length (spell.spelled_command value.now)) }
 {
-    let len = match value {
-        Value::Noop { .. } => 9,
-        Value::Cmd(stamped) => {
-            let Some(len) = fields_len(&stamped.command) else {
-                return None;
-            };
-            18 + stamped.token.editor.as_str().len() + len
-        }
-    };
-    if len > LONGEST {
-        return None;
+    match value {
+        Value::Noop { .. } => Some(9),
+        Value::Cmd(stamped) => stamped_len(stamped),
     }
-    Some(len)
 }
