@@ -113,7 +113,7 @@ still n id store node (Deliver m) e = go (is_for n id m) e
 
 -- ---- what is refused
 
-calm : (node : Running) (event : Event) (fault : NodeFault) → refusal_up node event ≡ Some fault → stops fault ≡ false
+pub calm : (node : Running) (event : Event) (fault : NodeFault) → refusal_up node event ≡ Some fault → stops fault ≡ false
 calm node (Submit command) fault e = go (is_too_long (Cmd command)) (is_full node.proposer.queue) e
   where
     go : (a b : Bool) → cond a (Some TooLong) (cond b (Some Full) None) ≡ Some fault → stops fault ≡ false
@@ -127,7 +127,7 @@ calm node Wake fault e = go (is_at_end node) e
     go false e = let q : None ≡ Some fault = e in cc
 calm node (Deliver m) fault e = let q : None ≡ Some fault = e in cc
 
-by_rounds : (store : StoreMap) (node : Running) (event : Event) (fault : NodeFault) → refusal_by_rounds store node event ≡ Some fault → fault ≡ RoundsUsedUp
+pub by_rounds : (store : StoreMap) (node : Running) (event : Event) (fault : NodeFault) → refusal_by_rounds store node event ≡ Some fault → fault ≡ RoundsUsedUp
 by_rounds store node (Submit command) fault e = let q : None ≡ Some fault = e in cc
 by_rounds store node Wake fault e = go (is_used_up store node.proposer (has_gap node.learner)) e
   where

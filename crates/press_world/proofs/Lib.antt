@@ -14,6 +14,7 @@ mod Outcomes
 mod Playing
 mod Proposals
 mod Readings
+mod Refused
 mod Replayed
 mod Started
 mod Steps

@@ -66,7 +66,7 @@ turn_sound law {T} r n s t cut does o step e f k sound = go r e f
     ended (inr h) = by (Some (cut_of h.0)) h.1
 
     refused : (b : Bool) (fault : NodeFault) → FailsBy s does o fault b t → IsSound t
-    refused true fault h = ended h.1
+    refused true fault h = ended h.2
     refused false fault h = subst IsSound (sym h.1) sound
 
     go : (q : Result T NodeFault) → OnOk q (t ≡ does cut) → IfErr q (λ fault. FailsBy s does o fault (stops fault) t) → IsSound t
@@ -94,7 +94,7 @@ steps_add kit n s t x r k sound h = go r h
     ended (inr h) = by (with_cut x (Some (cut_of h.0))) h.1
 
     refused : (b : Bool) (fault : NodeFault) → FailsBy s (λ stop. stored_step n s (with_cut x stop)) (refused_step s x) fault b t → Adds (world_of s).trace (world_of t).trace
-    refused true fault h = ended h.1
+    refused true fault h = ended h.2
     refused false fault h = same h.1
 
     go : (q : Result Played WorldFault) → Steps kit n s x t q → Adds (world_of s).trace (world_of t).trace

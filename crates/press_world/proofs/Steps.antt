@@ -72,6 +72,23 @@ steps_of kit n s t x which index event cut (Err fault) refused by own tells h =
 
 -- ---- which step an event is
 
+pub submit_refused : (s : Stored) (number index : ℕ) (command : Stamped) (cut : Option Cut) → Some index ≡ index_of (length s.places) number →
+    refused_step s (Submit number command cut) ≡ refused_at (slice_get s.places index) (event.Submit command) cut
+submit_refused s number index command cut e = ap (λ p. refused_at p (event.Submit command) cut) (place_at s number index e)
+
+pub wake_refused : (s : Stored) (number index : ℕ) (cut : Option Cut) → Some index ≡ index_of (length s.places) number →
+    refused_step s (Wake number cut) ≡ refused_at (slice_get s.places index) event.Wake cut
+wake_refused s number index cut e = ap (λ p. refused_at p event.Wake cut) (place_at s number index e)
+
+-- the message with this number is at `which`, and it is to the member at the index
+pub deliver_refused : (s : Stored) (number which index : ℕ) (message : Message) (cut : Option Cut) → Some which ≡ index_of (length s.sent) number → slice_get s.sent which ≡ Some message → Some index ≡ index_of (length s.places) message.to →
+    refused_step s (Deliver number cut) ≡ refused_at (slice_get s.places index) (event.Deliver message) cut
+deliver_refused s number which index message cut e at to =
+    let h = (numbered (length s.places) message.to index to).0 in
+    let back : message.to - 1 ≡ index = omega (arith, h) in
+    ap (λ o. refused_of s o cut) (ap (option_and_then (slice_get s.sent)) (sym e) ∙ at)
+    ∙ ap (λ i. refused_at (slice_get s.places i) (event.Deliver message) cut) back
+
 pub submit_is : (n : ℕ) (s : Stored) (number index : ℕ) (command : Stamped) → Some index ≡ index_of (length s.places) number → (stop : Option Cut) →
     stored_step n s (Submit number command stop) ≡ stored_does n s 0 index (slice_get s.places index) (event.Submit command) stop
 submit_is n s number index command e stop = ap (λ o. at_index o (λ i. stored_does n s 0 i (slice_get s.places i) (event.Submit command) stop) s) (sym e)
@@ -115,7 +132,7 @@ module _ (kit : KitView) (n : ℕ) (s t : Stored) (number index : ℕ) (cut : Op
   pub submit_steps : (command : Stamped) → Some index ≡ index_of (length s.places) number → Happens n s 0 index (event.Submit command) cut t r → Steps kit n s (Submit number command cut) t r
   submit_steps command e h =
       steps_of kit n s t (Submit number command cut) 0 index (event.Submit command) cut r
-      (ap (λ p. refused_at p (event.Submit command) cut) (place_at s number index e))
+      (submit_refused s number index command cut e)
       (submit_is n s number index command e)
       refl
       (told_same s t number index cut (numbered (length s.places) number index e).0 (place_after s t number index e same))
@@ -124,7 +141,7 @@ module _ (kit : KitView) (n : ℕ) (s t : Stored) (number index : ℕ) (cut : Op
   pub wake_steps : Some index ≡ index_of (length s.places) number → Happens n s 0 index event.Wake cut t r → Steps kit n s (Wake number cut) t r
   wake_steps e h =
       steps_of kit n s t (Wake number cut) 0 index event.Wake cut r
-      (ap (λ p. refused_at p event.Wake cut) (place_at s number index e))
+      (wake_refused s number index cut e)
       (wake_is n s number index e)
       refl
       (told_same s t number index cut (numbered (length s.places) number index e).0 (place_after s t number index e same))
@@ -135,7 +152,7 @@ module _ (kit : KitView) (n : ℕ) (s t : Stored) (number index : ℕ) (cut : Op
       Happens n s which index (event.Deliver message) cut t r → Steps kit n s (Deliver number cut) t r
   deliver_steps which message e at to h =
       steps_of kit n s t (Deliver number cut) which index (event.Deliver message) cut r
-      (ap (λ o. refused_of s o cut) found ∙ ap (λ i. refused_at (slice_get s.places i) (event.Deliver message) cut) back)
+      (deliver_refused s number which index message cut e at to)
       (deliver_is n s number which index message e at to)
       refl
       (ap (λ o. record {
@@ -153,9 +170,6 @@ module _ (kit : KitView) (n : ℕ) (s t : Stored) (number index : ℕ) (cut : Op
 
       found : message_numbered s number ≡ Some message
       found = ap (option_and_then (slice_get s.sent)) (sym e) ∙ at
-
-      back : message.to - 1 ≡ index
-      back = omega (arith, number_is)
 
 -- ---- a restart and a request for a page
 
@@ -217,24 +231,29 @@ get_steps kit n s number index target store (Some up) reply played e at page p =
           ∙ ap (λ r. record { node = index + 1; first = 0; count = 0; stopped = false; applied = or_none (applied_in (slice_get s.places index)); reply = r }) (ap (λ o. reply_at kit o target) at ∙ ap Some (sym page))),
     )
 
-pub get_fails : (kit : KitView) (n : ℕ) (s : Stored) (number index : ℕ) (target : Target) (store : StoreMap) (up : Option Up) (fault : NodeFault) →
-    Some index ≡ index_of (length s.places) number → slice_get s.places index ≡ Some (record { store = store; up = option_map (λ (u : Up). u.running) up }) →
-    ((fault ≡ Down) × (is_down_where up ≡ true)) ⊎ (fault ≡ NoMemory) → Steps kit n s (Get number target) s (Err (Node fault))
-get_fails kit n s number index target store up fault e at (inr h) =
-    subst (λ b. FailsBy s (λ stop. stored_step n s (Get number target)) (refused_step s (Get number target)) fault b s) (sym (ap stops h)) (h, inl refl)
-get_fails kit n s number index target store None fault e at (inl h) =
-    subst (λ b. FailsBy s (λ stop. stored_step n s (Get number target)) (refused_step s (Get number target)) fault b s) (sym (ap stops h.0)) (
-      ap get_refused (place_at s number index e ∙ at) ∙ ap (λ f. Some (Node f)) (sym h.0),
-      refl,
-    )
-get_fails kit n s number index target store (Some up) fault e at (inl h) = cc
-
 -- where a page isn't refused, its node is up
 pub get_takes : (s : Stored) (number index : ℕ) (store : StoreMap) (up : Option Up) (fault : NodeFault) →
     Some index ≡ index_of (length s.places) number → slice_get s.places index ≡ Some (record { store = store; up = option_map (λ (u : Up). u.running) up }) →
     (is_down_where up ≡ true → ◌≡◌ {A = Result Reply NodeFault} (Err fault) (Err Down)) → ◌≡◌ {A = WorldFault} (Node fault) (Node NoMemory) → get_refused (place_numbered s number) ≡ None
 get_takes s number index store None fault e at down memory = let d : ◌≡◌ {A = Result Reply NodeFault} (Err fault) (Err Down) = down refl in cc
 get_takes s number index store (Some up) fault e at down memory = ap get_refused (place_at s number index e ∙ at)
+
+pub get_fails : (kit : KitView) (n : ℕ) (s : Stored) (number index : ℕ) (target : Target) (store : StoreMap) (up : Option Up) (fault : NodeFault) →
+    Some index ≡ index_of (length s.places) number → slice_get s.places index ≡ Some (record { store = store; up = option_map (λ (u : Up). u.running) up }) →
+    (is_down_where up ≡ true → ◌≡◌ {A = Result Reply NodeFault} (Err fault) (Err Down)) →
+    ((fault ≡ Down) × (is_down_where up ≡ true)) ⊎ (fault ≡ NoMemory) → Steps kit n s (Get number target) s (Err (Node fault))
+get_fails kit n s number index target store up fault e at down (inr h) =
+    subst (λ b. FailsBy s (λ stop. stored_step n s (Get number target)) (refused_step s (Get number target)) fault b s) (sym (ap stops h)) (
+      h,
+      get_takes s number index store up fault e at down (ap Node h),
+      inl refl,
+    )
+get_fails kit n s number index target store None fault e at down (inl h) =
+    subst (λ b. FailsBy s (λ stop. stored_step n s (Get number target)) (refused_step s (Get number target)) fault b s) (sym (ap stops h.0)) (
+      ap get_refused (place_at s number index e ∙ at) ∙ ap (λ f. Some (Node f)) (sym h.0),
+      refl,
+    )
+get_fails kit n s number index target store (Some up) fault e at down (inl h) = cc
 
 pub some_place : {X : Type 0} (xs : List X) (i : ℕ) → i < length xs → (x : X) × (slice_get xs i ≡ Some x)
 some_place [] i lt = absurd (omega arith)

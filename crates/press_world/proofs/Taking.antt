@@ -121,7 +121,7 @@ module _ (n : ℕ) (s : Stored) (which index slot : ℕ) (store : StoreMap) wher
       by : (cut : Option Cut) (b : Bool) → refusal_before cut (refusal store (Some node) e) ≡ refusal store (Some node) e →
           Fails (on_event n (index + 1) store node e) (refusal store (Some node) e) fault b (record { store = store; up = Some node }) new →
           FailsBy s (λ cut. stored_does n s which index (slice_get s.places index) e cut) (refused_at (slice_get s.places index) e cut) fault b (left new)
-      by cut true h x = (x.0, inr (stopped node new e at about x.1 x.2 x.3))
+      by cut true h x = (x.0, ap (λ o. refused_at o e cut) at ∙ ap (option_map Node) (h ∙ x.1), inr (stopped node new e at about x.1 x.2 x.3))
       by cut false h x = (ap (λ o. refused_at o e cut) at ∙ ap (option_map Node) (h ∙ x.0), unchanged (Some node) new at x.1)
 
       first : (cut : Option Cut) → UnlessFirst cut (Fails (on_event n (index + 1) store node e) (refusal store (Some node) e) fault (stops fault) (record { store = store; up = Some node }) new) →
@@ -130,9 +130,3 @@ module _ (n : ℕ) (s : Stored) (which index slot : ℕ) (store : StoreMap) wher
       first (Some BeforeSave) x = absurd x
       first (Some AfterSave) x = by (Some AfterSave) (stops fault) refl x
       first (Some (AfterMessages count)) x = by (Some (AfterMessages count)) (stops fault) refl x
-
-  -- what was done was not refused
-  pub does_pass : (up : Option Running) (e : Event) (cut : Option Cut) (out : List Message) (new : Place) →
-      slice_get s.places index ≡ Some (record { store = store; up = up }) → DoesAt n (index + 1) store up e cut out new → refused_at (slice_get s.places index) e cut ≡ None
-  does_pass None e cut out new at d = absurd d
-  does_pass (Some node) e cut out new at d = ap (λ o. refused_at o e cut) at ∙ ap (option_map Node) d.passes

@@ -1,5 +1,5 @@
 -- What the code of a turn writes down is a step of the stored world.
-use Rattle.std.proofs.Common.{ℕ, ◌+◌, ◌≡◌, List, ◌++◌, length, slice_get, Option, Some, None, sym, subst, ap, ◌∙◌}
+use Rattle.std.proofs.Common.{ℕ, ◌+◌, ◌≡◌, List, ◌++◌, length, slice_get, Option, Some, sym, subst, ap, ◌∙◌}
 use Rattle.press_wire.specs.declared.message.Message.{Message}
 use Rattle.press_node.specs.declared.event.Event.{Event}
 use Rattle.press_node.specs.declared.fault.NodeFault.{NodeFault}
@@ -15,7 +15,7 @@ use Rattle.press_world.specs.declared.entry.Entry.{Entry}
 use Rattle.press_world.specs.declared.seen.Seen.{Seen}
 use Rattle.press_world.specs.declared.step.Cut.{Cut}
 use Rattle.press_world.proofs.Changed.{get_set_here}
-use Rattle.press_world.proofs.Taking.{written, left, does_step, does_pass, fails_step}
+use Rattle.press_world.proofs.Taking.{written, left, does_step, fails_step}
 
 between_is : (before after x y : Seen) (member m which slot : ℕ) (e : Option Entry) → before ≡ x → after ≡ y → member ≡ m → e ≡ entry_between before after member which slot → e ≡ entry_between x y m which slot
 between_is before after x y member m which slot e b a k h =
@@ -54,8 +54,3 @@ turn_refused n s t which index slot member event cut fault before after e acted 
     let same : t ≡ left n s which index slot acted.before.store acted.after = λ i. record { places = acted.set i; sent = g i; entries = entries i } in
     subst (FailsBy s (λ cut. stored_does n s which index (slice_get s.places index) event cut) (refused_at (slice_get s.places index) event cut) fault (stops fault)) (sym same)
     (fails_step n s which index slot acted.before.store acted.before.up event cut fault acted.after acted.at (about acted.before acted.at) acted.did)
-
-pub turn_passed : (n : ℕ) (s t : Stored) (which index slot : ℕ) (event : Event) (cut : Option Cut) (out : List Message) →
-    IsActed index s.places t.places (λ old new. DoesAt n (index + 1) old.store old.up event cut out new) → refused_at (slice_get s.places index) event cut ≡ None
-turn_passed n s t which index slot event cut out acted =
-    does_pass n s which index slot acted.before.store acted.before.up event cut out acted.after acted.at acted.did

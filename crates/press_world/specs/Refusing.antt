@@ -1,6 +1,6 @@
 -- Which fault refuses a step of a schedule (own): a node or a message that doesn't exist, a node that is down, or what a running node refuses.
 -- A step that is refused changes nothing and plays no cut.
-use Rattle.std.specs.Prelude.{ℕ, ◌-◌, ◌≡◌, Option, None, Some, IsSome, option_and_then, option_map, length, slice_get}
+use Rattle.std.specs.Prelude.{ℕ, ◌-◌, ◌≡◌, Option, None, Some, option_and_then, option_map, length, slice_get}
 use Rattle.press_acceptor.specs.StoreMap.{StoreMap}
 use Rattle.press_wire.specs.declared.message.Message.{Message}
 use Rattle.press_node.specs.declared.event.Event.{Event}
@@ -66,10 +66,10 @@ refused_step s (Get number target) = get_refused (place_numbered s number)
 
 -- ---- out of memory
 
--- it may come only where the step names a node or a message that exists, at a request for a page only where that isn't refused, and never at a restart
+-- it may come only where the step isn't refused, and never at a restart
 abbrev pub TakesMemory : Stored → Step → Type 0
-TakesMemory s (Submit number command cut) = IsSome (index_of (length s.places) number)
-TakesMemory s (Wake number cut) = IsSome (index_of (length s.places) number)
-TakesMemory s (Deliver number cut) = IsSome (index_of (length s.sent) number)
+TakesMemory s (Submit number command cut) = refused_step s (Submit number command cut) ≡ None
+TakesMemory s (Wake number cut) = refused_step s (Wake number cut) ≡ None
+TakesMemory s (Deliver number cut) = refused_step s (Deliver number cut) ≡ None
 TakesMemory s (Restart number) = ⊥
-TakesMemory s (Get number target) = get_refused (place_numbered s number) ≡ None
+TakesMemory s (Get number target) = refused_step s (Get number target) ≡ None

@@ -24,9 +24,9 @@ cut_of true = AfterSave
 abbrev pub IsCut : (Option Cut → Stored) → Stored → Type 0
 IsCut by t = (b : Bool) × (t ≡ by (Some (cut_of b)))
 
--- A fault of a node: the step was refused and nothing changed; or it was out of memory, which came before all else or stopped the node.
+-- A fault of a node: the step was refused and nothing changed; or nothing refuses it and it was out of memory, which came before the event or stopped the node.
 abbrev pub FailsBy : Stored → (Option Cut → Stored) → Option WorldFault → NodeFault → Bool → Stored → Type 0
-FailsBy s by refused fault true t = (fault ≡ NoMemory) × ((t ≡ s) ⊎ IsCut by t)
+FailsBy s by refused fault true t = (fault ≡ NoMemory) × (refused ≡ None) × ((t ≡ s) ⊎ IsCut by t)
 FailsBy s by refused fault false t = (refused ≡ Some (Node fault)) × (t ≡ s)
 
 abbrev pub Fails : Stored → (Option Cut → Stored) → Option WorldFault → WorldFault → Stored → Type 0

@@ -6,6 +6,7 @@ ghost use Rattle.press_world.specs.Adding.{Adds};
 ghost use Rattle.press_world.specs.Happening.{Happens};
 ghost use Rattle.press_world.specs.Models.{facts, model, size, statics};
 ghost use Rattle.press_world.specs.Refusing.{message_numbered, place_numbered, refused_at, TakesMemory};
+ghost use Rattle.press_world.specs.Seats.{place_of};
 ghost use Rattle.press_world.specs.Seen.{IsAbout};
 ghost use Rattle.press_world.specs.Sound.{IsSound};
 ghost use Rattle.press_world.specs.Stepped.{FailsBy, Steps};
@@ -25,6 +26,7 @@ ghost use Rattle.press_node.specs.Faults.{stops};
 
 use crate::fault::WorldFault;
 use crate::played::Played;
+use crate::seat::Seat;
 use crate::step::{Cut, Step};
 use crate::turn::Coming;
 use crate::world::World;
@@ -101,19 +103,26 @@ impl World {
         self.cluster.seats.as_slice().get(index)?.counted()
     }
 
-    // Plays an event of the node at this index, which a stop may cut.
+    fn seat(&self, index: usize) -> &Seat
+        requires inside { index < size self.now }
+        ensures { slice_get (model self.now).places index ≡ Some (place_of result.now) }
+    {
+        &self.cluster.seats[index]
+    }
+
+    // Plays an event that the node at this index doesn't refuse, which a stop may cut.
     fn turn(&mut self, index: usize, coming: Coming, cut: Option<Cut>) -> Result<usize, NodeFault>
         requires inside { index < size self.old }
         requires about { (p : Place) → slice_get (model self.old).places index ≡ Some p →
             IsAbout p.up coming.event coming.slot }
+        requires passes { refused_at (slice_get (model self.old).places index) coming.event cut
+            ≡ None }
         requires step { (stop : _) → (x : Step) × (stored_step (size self.old) (model self.old) x ≡
             stored_does (size self.old) (model self.old) coming.which index
             (slice_get (model self.old).places index) coming.event stop) }
         ensures statics { statics self.new ≡ statics self.old }
         ensures count { IfOk result (λ count.
             length (model self.new).sent ≡ length (model self.old).sent + count) }
-        ensures passed { OnOk result (refused_at (slice_get (model self.old).places index)
-            coming.event cut ≡ None) }
         ensures ok { OnOk result (model self.new ≡
             stored_does (size self.old) (model self.old) coming.which index
             (slice_get (model self.old).places index) coming.event cut) }
@@ -151,7 +160,7 @@ impl World {
         }
     }
 
-    // Plays an event of the node at this index, which a stop may cut; returns its report.
+    // Plays an event that the node at this index doesn't refuse, which a stop may cut; returns its report.
     fn happen(
         &mut self,
         index: usize,
@@ -161,6 +170,8 @@ impl World {
         requires inside { index < size self.old }
         requires about { (p : Place) → slice_get (model self.old).places index ≡ Some p →
             IsAbout p.up coming.event coming.slot }
+        requires passes { refused_at (slice_get (model self.old).places index) coming.event cut
+            ≡ None }
         requires step { (stop : _) → (x : Step) × (stored_step (size self.old) (model self.old) x ≡
             stored_does (size self.old) (model self.old) coming.which index
             (slice_get (model self.old).places index) coming.event stop) }
@@ -197,6 +208,9 @@ impl World {
         let Some(index) = self.index(number) else {
             return Err(WorldFault::NoSuchNode);
         };
+        if let Some(fault) = self.seat(index).refusal_of_command(command, cut) {
+            return Err(WorldFault::Node(fault));
+        }
         let Ok(command) = command.copy(self.alloc) else {
             return Err(WorldFault::Node(NodeFault::NoMemory));
         };
@@ -227,6 +241,9 @@ impl World {
         let Some(index) = self.index(number) else {
             return Err(WorldFault::NoSuchNode);
         };
+        if let Some(fault) = self.seat(index).refusal_of_wake(cut) {
+            return Err(WorldFault::Node(fault));
+        }
         let coming = Coming {
             event: Event::Wake,
             slot: self.next_slot(index),
@@ -246,12 +263,15 @@ impl World {
         let Some(which) = index_of(number, self.cluster.sent.len()) else {
             return Err(WorldFault::NoSuchMessage);
         };
-        let Ok(message) = self.cluster.sent[which].copy(self.alloc) else {
-            return Err(WorldFault::Node(NodeFault::NoMemory));
-        };
-        let Some(index) = self.index(message.to.number() as u64) else {
-            drop(message);
+        let sent = &self.cluster.sent[which];
+        let Some(index) = self.index(sent.to.number() as u64) else {
             return Err(WorldFault::NoSuchNode);
+        };
+        if let Some(fault) = self.seat(index).refusal_of_message(cut) {
+            return Err(WorldFault::Node(fault));
+        }
+        let Ok(message) = sent.copy(self.alloc) else {
+            return Err(WorldFault::Node(NodeFault::NoMemory));
         };
         let coming = Coming {
             slot: message.slot,

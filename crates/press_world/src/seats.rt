@@ -4,8 +4,11 @@ ghost use Rattle.std.specs.Prelude.{◌≡◌, ◌≤◌, ◌⊎◌, IfOk, IfErr
 ghost use Rattle.press_callbacks.specs.Kits.{kit_view};
 ghost use Rattle.press_acceptor.specs.StoreMap.{new_store};
 ghost use Rattle.press_node.specs.Nodes.{IsPageAt};
+ghost use Rattle.press_node.specs.Refusals.{refusal};
 ghost use Rattle.press_node.specs.States.{IsWhole, applied_count, is_down, running_in};
+ghost use Rattle.press_node.specs.declared.event.Event.TheVariants.{Submit, Wake, Deliver};
 ghost use Rattle.press_world.specs.Acts.{DoesAt, FailsAt};
+ghost use Rattle.press_world.specs.Refusing.{refused_where};
 ghost use Rattle.press_world.specs.Seats.{place_of, static_of};
 ghost use Rattle.press_world.specs.Telling.{applied_at};
 ghost use Rattle.press_world.specs.Worlds.{restarted_place};
@@ -18,6 +21,7 @@ ghost use Rattle.press_world.specs.declared.step.Cut.TheVariants.{
 use crate::seat::Seat;
 use crate::step::Cut;
 use press_acceptor::MemoryStore;
+use press_apply::Stamped;
 use press_callbacks::Kit;
 use press_node::{Event, NodeFault, State, few_messages_go_out};
 use press_page::{Reply, Target};
@@ -105,6 +109,49 @@ impl Seat {
             ⊎ (fault ≡ NodeFault.NoMemory)) }
     {
         self.state.get(&self.kit, target)
+    }
+
+    // Why an event is refused, given why it would be without a stop: only a node that is down refuses one that a stop cuts
+    // before its save.
+    fn unless_first(&self, cut: Option<Cut>, fault: Option<NodeFault>) -> Option<NodeFault>
+        ensures { (event : Event) →
+            fault ≡ refusal self.now.store (running_in self.now.state) event →
+            result ≡ refused_where self.now.store (running_in self.now.state) event cut }
+    {
+        if self.is_down() {
+            return Some(NodeFault::Down);
+        }
+        match cut {
+            Some(Cut::BeforeSave) => None,
+            None | Some(Cut::AfterSave | Cut::AfterMessages(_)) => fault,
+        }
+    }
+
+    /// Why a command is refused, if it is. It takes no memory.
+    pub(crate) fn refusal_of_command(
+        &self,
+        command: &Stamped,
+        cut: Option<Cut>,
+    ) -> Option<NodeFault>
+        ensures { result ≡ refused_where self.now.store (running_in self.now.state)
+            (Submit command.now) cut }
+    {
+        self.unless_first(cut, self.state.refusal_of_command(command))
+    }
+
+    /// Why a wake is refused, if it is. It takes no memory.
+    pub(crate) fn refusal_of_wake(&self, cut: Option<Cut>) -> Option<NodeFault>
+        ensures { result ≡ refused_where self.now.store (running_in self.now.state) Wake cut }
+    {
+        self.unless_first(cut, self.state.refusal_of_wake(self.store.round()))
+    }
+
+    /// Why a message is refused, if it is.
+    pub(crate) fn refusal_of_message(&self, cut: Option<Cut>) -> Option<NodeFault>
+        ensures { (message : Message) → result ≡
+            refused_where self.now.store (running_in self.now.state) (Deliver message) cut }
+    {
+        self.unless_first(cut, self.state.refusal_of_message())
     }
 
     // Plays an event, without a stop.

@@ -1,6 +1,6 @@
 //! A turn of one node of a cluster, which records what it saves and sends.
 
-ghost use Rattle.std.specs.Prelude.{◌≡◌, ◌<◌, ◌≤◌, ◌+◌, OnOk, IfErr, IfOk, length, slice_get, Some};
+ghost use Rattle.std.specs.Prelude.{◌≡◌, ◌<◌, ◌≤◌, ◌+◌, OnOk, IfErr, IfOk, length, slice_get, None, Some};
 ghost use Rattle.press_callbacks.specs.Kits.{KitView};
 ghost use Rattle.press_node.specs.Faults.{stops};
 ghost use Rattle.press_world.specs.Acts.{DoesAt, FailsAt};
@@ -74,7 +74,7 @@ fn look_at(seats: &Vec<Seat>, index: usize, slot: Slot) -> Seen
 }
 
 impl Cluster {
-    /// Plays an event of the node at this index, which a stop may cut; returns how many messages it sent.
+    /// Plays an event that the node at this index doesn't refuse, which a stop may cut; returns how many messages it sent.
     pub(crate) fn turn(
         &mut self,
         index: usize,
@@ -87,14 +87,14 @@ impl Cluster {
         requires few { length self.old.seats.items ≤ 7 }
         requires about { (p : Place) → slice_get (places_of self.old.seats.items) index ≡ Some p →
             IsAbout p.up coming.event coming.slot }
+        requires passes { refused_at
+            (slice_get (places_of self.old.seats.items) index) coming.event cut ≡ None }
         ensures statics { statics_of self.new.seats.items ≡ statics_of self.old.seats.items }
         ensures count { IfOk result (λ count.
             length self.new.sent.items ≡ length self.old.sent.items + count) }
         ensures ok { OnOk result (kept_in self.new ≡
             stored_does (length self.old.seats.items) (kept_in self.old) coming.which index
             (slice_get (places_of self.old.seats.items) index) coming.event cut) }
-        ensures passed { OnOk result (refused_at
-            (slice_get (places_of self.old.seats.items) index) coming.event cut ≡ None) }
         ensures err { IfErr result (λ fault. FailsBy (kept_in self.old)
             (λ stop. stored_does (length self.old.seats.items) (kept_in self.old) coming.which index
             (slice_get (places_of self.old.seats.items) index) coming.event stop)

@@ -1,7 +1,7 @@
 use Rattle.std.proofs.Common.{◌++◌, ◌≡◌, length, ap, ◌∙◌, arith}
 use Rattle.press_world.specs.Seen.{with_entry, proposal_entry}
 use Rattle.press_world.specs.Seats.{stored_of}
-use Rattle.press_world.proofs.Turned.{turn_done, turn_passed, turn_refused}
+use Rattle.press_world.proofs.Turned.{turn_done, turn_refused}
 use Rattle.press_world.proofs.cluster.Cluster.turn.Goals as goal
 
 pub returns-in-Err-result-clause-err : goal.returns-in-Err-result-clause-err
@@ -23,9 +23,3 @@ returns-in-Ok-result-clause-ok g c =
     (c.write_down-in-Ok-result.ensures.items
     ∙ ap (with_entry c.write_down.new.trace.items) (c.proposal_entry.ensures ∙ ap (λ xs. proposal_entry xs c.len.result) c.deref.ensures.value ∙ ap (proposal_entry c.in-Ok-result.out.items) count))
     (c.send.ensures ∙ ap (λ xs. xs ++ c.in-Ok-result.out.items) c.reserve-2.ensures.items)
-
-pub returns-in-Ok-result-clause-passed : goal.returns-in-Ok-result-clause-passed
-returns-in-Ok-result-clause-passed g c =
-    let seats = c.args.self.now.seats.items in
-    turn_passed (length seats) (stored_of seats c.args.self.now.sent.items c.args.self.now.trace.items) (stored_of c.act-result.new.seats.items c.send.new.sent.items c.write_down-in-Ok-result.new.trace.items)
-    c.args.coming.which c.args.index c.args.coming.slot c.args.coming.event c.args.cut c.in-Ok-result.out.items c.in-Ok-result.ensures.ok

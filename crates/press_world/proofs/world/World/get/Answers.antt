@@ -35,5 +35,5 @@ returns-in-Err g c =
     let at : slice_get seats index ≡ Some seat = found seats index seat lt c.index-2.ensures in
     record {
       memory = get_takes (model w) c.args.number index seat.store seat.state.up c.in-Err.fault c.in-Some.ensures (map_get place_of seats index seat at) c.in-Err.ensures.down;
-      steps = λ kit have. get_fails kit (size w) (model w) c.args.number index c.args.target.now seat.store seat.state.up c.in-Err.fault c.in-Some.ensures (map_get place_of seats index seat at) c.in-Err.ensures.fault;
+      steps = λ kit have. get_fails kit (size w) (model w) c.args.number index c.args.target.now seat.store seat.state.up c.in-Err.fault c.in-Some.ensures (map_get place_of seats index seat at) c.in-Err.ensures.down c.in-Err.ensures.fault;
     }
