@@ -2,6 +2,7 @@ pub mod Boot
 pub mod Counts
 pub mod Faults
 pub mod Frames
+pub mod Limits
 pub mod Links
 pub mod Outcome
 pub mod Run

@@ -5,6 +5,7 @@ ghost use Rattle.press_hooks.specs.NextEntry.{is_innermost};
 ghost use Rattle.press_callbacks.specs.Kits.{Scripts};
 ghost use Rattle.press_run.specs.Run.{handed_on, next_call};
 ghost use Rattle.press_run.specs.Frames.{GoesOn, IsFew, MovesTo, Steps, put};
+ghost use Rattle.press_run.specs.Limits.{ShowsLimits};
 ghost use Rattle.press_run.specs.Standing.{standing};
 ghost use Rattle.press_run.specs.declared.frame.Frame.TheVariants as frame;
 
@@ -60,6 +61,7 @@ impl Held<OpenCallback> {
             (frame.Callback self.old) (frame.Callback self.new)
             (standing L.view L.fixed machine.old) (standing L.view L.fixed machine.new) result }
         ensures fixed { L.fixed machine.new.site ≡ L.fixed machine.old.site }
+        ensures limits { ShowsLimits result machine.old machine.new }
     {
         machine.turn(kit, &mut self.inside)
     }
@@ -86,6 +88,7 @@ impl Held<OpenHook> {
             (frame.Hook self.old) (frame.Hook self.new)
             (standing L.view L.fixed machine.old) (standing L.view L.fixed machine.new) result }
         ensures fixed { L.fixed machine.new.site ≡ L.fixed machine.old.site }
+        ensures limits { ShowsLimits result machine.old machine.new }
     {
         machine.entry(kit, &mut self.inside)
     }
@@ -107,6 +110,7 @@ impl Held<OpenFires> {
             (frame.Fires self.old) (frame.Fires self.new)
             (standing L.view L.fixed machine.old) (standing L.view L.fixed machine.new) result }
         ensures fixed { L.fixed machine.new.site ≡ L.fixed machine.old.site }
+        ensures limits { ShowsLimits result machine.old machine.new }
     {
         machine.fire(&mut self.inside)
     }
@@ -124,6 +128,7 @@ impl Held<OpenScan> {
             (frame.Scan self.old) (frame.Scan self.new)
             (standing L.view L.fixed machine.old) (standing L.view L.fixed machine.new) result }
         ensures fixed { L.fixed machine.new.site ≡ L.fixed machine.old.site }
+        ensures limits { ShowsLimits result machine.old machine.new }
     {
         machine.piece(kit, &mut self.inside)
     }

@@ -10,8 +10,9 @@ mod turns;
 ghost use Rattle.std.specs.Prelude.{◌≡◌, IfOk, Some, false};
 ghost use Rattle.press_callbacks.specs.Kits.{plugins_in, scripts_in};
 ghost use Rattle.press_run.specs.Boot.{booted_with};
+ghost use Rattle.press_run.specs.Limits.{ShowsLimits};
 ghost use Rattle.press_run.specs.Links.{kept};
-ghost use Rattle.press_run.specs.Outcome.{GivesJob, around, is_limit, job_meaning, loaded_in, started, state_of};
+ghost use Rattle.press_run.specs.Outcome.{GivesJob, Pushes, around, is_limit, job_meaning, loaded_in, started, state_of};
 ghost use Rattle.press_run.specs.Standing.{standing};
 
 use crate::boots::boot;
@@ -31,7 +32,7 @@ pub struct Machine<L> {
     pub counts: Counts,
     pub site: L,
     pub out: Out,
-    /// Whether the last run met a limit.
+    /// Whether the last run, or what was written since, met a limit.
     pub met_limit: bool,
 }
 
@@ -91,9 +92,8 @@ impl<L: SiteLink + Drop> Machine<L> {
         ensures fixed { L.fixed self.new.site ≡ L.fixed self.old.site }
         ensures limit { self.new.met_limit ≡ is_limit result }
     {
-        let given = self.given(kit, job);
-        self.met_limit = is_limit(&given);
-        given
+        self.met_limit = false;
+        self.given(kit, job)
     }
 
     fn given(&mut self, kit: &Kit, job: Job) -> Result<String, RunFault>
@@ -102,9 +102,24 @@ impl<L: SiteLink + Drop> Machine<L> {
             (state_of (standing L.view L.fixed self.old)))
             (around (standing L.view L.fixed self.old)) (standing L.view L.fixed self.new) result }
         ensures fixed { L.fixed self.new.site ≡ L.fixed self.old.site }
+        ensures limits { ShowsLimits result self.old self.new }
     {
         let text = self.answer(kit, job)?;
         Ok(text.into_string()?)
+    }
+
+    /// Writes to the output. Limit where that would pass 1,048,576 bytes, and then nothing is written.
+    pub fn write(&mut self, text: &str) -> Result<(), RunFault>
+        ensures pushes { Pushes self.old.out text.now self.new.out result }
+        ensures kept { self.new ≡ record self.old {
+          out = self.new.out;
+          met_limit = self.new.met_limit;
+        } }
+        ensures limits { ShowsLimits result self.old self.new }
+    {
+        let pushed = self.out.push(text);
+        self.met_limit = is_limit(&pushed) | self.met_limit;
+        pushed
     }
 
     /// The site as the runs left it, and what was written.

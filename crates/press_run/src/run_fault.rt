@@ -27,8 +27,8 @@ impl RunFault {
     }
 }
 
-/// Whether a run was ended by a limit.
-pub(crate) fn is_limit(given: &Result<String, RunFault>) -> bool
+/// Whether a limit was met.
+pub(crate) fn is_limit(given: &Result<(), RunFault>) -> bool
     ensures { result ≡ is_limit given.now }
 {
     match given {

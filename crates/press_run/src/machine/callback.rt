@@ -6,7 +6,8 @@ ghost use Rattle.press_callbacks.specs.declared.script.Turn.TheVariants as turn;
 ghost use Rattle.press_callbacks.specs.declared.script.Turn.TheVariants.{Echo};
 ghost use Rattle.press_run.specs.Frames.{BeginsAs, CallsAs, CountsAs, IsFew, Steps, Turns, meant};
 ghost use Rattle.press_run.specs.Run.{at_depth, built_in, fits, is_short, one_turn, within};
-ghost use Rattle.press_run.specs.Outcome.{around, state_of};
+ghost use Rattle.press_run.specs.Outcome.{around, is_limit, state_of};
+ghost use Rattle.press_run.specs.Limits.{ShowsLimits};
 ghost use Rattle.press_run.specs.Standing.{standing};
 ghost use Rattle.press_run.specs.declared.frame.Frame.TheVariants as frame;
 
@@ -37,9 +38,11 @@ impl<L: SiteLink + Drop> Machine<L> {
             (state_of (standing L.view L.fixed self.old)))
             1 (standing L.view L.fixed self.old) (standing L.view L.fixed self.new) result }
         ensures fixed { L.fixed self.new.site ≡ L.fixed self.old.site }
+        ensures limits { ShowsLimits result self.old self.new }
     {
         if room == 0 {
             drop(call);
+            self.met_limit = true;
             return Err(RunFault::Limit);
         }
         if is_built_in(id.as_bytes()) {
@@ -69,6 +72,7 @@ impl<L: SiteLink + Drop> Machine<L> {
             (state_of (standing L.view L.fixed self.old)))
             1 (standing L.view L.fixed self.old) (standing L.view L.fixed self.new) result }
         ensures fixed { L.fixed self.new.site ≡ L.fixed self.old.site }
+        ensures limits { ShowsLimits result self.old self.new }
     {
         loop {
             match self.turn(kit, &mut callback)? {
@@ -95,8 +99,10 @@ impl<L: SiteLink + Drop> Machine<L> {
             (state_of (standing L.view L.fixed self.old)))
             1 (standing L.view L.fixed self.old) (standing L.view L.fixed self.new) result }
         ensures fixed { L.fixed self.new.site ≡ L.fixed self.old.site }
+        ensures limits { ShowsLimits result self.old self.new }
     {
         if !self.counts.take_turn() {
+            self.met_limit = true;
             return Err(RunFault::Limit);
         }
         let argument = texts::first_text(self.counts.allocator(), &call.args)?;
@@ -121,11 +127,14 @@ impl<L: SiteLink + Drop> Machine<L> {
         ensures late { one_turn (state_of (standing L.view L.fixed self.old)) ≡ None
             → IsErrOf result RunFault.Limit }
         ensures fixed { L.fixed self.new.site ≡ L.fixed self.old.site }
+        ensures limits { ShowsLimits result self.old self.new }
     {
         if callback.left == 0 {
+            self.met_limit = true;
             return Err(RunFault::Limit);
         }
         if !self.counts.has_turns() {
+            self.met_limit = true;
             return Err(RunFault::Limit);
         }
         callback.left -= 1;
@@ -147,9 +156,11 @@ impl<L: SiteLink + Drop> Machine<L> {
             callback.old (turn.Go value) callback.new
             (standing L.view L.fixed self.old) (standing L.view L.fixed self.new) result }
         ensures fixed { L.fixed self.new.site ≡ L.fixed self.old.site }
+        ensures limits { ShowsLimits result self.old self.new }
     {
         if !self.counts.take_turn() || !texts::is_short(&value) {
             drop(value);
+            self.met_limit = true;
             return Err(RunFault::Limit);
         }
         self.gone(callback, value)
@@ -158,9 +169,10 @@ impl<L: SiteLink + Drop> Machine<L> {
     // The same, which is counted already.
     fn gone(&self, callback: &mut OpenCallback, value: Text) -> Result<Step, RunFault>
         requires { IsFew 1 callback.old }
-        ensures { (scripts : Scripts) → Turns L.changes scripts
+        ensures steps { (scripts : Scripts) → Turns L.changes scripts
             callback.old (turn.Go value) callback.new
             (standing L.view L.fixed self.now) (standing L.view L.fixed self.now) result }
+        ensures limits { is_limit result ≡ false }
     {
         Ok(callback.with_value(value))
     }
@@ -175,9 +187,11 @@ impl<L: SiteLink + Drop> Machine<L> {
             callback.now (turn.Return text) callback.now
             (standing L.view L.fixed self.old) (standing L.view L.fixed self.new) result }
         ensures fixed { L.fixed self.new.site ≡ L.fixed self.old.site }
+        ensures limits { ShowsLimits result self.old self.new }
     {
         if !self.counts.take_turn() || !texts::is_short(&text) {
             drop(text);
+            self.met_limit = true;
             return Err(RunFault::Limit);
         }
         Ok(Step::Gives(text))
@@ -196,9 +210,11 @@ impl<L: SiteLink + Drop> Machine<L> {
             callback.old turn callback.new
             (standing L.view L.fixed self.old) (standing L.view L.fixed self.new) result }
         ensures fixed { L.fixed self.new.site ≡ L.fixed self.old.site }
+        ensures limits { ShowsLimits result self.old self.new }
     {
         if !self.counts.take_turn() || !texts::fits(&turn) {
             drop(turn);
+            self.met_limit = true;
             return Err(RunFault::Limit);
         }
         self.asked(callback, turn)

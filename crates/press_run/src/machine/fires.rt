@@ -6,6 +6,7 @@ ghost use Rattle.press_run.specs.Frames.{BeginsAs, Steps};
 ghost use Rattle.press_run.specs.Links.{AsksSome, publishes};
 ghost use Rattle.press_run.specs.Run.{at_depth, change_site, publish};
 ghost use Rattle.press_run.specs.Outcome.{state_of};
+ghost use Rattle.press_run.specs.Limits.{ShowsLimits};
 ghost use Rattle.press_run.specs.Standing.{standing};
 ghost use Rattle.press_run.specs.declared.frame.Frame.TheVariants as frame;
 
@@ -37,6 +38,7 @@ impl<L: SiteLink + Drop> Machine<L> {
         ensures memory { result ≡ Err RunFault.NoMemory
             → AsksSome L.changes (L.view self.old.site) effect }
         ensures fixed { L.fixed self.new.site ≡ L.fixed self.old.site }
+        ensures limits { ShowsLimits result self.old self.new }
     {
         let alloc = self.counts.allocator();
         let Some(effect) = effect else {
@@ -61,6 +63,7 @@ impl<L: SiteLink + Drop> Machine<L> {
         ensures memory { result ≡ Err RunFault.NoMemory → AsksSome L.changes (L.view self.old.site)
             (publishes id (L.view self.old.site).moment) }
         ensures fixed { L.fixed self.new.site ≡ L.fixed self.old.site }
+        ensures limits { ShowsLimits result self.old self.new }
     {
         let effect = links::publishes(&id, self.site.site().now());
         let Some(effect) = effect else {
@@ -81,6 +84,7 @@ impl<L: SiteLink + Drop> Machine<L> {
             (frame.Fires fires.old) (frame.Fires fires.new)
             (standing L.view L.fixed self.old) (standing L.view L.fixed self.new) result }
         ensures fixed { L.fixed self.new.site ≡ L.fixed self.old.site }
+        ensures limits { ShowsLimits result self.old self.new }
     {
         let Some(fire) = fires.next() else {
             let empty = Text::new(self.counts.allocator());

@@ -6,6 +6,7 @@ ghost use Rattle.press_callbacks.specs.Kits.{Scripts};
 ghost use Rattle.press_run.specs.Frames.{BeginsAs, MovesTo, hooked};
 ghost use Rattle.press_run.specs.Run.{at_depth, do_hook};
 ghost use Rattle.press_run.specs.Outcome.{state_of};
+ghost use Rattle.press_run.specs.Limits.{ShowsLimits};
 ghost use Rattle.press_run.specs.Standing.{standing};
 ghost use Rattle.press_run.specs.declared.frame.Frame.TheVariants as frame;
 
@@ -34,6 +35,7 @@ impl<L: SiteLink + Drop> Machine<L> {
             (state_of (standing L.view L.fixed self.old)))
             3 (standing L.view L.fixed self.old) (standing L.view L.fixed self.new) result }
         ensures fixed { L.fixed self.new.site ≡ L.fixed self.old.site }
+        ensures limits { ShowsLimits result self.old self.new }
     {
         if !self.tables.hooks.has_any(hook) {
             let text = texts::shown(self.counts.allocator(), kind, &args)?;
@@ -65,6 +67,7 @@ impl<L: SiteLink + Drop> Machine<L> {
             (state_of (standing L.view L.fixed self.old)))
             3 (standing L.view L.fixed self.old) (standing L.view L.fixed self.new) result }
         ensures fixed { L.fixed self.new.site ≡ L.fixed self.old.site }
+        ensures limits { ShowsLimits result self.old self.new }
     {
         self.counts.start(hook)?;
         let args = texts::or_one_empty(self.counts.allocator(), args)?;
@@ -83,8 +86,10 @@ impl<L: SiteLink + Drop> Machine<L> {
             (frame.Hook run.old) (frame.Hook run.new)
             (standing L.view L.fixed self.old) (standing L.view L.fixed self.new) result }
         ensures fixed { L.fixed self.new.site ≡ L.fixed self.old.site }
+        ensures limits { ShowsLimits result self.old self.new }
     {
         if run.left == 0 {
+            self.met_limit = true;
             return Err(RunFault::Limit);
         }
         run.left -= 1;

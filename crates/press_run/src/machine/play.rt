@@ -4,6 +4,7 @@ ghost use Rattle.std.specs.Prelude.{◌≡◌, ◌^◌};
 ghost use Rattle.press_callbacks.specs.Kits.{Scripts};
 ghost use Rattle.press_run.specs.Frames.{BeginsAs, MovesTo, Ready, meant, round};
 ghost use Rattle.press_run.specs.Outcome.{GivesText, around, job_meaning, state_of};
+ghost use Rattle.press_run.specs.Limits.{ShowsLimits};
 ghost use Rattle.press_run.specs.Standing.{standing};
 
 use super::Machine;
@@ -28,6 +29,7 @@ impl<L: SiteLink + Drop> Machine<L> {
             (job_meaning L.changes scripts job (state_of (standing L.view L.fixed self.old)))
             (2 ^ 66) (standing L.view L.fixed self.old) (standing L.view L.fixed self.new) result }
         ensures fixed { L.fixed self.new.site ≡ L.fixed self.old.site }
+        ensures limits { ShowsLimits result self.old self.new }
     {
         match job {
             Job::Fires(fires) => {
@@ -49,6 +51,7 @@ impl<L: SiteLink + Drop> Machine<L> {
             (state_of (standing L.view L.fixed self.old)))
             (around (standing L.view L.fixed self.old)) (standing L.view L.fixed self.new) result }
         ensures fixed { L.fixed self.new.site ≡ L.fixed self.old.site }
+        ensures limits { ShowsLimits result self.old self.new }
     {
         match self.begin_job(job)? {
             Begun::Opens(frame) => self.play(kit, frame),
@@ -65,6 +68,7 @@ impl<L: SiteLink + Drop> Machine<L> {
             (round top (around (standing L.view L.fixed self.old)))
             (standing L.view L.fixed self.new) result }
         ensures fixed { L.fixed self.new.site ≡ L.fixed self.old.site }
+        ensures limits { ShowsLimits result self.old self.new }
     {
         let mut waiting = Frames::new(self.counts.allocator());
         loop {
@@ -93,6 +97,7 @@ impl<L: SiteLink + Drop> Machine<L> {
         ensures steps { MovesTo L.changes (K.scripts kit.now) top.old top.new
             (standing L.view L.fixed self.old) (standing L.view L.fixed self.new) result }
         ensures fixed { L.fixed self.new.site ≡ L.fixed self.old.site }
+        ensures limits { ShowsLimits result self.old self.new }
     {
         match top {
             Frame::Callback(callback) => Ok(Moved::By(callback.turn(self, kit)?)),

@@ -7,6 +7,7 @@ ghost use Rattle.press_callbacks.specs.Kits.{Scripts};
 ghost use Rattle.press_run.specs.Frames.{BeginsAs, CallsAs, GoesOn, MovesTo};
 ghost use Rattle.press_run.specs.Run.{at_depth, is_short, scan, shortcode_call, tag_answer};
 ghost use Rattle.press_run.specs.Outcome.{state_of};
+ghost use Rattle.press_run.specs.Limits.{ShowsLimits};
 ghost use Rattle.press_run.specs.Standing.{standing};
 ghost use Rattle.press_run.specs.declared.frame.Frame.TheVariants as frame;
 
@@ -31,8 +32,10 @@ impl<L: SiteLink + Drop> Machine<L> {
             (state_of (standing L.view L.fixed self.old)))
             1048580 (standing L.view L.fixed self.old) (standing L.view L.fixed self.new) result }
         ensures fixed { L.fixed self.new.site ≡ L.fixed self.old.site }
+        ensures limits { ShowsLimits result self.old self.new }
     {
         if !texts::is_short(&text) {
+            self.met_limit = true;
             return Err(RunFault::Limit);
         }
         let inside = text.into_string()?;
@@ -54,10 +57,12 @@ impl<L: SiteLink + Drop> Machine<L> {
             (frame.Scan scan.old) (frame.Scan scan.new)
             (standing L.view L.fixed self.old) (standing L.view L.fixed self.new) result }
         ensures fixed { L.fixed self.new.site ≡ L.fixed self.old.site }
+        ensures limits { ShowsLimits result self.old self.new }
     {
         computes_first();
         ends_within();
         if !shortcodes::is_short(&scan.scan) {
+            self.met_limit = true;
             return Err(RunFault::Limit);
         }
         match scan.scan.step(&self.tables.tags)? {
@@ -90,6 +95,7 @@ impl<L: SiteLink + Drop> Machine<L> {
             (shortcode_call text.now shortcode) (state_of (standing L.view L.fixed self.old)))
             2 (standing L.view L.fixed self.old) (standing L.view L.fixed self.new) result }
         ensures fixed { L.fixed self.new.site ≡ L.fixed self.old.site }
+        ensures limits { ShowsLimits result self.old self.new }
     {
         let alloc = self.counts.allocator();
         let call = shortcodes::shortcode_call(alloc, text, &self.tables.tags, shortcode)?;

@@ -5,6 +5,7 @@ ghost use Rattle.press_callbacks.specs.Kits.{Scripts};
 ghost use Rattle.press_callbacks.specs.declared.script.Turn.TheVariants.{Echo};
 ghost use Rattle.press_run.specs.Frames.{IsFew, Turns, group};
 ghost use Rattle.press_run.specs.Run.{within};
+ghost use Rattle.press_run.specs.Limits.{ShowsLimits};
 ghost use Rattle.press_run.specs.Standing.{standing};
 
 use super::Machine;
@@ -31,6 +32,7 @@ impl<L: SiteLink + Drop> Machine<L> {
         ensures steps { (scripts : Scripts) → Turns L.changes scripts callback.old turn callback.new
             (standing L.view L.fixed self.old) (standing L.view L.fixed self.new) result }
         ensures fixed { L.fixed self.new.site ≡ L.fixed self.old.site }
+        ensures limits { ShowsLimits result self.old self.new }
     {
         match turn {
             Turn::Go(value) => Ok(callback.with_value(value)),
@@ -39,7 +41,7 @@ impl<L: SiteLink + Drop> Machine<L> {
                 Ok(callback.further(n))
             }
             Turn::Echo(text) => {
-                let pushed = self.out.push(text.as_str());
+                let pushed = self.write(text.as_str());
                 drop(text);
                 pushed?;
                 Ok(callback.further(0))
@@ -57,6 +59,7 @@ impl<L: SiteLink + Drop> Machine<L> {
         ensures steps { (scripts : Scripts) → Turns L.changes scripts callback.old turn callback.new
             (standing L.view L.fixed self.old) (standing L.view L.fixed self.new) result }
         ensures fixed { L.fixed self.new.site ≡ L.fixed self.old.site }
+        ensures limits { ShowsLimits result self.old self.new }
     {
         let room = callback.room;
         match turn {
@@ -107,6 +110,7 @@ impl<L: SiteLink + Drop> Machine<L> {
         ensures steps { (scripts : Scripts) → Turns L.changes scripts callback.old turn callback.new
             (standing L.view L.fixed self.old) (standing L.view L.fixed self.new) result }
         ensures fixed { L.fixed self.new.site ≡ L.fixed self.old.site }
+        ensures limits { ShowsLimits result self.old self.new }
     {
         let alloc = self.counts.allocator();
         match turn {
@@ -146,6 +150,7 @@ impl<L: SiteLink + Drop> Machine<L> {
         ensures steps { (scripts : Scripts) → Turns L.changes scripts callback.old turn callback.new
             (standing L.view L.fixed self.old) (standing L.view L.fixed self.new) result }
         ensures fixed { L.fixed self.new.site ≡ L.fixed self.old.site }
+        ensures limits { ShowsLimits result self.old self.new }
     {
         let alloc = self.counts.allocator();
         match turn {

@@ -9,4 +9,4 @@ returns-clause-steps g c = λ scripts.
     let old = standing g.L.SiteLink.view g.L.SiteLink.fixed c.args.self.now in
     let counted = with_counts c.take_turn.new.self old in
     turn_counts g.L.SiteLink.changes scripts c.args.callback.now c.gone.new.callback (turns.Go c.args.value) old counted c.take_turn.new.self c.gone.result
-    c.if-not-take_turn.ensures (ap (λ b. b && true) (sym c.is_short.ensures ∙ c.if-not-is_short.false)) (c.gone.ensures scripts)
+    c.if-not-take_turn.ensures (ap (λ b. b && true) (sym c.is_short.ensures ∙ c.if-not-is_short.false)) (c.gone.ensures.steps scripts)

@@ -1,4 +1,4 @@
-use Rattle.std.proofs.Common.{◌+◌}
+use Rattle.std.proofs.Common.{◌≡◌, ◌+◌}
 use Rattle.press_run.specs.Frames.{Goes, meant, turns_left}
 use Rattle.press_run.specs.Outcome.{around, state_of}
 use Rattle.press_run.specs.Standing.{standing}
@@ -8,7 +8,10 @@ use Rattle.press_run.proofs.machine.Machine.turns.Given as goal
 abbrev pub invariant-loop-callback : goal.invariant-loop-callback
 invariant-loop-callback g l =
     let start = standing g.L.SiteLink.view g.L.SiteLink.fixed l.fn.self in
-    Goes g.L.SiteLink.changes (g.K.Callbacks.scripts l.kit) (meant g.L.SiteLink.changes (g.K.Callbacks.scripts l.kit) (frame.Callback l.fn.callback) (around start) (state_of start)) (around start) (turns_left start.counts.turns + 1) (frame.Callback l.callback) (standing g.L.SiteLink.view g.L.SiteLink.fixed l.self)
+    record {
+      goes : Goes g.L.SiteLink.changes (g.K.Callbacks.scripts l.kit) (meant g.L.SiteLink.changes (g.K.Callbacks.scripts l.kit) (frame.Callback l.fn.callback) (around start) (state_of start)) (around start) (turns_left start.counts.turns + 1) (frame.Callback l.callback) (standing g.L.SiteLink.view g.L.SiteLink.fixed l.self);
+      limits : l.self.met_limit ≡ l.fn.self.met_limit;
+    }
 
 abbrev pub decreases-loop-callback : goal.decreases-loop-callback
 decreases-loop-callback g l = turns_left l.self.counts.turns
