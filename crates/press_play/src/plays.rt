@@ -70,7 +70,8 @@ impl Playing {
     // One play, whose line is put at the end; whether the plays go on.
     fn play(&mut self, kit: &Kit, play: &Play) -> Result<bool, AllocError>
         ensures { Plays
-            (job_meaning effect_on (scripts_in kit.now) (job_of play.now) (state_in self.old.machine))
+            (job_meaning effect_on (scripts_in kit.now) (job_of play.now)
+            (state_in self.old.machine))
             (state_in self.new.machine)
             (string_bytes self.old.lines) (string_bytes self.new.lines) result }
     {
