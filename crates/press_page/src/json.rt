@@ -1,19 +1,17 @@
 //! Replies in JSON.
 
-ghost use Rattle.std.specs.Prelude.{◌≡◌, ◌≢◌, Err, IfOk, IsErrOf, None, false, option_map, Some};
+ghost use Rattle.std.specs.Prelude.{◌≡◌, IfOk, None, false, option_map, Some};
 ghost use Rattle.serde_json.specs.View.{view};
 ghost use Rattle.serde_json.specs.Written.{compact_text, has_float};
 ghost use Rattle.press_callbacks.specs.Kits.{kit_view};
 ghost use Rattle.press_run.specs.Outcome.{Refuses};
-ghost use Rattle.press_run.specs.Run.{within};
 ghost use Rattle.press_text.specs.Gives.{Gives};
 ghost use Rattle.press_page.specs.Json.{json_reply, outcome_data, post_body, post_data, post_reply};
 ghost use Rattle.press_page.specs.Json.{result_reply, status_data, status_reply};
-ghost use Rattle.press_page.specs.Rendering.{meaning_in};
-ghost use Rattle.press_page.specs.Steps.{booted};
+ghost use Rattle.press_page.specs.Rendering.{TellsLimits, meaning_in, state_in};
 
 use crate::filtered::Filtered;
-use crate::rendering::Rendering;
+use crate::rendering::{Rendering, but_at_limit};
 use crate::reply::{ContentKind, Reply};
 use press_callbacks::Kit;
 use press_posts::Post;
@@ -22,9 +20,6 @@ use press_site::{Outcome, Site};
 use press_text::Text;
 use serde_json::{Value, json};
 use std::alloc::{AllocError, Global};
-
-// How many bytes a body may have.
-const MOST_BYTES: usize = 1_048_576;
 
 /// A post with its title and content by their filters, from a fresh boot; 404 where there is none, and 500 at a limit.
 pub fn post_reply(
@@ -45,27 +40,32 @@ pub fn post_reply(
 fn shown(alloc: Global, site: &Site, kit: &Kit, post: &Post) -> Result<Reply, AllocError>
     ensures { IfOk result (λ r. r ≡ post_reply (kit_view kit.now) site.now (Some post.now)) }
 {
-    match post_body(alloc, site, kit, post) {
-        Ok(body) => Ok(Reply {
+    let mut rendering = Rendering::new(alloc, kit, site)?;
+    match but_at_limit(post_body(alloc, kit, &mut rendering, post))? {
+        Some(body) => Ok(Reply {
             status: 200,
             kind: ContentKind::Json,
             body,
         }),
-        Err(RunFault::Limit) => status_reply(alloc, 500),
-        Err(RunFault::NoMemory) => Err(AllocError),
+        None => status_reply(alloc, 500),
     }
 }
 
 #[tactic(auto, unfolding(crate::specs::Json::post_body))]
-fn post_body(alloc: Global, site: &Site, kit: &Kit, post: &Post) -> Result<Text, RunFault>
-    ensures { Gives Refuses Some result
-        (post_body (meaning_in kit.now) post.now (booted (kit_view kit.now) site.now)) }
+fn post_body(
+    alloc: Global,
+    kit: &Kit,
+    rendering: &mut Rendering<'_>,
+    post: &Post,
+) -> Result<Text, RunFault>
+    ensures gives { Gives Refuses Some result
+        (post_body (meaning_in kit.now) post.now (state_in rendering.old)) }
+    ensures limits { TellsLimits result rendering.old rendering.new }
 {
-    let mut rendering = Rendering::new(alloc, kit, site)?;
     let texts = rendering.filtered(kit, post)?;
     let value = post_value(alloc, post, &texts)?;
     let body = text_of(alloc, &value)?;
-    within(body)
+    rendering.within(body)
 }
 
 fn post_value(alloc: Global, post: &Post, texts: &Filtered) -> Result<Value, AllocError>
@@ -138,16 +138,4 @@ fn text_of(alloc: Global, value: &Value) -> Result<Text, AllocError>
 {
     let text = value.to_string(alloc)?;
     Text::from_string(text)
-}
-
-// The body, if it is within the limit.
-fn within(body: Text) -> Result<Text, RunFault>
-    ensures body { Gives Refuses Some result (within body) }
-    ensures full { within body ≡ None → IsErrOf result RunFault.Limit }
-    ensures memory { result ≢ Err RunFault.NoMemory }
-{
-    if body.len() > MOST_BYTES {
-        return Err(RunFault::Limit);
-    }
-    Ok(body)
 }

@@ -4,11 +4,10 @@ ghost use Rattle.std.specs.Prelude.{◌≡◌, ◌∷◌, [], IfOk, codes, optio
 ghost use Rattle.press_callbacks.specs.Kits.{kit_view};
 ghost use Rattle.press_posts.specs.Published.{published};
 ghost use Rattle.press_page.specs.Page.{Shows, page_of, page_with, public_post, site_name, whole_page};
-ghost use Rattle.press_page.specs.Rendering.{meaning_in};
-ghost use Rattle.press_page.specs.Steps.{booted};
+ghost use Rattle.press_page.specs.Rendering.{TellsLimits, meaning_in, state_in};
 ghost use Rattle.press_page.specs.Template.{fixed_body};
 
-use crate::rendering::Rendering;
+use crate::rendering::{Rendering, but_at_limit};
 use crate::reply::{ContentKind, Reply, Target};
 use crate::{json, template};
 use press_callbacks::Kit;
@@ -76,26 +75,32 @@ fn fixed(alloc: Global, status: u16, line: &str) -> Result<Reply, AllocError>
 fn page_with(alloc: Global, site: &Site, kit: &Kit, ids: &[u64]) -> Result<Reply, AllocError>
     ensures { IfOk result (λ r. r ≡ page_with (kit_view kit.now) site.now ids.now) }
 {
-    match body_of(alloc, site, kit, ids) {
-        Ok(body) => Ok(Reply {
+    let mut rendering = Rendering::new(alloc, kit, site)?;
+    match but_at_limit(body_of(alloc, kit, &mut rendering, ids))? {
+        Some(body) => Ok(Reply {
             status: 200,
             kind: ContentKind::Html,
             body,
         }),
-        Err(RunFault::Limit) => fixed(alloc, 500, "500 Internal Server Error"),
-        Err(RunFault::NoMemory) => Err(AllocError),
+        None => fixed(alloc, 500, "500 Internal Server Error"),
     }
 }
 
 // What that page shows.
-fn body_of(alloc: Global, site: &Site, kit: &Kit, ids: &[u64]) -> Result<Text, RunFault>
-    ensures { Shows (whole_page (meaning_in kit.now) (site_name site.now) site.now.posts ids.now
-        (booted (kit_view kit.now) site.now)) result }
+fn body_of(
+    alloc: Global,
+    kit: &Kit,
+    rendering: &mut Rendering<'_>,
+    ids: &[u64],
+) -> Result<Text, RunFault>
+    ensures shows { Shows
+        (whole_page (meaning_in kit.now) (site_name rendering.old.machine.site.0.now)
+        rendering.old.machine.site.0.now.posts ids.now (state_in rendering.old)) result }
+    ensures limits { TellsLimits result rendering.old rendering.new }
 {
-    let name = site_name(alloc, site)?;
-    let mut rendering = Rendering::new(alloc, kit, site)?;
+    let name = site_name(alloc, rendering.site())?;
     rendering.whole_page(kit, name.as_str(), ids)?;
-    let body = Text::from_string(rendering.into_text())?;
+    let body = Text::from_string(rendering.take_text())?;
     Ok(body)
 }
 

@@ -1,24 +1,29 @@
 //! A page that is being built.
 
-ghost use Rattle.std.specs.Prelude.{◌≡◌, ◌∷◌, ◌++◌, [], false, IfOk, IsErrOf, None, Some, codes, decimal, option_map, string_bytes};
+ghost use Rattle.std.specs.Prelude.{◌≡◌, ◌≢◌, ◌∷◌, ◌++◌, [], Err, false, IfOk, IsErrOf, None, Some, codes, decimal, option_map, string_bytes};
 ghost use Rattle.press_callbacks.specs.Kits.{kit_view};
+ghost use Rattle.press_run.specs.Limits.{ShowsLimits};
 ghost use Rattle.press_run.specs.Outcome.{Refuses, is_limit};
 ghost use Rattle.press_run.specs.Run.{apply_hook, within};
 ghost use Rattle.press_text.specs.Gives.{Gives};
 ghost use Rattle.press_page.specs.Json.{filtered, texts_of};
 ghost use Rattle.press_page.specs.Page.{article, article_body, article_head, articles, closing, opening};
 ghost use Rattle.press_page.specs.Page.{puts_filtered, whole_page};
-ghost use Rattle.press_page.specs.Rendering.{meaning_in, state_in};
+ghost use Rattle.press_page.specs.Rendering.{ButAtLimit, TellsLimits, meaning_in, state_in};
 ghost use Rattle.press_page.specs.Steps.{Answers, Steps, booted, fires, puts};
 
 use crate::filtered::Filtered;
 use crate::{hooks, template};
 use press_callbacks::Kit;
 use press_posts::{Fire, Post};
-use press_run::{Job, Machine, Read, RunFault, boot_actions};
+use press_run::{Job, Machine, Out, Read, RunFault, boot_actions};
 use press_site::Site;
 use press_text::{HookName, Items, Text, Texts};
 use std::alloc::{AllocError, Global};
+use std::mem;
+
+// How many bytes a body may have.
+const MOST_BYTES: usize = 1_048_576;
 
 /// A page that is being built, from one boot of a site that is only read.
 pub struct Rendering<'a> {
@@ -40,6 +45,7 @@ impl<'a> Rendering<'a> {
     pub fn new(alloc: Global, kit: &Kit, site: &'a Site) -> Result<Rendering<'a>, AllocError>
         ensures booted { IfOk result (λ r. state_in r ≡ booted (kit_view kit.now) site.now) }
         ensures site { IfOk result (λ r. r.machine.site.0.now ≡ site.now) }
+        ensures limit { IfOk result (λ r. r.machine.met_limit ≡ false) }
     {
         let machine = Machine::new(alloc, kit, Read(site))?;
         Ok(Rendering { alloc, machine })
@@ -48,9 +54,10 @@ impl<'a> Rendering<'a> {
     /// The boot's actions, then the page of the posts of these ids.
     #[tactic(auto, unfolding(crate::specs::Page::whole_page))]
     pub fn whole_page(&mut self, kit: &Kit, name: &str, ids: &[u64]) -> Result<(), RunFault>
-        ensures { Steps (whole_page (meaning_in kit.now) name.now
+        ensures steps { Steps (whole_page (meaning_in kit.now) name.now
             self.old.machine.site.0.now.posts ids.now (state_in self.old))
             (state_in self.new) result }
+        ensures limits { TellsLimits result self.old self.new }
     {
         let site = self.machine.site.0;
         self.opening(kit, name)?;
@@ -58,20 +65,27 @@ impl<'a> Rendering<'a> {
         self.closing(kit)
     }
 
-    /// What was written.
-    pub fn into_text(self) -> String
-        ensures { string_bytes result ≡ self.entry.machine.out }
+    /// The site that is read.
+    pub fn site(&self) -> &'a Site
+        ensures { result.now ≡ self.now.machine.site.0.now }
     {
-        let Rendering { alloc: _, machine } = self;
-        let (_, out) = machine.into_parts();
-        out.into_text()
+        self.machine.site.0
+    }
+
+    /// What was written, which is taken out.
+    pub fn take_text(&mut self) -> String
+        ensures text { string_bytes result ≡ self.old.machine.out }
+        ensures limit { self.new.machine.met_limit ≡ self.old.machine.met_limit }
+    {
+        mem::replace(&mut self.machine.out, Out::new(self.alloc)).into_text()
     }
 
     /// The boot's actions, then the title and the content of a post, each by its filter.
     #[tactic(auto, unfolding(crate::specs::Json::filtered))]
     pub fn filtered(&mut self, kit: &Kit, post: &Post) -> Result<Filtered, RunFault>
-        ensures { Gives Refuses Some result
+        ensures gives { Gives Refuses Some result
             (filtered (meaning_in kit.now) post.now (state_in self.old)) }
+        ensures limits { TellsLimits result self.old self.new }
     {
         self.fires(kit, boot_actions(self.alloc)?)?;
         self.texts(kit, post)
@@ -79,8 +93,9 @@ impl<'a> Rendering<'a> {
 
     #[tactic(auto, unfolding(crate::specs::Json::texts_of))]
     fn texts(&mut self, kit: &Kit, post: &Post) -> Result<Filtered, RunFault>
-        ensures { Gives Refuses Some result
+        ensures gives { Gives Refuses Some result
             (texts_of (meaning_in kit.now) post.now (state_in self.old)) }
+        ensures limits { TellsLimits result self.old self.new }
     {
         let title = self.title_of(kit, post)?;
         let content = self.content_of(kit, post)?;
@@ -88,9 +103,10 @@ impl<'a> Rendering<'a> {
     }
 
     fn title_of(&mut self, kit: &Kit, post: &Post) -> Result<Text, RunFault>
-        ensures { Answers (apply_hook (meaning_in kit.now) (codes "the_title")
+        ensures answers { Answers (apply_hook (meaning_in kit.now) (codes "the_title")
             (post.now.title ∷ decimal post.now.id ∷ []) (state_in self.old))
             (state_in self.new) result }
+        ensures limits { TellsLimits result self.old self.new }
     {
         let hook = HookName::from_valid(self.alloc, "the_title")?;
         let args = hooks::title_args(self.alloc, post)?;
@@ -98,8 +114,9 @@ impl<'a> Rendering<'a> {
     }
 
     fn content_of(&mut self, kit: &Kit, post: &Post) -> Result<Text, RunFault>
-        ensures { Answers (apply_hook (meaning_in kit.now) (codes "the_content")
+        ensures answers { Answers (apply_hook (meaning_in kit.now) (codes "the_content")
             (post.now.content ∷ []) (state_in self.old)) (state_in self.new) result }
+        ensures limits { TellsLimits result self.old self.new }
     {
         let hook = HookName::from_valid(self.alloc, "the_content")?;
         let args = hooks::content_args(self.alloc, post)?;
@@ -108,8 +125,9 @@ impl<'a> Rendering<'a> {
 
     #[tactic(auto, unfolding(crate::specs::Page::opening))]
     fn opening(&mut self, kit: &Kit, name: &str) -> Result<(), RunFault>
-        ensures { Steps (opening (meaning_in kit.now) name.now (state_in self.old))
+        ensures steps { Steps (opening (meaning_in kit.now) name.now (state_in self.old))
             (state_in self.new) result }
+        ensures limits { TellsLimits result self.old self.new }
     {
         self.fires(kit, boot_actions(self.alloc)?)?;
         let title = template::title_part(self.alloc, name)?;
@@ -120,8 +138,10 @@ impl<'a> Rendering<'a> {
     }
 
     fn articles(&mut self, kit: &Kit, site: &Site, ids: &[u64]) -> Result<(), RunFault>
-        ensures { Steps (articles (meaning_in kit.now) site.now.posts ids.now (state_in self.old))
+        ensures steps { Steps
+            (articles (meaning_in kit.now) site.now.posts ids.now (state_in self.old))
             (state_in self.new) result }
+        ensures limits { TellsLimits result self.old self.new }
     {
         for id in ids {
             self.article(kit, site.post(*id))?;
@@ -131,9 +151,10 @@ impl<'a> Rendering<'a> {
 
     #[tactic(auto, unfolding(crate::specs::Page::article))]
     fn article(&mut self, kit: &Kit, post: Option<&Post>) -> Result<(), RunFault>
-        ensures { Steps
+        ensures steps { Steps
             (article (meaning_in kit.now) (option_map (λ p. p.now) post.entry) (state_in self.old))
             (state_in self.new) result }
+        ensures limits { TellsLimits result self.old self.new }
     {
         let Some(post) = post else {
             return Ok(());
@@ -144,8 +165,9 @@ impl<'a> Rendering<'a> {
 
     #[tactic(auto, unfolding(crate::specs::Page::article_head))]
     fn article_head(&mut self, kit: &Kit, post: &Post) -> Result<(), RunFault>
-        ensures { Steps (article_head (meaning_in kit.now) post.now (state_in self.old))
+        ensures steps { Steps (article_head (meaning_in kit.now) post.now (state_in self.old))
             (state_in self.new) result }
+        ensures limits { TellsLimits result self.old self.new }
     {
         let begun = template::article_part(self.alloc, post.id)?;
         self.puts(begun.as_str())?;
@@ -156,8 +178,9 @@ impl<'a> Rendering<'a> {
 
     #[tactic(auto, unfolding(crate::specs::Page::article_body))]
     fn article_body(&mut self, kit: &Kit, post: &Post) -> Result<(), RunFault>
-        ensures { Steps (article_body (meaning_in kit.now) post.now (state_in self.old))
+        ensures steps { Steps (article_body (meaning_in kit.now) post.now (state_in self.old))
             (state_in self.new) result }
+        ensures limits { TellsLimits result self.old self.new }
     {
         let hook = HookName::from_valid(self.alloc, "the_content")?;
         self.puts_filtered(kit, hook, hooks::content_args(self.alloc, post)?)?;
@@ -165,8 +188,9 @@ impl<'a> Rendering<'a> {
     }
 
     fn closing(&mut self, kit: &Kit) -> Result<(), RunFault>
-        ensures { Steps (closing (meaning_in kit.now) (state_in self.old))
+        ensures steps { Steps (closing (meaning_in kit.now) (state_in self.old))
             (state_in self.new) result }
+        ensures limits { TellsLimits result self.old self.new }
     {
         self.fires(kit, hooks::one(self.alloc, "wp_footer")?)?;
         self.puts("</body>\n</html>\n")
@@ -205,9 +229,35 @@ impl<'a> Rendering<'a> {
 
     fn puts(&mut self, text: &str) -> Result<(), RunFault>
         ensures steps { Steps (puts text.now (state_in self.old)) (state_in self.new) result }
-        ensures full { within (self.old.machine.out ++ text.now) ≡ None → IsErrOf result RunFault.Limit }
-        ensures limit { self.new.machine.met_limit ≡ self.old.machine.met_limit }
+        ensures full { within (self.old.machine.out ++ text.now) ≡ None
+            → IsErrOf result RunFault.Limit }
+        ensures limits { ShowsLimits result self.old.machine self.new.machine }
     {
-        self.machine.out.push(text)
+        self.machine.write(text)
+    }
+
+    /// A body, if it is within the bytes.
+    pub fn within(&mut self, body: Text) -> Result<Text, RunFault>
+        ensures body { Gives Refuses Some result (within body) }
+        ensures full { within body ≡ None → IsErrOf result RunFault.Limit }
+        ensures memory { result ≢ Err RunFault.NoMemory }
+        ensures limits { ShowsLimits result self.old.machine self.new.machine }
+    {
+        if body.len() > MOST_BYTES {
+            self.machine.met_limit = true;
+            return Err(RunFault::Limit);
+        }
+        Ok(body)
+    }
+}
+
+/// What is to be shown, or nothing at a limit.
+pub fn but_at_limit(given: Result<Text, RunFault>) -> Result<Option<Text>, AllocError>
+    ensures { ButAtLimit given result }
+{
+    match given {
+        Ok(text) => Ok(Some(text)),
+        Err(RunFault::Limit) => Ok(None),
+        Err(RunFault::NoMemory) => Err(AllocError),
     }
 }

@@ -2,8 +2,7 @@ use Rattle.std.proofs.Common.{◌∙◌, sym}
 use Rattle.press_page.specs.Rendering.{state_in}
 use Rattle.press_page.proofs.pages.body_of.Goals as goal
 
-pub returns : goal.returns
-returns g c =
-    let e = c.in_ok-rendering.ensures in
-    let shown = rw (c.as_str.ensures.value, c.in_ok-name.ensures, e.booted, e.site) at c.in_ok-whole_page.ensures in
-    (state_in c.whole_page.new.self, shown, sym (c.in_ok-body.ensures.value ∙ c.into_text.ensures))
+pub returns-clause-shows : goal.returns-clause-shows
+returns-clause-shows g c =
+    let shown = rw (c.as_str.ensures.value, c.in_ok-name.ensures, c.site.ensures) at c.in_ok-whole_page.ensures.steps in
+    (state_in c.whole_page.new.self, shown, sym (c.in_ok-body.ensures.value ∙ c.take_text.ensures.text))
