@@ -1,5 +1,5 @@
 -- A step's refusal is that of all the work.
-use Rattle.std.proofs.Common.{◌≡◌, refl, sym, ap, ◌∙◌, subst, ℕ, Result, Ok, Err}
+use Rattle.std.proofs.Common.{◌≡◌, ◌≢◌, refl, sym, ap, ◌∙◌, subst, true, ℕ, Result, Ok, Err, MatchResult, IsErrAnd}
 use Rattle.press_run.specs.Run.{State}
 use Rattle.press_site.specs.Becomes as change
 use Rattle.press_site.specs.declared.changed.Changed.{Changed}
@@ -12,7 +12,8 @@ use Rattle.press_apply.specs.declared.fault.ApplyFault.TheVariants.{NoMemory, Li
 use Rattle.press_apply.specs.Apply.{◌>>=◌, alone, effected, no_id, site_of}
 use Rattle.press_apply.specs.Faults.{of_site}
 use Rattle.press_apply.specs.declared.work.Work.{Work}
-use Rattle.press_apply.specs.Works.{GoesBack, Refuses, Steps, Works, state_in}
+use Rattle.press_apply.specs.declared.work.Worked.{Worked}
+use Rattle.press_apply.specs.Works.{GoesBack, Refuses, Steps, TellsItsLimit, TellsLimits, Works, ended, state_in}
 
 pub handed_on : {A B : Type 0} (f : ApplyFault) (m : Result A ApplyFault) (rest : A → Result B ApplyFault) → Refuses f m → Refuses f (m >>= rest)
 handed_on NoMemory m rest h = tt
@@ -58,8 +59,12 @@ boot_refused Limit m rest h = ap (λ x. site_of (x >>= rest)) h
 boot_refused NoSuchPlugin m rest h = ap (λ x. site_of (x >>= rest)) h
 boot_refused (Site f) m rest h = ap (λ x. site_of (x >>= rest)) h
 
-pub boot_stopped : (m : Result State ApplyFault) (rest : State → Result (State × ℕ) ApplyFault) (old site : Open) (f : ApplyFault) → Refuses f m → begun_of site ≡ begun_of old → Works (site_of (m >>= rest)) old (site, Err f)
-boot_stopped m rest old site f h b = (boot_refused f m rest h, b)
+stopped_by : (m : Result State ApplyFault) (rest : State → Result (State × ℕ) ApplyFault) (site : SiteView) (id : Result ℕ ApplyFault) → IsErrAnd id (λ f. Refuses f m) → MatchResult id (λ n. site_of (m >>= rest) ≡ Ok (site, n)) (λ f. Refuses f (site_of (m >>= rest)))
+stopped_by m rest site (Ok n) h = absurd h
+stopped_by m rest site (Err f) h = boot_refused f m rest h
+
+pub boot_stopped : (m : Result State ApplyFault) (rest : State → Result (State × ℕ) ApplyFault) (old : Open) (stopped : Worked) → IsErrAnd stopped.id (λ f. Refuses f m) → begun_of stopped.site ≡ begun_of old → Works (site_of (m >>= rest)) old stopped
+boot_stopped m rest old stopped h b = (stopped_by m rest stopped.site.site stopped.id h, b)
 
 pub work_refused : (f : ApplyFault) (m : Result State ApplyFault) (rest : State → Result (State × ℕ) ApplyFault) (s : State) → m ≡ Ok s → Refuses f (rest s) → Refuses f (site_of (m >>= rest))
 work_refused NoMemory m rest s e h = tt
@@ -70,9 +75,12 @@ work_refused (Site f) m rest s e h = ap (λ x. site_of (x >>= rest)) e ∙ ap si
 pub work_done : (m : Result State ApplyFault) (rest : State → Result (State × ℕ) ApplyFault) (s s' : State) (id : ℕ) → m ≡ Ok s → rest s ≡ Ok (s', id) → site_of (m >>= rest) ≡ Ok (s'.site, id)
 work_done m rest s s' id e h = ap (λ x. site_of (x >>= rest)) e ∙ ap site_of h
 
-pub work_ended : (m : Result State ApplyFault) (rest : State → Result (State × ℕ) ApplyFault) (site : Open) (old new : Work) (id : Result ℕ ApplyFault) (result : Open × Result ℕ ApplyFault) → m ≡ Ok (state_in old) → begun_of old.machine.site ≡ begun_of site → Steps (λ s n. (s, n)) (rest (state_in old)) new id → GoesBack old new → result ≡ (new.machine.site, id) → Works (site_of (m >>= rest)) site result
-work_ended m rest site old new (Ok n) result b k h g e = subst (λ (r : Open × Result ℕ ApplyFault). Works (site_of (m >>= rest)) site r) (sym e) (work_done m rest (state_in old) (state_in new) n b h, g ∙ k)
-work_ended m rest site old new (Err fault) result b k h g e = subst (λ (r : Open × Result ℕ ApplyFault). Works (site_of (m >>= rest)) site r) (sym e) (work_refused fault m rest (state_in old) b h, g ∙ k)
+pub work_ended : (m : Result State ApplyFault) (rest : State → Result (State × ℕ) ApplyFault) (site : Open) (old new : Work) (id : Result ℕ ApplyFault) (result : Worked) → m ≡ Ok (state_in old) → begun_of old.machine.site ≡ begun_of site → Steps (λ s n. (s, n)) (rest (state_in old)) new id → GoesBack old new → result ≡ ended new id → Works (site_of (m >>= rest)) site result
+work_ended m rest site old new (Ok n) result b k h g e = subst (λ (r : Worked). Works (site_of (m >>= rest)) site r) (sym e) (work_done m rest (state_in old) (state_in new) n b h, g ∙ k)
+work_ended m rest site old new (Err fault) result b k h g e = subst (λ (r : Worked). Works (site_of (m >>= rest)) site r) (sym e) (work_refused fault m rest (state_in old) b h, g ∙ k)
+
+pub tells_its_limit : (id : Result ℕ ApplyFault) (old new : Work) (result : Worked) → old.machine.met_limit ≢ true → TellsLimits id old new → result ≡ ended new id → TellsItsLimit result
+tells_its_limit id old new result none tells e = subst TellsItsLimit (sym e) (λ untold met. none (tells untold met))
 
 pub refused_is : {A : Type 0} (f : ApplyFault) (m : Result A ApplyFault) → (f ≡ NoMemory → ⊥) → Refuses f m → m ≡ Err f
 refused_is NoMemory m own h = absurd (own refl)

@@ -1,6 +1,6 @@
 -- What the steps of a command's work answer: an Ok is the meaning, with the state after it; a refusal is returned only where the meaning has it; and after each
 -- of them the site can go back to what it was begun as.
-use Rattle.std.specs.Prelude.{◌≡◌, ℕ, ⊤, Bool, true, false, Some, IfSome, Result, Ok, Err, MatchResult, IsOk}
+use Rattle.std.specs.Prelude.{◌≡◌, ◌≢◌, ℕ, ⊤, Bool, true, false, Some, IfSome, Result, Ok, Err, MatchResult, IsErr, IsErrAnd, IsOk}
 use Rattle.std.specs.declared.alloc.AllocError.{AllocError}
 use Rattle.press_callbacks.specs.Kits.{KitView, kit_view}
 use Rattle.press_callbacks.specs.declared.kit.Kit.{Kit}
@@ -8,7 +8,7 @@ use Rattle.press_run.specs.Outcome.{state_of}
 use Rattle.press_run.specs.Run.{Meaning, State}
 use Rattle.press_run.specs.Standing.{standing}
 use Rattle.press_site.specs.declared.token.Outcome.{Outcome}
-use Rattle.press_site.specs.declared.token.Outcome.TheVariants.{Done}
+use Rattle.press_site.specs.declared.token.Outcome.TheVariants.{Done, Refused}
 use Rattle.press_site.specs.Open.{Open, begun_of}
 use Rattle.press_site.specs.Outcomes.{outcome_of}
 use Rattle.press_site.specs.SiteView.{SiteView}
@@ -20,6 +20,8 @@ use Rattle.press_apply.specs.declared.fault.ApplyFault.TheVariants.{NoMemory, Li
 use Rattle.press_apply.specs.declared.value.Value.{Value}
 use Rattle.press_apply.specs.declared.value.Value.TheVariants.{Noop, Cmd}
 use Rattle.press_apply.specs.declared.work.Work.{Work}
+use Rattle.press_apply.specs.declared.work.Worked.{Worked}
+use Rattle.press_apply.specs.Faults.{apply_fault_number}
 
 -- what a command's work is at
 abbrev pub state_in : Work → State
@@ -37,8 +39,8 @@ Refuses NoSuchPlugin meant = meant ≡ Err NoSuchPlugin
 Refuses (Site fault) meant = meant ≡ Err (Site fault)
 
 -- a boot on an open site, which a refusal hands back
-abbrev pub Boots : Result State ApplyFault → Open → Result Work (Open × ApplyFault) → Type 0
-Boots meant old result = MatchResult result (λ work. (meant ≡ Ok (state_in work)) × (begun_of work.machine.site ≡ begun_of old)) (λ stopped. Refuses stopped.1 meant × (begun_of stopped.0 ≡ begun_of old))
+abbrev pub Boots : Result State ApplyFault → Open → Result Work Worked → Type 0
+Boots meant old result = MatchResult result (λ work. (meant ≡ Ok (state_in work)) × (begun_of work.machine.site ≡ begun_of old)) (λ stopped. IsErrAnd stopped.id (λ fault. Refuses fault meant) × (begun_of stopped.site ≡ begun_of old))
 
 -- what a step shows of the state after it and of its answer
 abbrev pub Steps : {A M : Type 0} → (State → A → M) → Result M ApplyFault → Work → Result A ApplyFault → Type 0
@@ -65,8 +67,24 @@ abbrev pub GoesBack : Work → Work → Type 0
 GoesBack old new = begun_of new.machine.site ≡ begun_of old.machine.site
 
 -- the site after the whole work, and the id of the post that it is about, or 0
-abbrev pub Works : Result (SiteView × ℕ) ApplyFault → Open → Open × Result ℕ ApplyFault → Type 0
-Works meant old result = MatchResult result.1 (λ id. meant ≡ Ok (result.0.site, id)) (λ fault. Refuses fault meant) × (begun_of result.0 ≡ begun_of old)
+abbrev pub Works : Result (SiteView × ℕ) ApplyFault → Open → Worked → Type 0
+Works meant old worked = MatchResult worked.id (λ id. meant ≡ Ok (worked.site.site, id)) (λ fault. Refuses fault meant) × (begun_of worked.site ≡ begun_of old)
+
+-- work that has ended with this
+abbrev pub ended : Work → Result ℕ ApplyFault → Worked
+ended w id = record { site = w.machine.site; id = id; met_limit = w.machine.met_limit }
+
+-- where the whole work tells no limit, none was met
+abbrev pub TellsItsLimit : Worked → Type 0
+TellsItsLimit worked = is_limit worked.id ≡ false → worked.met_limit ≢ true
+
+-- its outcome; out of memory is none
+abbrev pub IsOutcome : Result ℕ ApplyFault → Result Outcome AllocError → Type 0
+IsOutcome (Ok id) result = result ≡ Ok (Done id)
+IsOutcome (Err NoMemory) result = IsErr result
+IsOutcome (Err Limit) result = result ≡ Ok (Refused (apply_fault_number Limit))
+IsOutcome (Err NoSuchPlugin) result = result ≡ Ok (Refused (apply_fault_number NoSuchPlugin))
+IsOutcome (Err (Site fault)) result = result ≡ Ok (Refused (apply_fault_number (Site fault)))
 
 -- which commands may take memory: all that boot, and of plugins those that aren't refused
 abbrev pub TakesMemory : KitView → SiteView → Command → Type 0

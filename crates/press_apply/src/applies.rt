@@ -1,6 +1,6 @@
 //! One value applied to a site.
 
-ghost use Rattle.std.specs.Prelude.{◌≡◌, None, Ok, Err, MatchResult, max, IfOk, IfSome, OnErr, OnOk, is_some};
+ghost use Rattle.std.specs.Prelude.{◌≡◌, None, Ok, Err, MatchResult, false, max, IfOk, IfSome, OnErr, OnOk, is_some};
 ghost use Rattle.press_callbacks.specs.Kits.{kit_view, plugin_of, plugins_in};
 ghost use Rattle.press_site.specs.Effects.{effect_on};
 ghost use Rattle.press_site.specs.Open.{begun_of};
@@ -8,15 +8,15 @@ ghost use Rattle.press_site.specs.Outcomes.{outcome_of};
 ghost use Rattle.press_apply.specs.Apply.{alone, applied, applied_where, at_moment, booted};
 ghost use Rattle.press_apply.specs.Apply.{deletes, does, inserts, ticks, trashes, untrashes};
 ghost use Rattle.press_apply.specs.Apply.{updates, with_kept, work_of};
-ghost use Rattle.press_apply.specs.Faults.{apply_fault_number};
-ghost use Rattle.press_apply.specs.Works.{GrowsBehind, Refuses, TakesMemory, TakesNone, Works, meaning_in};
+ghost use Rattle.press_apply.specs.Works.{GrowsBehind, IsOutcome, Refuses, TakesMemory, TakesNone};
+ghost use Rattle.press_apply.specs.Works.{TellsItsLimit, Works, meaning_in};
 
 use crate::checks::is_active;
 use crate::command::{Command, Stamped};
 use crate::edit::{Edit, Setting};
 use crate::fault::ApplyFault;
 use crate::value::Value;
-use crate::work::Work;
+use crate::work::{Work, Worked};
 use press_callbacks::Kit;
 use press_posts::Draft;
 use press_site::{Effect, OpenSite, Outcome, Site, SiteFault, Token};
@@ -119,11 +119,26 @@ fn tried(
         ≡ applied_where (kit_view kit.now) site stamped.now None) }
     ensures err { OnErr result.1 (result.0 ≡ site) }
 {
-    let (site, worked) = work(alloc, kit, site.begin(), &stamped.command);
-    match worked {
-        Ok(id) => done(alloc, site, &stamped.token, id),
-        Err(ApplyFault::NoMemory) => (site.back(), Err(AllocError)),
-        Err(fault) => refused(alloc, site.back(), &stamped.token, fault),
+    let Worked {
+        site,
+        id,
+        met_limit: _,
+    } = work(alloc, kit, site.begin(), &stamped.command);
+    match outcome(id) {
+        Ok(Outcome::Done(id)) => done(alloc, site, &stamped.token, id),
+        Ok(Outcome::Refused(fault)) => refused(alloc, site.back(), &stamped.token, fault),
+        Err(fault) => (site.back(), Err(fault)),
+    }
+}
+
+// The outcome of a command's work, unless memory ran out.
+fn outcome(id: Result<u64, ApplyFault>) -> Result<Outcome, AllocError>
+    ensures { IsOutcome id result }
+{
+    match id {
+        Ok(id) => Ok(Outcome::Done(id)),
+        Err(ApplyFault::NoMemory) => Err(AllocError),
+        Err(fault) => Ok(Outcome::Refused(fault.number())),
     }
 }
 
@@ -155,16 +170,15 @@ fn refused(
     alloc: Global,
     mut site: Site,
     token: &Token,
-    fault: ApplyFault,
+    fault: u8,
 ) -> (Site, Result<Outcome, AllocError>)
     requires { outcome_of token.now site.outcomes ≡ None }
-    ensures outcome { IfOk result.1 (λ outcome.
-        outcome ≡ Outcome.Refused (apply_fault_number fault)) }
-    ensures site { OnOk result.1 (result.0
-        ≡ with_kept token.now (Outcome.Refused (apply_fault_number fault)) site site) }
+    ensures outcome { IfOk result.1 (λ outcome. outcome ≡ Outcome.Refused fault) }
+    ensures site { OnOk result.1
+        (result.0 ≡ with_kept token.now (Outcome.Refused fault) site site) }
     ensures err { OnErr result.1 (result.0 ≡ site) }
 {
-    let outcome = Outcome::Refused(fault.number());
+    let outcome = Outcome::Refused(fault);
     let kept = keep(alloc, &mut site, token, outcome);
     (site, kept)
 }
@@ -184,15 +198,11 @@ fn keep(
     Ok(outcome)
 }
 
-// The work of a command: the site after it, and the id of the post that it is about, or 0.
-fn work(
-    alloc: Global,
-    kit: &Kit,
-    site: OpenSite,
-    command: &Command,
-) -> (OpenSite, Result<u64, ApplyFault>)
+// The work of a command.
+fn work(alloc: Global, kit: &Kit, site: OpenSite, command: &Command) -> Worked
     ensures works { Works (work_of (kit_view kit.now) site.site command.now) site result }
-    ensures memory { result.1 ≡ Err ApplyFault.NoMemory →
+    ensures limits { TellsItsLimit result }
+    ensures memory { result.id ≡ Err ApplyFault.NoMemory →
         TakesMemory (kit_view kit.now) site.site command.now }
 {
     match command {
@@ -210,153 +220,143 @@ fn work(
     }
 }
 
-#[tactic(auto, using(crate::proofs::Refusals::boot_stopped, crate::proofs::Refusals::work_ended))]
-fn insert(
-    alloc: Global,
-    kit: &Kit,
-    site: OpenSite,
-    draft: &Draft,
-) -> (OpenSite, Result<u64, ApplyFault>)
-    ensures { Works (booted (kit_view kit.now) site.site
+#[tactic(auto, using(crate::proofs::Refusals::boot_stopped, crate::proofs::Refusals::work_ended, crate::proofs::Refusals::tells_its_limit))]
+fn insert(alloc: Global, kit: &Kit, site: OpenSite, draft: &Draft) -> Worked
+    ensures works { Works (booted (kit_view kit.now) site.site
         (inserts (meaning_in kit.now) draft.now)) site result }
+    ensures limits { TellsItsLimit result }
 {
     match Work::booted(alloc, kit, site) {
         Ok(mut work) => {
             let id = work.insert(kit, draft);
             work.ended(id)
         }
-        Err((site, fault)) => (site, Err(fault)),
+        Err(stopped) => stopped,
     }
 }
 
-#[tactic(auto, using(crate::proofs::Refusals::boot_stopped, crate::proofs::Refusals::work_ended))]
-fn update(
-    alloc: Global,
-    kit: &Kit,
-    site: OpenSite,
-    edit: Edit<'_>,
-) -> (OpenSite, Result<u64, ApplyFault>)
-    ensures { Works (booted (kit_view kit.now) site.site
+#[tactic(auto, using(crate::proofs::Refusals::boot_stopped, crate::proofs::Refusals::work_ended, crate::proofs::Refusals::tells_its_limit))]
+fn update(alloc: Global, kit: &Kit, site: OpenSite, edit: Edit<'_>) -> Worked
+    ensures works { Works (booted (kit_view kit.now) site.site
         (updates (meaning_in kit.now) edit.entry.id edit.entry.draft.now)) site result }
+    ensures limits { TellsItsLimit result }
 {
     match Work::booted(alloc, kit, site) {
         Ok(mut work) => {
             let id = work.update(kit, edit);
             work.ended(id)
         }
-        Err((site, fault)) => (site, Err(fault)),
+        Err(stopped) => stopped,
     }
 }
 
-#[tactic(auto, using(crate::proofs::Refusals::boot_stopped, crate::proofs::Refusals::work_ended))]
-fn trash(alloc: Global, kit: &Kit, site: OpenSite, id: u64) -> (OpenSite, Result<u64, ApplyFault>)
-    ensures { Works (booted (kit_view kit.now) site.site (trashes (meaning_in kit.now) id))
+#[tactic(auto, using(crate::proofs::Refusals::boot_stopped, crate::proofs::Refusals::work_ended, crate::proofs::Refusals::tells_its_limit))]
+fn trash(alloc: Global, kit: &Kit, site: OpenSite, id: u64) -> Worked
+    ensures works { Works (booted (kit_view kit.now) site.site (trashes (meaning_in kit.now) id))
         site result }
+    ensures limits { TellsItsLimit result }
 {
     match Work::booted(alloc, kit, site) {
         Ok(mut work) => {
             let id = work.trash(kit, id);
             work.ended(id)
         }
-        Err((site, fault)) => (site, Err(fault)),
+        Err(stopped) => stopped,
     }
 }
 
-#[tactic(auto, using(crate::proofs::Refusals::boot_stopped, crate::proofs::Refusals::work_ended))]
-fn untrash(alloc: Global, kit: &Kit, site: OpenSite, id: u64) -> (OpenSite, Result<u64, ApplyFault>)
-    ensures { Works (booted (kit_view kit.now) site.site (untrashes (meaning_in kit.now) id))
+#[tactic(auto, using(crate::proofs::Refusals::boot_stopped, crate::proofs::Refusals::work_ended, crate::proofs::Refusals::tells_its_limit))]
+fn untrash(alloc: Global, kit: &Kit, site: OpenSite, id: u64) -> Worked
+    ensures works { Works (booted (kit_view kit.now) site.site (untrashes (meaning_in kit.now) id))
         site result }
+    ensures limits { TellsItsLimit result }
 {
     match Work::booted(alloc, kit, site) {
         Ok(mut work) => {
             let id = work.untrash(kit, id);
             work.ended(id)
         }
-        Err((site, fault)) => (site, Err(fault)),
+        Err(stopped) => stopped,
     }
 }
 
-#[tactic(auto, using(crate::proofs::Refusals::boot_stopped, crate::proofs::Refusals::work_ended))]
-fn delete(alloc: Global, kit: &Kit, site: OpenSite, id: u64) -> (OpenSite, Result<u64, ApplyFault>)
-    ensures { Works (booted (kit_view kit.now) site.site (deletes (meaning_in kit.now) id))
+#[tactic(auto, using(crate::proofs::Refusals::boot_stopped, crate::proofs::Refusals::work_ended, crate::proofs::Refusals::tells_its_limit))]
+fn delete(alloc: Global, kit: &Kit, site: OpenSite, id: u64) -> Worked
+    ensures works { Works (booted (kit_view kit.now) site.site (deletes (meaning_in kit.now) id))
         site result }
+    ensures limits { TellsItsLimit result }
 {
     match Work::booted(alloc, kit, site) {
         Ok(mut work) => {
             let id = work.delete(kit, id);
             work.ended(id)
         }
-        Err((site, fault)) => (site, Err(fault)),
+        Err(stopped) => stopped,
     }
 }
 
-#[tactic(auto, using(crate::proofs::Refusals::boot_stopped, crate::proofs::Refusals::work_ended))]
-fn set_option(
-    alloc: Global,
-    kit: &Kit,
-    site: OpenSite,
-    setting: Setting<'_>,
-) -> (OpenSite, Result<u64, ApplyFault>)
-    ensures { Works (booted (kit_view kit.now) site.site
+#[tactic(auto, using(crate::proofs::Refusals::boot_stopped, crate::proofs::Refusals::work_ended, crate::proofs::Refusals::tells_its_limit))]
+fn set_option(alloc: Global, kit: &Kit, site: OpenSite, setting: Setting<'_>) -> Worked
+    ensures works { Works (booted (kit_view kit.now) site.site
         (does (meaning_in kit.now)
         (Effect.SetOption setting.entry.name.now setting.entry.value.now))) site result }
+    ensures limits { TellsItsLimit result }
 {
     match Work::booted(alloc, kit, site) {
         Ok(mut work) => {
             let id = work.set_option(kit, setting.name, setting.value);
             work.ended(id)
         }
-        Err((site, fault)) => (site, Err(fault)),
+        Err(stopped) => stopped,
     }
 }
 
-#[tactic(auto, using(crate::proofs::Refusals::boot_stopped, crate::proofs::Refusals::work_ended))]
-fn tick(alloc: Global, kit: &Kit, site: OpenSite) -> (OpenSite, Result<u64, ApplyFault>)
-    ensures { Works (booted (kit_view kit.now) site.site (ticks (meaning_in kit.now))) site result }
+#[tactic(auto, using(crate::proofs::Refusals::boot_stopped, crate::proofs::Refusals::work_ended, crate::proofs::Refusals::tells_its_limit))]
+fn tick(alloc: Global, kit: &Kit, site: OpenSite) -> Worked
+    ensures works { Works (booted (kit_view kit.now) site.site (ticks (meaning_in kit.now))) site
+        result }
+    ensures limits { TellsItsLimit result }
 {
     match Work::booted(alloc, kit, site) {
         Ok(mut work) => {
             let id = work.tick(kit);
             work.ended(id)
         }
-        Err((site, fault)) => (site, Err(fault)),
+        Err(stopped) => stopped,
     }
 }
 
-fn activate(
-    alloc: Global,
-    kit: &Kit,
-    site: OpenSite,
-    plugin: &Name,
-) -> (OpenSite, Result<u64, ApplyFault>)
+fn activate(alloc: Global, kit: &Kit, site: OpenSite, plugin: &Name) -> Worked
     ensures works { Works (work_of (kit_view kit.now) site.site (Command.Activate plugin.now))
         site result }
-    ensures memory { GrowsBehind result.1
+    ensures limits { TellsItsLimit result }
+    ensures memory { GrowsBehind result.id
         (work_of (kit_view kit.now) site.site (Command.Activate plugin.now)) }
 {
     if !has_plugin(kit, plugin) {
-        return (site, Err(ApplyFault::NoSuchPlugin));
+        return without_run(site, Err(ApplyFault::NoSuchPlugin));
     }
     if is_active(site.site().active(), plugin) {
-        return (site, Err(ApplyFault::Site(SiteFault::AlreadyActive)));
+        return without_run(site, Err(ApplyFault::Site(SiteFault::AlreadyActive)));
     }
     match plugin.copy(alloc) {
         Ok(plugin) => alone(site, Effect::Activate { plugin }),
-        Err(_) => (site, Err(ApplyFault::NoMemory)),
+        Err(_) => without_run(site, Err(ApplyFault::NoMemory)),
     }
 }
 
-fn deactivate(alloc: Global, site: OpenSite, plugin: &Name) -> (OpenSite, Result<u64, ApplyFault>)
+fn deactivate(alloc: Global, site: OpenSite, plugin: &Name) -> Worked
     ensures works { Works (alone (effect_on site.site (Effect.Deactivate plugin.now))) site result }
-    ensures memory { GrowsBehind result.1
+    ensures limits { TellsItsLimit result }
+    ensures memory { GrowsBehind result.id
         (alone (effect_on site.site (Effect.Deactivate plugin.now))) }
 {
     if !is_active(site.site().active(), plugin) {
-        return (site, Err(ApplyFault::Site(SiteFault::NotActive)));
+        return without_run(site, Err(ApplyFault::Site(SiteFault::NotActive)));
     }
     match plugin.copy(alloc) {
         Ok(plugin) => alone(site, Effect::Deactivate { plugin }),
-        Err(_) => (site, Err(ApplyFault::NoMemory)),
+        Err(_) => without_run(site, Err(ApplyFault::NoMemory)),
     }
 }
 
@@ -367,12 +367,24 @@ fn has_plugin(kit: &Kit, plugin: &Name) -> bool
 }
 
 // A change that boots nothing and runs no hook.
-fn alone(mut site: OpenSite, effect: Effect) -> (OpenSite, Result<u64, ApplyFault>)
+fn alone(mut site: OpenSite, effect: Effect) -> Worked
     ensures works { Works (alone (effect_on site.site effect)) site result }
-    ensures memory { GrowsBehind result.1 (alone (effect_on site.site effect)) }
+    ensures limits { TellsItsLimit result }
+    ensures memory { GrowsBehind result.id (alone (effect_on site.site effect)) }
 {
     let id = changed(&mut site, effect);
-    (site, id)
+    without_run(site, id)
+}
+
+// Work that runs no hook, and so meets no limit.
+fn without_run(site: OpenSite, id: Result<u64, ApplyFault>) -> Worked
+    ensures { result ≡ record { site = site; id = id; met_limit = false } }
+{
+    Worked {
+        site,
+        id,
+        met_limit: false,
+    }
 }
 
 #[tactic(auto, using(crate::proofs::Refusals::alone_refused))]

@@ -1,6 +1,6 @@
 //! The work of a command, after a boot of its own.
 
-ghost use Rattle.std.specs.Prelude.{◌≡◌, ◌≢◌, None, Ok, Err, codes};
+ghost use Rattle.std.specs.Prelude.{◌≡◌, ◌≢◌, IfErr, IfOk, None, Ok, Err, codes, true};
 ghost use Rattle.press_text.specs.Names.{name_fault};
 ghost use Rattle.press_callbacks.specs.Kits.{kit_view, plugins_in};
 ghost use Rattle.press_events.specs.DueEvents.{due};
@@ -10,8 +10,8 @@ ghost use Rattle.press_apply.specs.Apply.{between, boots, changes, delete_fault,
 ghost use Rattle.press_apply.specs.Apply.{filtered, fires, move_fault, update_fault, wanted_fault};
 ghost use Rattle.press_apply.specs.Apply.{inserts, passes, prepared, takes, takes_all, ticks, trashes};
 ghost use Rattle.press_apply.specs.Apply.{untrashes, updates};
-ghost use Rattle.press_apply.specs.Works.{Boots, GoesBack, GrowsBehind, Steps, TellsLimits, is_limit};
-ghost use Rattle.press_apply.specs.Works.{meaning_in, state_in};
+ghost use Rattle.press_apply.specs.Works.{Boots, GoesBack, GrowsBehind, Steps, TellsItsLimit, TellsLimits};
+ghost use Rattle.press_apply.specs.Works.{ended, is_limit, meaning_in, state_in};
 
 use crate::actions::{about, event_fires};
 use crate::checks::{delete_fault, move_fault, update_fault, wanted_fault};
@@ -41,6 +41,15 @@ impl Drop for Work {
     }
 }
 
+/// What a command's work came to.
+pub struct Worked {
+    pub site: OpenSite,
+    /// The id of the post that it is about, or 0.
+    pub id: Result<u64, ApplyFault>,
+    /// Whether a run met a limit.
+    pub met_limit: bool,
+}
+
 // The actions round a change of a post.
 #[derive(Clone, Copy)]
 struct Hooks<'a> {
@@ -60,18 +69,28 @@ fn passes(fault: Option<SiteFault>) -> Result<(), ApplyFault>
 
 impl Work {
     /// After a boot of the site and its three actions; a refusal hands the site back.
-    pub fn booted(alloc: Global, kit: &Kit, site: OpenSite) -> Result<Work, (OpenSite, ApplyFault)>
-        ensures { Boots (boots (meaning_in kit.now) (kit_view kit.now) site.site) site result }
+    pub fn booted(alloc: Global, kit: &Kit, site: OpenSite) -> Result<Work, Worked>
+        ensures boots { Boots (boots (meaning_in kit.now) (kit_view kit.now) site.site) site
+            result }
+        ensures limit { IfOk result (λ work. work.machine.met_limit ≢ true) }
+        ensures limits { IfErr result TellsItsLimit }
     {
         let tables = match boot(alloc, kit, site.site()) {
             Ok(tables) => tables,
-            Err(_) => return Err((site, ApplyFault::NoMemory)),
+            Err(_) => {
+                let (id, met_limit) = (Err(ApplyFault::NoMemory), false);
+                return Err(Worked {
+                    site,
+                    id,
+                    met_limit,
+                });
+            }
         };
         let machine = Machine::over(alloc, tables, site);
         let mut work = Work { alloc, machine };
         match work.boot(kit) {
             Ok(()) => Ok(work),
-            Err(fault) => Err((work.into_site(), fault)),
+            Err(fault) => Err(work.ended(Err(fault))),
         }
     }
 
@@ -83,14 +102,6 @@ impl Work {
     {
         let actions = boot_actions(self.alloc)?;
         self.fires(kit, actions)
-    }
-
-    fn into_site(self) -> OpenSite
-        ensures { result ≡ self.machine.site }
-    {
-        let Work { alloc: _, machine } = self;
-        let (site, _) = machine.into_parts();
-        site
     }
 
     fn fires(&mut self, kit: &Kit, actions: Items<Fire>) -> Result<(), ApplyFault>
@@ -325,11 +336,18 @@ impl Work {
         Ok(self.does(kit, Effect::SetOption { name, value })?)
     }
 
-    /// The site after the work, with what this answered.
-    pub fn ended(self, id: Result<u64, ApplyFault>) -> (OpenSite, Result<u64, ApplyFault>)
-        ensures { result ≡ (self.machine.site, id) }
+    /// The work at its end, with what it answered.
+    pub fn ended(self, id: Result<u64, ApplyFault>) -> Worked
+        ensures { result ≡ ended self id }
     {
-        (self.into_site(), id)
+        let Work { alloc: _, machine } = self;
+        let met_limit = machine.met_limit;
+        let (site, _) = machine.into_parts();
+        Worked {
+            site,
+            id,
+            met_limit,
+        }
     }
 
     /// Takes what is due, which is listed once.
