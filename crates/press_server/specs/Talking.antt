@@ -1,5 +1,5 @@
 -- The open connections (own).
-use Rattle.std.specs.Prelude.{ℕ, ◌≡◌, ◌≢◌, ◌≤◌, ◌<◌, ◌⊎◌, ◌-◌, ◌+◌, ◌&&◌, Bool, true, false, List, [], ◌∷◌, ◌++◌, map, Option, Some, None, Result, option_and_then, unwrap_or, option_map, is_none, slice_get, slice_set, length, nat_le, position, if◌then◌else◌}
+use Rattle.std.specs.Prelude.{ℕ, ◌≡◌, ◌≤◌, ◌<◌, ◌⊎◌, ◌-◌, ◌+◌, ◌&&◌, Bool, true, false, List, [], ◌∷◌, ◌++◌, map, Option, Some, None, IsSome, Result, option_and_then, unwrap_or, option_map, is_none, slice_get, slice_set, length, nat_le, position, if◌then◌else◌}
 use Rattle.std.specs.Time.{instant_nanos}
 use Rattle.press_http.specs.declared.fault.HttpFault.{HttpFault}
 use Rattle.press_server.specs.Answering.{Exchange, exchange}
@@ -47,42 +47,47 @@ count_of test (slot ∷ rest) = (if meets test slot then 1 else 0) + count_of te
 abbrev pub is_unheard : Instant → Talk → Bool
 is_unheard now talk = is_late now talk && is_reading talk
 
--- a connection in that phase stands at a place
-abbrev pub InPhase : Phase → List (Option Talk) → ℕ → Talk → Type 0
-InPhase phase slots place talk = (slice_get slots place ≡ Some (Some talk)) × (talk.phase ≡ phase)
+-- a connection in that phase may give way to those of a round, the first of which has that number: it came before them
+abbrev pub MayGo : Phase → ℕ → List (Option Talk) → ℕ → Talk → Type 0
+MayGo phase first slots place talk = (slice_get slots place ≡ Some (Some talk)) × (talk.phase ≡ phase) × (talk.arrival.number < first)
 
--- of those in that phase none came before it
-abbrev pub IsOldest : Phase → List (Option Talk) → ℕ → Type 0
-IsOldest phase slots place =
-    (talk : Talk) × InPhase phase slots place talk
-    × ((other : ℕ) (next : Talk) → InPhase phase slots other next → talk.arrival.number ≤ next.arrival.number)
+-- of those that may, none came before it
+abbrev pub IsOldest : Phase → ℕ → List (Option Talk) → ℕ → Type 0
+IsOldest phase first slots place =
+    (talk : Talk) × MayGo phase first slots place talk
+    × ((other : ℕ) (next : Talk) → MayGo phase first slots other next → talk.arrival.number ≤ next.arrival.number)
 
--- no connection is in that phase
-abbrev pub HasNone : Phase → List (Option Talk) → Type 0
-HasNone phase slots = (place : ℕ) (talk : Talk) → slice_get slots place ≡ Some (Some talk) → talk.phase ≢ phase
+-- none may
+abbrev pub HasNone : Phase → ℕ → List (Option Talk) → Type 0
+HasNone phase first slots = (place : ℕ) (talk : Talk) → MayGo phase first slots place talk → ⊥
 
--- the oldest whose request isn't whole goes first, else the oldest whose reply is out, else the oldest of the others
-abbrev pub GoesFirst : List (Option Talk) → Option ℕ → Type 0
-GoesFirst slots None = HasNone Reading slots × HasNone Ending slots × HasNone Writing slots
-GoesFirst slots (Some place) =
-    IsOldest Reading slots place
-    ⊎ (HasNone Reading slots × IsOldest Ending slots place)
-    ⊎ (HasNone Reading slots × HasNone Ending slots × IsOldest Writing slots place)
+-- the oldest that was served and stays open goes first, else the oldest whose request isn't whole, else the oldest whose reply isn't out; none
+-- that came in the same round
+abbrev pub GoesFirst : ℕ → List (Option Talk) → Option ℕ → Type 0
+GoesFirst first slots None = HasNone Ending first slots × HasNone Reading first slots × HasNone Writing first slots
+GoesFirst first slots (Some place) =
+    IsOldest Ending first slots place
+    ⊎ (HasNone Ending first slots × IsOldest Reading first slots place)
+    ⊎ (HasNone Ending first slots × HasNone Reading first slots × IsOldest Writing first slots place)
+
+-- what stands at a place, if there is one, is put in for what stood there
+abbrev pub with_slot : Option ℕ → Option Talk → List (Option Talk) → List (Option Talk)
+with_slot place slot slots = unwrap_or (option_map (λ place. slice_set slots place slot) place) slots
 
 -- it is closed, and its place is free
-abbrev pub GivesWay : List (Option Talk) → List (Option Talk) → Option ℕ → Type 0
-GivesWay old new gone = GoesFirst old gone × (new ≡ unwrap_or (option_map (λ place. slice_set old place None) gone) old)
+abbrev pub GivesWay : ℕ → List (Option Talk) → List (Option Talk) → Option ℕ → Type 0
+GivesWay first old new gone = GoesFirst first old gone × (new ≡ with_slot gone None old)
 
 -- no place is free, and fewer than 1,024 are taken
 abbrev pub MayGrow : List (Option Talk) → Type 0
 MayGrow slots = (position is_none slots ≡ None) × (length slots < 1024)
 
--- the first free place is it, else one more, else that of one that gives way
-abbrev pub MakesPlace : List (Option Talk) → List (Option Talk) → ℕ → Type 0
-MakesPlace old new place =
-    ((position is_none old ≡ Some place) × (new ≡ old))
-    ⊎ (MayGrow old × (place ≡ length old) × (new ≡ old ++ None ∷ []))
-    ⊎ ((position is_none old ≡ None) × (1024 ≤ length old) × (gone : Option ℕ) × GivesWay old new gone × (place ≡ unwrap_or gone 0))
+-- the first free place is it, else one more, else that of one that gives way; there is none where none does
+abbrev pub MakesPlace : ℕ → List (Option Talk) → List (Option Talk) → Option ℕ → Type 0
+MakesPlace first old new place =
+    (IsSome place × (place ≡ position is_none old) × (new ≡ old))
+    ⊎ (MayGrow old × (place ≡ Some (length old)) × (new ≡ old ++ None ∷ []))
+    ⊎ ((position is_none old ≡ None) × (1024 ≤ length old) × GivesWay first old new place)
 
 -- another look at its request is due
 abbrev pub is_due : Talk → Bool

@@ -142,10 +142,19 @@ impl Server {
         }
     }
 
-    fn begin<E: Write>(&mut self, stream: TcpStream, from: IpAddr, log: &mut E) -> io::Result<()> {
+    // A connection begins, in the round whose first one has that number.
+    fn begin<E: Write>(
+        &mut self,
+        stream: TcpStream,
+        from: IpAddr,
+        first: u64,
+        log: &mut E,
+    ) -> io::Result<()> {
         let talk = Talk::new(self.alloc, stream, self.arrival(from));
         self.came = self.came.saturating_add(1);
-        let place = self.talks.enter(talk, log)?;
+        let Some(place) = self.talks.enter(talk, first, log)? else {
+            return Ok(());
+        };
         if let Some(talk) = self.talks.get_mut(place) {
             self.poll.registry().register(
                 talk.stream(),
@@ -156,16 +165,17 @@ impl Server {
         Ok(())
     }
 
-    // Accepts those that wait. If no more can be opened, an open one is closed.
+    // Accepts those that wait. If no more can be opened, an open one is closed, which isn't one of these.
     fn take<E: Write>(&mut self, log: &mut E) -> io::Result<()> {
+        let first = self.came;
         for _ in 0..MOST_TAKEN {
             match self.listener.accept() {
-                Ok((stream, from)) => self.begin(stream, from.ip(), log)?,
+                Ok((stream, from)) => self.begin(stream, from.ip(), first, log)?,
                 Err(e) => match e.kind() {
                     ErrorKind::WouldBlock => return Ok(()),
                     ErrorKind::ConnectionAborted => {}
                     _ => {
-                        if self.talks.give_way(log).is_none() {
+                        if self.talks.give_way(first, log).is_none() {
                             return Err(e);
                         }
                     }
@@ -304,7 +314,7 @@ impl Server {
         self.poll.poll(events, limit)
     }
 
-    // Does what the sockets are ready for.
+    // Does what the sockets are ready for. The listener is last, so that what has come is heard before any gives way.
     fn round<A: Answers, E: Write>(
         &mut self,
         answers: &mut A,
@@ -313,13 +323,16 @@ impl Server {
     ) -> io::Result<()>
         requires always { Unit {0} }
     {
+        let mut has_newcomers = false;
         for event in events.iter() {
             match holder_of(event.token()) {
                 Holder::Talk(place) => self.step(answers, place, log)?,
                 Holder::Call(place) => self.step_call(answers, place),
-                Holder::Listener if self.is_open() => self.take(log)?,
-                Holder::Listener => {}
+                Holder::Listener => has_newcomers = true,
             }
+        }
+        if has_newcomers && self.is_open() {
+            self.take(log)?;
         }
         Ok(())
     }

@@ -3,7 +3,7 @@
 ghost use Rattle.std.specs.Prelude.{◌≡◌, ◌<◌, ◌≤◌, [], IfErr, IfOk, IfSome, IsSomeAnd, List, MatchOption, None, Option, Some, is_none, position, slice_set};
 ghost use Rattle.std.specs.List.{list_all};
 ghost use Rattle.press_server.specs.declared.talk.Talk.{Talk};
-ghost use Rattle.press_server.specs.Talking.{GivesWay, GoesFirst, HasNone, IsOldest, MakesPlace, MayGrow, count_of, freed, is_late, is_reading, is_unheard, kept_unless, meets, talk_at};
+ghost use Rattle.press_server.specs.Talking.{GivesWay, GoesFirst, HasNone, IsOldest, MakesPlace, MayGrow, count_of, freed, is_late, is_reading, is_unheard, kept_unless, meets, talk_at, with_slot};
 
 use crate::talk::{Phase, Talk};
 use std::alloc::{AllocError, Global};
@@ -13,7 +13,9 @@ use std::time::Instant;
 // The most connections that are open at once.
 const MOST: usize = 1024;
 
-/// Connections by their places. Where each place is taken, the oldest whose request isn't whole is closed.
+const GIVEN_UP: &str = "given up for another";
+
+/// Connections by their places. Where each place is taken, one that was there before gives way to a newcomer.
 pub struct Talks {
     places: Vec<Option<Talk>>,
 }
@@ -55,18 +57,27 @@ fn end_all_late<E: Write>(slots: &mut [Option<Talk>], now: Instant, log: &mut E)
     count
 }
 
-// The number of a connection in that phase that came before what was found.
-fn number_before(found: Option<(usize, u64)>, phase: Phase, slot: &Option<Talk>) -> Option<u64>
+// The number of a connection in that phase that came before the first of a round, and before what was found.
+fn number_before(
+    found: Option<(usize, u64)>,
+    phase: Phase,
+    first: u64,
+    slot: &Option<Talk>,
+) -> Option<u64>
     ensures { MatchOption result
         ((talk : Talk) → slot.now ≡ Some talk → talk.phase ≡ phase →
-        IsSomeAnd found (λ f. f.1 ≤ talk.arrival.number))
+        talk.arrival.number < first → IsSomeAnd found (λ f. f.1 ≤ talk.arrival.number))
         (λ number. (talk : Talk) × (slot.now ≡ Some talk) × (talk.phase ≡ phase)
-        × (number ≡ talk.arrival.number) × IfSome found (λ f. number < f.1)) }
+        × (talk.arrival.number < first) × (number ≡ talk.arrival.number)
+        × IfSome found (λ f. number < f.1)) }
 {
     let Some(talk) = slot else {
         return None;
     };
     if talk.phase() != phase {
+        return None;
+    }
+    if first <= talk.number() {
         return None;
     }
     match found {
@@ -133,14 +144,14 @@ impl Talks {
         self.places.iter().position(|talk| talk.is_none())
     }
 
-    // The place of the oldest in that phase.
-    fn oldest(&self, phase: Phase) -> Option<usize>
-        ensures { MatchOption result (HasNone phase self.now.places.items)
-            (IsOldest phase self.now.places.items) }
+    // The place of the oldest in that phase that came before the first of a round.
+    fn oldest(&self, phase: Phase, first: u64) -> Option<usize>
+        ensures { MatchOption result (HasNone phase first self.now.places.items)
+            (IsOldest phase first self.now.places.items) }
     {
         let mut found: Option<(usize, u64)> = None;
         for (place, slot) in self.places.iter().enumerate() {
-            if let Some(number) = number_before(found, phase, slot) {
+            if let Some(number) = number_before(found, phase, first, slot) {
                 found = Some((place, number));
             }
         }
@@ -148,26 +159,27 @@ impl Talks {
         Some(place)
     }
 
-    // Which one is to be closed where each place is taken.
-    fn first_to_go(&self) -> Option<usize>
-        ensures { GoesFirst self.now.places.items result }
+    // Which one is to be closed for those of a round, the first of which has that number.
+    fn first_to_go(&self, first: u64) -> Option<usize>
+        ensures { GoesFirst first self.now.places.items result }
     {
-        if let Some(place) = self.oldest(Phase::Reading) {
+        if let Some(place) = self.oldest(Phase::Ending, first) {
             return Some(place);
         }
-        if let Some(place) = self.oldest(Phase::Ending) {
+        if let Some(place) = self.oldest(Phase::Reading, first) {
             return Some(place);
         }
-        self.oldest(Phase::Writing)
+        self.oldest(Phase::Writing, first)
     }
 
-    /// Closes one: the oldest whose request isn't whole, else the oldest whose reply is out, else the oldest. Returns
-    /// its place, if there was one.
-    pub fn give_way<E: Write>(&mut self, log: &mut E) -> Option<usize>
-        ensures { GivesWay self.old.places.items self.new.places.items result }
+    /// Closes one for those of a round, the first of which has that number: the oldest that was served and stays open,
+    /// else the oldest whose request isn't whole, else the oldest, and none that came in that round. Returns its place,
+    /// if there was one.
+    pub fn give_way<E: Write>(&mut self, first: u64, log: &mut E) -> Option<usize>
+        ensures { GivesWay first self.old.places.items self.new.places.items result }
     {
-        let place = self.first_to_go()?;
-        self.close(place, log, "given up for another");
+        let place = self.first_to_go(first)?;
+        self.close(place, log, GIVEN_UP);
         Some(place)
     }
 
@@ -189,36 +201,51 @@ impl Talks {
         }
     }
 
-    // A place for one more.
-    fn place<E: Write>(&mut self, log: &mut E) -> Result<usize, AllocError>
-        ensures made { IfOk result (MakesPlace self.old.places.items self.new.places.items) }
+    // A place for one more, if there is one.
+    fn place<E: Write>(&mut self, first: u64, log: &mut E) -> Result<Option<usize>, AllocError>
+        ensures made { IfOk result (MakesPlace first self.old.places.items self.new.places.items) }
         ensures no_memory { IfErr result (λ _. MayGrow self.old.places.items
             × (self.new.places.items ≡ self.old.places.items)) }
     {
         if let Some(place) = self.free_place() {
-            return Ok(place);
+            return Ok(Some(place));
         }
         let count = self.places.len();
         if count < MOST {
             self.places.push(None)?;
-            return Ok(count);
+            return Ok(Some(count));
         }
-        Ok(self.give_way(log).unwrap_or(0))
+        Ok(self.give_way(first, log))
     }
 
-    /// Puts a connection at a free place, at a new one, or at that of one that gives way.
-    pub fn enter<E: Write>(&mut self, talk: Talk, log: &mut E) -> Result<usize, AllocError>
-        ensures entered { IfOk result (λ place. (slots : List (Option Talk))
-            × MakesPlace self.old.places.items slots place
-            × (self.new.places.items ≡ slice_set slots place (Some talk))) }
-        ensures no_memory { IfErr result (λ _. MayGrow self.old.places.items
-            × (self.new.places.items ≡ self.old.places.items)) }
+    fn put(&mut self, place: usize, talk: Talk)
+        ensures { self.new.places.items ≡ slice_set self.old.places.items place (Some talk) }
     {
-        let place = self.place(log)?;
         if let Some(slot) = self.places.get_mut(place) {
             *slot = Some(talk);
         }
-        Ok(place)
+    }
+
+    /// Puts a connection of a round, the first of which has that number, at a free place, at a new one, or at that of
+    /// one that gives way; where none does, it is closed. Returns its place.
+    pub fn enter<E: Write>(
+        &mut self,
+        talk: Talk,
+        first: u64,
+        log: &mut E,
+    ) -> Result<Option<usize>, AllocError>
+        ensures entered { IfOk result (λ place. (slots : List (Option Talk))
+            × MakesPlace first self.old.places.items slots place
+            × (self.new.places.items ≡ with_slot place (Some talk) slots)) }
+        ensures no_memory { IfErr result (λ _. MayGrow self.old.places.items
+            × (self.new.places.items ≡ self.old.places.items)) }
+    {
+        let Some(place) = self.place(first, log)? else {
+            talk.give_up(log, GIVEN_UP);
+            return Ok(None);
+        };
+        self.put(place, talk);
+        Ok(Some(place))
     }
 
     /// Closes those whose time is over; returns how many of them had had no turn.
