@@ -4,3 +4,4 @@ pub mod Turning
 pub mod Heads
 pub mod Padding
 pub mod Answering
+pub mod Accepting

@@ -1,6 +1,8 @@
 //! A server over readiness: no connection is waited for, so one that says nothing, or reads nothing, holds up nobody.
 
 ghost use Rattle.std.specs.Prelude.{◌≡◌, ◌-◌, ◌<◌, [], MatchOption, if◌then◌else◌, not, option_map};
+ghost use Rattle.std.specs.IoError.{raw_os_error};
+ghost use Rattle.press_server.specs.Accepting.{is_wanting, missed};
 ghost use Rattle.press_server.specs.Answering.{credit};
 ghost use Rattle.press_server.specs.Lanes.{IsCredited, call_at};
 ghost use Rattle.press_server.specs.Talking.{freed, is_reading};
@@ -9,13 +11,13 @@ ghost use Rattle.press_server.specs.Turning.{call_of, ends_at, holder_named, tal
 use crate::answers::{Answers, Outgoing, Time};
 use crate::call::Call;
 use crate::calls::Calls;
-use crate::talk::{Arrival, Phase, Talk};
+use crate::talk::{Arrival, Phase, Talk, log_closed};
 use crate::talks::Talks;
 use mio::net::{TcpListener, TcpStream};
 use mio::{Events, Interest, Poll, Token};
 use std::alloc::Global;
 use std::io;
-use std::io::{ErrorKind, Write};
+use std::io::Write;
 use std::net::{IpAddr, Net, SocketAddr};
 use std::time::{Clock, Duration, Instant};
 
@@ -67,6 +69,34 @@ fn token_of_call(place: usize) -> Token
     Token(place.saturating_mul(2).saturating_add(2))
 }
 
+// What an accept that gave no connection says.
+enum Miss {
+    NobodyWaits,
+    // Nothing more can be opened: who waits first waits on.
+    WaitsOn,
+    // Who waited first is gone.
+    IsLost,
+}
+
+// Whether an error of that number says that there is no memory (ENOMEM), no descriptor of the machine (ENFILE) or of the
+// process (EMFILE), or no buffer (ENOBUFS).
+fn is_wanting(code: i32) -> bool
+    ensures { result ≡ is_wanting code }
+{
+    code == 12 || code == 23 || code == 24 || code == 105
+}
+
+fn missed(error: &io::Error) -> Miss
+    ensures { result ≡ missed (raw_os_error error.now) }
+{
+    match error.raw_os_error() {
+        None => Miss::IsLost,
+        Some(11) => Miss::NobodyWaits,
+        Some(code) if is_wanting(code) => Miss::WaitsOn,
+        Some(_) => Miss::IsLost,
+    }
+}
+
 /// A listener, the connections that came by it, and the requests that go out.
 pub struct Server {
     poll: Poll,
@@ -75,6 +105,8 @@ pub struct Server {
     calls: Calls,
     // How many connections came.
     came: u64,
+    // Whether some may wait of whom nothing more will be told.
+    is_behind: bool,
     // How many are still to have their turn, if it ends by that.
     left: Option<u32>,
     // When it began, and when the last wait ended.
@@ -93,6 +125,7 @@ impl Drop for Server {
             talks: _,
             calls: _,
             came: _,
+            is_behind: _,
             left: _,
             begun: _,
             now: _,
@@ -121,6 +154,7 @@ impl Server {
             talks: Talks::new(rt.alloc()),
             calls: Calls::new(rt.alloc()),
             came: 0,
+            is_behind: false,
             left: turns,
             begun: now,
             now,
@@ -142,6 +176,30 @@ impl Server {
         }
     }
 
+    // Has the poll look at a connection.
+    fn watch(&mut self, place: usize) -> io::Result<()> {
+        let Some(talk) = self.talks.get_mut(place) else {
+            return Ok(());
+        };
+        self.poll.registry().register(
+            talk.stream(),
+            token_of_talk(place),
+            Interest::READABLE | Interest::WRITABLE,
+        )
+    }
+
+    // Has the poll look at a connection again, of which nothing new may be told otherwise.
+    fn watch_again(&mut self, place: usize) -> io::Result<()> {
+        let Some(talk) = self.talks.get_mut(place) else {
+            return Ok(());
+        };
+        self.poll.registry().reregister(
+            talk.stream(),
+            token_of_talk(place),
+            Interest::READABLE | Interest::WRITABLE,
+        )
+    }
+
     // A connection begins, in the round whose first one has that number.
     fn begin<E: Write>(
         &mut self,
@@ -155,37 +213,46 @@ impl Server {
         let Some(place) = self.talks.enter(talk, first, log)? else {
             return Ok(());
         };
-        if let Some(talk) = self.talks.get_mut(place) {
-            self.poll.registry().register(
-                talk.stream(),
-                token_of_talk(place),
-                Interest::READABLE | Interest::WRITABLE,
-            )?;
+        let watched = self.watch(place);
+        if watched.is_err() {
+            self.talks.leave(place);
         }
-        Ok(())
+        watched
     }
 
-    // Accepts those that wait. If no more can be opened, an open one is closed, which isn't one of these.
-    fn take<E: Write>(&mut self, log: &mut E) -> io::Result<()> {
+    // Has the poll look at the listener again.
+    fn listen_again(&mut self) -> io::Result<()> {
+        self.poll
+            .registry()
+            .reregister(&mut self.listener, Token(LISTENER), Interest::READABLE)
+    }
+
+    // Accepts those that wait. An error costs the one that it is of. Where nothing more can be opened, one that came in
+    // an earlier round gives way; where none does, those that wait are tried again by time.
+    fn take<E: Write>(&mut self, log: &mut E) {
         let first = self.came;
+        self.is_behind = false;
         for _ in 0..MOST_TAKEN {
             match self.listener.accept() {
-                Ok((stream, from)) => self.begin(stream, from.ip(), first, log)?,
-                Err(e) => match e.kind() {
-                    ErrorKind::WouldBlock => return Ok(()),
-                    ErrorKind::ConnectionAborted => {}
-                    _ => {
+                Ok((stream, from)) => {
+                    if self.begin(stream, from.ip(), first, log).is_err() {
+                        log_closed(self.alloc, log, "nothing more can be opened");
+                    }
+                }
+                Err(e) => match missed(&e) {
+                    Miss::NobodyWaits => return,
+                    Miss::IsLost => {}
+                    Miss::WaitsOn => {
                         if self.talks.give_way(first, log).is_none() {
-                            return Err(e);
+                            self.is_behind = true;
+                            return;
                         }
                     }
                 },
             }
         }
-        // More may wait though nothing else comes: the listener is registered again.
-        self.poll
-            .registry()
-            .reregister(&mut self.listener, Token(LISTENER), Interest::READABLE)
+        // More may wait though nothing else comes.
+        self.is_behind = self.listen_again().is_err();
     }
 
     // Whether connections are still to have their turn.
@@ -211,31 +278,21 @@ impl Server {
     }
 
     // A connection's socket is ready.
-    fn step<A: Answers, E: Write>(
-        &mut self,
-        answers: &mut A,
-        place: usize,
-        log: &mut E,
-    ) -> io::Result<()>
+    fn step<A: Answers, E: Write>(&mut self, answers: &mut A, place: usize, log: &mut E)
         requires always { Unit {0} }
     {
         let Some(talk) = self.talks.get_mut(place) else {
-            return Ok(());
+            return;
         };
         let had_turn = talk.step(answers, log);
-        if talk.phase() == Phase::Over {
+        let is_over = talk.phase() == Phase::Over;
+        let has_more = talk.has_more();
+        if is_over || (has_more && self.watch_again(place).is_err()) {
             self.talks.leave(place);
-        } else if talk.has_more() {
-            self.poll.registry().reregister(
-                talk.stream(),
-                token_of_talk(place),
-                Interest::READABLE | Interest::WRITABLE,
-            )?;
         }
         if had_turn {
             self.had_turn();
         }
-        Ok(())
     }
 
     // The socket of a request that goes out is ready.
@@ -306,7 +363,7 @@ impl Server {
     fn wait(&mut self, events: &mut Events<Global>) -> io::Result<()> {
         let limit = if self.is_timed {
             Some(Duration::from_millis(STEP))
-        } else if self.talks.is_empty() {
+        } else if self.talks.is_empty() && !self.is_behind {
             None
         } else {
             Some(Duration::from_millis(MILLISECONDS))
@@ -315,26 +372,20 @@ impl Server {
     }
 
     // Does what the sockets are ready for. The listener is last, so that what has come is heard before any gives way.
-    fn round<A: Answers, E: Write>(
-        &mut self,
-        answers: &mut A,
-        events: &Events<Global>,
-        log: &mut E,
-    ) -> io::Result<()>
+    fn round<A: Answers, E: Write>(&mut self, answers: &mut A, events: &Events<Global>, log: &mut E)
         requires always { Unit {0} }
     {
-        let mut has_newcomers = false;
+        let mut some_may_wait = self.is_behind;
         for event in events.iter() {
             match holder_of(event.token()) {
-                Holder::Talk(place) => self.step(answers, place, log)?,
+                Holder::Talk(place) => self.step(answers, place, log),
                 Holder::Call(place) => self.step_call(answers, place),
-                Holder::Listener => has_newcomers = true,
+                Holder::Listener => some_may_wait = true,
             }
         }
-        if has_newcomers && self.is_open() {
-            self.take(log)?;
+        if some_may_wait && self.is_open() {
+            self.take(log);
         }
-        Ok(())
     }
 
     fn end_late<A: Answers, E: Write>(&mut self, answers: &mut A, log: &mut E) {
@@ -379,7 +430,7 @@ impl Server {
             self.wait(&mut events)?;
             let time = self.time(rt)?;
             answers.pass(time);
-            self.round(answers, &events, log)?;
+            self.round(answers, &events, log);
             self.end_late(answers, log);
         }
         Ok(())

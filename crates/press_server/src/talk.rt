@@ -81,7 +81,8 @@ fn write_line<E: Write>(log: &mut E, line: Result<String, AllocError>) {
     }
 }
 
-fn log_closed<E: Write>(alloc: Global, log: &mut E, why: &str) {
+/// A line says why a connection was closed.
+pub fn log_closed<E: Write>(alloc: Global, log: &mut E, why: &str) {
     write_line(log, format!(in alloc; "closed: {why}\n"));
 }
 
