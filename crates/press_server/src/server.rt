@@ -1,6 +1,7 @@
 //! A server over readiness: no connection is waited for, so one that says nothing, or reads nothing, holds up nobody.
 
-ghost use Rattle.std.specs.Prelude.{◌≡◌, ◌-◌, ◌<◌, [], MatchOption, if◌then◌else◌, not, option_map};
+ghost use Rattle.std.specs.Prelude.{◌≡◌, ◌-◌, ◌/◌, ◌<◌, [], MatchOption, MatchResult, if◌then◌else◌, not, option_map};
+ghost use Rattle.std.specs.Duration.{as_nanos};
 ghost use Rattle.std.specs.IoError.{raw_os_error};
 ghost use Rattle.press_server.specs.Accepting.{is_wanting, missed};
 ghost use Rattle.press_server.specs.Answering.{credit};
@@ -97,6 +98,16 @@ fn missed(error: &io::Error) -> Miss
     }
 }
 
+// Seconds since 1970. Before that, and by a clock that can't be read, it is 1970.
+fn seconds_of(since: io::Result<Duration>) -> u64
+    ensures { MatchResult since (λ past. result ≡ as_nanos past / 1000000000) (λ _. result ≡ 0) }
+{
+    match since {
+        Ok(past) => past.as_secs(),
+        Err(_) => 0,
+    }
+}
+
 /// A listener, the connections that came by it, and the requests that go out.
 pub struct Server {
     poll: Poll,
@@ -109,7 +120,7 @@ pub struct Server {
     is_behind: bool,
     // How many are still to have their turn, if it ends by that.
     left: Option<u32>,
-    // When it began, and when the last wait ended.
+    // When it began, and the time when it was last looked at.
     begun: Instant,
     now: Instant,
     // Whether requests go out by time.
@@ -227,14 +238,26 @@ impl Server {
             .reregister(&mut self.listener, Token(LISTENER), Interest::READABLE)
     }
 
-    // Accepts those that wait. An error costs the one that it is of. Where nothing more can be opened, one that came in
+    // Looks at the time. A clock that can't be read stands still.
+    fn look_at_clock<C: Clock>(&mut self, clock: &C) -> Instant
+        ensures now { result ≡ self.new.now }
+        ensures same { self.new.talks ≡ self.old.talks }
+    {
+        if let Ok(now) = Instant::now(clock) {
+            self.now = now;
+        }
+        self.now
+    }
+
+    // Accepts those that wait, each at the time when it is taken. An error costs the one that it is of. Where nothing more can be opened, one that came in
     // an earlier round gives way; where none does, those that wait are tried again by time.
-    fn take<E: Write>(&mut self, log: &mut E) {
+    fn take<C: Clock, E: Write>(&mut self, clock: &C, log: &mut E) {
         let first = self.came;
         self.is_behind = false;
         for _ in 0..MOST_TAKEN {
             match self.listener.accept() {
                 Ok((stream, from)) => {
+                    self.look_at_clock(clock);
                     if self.begin(stream, from.ip(), first, log).is_err() {
                         log_closed(self.alloc, log, "nothing more can be opened");
                     }
@@ -322,10 +345,11 @@ impl Server {
         self.calls.leave(place);
     }
 
-    // A request goes out. One that can't is lost, as a message may be.
-    fn call<R: Net>(&mut self, net: &R, outgoing: Outgoing) -> io::Result<()> {
-        let stream = TcpStream::connect(net, outgoing.addr)?;
-        let mut call = Call::new(self.alloc, stream, outgoing, self.now);
+    // A request goes out, at the time when it does. One that can't is lost, as a message may be.
+    fn call<R: Net + Clock>(&mut self, rt: &R, outgoing: Outgoing) -> io::Result<()> {
+        let now = self.look_at_clock(rt);
+        let stream = TcpStream::connect(rt, outgoing.addr)?;
+        let mut call = Call::new(self.alloc, stream, outgoing, now);
         let place = self.calls.free_place()?;
         self.poll.registry().register(
             call.stream(),
@@ -337,7 +361,7 @@ impl Server {
     }
 
     // Sends what waits, as far as there is room.
-    fn call_all<R: Net, A: Answers>(&mut self, net: &R, answers: &mut A) {
+    fn call_all<R: Net + Clock, A: Answers>(&mut self, rt: &R, answers: &mut A) {
         for _ in 0..u64::MAX {
             let Some(outgoing) = answers.next_call() else {
                 break;
@@ -352,7 +376,7 @@ impl Server {
                 return;
             };
             let (place, errand) = (outgoing.place, outgoing.errand);
-            if self.call(net, outgoing).is_err() {
+            if self.call(rt, outgoing).is_err() {
                 self.calls.close_lane(place);
                 answers.called(place, errand, &[]);
             }
@@ -372,7 +396,13 @@ impl Server {
     }
 
     // Does what the sockets are ready for. The listener is last, so that what has come is heard before any gives way.
-    fn round<A: Answers, E: Write>(&mut self, answers: &mut A, events: &Events<Global>, log: &mut E)
+    fn round<C: Clock, A: Answers, E: Write>(
+        &mut self,
+        clock: &C,
+        answers: &mut A,
+        events: &Events<Global>,
+        log: &mut E,
+    )
         requires always { Unit {0} }
     {
         let mut some_may_wait = self.is_behind;
@@ -384,31 +414,31 @@ impl Server {
             }
         }
         if some_may_wait && self.is_open() {
-            self.take(log);
+            self.take(clock, log);
         }
     }
 
-    fn end_late<A: Answers, E: Write>(&mut self, answers: &mut A, log: &mut E) {
-        for _ in 0..self.talks.end_late(self.now, log) {
+    // Ends what is late at a time up to which all that came was looked at.
+    fn end_late<A: Answers, E: Write>(&mut self, answers: &mut A, now: Instant, log: &mut E) {
+        for _ in 0..self.talks.end_late(now, log) {
             if self.is_open() {
                 self.had_turn();
             }
         }
         for place in 0..self.calls.len() {
-            if self.calls.is_late(place, self.now) {
+            if self.calls.is_late(place, now) {
                 self.lose(answers, place);
             }
         }
     }
 
     // The time, by both clocks.
-    fn time<C: Clock>(&mut self, clock: &C) -> io::Result<Time> {
-        self.now = Instant::now(clock)?;
-        let since = self.now.duration_since(self.begun);
-        Ok(Time {
+    fn time<C: Clock>(&self, clock: &C, now: Instant) -> Time {
+        let since = now.duration_since(self.begun);
+        Time {
             millis: u64::try_from(since.as_millis()).unwrap_or(u64::MAX),
-            seconds: clock.since_1970()?.as_secs(),
-        })
+            seconds: seconds_of(clock.since_1970()),
+        }
     }
 
     /// Serves until all its connections had their turn and the last reply is out, or until it is ended. A connection
@@ -428,10 +458,11 @@ impl Server {
             }
             self.call_all(rt, answers);
             self.wait(&mut events)?;
-            let time = self.time(rt)?;
+            let now = self.look_at_clock(rt);
+            let time = self.time(rt, now);
             answers.pass(time);
-            self.round(answers, &events, log);
-            self.end_late(answers, log);
+            self.round(rt, answers, &events, log);
+            self.end_late(answers, now, log);
         }
         Ok(())
     }
