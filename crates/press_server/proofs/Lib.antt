@@ -5,3 +5,4 @@ mod Found
 mod Sent
 pub mod Padding
 pub mod Credited
+mod Pieces

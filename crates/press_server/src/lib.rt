@@ -5,6 +5,7 @@ mod answers;
 mod call;
 mod calls;
 mod gathered;
+mod lines;
 mod outlet;
 mod sending;
 mod server;
@@ -13,4 +14,5 @@ mod talks;
 
 pub use answers::{Answers, Errand, Outgoing, Time};
 pub use gathered::words_of;
+pub use lines::Lines;
 pub use server::Server;

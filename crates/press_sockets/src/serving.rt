@@ -14,7 +14,7 @@ use crate::turn::catch_up;
 use press_acceptor::{MemoryStore, PromiseStore, StoreFault};
 use press_callbacks::Kit;
 use press_node::{Node, StartFault};
-use press_server::{Answers, Server};
+use press_server::{Answers, Lines, Server};
 use press_store::SqlStore;
 use press_text::{Text, write_once};
 use press_wire::Node as Member;
@@ -23,6 +23,9 @@ use std::alloc::{AllocError, Global};
 use std::fs;
 use std::io::Write;
 use std::net::{IpAddr, Ipv4Addr, SocketAddr};
+
+// The descriptor of the writer for lines.
+const STANDARD_ERROR: i32 = 2;
 
 // The only member of its cluster.
 fn member() -> Member
@@ -105,8 +108,9 @@ fn serve_over<A: Answers, W: Write, E: Write>(
     let Start { rt, setup } = start;
     let is_timed = matches!(setup.place, Place::Member { .. });
     let mut server = Server::listen(rt, answers.addr(), setup.turns, is_timed)?;
+    let mut lines = Lines::new(rt, STANDARD_ERROR, error)?;
     announce(rt.alloc(), &setup.place, writer)?;
-    server.serve(rt, answers, error)?;
+    server.serve(rt, answers, &mut lines)?;
     Ok(())
 }
 
