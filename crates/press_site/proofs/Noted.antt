@@ -1,13 +1,13 @@
 -- A change that is noted leaves what stood when the site was begun.
-use Rattle.std.proofs.Common.{◌≡◌, refl, sym, ◌∙◌, ap, ap₂, subst, ℕ, Bool, true, List, [], Option, Some, None}
-use Rattle.std.specs.Prelude.{Result, Ok, Err, IfOk, ◌||◌, is_none, is_some, unwrap_or}
+use Rattle.std.proofs.Common.{◌≡◌, refl, sym, ◌∙◌, ap, ap₂, subst, ℕ, Bool, true, false, List, [], Option, Some, None}
+use Rattle.std.specs.Prelude.{Result, Ok, Err, IfOk, ◌||◌, ◌&&◌, is_none, is_some, unwrap_or}
 use Rattle.press_events.specs.declared.event.Event.{Event}
 use Rattle.press_events.specs.declared.shift.Shift.{Shift}
 use Rattle.press_events.specs.declared.shift.Shift.TheVariants.{Came, Moved, Went, All}
 use Rattle.press_posts.specs.declared.post.Post.{Post}
 use Rattle.press_site.specs.Back.{Does, GoesBack, Keeps, MayEventBack, MayEventsGoBack, MayPostsGoBack, event_back, events_back, options_back, posts_back, site_back}
 use Rattle.press_site.specs.Becomes.{Becomes, MayGrow}
-use Rattle.press_site.specs.Log.{Log, all_of, first_kept, more_shifts, noted, told, with_stood}
+use Rattle.press_site.specs.Log.{Log, all_of, fills, first_kept, more_shifts, noted, told, where_filled, with_stood}
 use Rattle.press_site.specs.Options.{Values}
 use Rattle.press_site.specs.SiteView.{SiteView}
 use Rattle.press_site.specs.declared.changed.Changed.{Changed}
@@ -33,6 +33,12 @@ options_same (Some w) ws es fs e = options_pushed ws w es ∙ ap (options_back w
 may_same : (w : Option Stood) (ws : List Stood) (ps qs : List (Option Post)) → MayPostsGoBack (with_stood w []) ps → posts_back (with_stood w []) ps ≡ qs → MayPostsGoBack ws qs → MayPostsGoBack (with_stood w ws) ps
 may_same None ws ps qs m e h = subst (MayPostsGoBack ws) (sym e) h
 may_same (Some w) ws ps qs m e h = may_push ws w ps m.0 (subst (MayPostsGoBack ws) (sym e) h)
+
+-- those that stand, kept beside what was, change nothing of what stood
+filled_same : (kept : Option (List Event)) (b : Bool) (events : List Event) → unwrap_or (first_kept kept (where_filled b events)) events ≡ unwrap_or kept events
+filled_same None true events = refl
+filled_same None false events = refl
+filled_same (Some stood) b events = refl
 
 kept_same : {A : Type 0} (kept told : Option A) (b : Bool) (x y : A) → ((is_none kept || b) ≡ true → unwrap_or told x ≡ y) → unwrap_or (first_kept kept told) x ≡ unwrap_or kept y
 kept_same None told b x y e = e refl
@@ -64,17 +70,17 @@ same_site a b m p e o s k =
 
 -- ---- a change
 
-keeps_noted : (log : Log) (undone : Undone) (before after : SiteView) → GoesBack (is_none log.events) undone after before → Keeps log before (noted undone log) after
-keeps_noted log undone before after g = record {
+keeps_noted : (log : Log) (undone : Undone) (before after : SiteView) → GoesBack (is_none log.events) undone after before → Keeps log before (noted undone after.events log) after
+keeps_noted log undone before after g = let filled = filled_same (first_kept log.events (all_of undone.shift)) (is_none log.events && fills undone.shift log.shifts) after.events in record {
   same =
       same_site _ _ g.same_moment
       (posts_same undone.stood log.stood after.posts before.posts g.same_posts)
-      (events_same log.events log.shifts undone.shift (is_some undone.stood) after.events before.events g.same_events)
+      (ap (events_back (more_shifts log.events undone.shift log.shifts)) filled ∙ events_same log.events log.shifts undone.shift (is_some undone.stood) after.events before.events g.same_events)
       (options_same undone.stood log.stood after.options before.options g.same_options)
       (kept_same log.active undone.active true after.active before.active (λ _. g.same_active)) g.same_outcomes;
   may = λ h. (
     may_same undone.stood log.stood after.posts before.posts g.may g.same_posts h.0,
-    may_events log.events log.shifts undone.shift (is_some undone.stood) after.events before.events g.may_events g.same_events h.1,
+    subst (MayEventsGoBack (more_shifts log.events undone.shift log.shifts)) (sym filled) (may_events log.events log.shifts undone.shift (is_some undone.stood) after.events before.events g.may_events g.same_events h.1),
   );
 }
 
@@ -94,7 +100,7 @@ module _ (meant : Result (SiteView × Changed) SiteFault) (before after : SiteVi
   pub refused : (f : SiteFault) (done : Result Done SiteFault) → done ≡ Err f → Does done meant before after → Ends (Err f) after log
   refused f done e d = let h = subst (λ (r : Result Done SiteFault). Does r meant before after) e d in ((h.0, h.1), keeps_same log before after h.1)
 
-  pub done_well : (x : Done) (new : Log) → new ≡ noted x.undone log → meant ≡ Ok (after, x.changed) → GoesBack (is_none log.events) x.undone after before → Ends (Ok x.changed) after new
+  pub done_well : (x : Done) (new : Log) → new ≡ noted x.undone after.events log → meant ≡ Ok (after, x.changed) → GoesBack (is_none log.events) x.undone after before → Ends (Ok x.changed) after new
   done_well x new n m g = (m, subst (λ (l : Log). Keeps log before l after) (sym n) (keeps_noted log x.undone before after g))
 
   grows : (x : SiteView × Changed) → meant ≡ Ok x → MayGrow meant

@@ -1,6 +1,6 @@
 -- What an open site keeps to go back by: what stood where posts and options were changed, and the ways back of the events, the last changed last; all events
 -- that stood, once they were kept, which go back before those ways; and the active plugins that stood before their first change.
-use Rattle.std.specs.Prelude.{ℕ, List, [], ◌∷◌, ◌++◌, Option, None, Some}
+use Rattle.std.specs.Prelude.{ℕ, List, [], ◌∷◌, ◌++◌, Bool, true, false, ◌&&◌, is_none, Option, None, Some}
 use Rattle.press_events.specs.declared.event.Event.{Event}
 use Rattle.press_events.specs.declared.shift.Shift.{Shift}
 use Rattle.press_events.specs.declared.shift.Shift.TheVariants.{Came, Moved, Went, All}
@@ -50,11 +50,28 @@ abbrev pub more_shifts : Option (List Event) → Option Shift → List Shift →
 more_shifts None shift ws = with_shift shift ws
 more_shifts (Some stood) shift ws = ws
 
--- after a change
-abbrev pub noted : Undone → Log → Log
-noted undone log = record {
+-- ---- an event that goes leaves room for all: where it isn't the first change of events, all that stand after it are kept, so that no third room is
+
+abbrev pub some_kept : List Shift → Bool
+some_kept [] = false
+some_kept (w ∷ ws) = true
+
+abbrev pub fills : Option Shift → List Shift → Bool
+fills None ws = false
+fills (Some (Came place)) ws = false
+fills (Some (Moved to from time every)) ws = false
+fills (Some (Went place event room marks)) ws = some_kept ws
+fills (Some (All stood)) ws = false
+
+abbrev pub where_filled : Bool → List Event → Option (List Event)
+where_filled true events = Some events
+where_filled false events = None
+
+-- after a change, and with the events that stand then
+abbrev pub noted : Undone → List Event → Log → Log
+noted undone events log = record {
   stood = with_stood undone.stood log.stood;
   shifts = more_shifts log.events undone.shift log.shifts;
-  events = first_kept log.events (all_of undone.shift);
+  events = first_kept (first_kept log.events (all_of undone.shift)) (where_filled (is_none log.events && fills undone.shift log.shifts) events);
   active = first_kept log.active undone.active;
 }

@@ -89,6 +89,12 @@ impl Content {
         self.posts.newest(most)
     }
 
+    pub fn events(&self) -> &Events
+        ensures { result.now ≡ self.now.events }
+    {
+        &self.events
+    }
+
     /// The events whose time has come.
     pub fn due(&self, now: Moment) -> Result<Items<Event>, AllocError>
         ensures events { IfOk result (λ es. es ≡ due now self.now.events) }

@@ -126,7 +126,7 @@ fn noted(
         drop(undone);
         return Ok(changed);
     }
-    match undo.note(undone) {
+    match undo.note(undone, site.events()) {
         Ok(()) => Ok(changed),
         Err(undone) => {
             site.take_back(undone);

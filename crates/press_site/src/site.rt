@@ -27,7 +27,7 @@ use crate::plugins::Plugins;
 use crate::stood::{Done, Stood, Undone};
 use crate::token::{Outcome, Token};
 use crate::undo::Undo;
-use press_events::Event;
+use press_events::{Event, Events};
 use press_posts::{Draft, Fire, Move, Post};
 use press_text::{Items, Moment, Name, OptName, Text};
 use std::alloc::{AllocError, Global};
@@ -162,6 +162,13 @@ impl Site {
         ensures memory { OnErr result (0 < length (due self.now.moment self.now.events)) }
     {
         self.content.due(self.moment)
+    }
+
+    /// All events.
+    pub(crate) fn events(&self) -> &Events
+        ensures { result.now ≡ self.now.events }
+    {
+        self.content.events()
     }
 
     /// The active plugins, in the order of their names.

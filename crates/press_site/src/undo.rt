@@ -1,15 +1,15 @@
 //! What an open site keeps, so that it can go back.
 
-ghost use Rattle.std.specs.Prelude.{◌≡◌, ◌<◌, [], ◌∷◌, ◌++◌, ◌||◌, Some, None, true, is_none, is_some, vec_len, vec_capacity, OnOk, OnErr, IfErr, unwrap_or};
+ghost use Rattle.std.specs.Prelude.{◌≡◌, ◌<◌, [], ◌∷◌, ◌++◌, ◌||◌, ◌&&◌, Some, None, true, is_none, is_some, vec_len, vec_capacity, OnOk, OnErr, IfErr, IfOk, unwrap_or};
 ghost use Rattle.press_site.specs.Back.{MayEventsGoBack, MayLogGoBack, MayPostsGoBack, events_back, options_back, posts_back};
-ghost use Rattle.press_site.specs.Log.{all_of, first_kept, fresh, noted, with_shift, with_stood};
+ghost use Rattle.press_site.specs.Log.{all_of, fills, first_kept, fresh, noted, where_filled, with_shift, with_stood};
 
 use crate::content::Content;
 use crate::options::Options;
 use crate::plugins::Plugins;
 use crate::stood::{Stood, Undone};
 use press_events::{Events, Shift};
-use std::alloc::Global;
+use std::alloc::{AllocError, Global};
 use std::marker::Model;
 
 /// What stood before what changed since a site was begun.
@@ -65,9 +65,9 @@ impl Undo {
         self.events.is_none()
     }
 
-    /// Keeps what stood before a change; without memory it comes back.
-    pub fn note(&mut self, undone: Undone) -> Result<(), Undone>
-        ensures ok { OnOk result (self.new ≡ noted undone self.old) }
+    /// Keeps what stood before a change, after which these events stand; without memory it comes back.
+    pub fn note(&mut self, undone: Undone, events: &Events) -> Result<(), Undone>
+        ensures ok { OnOk result (self.new ≡ noted undone events.now self.old) }
         ensures err { IfErr result (λ u. u ≡ undone) }
         ensures stays { OnErr result (self.new ≡ self.old) }
         ensures why { OnErr result ((is_none self.old.events || is_some undone.stood) ≡ true) }
@@ -79,6 +79,9 @@ impl Undo {
         if wants && undone.shift.is_some() && !has_room(&mut self.shifts) {
             return Err(undone);
         }
+        let Ok(all) = self.all_where_filled(&undone.shift, events) else {
+            return Err(undone);
+        };
         let Undone {
             stood,
             shift,
@@ -88,8 +91,28 @@ impl Undo {
         if wants {
             keep_events(&mut self.shifts, &mut self.events, shift);
         }
+        keep(&mut self.events, all);
         keep(&mut self.active, active);
         Ok(())
+    }
+
+    // All events, where one went and there is room for all in what is kept already.
+    fn all_where_filled(
+        &self,
+        shift: &Option<Shift>,
+        events: &Events,
+    ) -> Result<Option<Events>, AllocError>
+        ensures all { IfOk result (λ all. all ≡ where_filled
+            (is_none self.now.events && fills shift.now self.now.shifts) events.now) }
+        ensures why { OnErr result (is_none self.now.events ≡ true) }
+    {
+        if !self.wants_events() {
+            return Ok(None);
+        }
+        if !fills(shift, &self.shifts) {
+            return Ok(None);
+        }
+        Ok(Some(events.copy()?))
     }
 
     /// Puts posts, events and options back. Takes no memory.
@@ -126,6 +149,16 @@ fn keep<T: Drop>(kept: &mut Option<T>, stood: Option<T>)
 {
     if kept.is_none() {
         *kept = stood;
+    }
+}
+
+// Whether it is of an event that went, for which there is room for all, and others are kept.
+fn fills(shift: &Option<Shift>, kept: &[Shift]) -> bool
+    ensures { result ≡ fills shift.now kept.now }
+{
+    match shift {
+        Some(Shift::Went { .. }) => !kept.is_empty(),
+        _ => false,
     }
 }
 
