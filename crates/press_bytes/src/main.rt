@@ -1,7 +1,8 @@
 //! Reads files as requests, commands and messages: `press_bytes FILE ..` prints what each asks or spells, or which
 //! fault it has. `replies` in place of a file prints replies, `writes` replies whose writes fail; after a word `fails`
-//! it is shown what comes of requests whose reads fail, and after a word `times=N` or `heads=N` the files are only
-//! read, that many times, for measuring.
+//! it is shown what comes of requests whose reads fail, after a word `spoils` what comes of files that are cut,
+//! lengthened, or have a number at its greatest, and after a word `times=N` or `heads=N` the files are only read, that
+//! many times, for measuring.
 #![tactic(auto)]
 
 mod failing;
@@ -9,6 +10,7 @@ mod kind;
 mod pieces;
 mod replies;
 mod requests;
+mod spoiled;
 mod times;
 mod wires;
 
@@ -16,6 +18,7 @@ use crate::failing::{show_failing_reads, show_failing_writes};
 use crate::kind::Kind;
 use crate::replies::show_replies;
 use crate::requests::show_request;
+use crate::spoiled::show_spoiled;
 use crate::times::{again, heads};
 use crate::wires::show_spelled;
 use press_apply::Value;
@@ -27,6 +30,7 @@ use std::{env, fs};
 enum Task {
     Show,
     Fail,
+    Spoil,
     Read(u32),
     ReadHead(u32),
 }
@@ -36,6 +40,9 @@ impl Task {
     fn from_word(word: &str) -> Option<Task> {
         if word == "fails" {
             return Some(Task::Fail);
+        }
+        if word == "spoils" {
+            return Some(Task::Spoil);
         }
         if let Some(times) = word.strip_prefix("times=") {
             return times.parse().ok().map(Task::Read);
@@ -66,6 +73,7 @@ fn play(rt: &HostRuntime, task: Task, name: &str) -> anyhow::Result<()> {
     match task {
         Task::Show => show(rt, name, &bytes)?,
         Task::Fail => show_failing_reads(rt, name, &bytes)?,
+        Task::Spoil => show_spoiled(rt, name, &bytes)?,
         Task::Read(times) => again(rt.alloc(), Kind::of(name), &bytes, times),
         Task::ReadHead(times) => heads(&bytes, times),
     }

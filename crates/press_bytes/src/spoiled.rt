@@ -1,0 +1,129 @@
+use crate::kind::Kind;
+use crate::pieces::{Failure, Pieces};
+use crate::requests::asked;
+use crate::wires::Spelled;
+use press_apply::Value;
+use press_wire::Message;
+use std::alloc::{AllocError, Global};
+
+// What bytes are read as.
+#[derive(Clone, Copy, PartialEq, Eq, Drop)]
+enum Outcome {
+    Read,
+    Closed,
+    /// The number of a fault on the wire, or the status of a reply.
+    Fault(u16),
+}
+
+// The same outcome of this many in turn.
+#[derive(Clone, Copy, Drop)]
+struct Run {
+    outcome: Outcome,
+    count: usize,
+}
+
+fn spelled<T: Spelled>(alloc: Global, bytes: &[u8]) -> Outcome {
+    match T::read(alloc, bytes) {
+        Ok(_) => Outcome::Read,
+        Err(fault) => Outcome::Fault(u16::from(fault.number())),
+    }
+}
+
+fn requested(alloc: Global, bytes: &[u8]) -> Outcome {
+    match asked(alloc, &mut Pieces::new(bytes, 4096, Failure::Never)) {
+        Ok(_) => Outcome::Read,
+        Err(fault) => fault.status().map_or(Outcome::Closed, Outcome::Fault),
+    }
+}
+
+impl Outcome {
+    fn of(alloc: Global, kind: Kind, bytes: &[u8]) -> Outcome {
+        match kind {
+            Kind::Command => spelled::<Value>(alloc, bytes),
+            Kind::Message => spelled::<Message>(alloc, bytes),
+            Kind::Request => requested(alloc, bytes),
+        }
+    }
+}
+
+fn count(runs: &mut Vec<Run>, outcome: Outcome) -> Result<(), AllocError> {
+    match runs.last_mut() {
+        Some(run) if run.outcome == outcome => run.count = run.count.saturating_add(1),
+        _ => runs.push(Run { outcome, count: 1 })?,
+    }
+    Ok(())
+}
+
+fn show_runs(rt: &HostRuntime, name: &str, what: &str, runs: Vec<Run>) -> anyhow::Result<()> {
+    print!(rt; "{name}, {what}:")?;
+    for Run { outcome, count } in runs {
+        match outcome {
+            Outcome::Read => print!(rt; " {count}xread")?,
+            Outcome::Closed => print!(rt; " {count}xclosed")?,
+            Outcome::Fault(number) => print!(rt; " {count}x{number}")?,
+        }
+    }
+    println!(rt; "")?;
+    Ok(())
+}
+
+// The bytes with the greatest number in this many of them.
+fn raised(alloc: Global, bytes: &[u8], at: usize, width: usize) -> Result<Vec<u8>, AllocError> {
+    let mut changed = Vec::new(alloc);
+    for (place, byte) in bytes.iter().enumerate() {
+        let is_raised = at <= place && place < at.saturating_add(width);
+        changed.push(if is_raised { 255 } else { *byte })?;
+    }
+    Ok(changed)
+}
+
+fn show_raised(
+    rt: &HostRuntime,
+    name: &str,
+    bytes: &[u8],
+    (what, width): (&str, usize),
+) -> anyhow::Result<()> {
+    let alloc = rt.alloc();
+    let mut runs = Vec::new(alloc);
+    for at in 0..bytes.len().saturating_add(1).saturating_sub(width) {
+        let changed = raised(alloc, bytes, at, width)?;
+        count(&mut runs, Outcome::of(alloc, Kind::of(name), &changed))?;
+    }
+    show_runs(rt, name, what, runs)
+}
+
+// What each shorter front of the bytes is read as, from none of them on.
+fn show_cuts(rt: &HostRuntime, name: &str, bytes: &[u8]) -> anyhow::Result<()> {
+    let alloc = rt.alloc();
+    let mut runs = Vec::new(alloc);
+    for end in 0..bytes.len() {
+        count(&mut runs, Outcome::of(alloc, Kind::of(name), &bytes[..end]))?;
+    }
+    show_runs(rt, name, "cut", runs)
+}
+
+// What the bytes and each one byte more are read as.
+fn show_longer(rt: &HostRuntime, name: &str, bytes: &[u8]) -> anyhow::Result<()> {
+    let alloc = rt.alloc();
+    let mut runs = Vec::new(alloc);
+    let mut longer = Vec::new(alloc);
+    for more in 0..=u8::MAX {
+        longer.clear();
+        longer.extend_from_slice(bytes)?;
+        longer.push(more)?;
+        count(&mut runs, Outcome::of(alloc, Kind::of(name), &longer))?;
+    }
+    show_runs(rt, name, "longer", runs)
+}
+
+/// How often the bytes give which outcome where they are cut at each place, where each byte comes behind them, and, if
+/// they are no request, where each of them, and each four side by side, is at its greatest.
+pub fn show_spoiled(rt: &HostRuntime, name: &str, bytes: &[u8]) -> anyhow::Result<()> {
+    show_cuts(rt, name, bytes)?;
+    show_longer(rt, name, bytes)?;
+    if Kind::of(name) != Kind::Request {
+        show_raised(rt, name, bytes, ("a byte at 255", 1))?;
+        show_raised(rt, name, bytes, ("four at 255", 4))?;
+    }
+    Ok(())
+}
