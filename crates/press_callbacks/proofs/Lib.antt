@@ -1,8 +1,10 @@
+pub mod Alike
 pub mod Found
 pub mod Halves
 pub mod Lengths
 pub mod Moved
 pub mod Naturals
 pub mod Ordered
+pub mod Past
 pub mod Plays
 pub mod Sames

@@ -1,7 +1,7 @@
 -- The turn of a script on a call: that of the op at place `turn`, and past the last op Return of the value (own).
 -- A text of parts is their concatenation; a missing argument or attribute is the empty text, and an escaped part is escaped for HTML (Plugin Handbook, Escaping Data).
-use Rattle.std.specs.Prelude.{ℕ, List, [], ◌∷◌, Option, Some, None, slice_get, map, length, ◌≡◌, ◌<◌, Result, Ok, bytes_eq, cond}
-use Rattle.std.specs.List.{flat_map}
+use Rattle.std.specs.Prelude.{ℕ, List, [], ◌∷◌, Option, Some, None, slice_get, map, length, ◌≡◌, ◌<◌, Result, Ok, bytes_eq, cond, Bool, leb}
+use Rattle.std.specs.List.{flat_map, list_all}
 use Rattle.std.specs.declared.alloc.AllocError.{AllocError}
 use Rattle.press_text.specs.Escapes.{escaped}
 use Rattle.press_scan.specs.Attributes.{value_of}
@@ -75,3 +75,26 @@ TakesMemory other = Unit {0}
 -- each turn that such calls may give is the script's
 abbrev pub PlaysScript : (CallIn → Result Turn AllocError → Type 0) → List Op → Type 0
 PlaysScript may script = (call : CallIn) (turn : Turn) → may call (Ok turn) → turn ≡ turn_of script call
+
+-- the texts that a turn passes on; a tag is a name
+abbrev pub texts_of : Turn → List (List ℕ)
+texts_of (turn.Go t) = t ∷ []
+texts_of (turn.AddHook h c p n) = []
+texts_of (turn.RemoveHook h c p) = []
+texts_of (turn.RemoveAll h p) = []
+texts_of (turn.AddTag t c) = []
+texts_of (turn.RemoveTag t) = []
+texts_of (turn.Skip n) = []
+texts_of (turn.Apply h ts) = ts
+texts_of (turn.Do h ts) = ts
+texts_of (turn.Shortcodes t) = t ∷ []
+texts_of (turn.Ask a) = []
+texts_of (turn.SetOption n t) = t ∷ []
+texts_of (turn.Schedule after every h t) = t ∷ []
+texts_of (turn.Publish t) = t ∷ []
+texts_of (turn.Echo t) = t ∷ []
+texts_of (turn.Return t) = t ∷ []
+
+-- each of them has at most so many bytes
+abbrev pub are_within : ℕ → Turn → Bool
+are_within most turn = list_all (λ t. leb (length t) most) (texts_of turn)

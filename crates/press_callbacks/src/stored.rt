@@ -1,8 +1,9 @@
 ghost use Rattle.std.specs.Prelude.{◌≡◌, IfOk, Ok};
 ghost use Rattle.press_callbacks.specs.declared.script.Turn.{Turn};
-ghost use Rattle.press_callbacks.specs.Turns.{turn_of};
+ghost use Rattle.press_callbacks.specs.Turns.{are_within, turn_of};
 
 use crate::script::{CallIn, Op, Script, Turn};
+use crate::sizes;
 use press_text::CallbackId;
 use std::alloc::AllocError;
 
@@ -63,6 +64,13 @@ impl Stored {
         ensures { result.now ≡ self.now.script }
     {
         self.script.as_slice()
+    }
+
+    /// Whether each text of the turn that is due on this input has at most so many bytes. No text is made.
+    pub fn fits(&self, input: &CallIn, most: usize) -> bool
+        ensures { result ≡ are_within most (turn_of self.now.script input.now) }
+    {
+        sizes::fits(self.script.as_slice(), input, most)
     }
 
     /// What the closure gives on this input; an Ok is the script's turn.

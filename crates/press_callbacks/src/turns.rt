@@ -1,8 +1,9 @@
-ghost use Rattle.std.specs.Prelude.{◌≡◌, ◌<◌, ◌∷◌, ◌++◌, cond, map, length, IfOk, OnOk, OnErr, bytes_eq};
+ghost use Rattle.std.specs.Prelude.{◌≡◌, ◌<◌, ◌∷◌, ◌++◌, map, length, IfOk, OnOk, OnErr};
 ghost use Rattle.press_text.specs.Escapes.{escaped};
-ghost use Rattle.press_callbacks.specs.Turns.{source_text, part_text, text_of, turn_of_op, turn_of, TakesMemory};
+ghost use Rattle.press_callbacks.specs.Turns.{source_text, part_text, skipped, text_of, turn_of_op, turn_of, TakesMemory};
 ghost use Rattle.press_callbacks.specs.declared.script.Turn.TheVariants.{Go, Return};
 
+use crate::pieces::{Pieces, are_same};
 use crate::script::{Ask, CallIn, Op, Part, Parts, Script, Source, Turn};
 use press_text::{Copied, Items, Text, Texts, esc_html};
 use std::alloc::{AllocError, Global};
@@ -82,10 +83,7 @@ fn op_turn(alloc: Global, op: &Op, call: &CallIn) -> Result<Turn, AllocError>
         Op::RemoveTag { tag } => Ok(Turn::RemoveTag {
             tag: tag.copy(alloc)?,
         }),
-        Op::SkipIf { left, right, n } => Ok(Turn::Skip(skipped(
-            *n,
-            are_same(alloc, left, right, call)?,
-        ))),
+        Op::SkipIf { left, right, n } => Ok(Turn::Skip(skipped(*n, left, right, call))),
         Op::Apply { hook, value, more } => {
             let hook = hook.copy(alloc)?;
             let texts = value_and_more(alloc, value, more, call)?;
@@ -119,21 +117,13 @@ fn op_turn(alloc: Global, op: &Op, call: &CallIn) -> Result<Turn, AllocError>
     }
 }
 
-// How many ops a SkipIf passes over, of those that it names.
-fn skipped(n: u16, same: bool) -> u16
-    ensures { result ≡ cond same n 0 }
+// How many ops a SkipIf passes over: those that it names where the two texts are equal.
+fn skipped(n: u16, left: &Parts, right: &Parts, call: &CallIn) -> u16
+    ensures { result ≡ skipped (text_of call.now left.now) (text_of call.now right.now) n }
 {
-    if same { n } else { 0 }
-}
-
-// Whether the two texts are the same, byte by byte.
-fn are_same(alloc: Global, left: &Parts, right: &Parts, call: &CallIn) -> Result<bool, AllocError>
-    ensures { IfOk result (λ b. b ≡ bytes_eq (text_of call.now left.now)
-        (text_of call.now right.now)) }
-{
-    let left = text_of(alloc, left, call)?;
-    let right = text_of(alloc, right, call)?;
-    Ok(left.as_str() == right.as_str())
+    let left = Pieces::new(call, left.as_slice());
+    let right = Pieces::new(call, right.as_slice());
+    if are_same(left, right) { n } else { 0 }
 }
 
 fn value_and_more(

@@ -1,5 +1,5 @@
 -- One step of each recursion of the meaning, as the machine takes it.
-use Rattle.std.proofs.Common.{◌≡◌, refl, ◌∙◌, ap, ℕ, zero, suc, ◌+◌, ◌-◌, ◌<◌, ◌≤◌, ltb, true, false, List, [], ◌∷◌, ◌++◌, take, drop, get_or, length, Option, add-one, drop-cons, None, arith}
+use Rattle.std.proofs.Common.{◌≡◌, refl, ◌∙◌, ap, ℕ, zero, suc, ◌+◌, ◌-◌, ◌<◌, ◌≤◌, ltb, Bool, true, false, List, [], ◌∷◌, ◌++◌, take, drop, get_or, length, Option, add-one, drop-cons, None, arith}
 use Rattle.std.proofs.Math.ListN.{drop_of_length-le}
 use Rattle.std.proofs.Math.Seq.{take-append_seam}
 use Rattle.std.proofs.lemmas.List.{length-append}
@@ -9,6 +9,7 @@ use Rattle.press_hooks.specs.declared.open_run.OpenRun.{OpenRun}
 use Rattle.press_hooks.specs.NextEntry.{Table, is_innermost, without_innermost, entry_next, next_entry, next_run, runs_next, run_advanced}
 use Rattle.press_callbacks.specs.declared.script.CallIn.{CallIn}
 use Rattle.press_callbacks.specs.declared.script.Op.{Op}
+use Rattle.press_callbacks.specs.declared.script.Turn.{Turn}
 use Rattle.press_callbacks.specs.Turns.{turn_of}
 use Rattle.press_callbacks.specs.Kits.{Scripts, script_of}
 use Rattle.press_callbacks.specs.BuiltIns.{is_built_in}
@@ -55,6 +56,18 @@ late_turns changes m script zero call s late = no_turns changes m script call s
 late_turns changes m script (suc n) call s late =
     more_turns changes m script n call s
     ∙ ap (λ b. ((only_if b (record s { turns = s.turns + 1 }) >>= λ s'. only_if (fits (turn_of script call)) (turn_of script call) >>= λ turn'. turn_step changes m call s' turn') >>= played_on changes m script n)) late
+
+step_long : (changes : Changes) (m : Meaning) (call : CallIn) (turn : Turn) (s : State) (b : Bool) → fits turn ≡ false
+    → (only_if b s >>= λ s'. only_if (fits turn) turn >>= λ turn'. turn_step changes m call s' turn') ≡ None
+step_long changes m call turn s true long = ap (λ b. only_if b turn >>= λ turn'. turn_step changes m call s turn') long
+step_long changes m call turn s false long = refl
+
+-- past the bytes of a text neither
+pub long_turns : (changes : Changes) (m : Meaning) (script : List Op) (n : ℕ) (call : CallIn) (s : State) → fits (turn_of script call) ≡ false → play changes m script n call s ≡ None
+long_turns changes m script zero call s long = no_turns changes m script call s
+long_turns changes m script (suc n) call s long =
+    more_turns changes m script n call s
+    ∙ ap (λ o. o >>= played_on changes m script n) (step_long changes m call (turn_of script call) (record s { turns = s.turns + 1 }) (ltb s.turns most_turns) long)
 
 pub no_fires : (m : Meaning) (s : State) → do_fires m [] s ≡ answer [] s
 unfolding do_fires

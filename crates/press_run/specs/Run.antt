@@ -23,7 +23,7 @@ use Rattle.press_callbacks.specs.declared.script.Ask as asked
 use Rattle.press_callbacks.specs.declared.script.Ask.TheVariants.{Did, Doing, Has, Option as AskOption, Tag}
 use Rattle.press_callbacks.specs.declared.script.Turn.{Turn}
 use Rattle.press_callbacks.specs.declared.script.Turn.TheVariants.{Go, AddHook, RemoveHook, RemoveAll, AddTag, RemoveTag, Skip, Apply, Do, Shortcodes, Ask, SetOption, Schedule, Publish, Echo, Return}
-use Rattle.press_callbacks.specs.Turns.{turn_of}
+use Rattle.press_callbacks.specs.Turns.{texts_of, turn_of}
 use Rattle.press_callbacks.specs.Kits.{Scripts, script_of}
 use Rattle.press_callbacks.specs.BuiltIns.{do_shortcode, is_built_in}
 use Rattle.press_posts.specs.declared.fire.Fire.{Fire}
@@ -249,25 +249,7 @@ answer_of (Doing hook) s = one_if (list_any (bytes_eq hook) s.doing)
 answer_of (Has hook callback) s = decimal_or_empty (priority_of hook callback s.rows)
 answer_of (Tag tag) s = one_if (is_some (callback_of tag s.tags))
 
--- the texts of a turn, which are to be within the bytes; a tag is a name
-abbrev pub texts_of : Turn → List (List ℕ)
-texts_of (Go t) = t ∷ []
-texts_of (AddHook h c p n) = []
-texts_of (RemoveHook h c p) = []
-texts_of (RemoveAll h p) = []
-texts_of (AddTag t c) = []
-texts_of (RemoveTag t) = []
-texts_of (Skip n) = []
-texts_of (Apply h ts) = ts
-texts_of (Do h ts) = ts
-texts_of (Shortcodes t) = t ∷ []
-texts_of (Ask a) = []
-texts_of (SetOption n t) = t ∷ []
-texts_of (Schedule after every h t) = t ∷ []
-texts_of (Publish t) = t ∷ []
-texts_of (Echo t) = t ∷ []
-texts_of (Return t) = t ∷ []
-
+-- the texts of a turn are within the bytes
 abbrev pub fits : Turn → Bool
 fits turn = list_all is_short (texts_of turn)
 

@@ -113,7 +113,7 @@ impl<L: SiteLink + Drop> Machine<L> {
         }
     }
 
-    /// The next turn. The limit of turns is looked at before the kit, which may want memory.
+    /// The next turn. The limits of turns and of bytes are looked at before the kit makes a text.
     pub(crate) fn turn<K: Callbacks>(
         &mut self,
         kit: &K,
@@ -134,6 +134,10 @@ impl<L: SiteLink + Drop> Machine<L> {
             return Err(RunFault::Limit);
         }
         if !self.counts.has_turns() {
+            self.met_limit = true;
+            return Err(RunFault::Limit);
+        }
+        if !kit.fits(callback.place, &callback.call) {
             self.met_limit = true;
             return Err(RunFault::Limit);
         }

@@ -5,7 +5,7 @@ use Rattle.press_run.specs.Outcome.{state_of}
 use Rattle.press_run.specs.Run.{at_depth, or_empty}
 use Rattle.press_run.specs.Standing.{standing}
 use Rattle.press_run.proofs.Begins.{turn_steps}
-use Rattle.press_run.proofs.Steps.{late_turns, no_turns}
+use Rattle.press_run.proofs.Steps.{late_turns, long_turns, no_turns}
 use Rattle.press_run.proofs.machine.Machine.turn.Goals as goal
 
 pub returns-then-callback-eq0-clause-steps : goal.returns-then-callback-eq0-clause-steps
@@ -18,6 +18,12 @@ returns-then-not-has_turns-clause-steps g c =
     let k = g.K.Callbacks.scripts c.args.kit.now in
     late_turns g.L.SiteLink.changes (at_depth g.L.SiteLink.changes c.args.callback.now.room k) (or_empty (script_at c.args.callback.now.place k)) c.args.callback.now.left c.args.callback.now.call (state_of (standing g.L.SiteLink.view g.L.SiteLink.fixed c.args.self.now))
     (sym c.has_turns.ensures ∙ c.if-not-has_turns.true)
+
+pub returns-then-not-fits-clause-steps : goal.returns-then-not-fits-clause-steps
+returns-then-not-fits-clause-steps g c =
+    let k = g.K.Callbacks.scripts c.args.kit.now in
+    long_turns g.L.SiteLink.changes (at_depth g.L.SiteLink.changes c.args.callback.now.room k) (or_empty (script_at c.args.callback.now.place k)) c.args.callback.now.left c.args.callback.now.call (state_of (standing g.L.SiteLink.view g.L.SiteLink.fixed c.args.self.now))
+    (sym c.fits.ensures ∙ c.if-not-fits.true)
 
 pub returns-in-Ok-Go-clause-steps : goal.returns-in-Ok-Go-clause-steps
 returns-in-Ok-Go-clause-steps g c =
