@@ -64,12 +64,13 @@ turn_at call (Some o) = turn_of_op call o
 abbrev pub turn_of : List Op → CallIn → Turn
 turn_of script call = turn_at call (slice_get script call.turn)
 
--- which turns may take memory: Go, shortcodes, publish and echo where their text isn't empty, and all others
+-- which turns may take memory: Go, shortcodes, publish and echo where their text isn't empty, Skip never, and all others
 abbrev pub TakesMemory : Turn → Type 0
 TakesMemory (turn.Go text) = 0 < length text
 TakesMemory (turn.Shortcodes text) = 0 < length text
 TakesMemory (turn.Publish text) = 0 < length text
 TakesMemory (turn.Echo text) = 0 < length text
+TakesMemory (turn.Skip n) = ⊥
 TakesMemory other = Unit {0}
 
 -- each turn that such calls may give is the script's

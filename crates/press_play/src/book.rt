@@ -78,6 +78,20 @@ fn name_of(id: &CallbackId) -> &str {
     str::from_utf8(id.as_bytes()).unwrap_or("")
 }
 
+fn step_line(alloc: Global, id: &CallbackId, step: usize, why: &str) -> Result<String, AllocError> {
+    let name = name_of(id);
+    format!(in alloc; "callback \"{name}\": script[{step}]: {why}")
+}
+
+/// That a step of a callback would make a text which is too long.
+pub fn long_text(alloc: Global, id: Option<CallbackId>, step: usize) -> Result<String, AllocError> {
+    let why = Bound::Text.told();
+    match id {
+        None => String::from_str(alloc, why),
+        Some(id) => step_line(alloc, &id, step, why),
+    }
+}
+
 impl Called {
     fn told(&self, alloc: Global) -> Result<String, AllocError> {
         let name = name_of(&self.id);
@@ -176,15 +190,13 @@ impl Book {
         Ok(())
     }
 
-    // Which limit was met. By built-in callbacks alone few are open, and no scan is longer than all texts together.
+    // Which limit was met, but that of a step's text. By built-in callbacks alone few are open, and no scan is longer than all texts together.
     fn bound(&self, is_spent: bool) -> Bound {
-        let (longest, echoes) = match &self.last {
-            None => (0, false),
-            Some(asked) => (asked.longest, asked.echoes),
+        let echoes = match &self.last {
+            None => false,
+            Some(asked) => asked.echoes,
         };
-        if longest > MOST_BYTES {
-            Bound::Text
-        } else if is_spent {
+        if is_spent {
             Bound::Steps
         } else if echoes {
             Bound::Output
@@ -208,11 +220,7 @@ impl Book {
         self.last = None;
         match self.innermost() {
             None => String::from_str(alloc, why),
-            Some(called) => {
-                let step = called.step;
-                let name = name_of(&called.id);
-                format!(in alloc; "callback \"{name}\": script[{step}]: {why}")
-            }
+            Some(called) => { step_line(alloc, &called.id, called.step, why) }
         }
     }
 

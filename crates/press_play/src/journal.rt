@@ -5,7 +5,7 @@
 ghost use Rattle.std.specs.Prelude.{◌≡◌, IfOk};
 ghost use Rattle.press_callbacks.specs.Turns.{turn_of};
 
-use crate::book::Book;
+use crate::book::{self, Book};
 use press_callbacks::{CallIn, Script, Turn, script_turn};
 use press_kit::Play;
 use press_text::CallbackId;
@@ -64,14 +64,23 @@ impl Plays {
     }
 
     fn limit(&mut self, is_spent: bool) -> Result<(), AllocError> {
+        let Some(book) = &mut self.book else {
+            return Ok(());
+        };
+        let why = book.limit(is_spent)?;
+        self.tell_limit(why)
+    }
+
+    fn tell_limit(&mut self, why: String) -> Result<(), AllocError> {
         let mut line = self.front("limit")?;
-        if let Some(book) = &mut self.book {
-            let why = book.limit(is_spent)?;
-            line.push_str(why.as_str())?;
-            line.push_str("\n")?;
-            self.told.push_str(line.as_str())?;
-        }
-        Ok(())
+        line.push_str(why.as_str())?;
+        line.push_str("\n")?;
+        self.told.push_str(line.as_str())
+    }
+
+    fn long_text(&mut self, id: Option<CallbackId>, step: usize) -> Result<(), AllocError> {
+        let why = book::long_text(self.alloc, id, step)?;
+        self.tell_limit(why)
     }
 
     fn trace(&mut self) -> Result<(), AllocError> {
@@ -175,6 +184,13 @@ impl Journal {
     pub fn limit(&self, is_spent: bool) {
         if let Ok(mut plays) = self.plays.try_borrow_mut() {
             let _ = plays.limit(is_spent);
+        }
+    }
+
+    /// The play met a limit: this step of that callback would have made a text that is too long.
+    pub fn long_text(&self, id: Option<CallbackId>, step: usize) {
+        if let Ok(mut plays) = self.plays.try_borrow_mut() {
+            let _ = plays.long_text(id, step);
         }
     }
 

@@ -6,7 +6,7 @@ use press_callbacks::Kit;
 use press_kit::Play;
 use press_run::{Counts, Job, Machine, RunFault};
 use press_site::Site;
-use press_text::{HookName, Texts};
+use press_text::{CallbackId, HookName, Texts};
 use std::alloc::{AllocError, Global};
 use std::mem;
 
@@ -39,6 +39,10 @@ fn is_spent(alloc: Global, kit: &Kit, counts: &mut Counts) -> Result<bool, Alloc
     Ok(matches!(asked, Err(RunFault::Limit)))
 }
 
+fn name_at(kit: &Kit, place: usize) -> Option<CallbackId> {
+    kit.at(place).map(|callback| callback.id())
+}
+
 impl Again {
     /// A copy of the machine.
     pub fn new(journal: &Journal, machine: &Machine<Site>) -> Result<Again, AllocError> {
@@ -65,8 +69,13 @@ impl Again {
     fn watch(&mut self, kit: &Kit, play: &Play) -> Result<(), AllocError> {
         self.journal.begin(play);
         if self.meets_limit(kit, play)? {
-            let is_spent = is_spent(self.alloc, kit, &mut self.machine.counts)?;
-            self.journal.limit(is_spent);
+            match self.machine.long_step {
+                Some(at) => self.journal.long_text(name_at(kit, at.callback), at.step),
+                None => {
+                    let is_spent = is_spent(self.alloc, kit, &mut self.machine.counts)?;
+                    self.journal.limit(is_spent);
+                }
+            }
         }
         self.journal.end(play);
         Ok(())

@@ -26,6 +26,6 @@ pub use callbacks::Callbacks;
 pub use counts::Counts;
 pub use job::Job;
 pub use link::{Read, SiteLink};
-pub use machine::Machine;
+pub use machine::{Machine, StepAt};
 pub use out::Out;
 pub use run_fault::RunFault;

@@ -25,6 +25,13 @@ use press_callbacks::{Kit, Tables};
 use press_site::Site;
 use std::alloc::{AllocError, Global};
 
+/// A callback, by its place in the kit, and the step of its script.
+#[derive(Clone, Copy, Debug)]
+pub struct StepAt {
+    pub callback: usize,
+    pub step: usize,
+}
+
 /// What one boot has and counts: its tables, its counts, the site as runs have it, and what was written.
 #[derive(Debug)]
 pub struct Machine<L> {
@@ -34,6 +41,8 @@ pub struct Machine<L> {
     pub out: Out,
     /// Whether the last run, or what was written since, met a limit.
     pub met_limit: bool,
+    /// The step whose text would have passed the bytes, where the last run met that limit: a note, on which nothing depends.
+    pub long_step: Option<StepAt>,
 }
 
 impl<L: Drop> Drop for Machine<L> {
@@ -44,6 +53,7 @@ impl<L: Drop> Drop for Machine<L> {
             site: _,
             out: _,
             met_limit: _,
+            long_step: _,
         } = self;
     }
 }
@@ -74,6 +84,7 @@ impl<L: SiteLink + Drop> Machine<L> {
             site,
             out,
             met_limit: false,
+            long_step: None,
         }
     }
 
@@ -93,6 +104,7 @@ impl<L: SiteLink + Drop> Machine<L> {
         ensures limit { self.new.met_limit ≡ is_limit result }
     {
         self.met_limit = false;
+        self.long_step = None;
         self.given(kit, job)
     }
 
@@ -132,6 +144,7 @@ impl<L: SiteLink + Drop> Machine<L> {
             site,
             out,
             met_limit: _,
+            long_step: _,
         } = self;
         (site, out)
     }
@@ -149,6 +162,7 @@ impl Machine<Site> {
             site: self.site.copy()?,
             out: self.out.copy(alloc)?,
             met_limit: self.met_limit,
+            long_step: self.long_step,
         })
     }
 }

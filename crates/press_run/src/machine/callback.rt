@@ -1,17 +1,18 @@
 //! A callback is opened, built in or of the kit, and takes its turns.
 
 ghost use Rattle.std.specs.Prelude.{◌≡◌, ◌++◌, ℕ, List, None, false, IsErrOf};
-ghost use Rattle.press_callbacks.specs.Kits.{Scripts};
+ghost use Rattle.press_callbacks.specs.Kits.{Scripts, script_at};
+ghost use Rattle.press_callbacks.specs.Turns.{turn_of};
 ghost use Rattle.press_callbacks.specs.declared.script.Turn.TheVariants as turn;
 ghost use Rattle.press_callbacks.specs.declared.script.Turn.TheVariants.{Echo};
 ghost use Rattle.press_run.specs.Frames.{BeginsAs, CallsAs, CountsAs, IsFew, Steps, Turns, meant};
-ghost use Rattle.press_run.specs.Run.{at_depth, built_in, fits, is_short, one_turn, within};
+ghost use Rattle.press_run.specs.Run.{at_depth, built_in, fits, is_short, one_turn, or_empty, within};
 ghost use Rattle.press_run.specs.Outcome.{around, is_limit, state_of};
 ghost use Rattle.press_run.specs.Limits.{ShowsLimits};
 ghost use Rattle.press_run.specs.Standing.{standing};
 ghost use Rattle.press_run.specs.declared.frame.Frame.TheVariants as frame;
 
-use super::Machine;
+use super::{Machine, StepAt};
 use crate::callbacks::Callbacks;
 use crate::frame::{FUEL, Frame, OpenCallback};
 use crate::held::Held;
@@ -126,6 +127,8 @@ impl<L: SiteLink + Drop> Machine<L> {
         ensures spent { callback.old.left ≡ 0 → IsErrOf result RunFault.Limit }
         ensures late { one_turn (state_of (standing L.view L.fixed self.old)) ≡ None
             → IsErrOf result RunFault.Limit }
+        ensures long { fits (turn_of (or_empty (script_at callback.old.place (K.scripts kit.now)))
+            callback.old.call) ≡ false → IsErrOf result RunFault.Limit }
         ensures fixed { L.fixed self.new.site ≡ L.fixed self.old.site }
         ensures limits { ShowsLimits result self.old self.new }
     {
@@ -138,6 +141,7 @@ impl<L: SiteLink + Drop> Machine<L> {
             return Err(RunFault::Limit);
         }
         if !kit.fits(callback.place, &callback.call) {
+            self.long_step = step_at(callback);
             self.met_limit = true;
             return Err(RunFault::Limit);
         }
@@ -223,4 +227,10 @@ impl<L: SiteLink + Drop> Machine<L> {
         }
         self.asked(callback, turn)
     }
+}
+
+// The step that a callback is at; of one that the kit lacks none.
+fn step_at(callback: &OpenCallback) -> Option<StepAt> {
+    let step = callback.call.turn;
+    callback.place.map(|callback| StepAt { callback, step })
 }
