@@ -9,6 +9,6 @@ abbrev pub is_wanting : ℤ → Bool
 is_wanting code = int_eq code (pos 12) || int_eq code (pos 23) || int_eq code (pos 24) || int_eq code (pos 105)
 
 -- nobody waits (EAGAIN), who waits first waits on, or that one alone is lost
-abbrev pub missed : Option ℤ → Miss
-missed None = IsLost
-missed (Some code) = if int_eq code (pos 11) then NobodyWaits else if is_wanting code then WaitsOn else IsLost
+abbrev pub miss_of : Option ℤ → Miss
+miss_of None = IsLost
+miss_of (Some code) = if int_eq code (pos 11) then NobodyWaits else if is_wanting code then WaitsOn else IsLost

@@ -3,7 +3,7 @@
 ghost use Rattle.std.specs.Prelude.{◌≡◌, ◌-◌, ◌/◌, ◌<◌, [], MatchOption, MatchResult, if◌then◌else◌, not, option_map};
 ghost use Rattle.std.specs.Duration.{as_nanos};
 ghost use Rattle.std.specs.IoError.{raw_os_error};
-ghost use Rattle.press_server.specs.Accepting.{is_wanting, missed};
+ghost use Rattle.press_server.specs.Accepting.{is_wanting, miss_of};
 ghost use Rattle.press_server.specs.Answering.{credit};
 ghost use Rattle.press_server.specs.Lanes.{IsCredited, call_at};
 ghost use Rattle.press_server.specs.Talking.{freed, is_reading};
@@ -87,8 +87,8 @@ fn is_wanting(code: i32) -> bool
     code == 12 || code == 23 || code == 24 || code == 105
 }
 
-fn missed(error: &io::Error) -> Miss
-    ensures { result ≡ missed (raw_os_error error.now) }
+fn miss_of(error: &io::Error) -> Miss
+    ensures { result ≡ miss_of (raw_os_error error.now) }
 {
     match error.raw_os_error() {
         None => Miss::IsLost,
@@ -262,7 +262,7 @@ impl Server {
                         log_closed(self.alloc, log, "nothing more can be opened");
                     }
                 }
-                Err(e) => match missed(&e) {
+                Err(e) => match miss_of(&e) {
                     Miss::NobodyWaits => return,
                     Miss::IsLost => {}
                     Miss::WaitsOn => {
