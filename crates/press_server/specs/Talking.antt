@@ -1,7 +1,8 @@
 -- The open connections (own).
-use Rattle.std.specs.Prelude.{ℕ, ◌≡◌, ◌≤◌, ◌<◌, ◌⊎◌, ◌-◌, ◌+◌, ◌&&◌, Bool, true, false, List, [], ◌∷◌, ◌++◌, map, Option, Some, None, IsSome, Result, option_and_then, unwrap_or, option_map, is_none, slice_get, slice_set, length, nat_le, position, if◌then◌else◌}
+use Rattle.std.specs.Prelude.{ℕ, ◌≡◌, ◌≤◌, ◌<◌, ◌⊎◌, ◌-◌, ◌+◌, ◌&&◌, Bool, true, false, List, [], ◌∷◌, ◌++◌, map, Option, Some, None, IsSome, Result, Ok, Err, not, option_and_then, unwrap_or, option_map, is_none, slice_get, slice_set, length, nat_le, position, if◌then◌else◌}
 use Rattle.std.specs.Time.{instant_nanos}
 use Rattle.press_http.specs.declared.fault.HttpFault.{HttpFault}
+use Rattle.press_http.specs.declared.fault.HttpFault.TheVariants as fault
 use Rattle.press_server.specs.Answering.{Exchange, exchange}
 use Rattle.std.specs.declared.time.Instant.{Instant}
 use Rattle.press_server.specs.declared.talk.Phase.{Phase}
@@ -97,5 +98,27 @@ is_due talk = nat_le talk.came.due (length talk.came.bytes.items)
 abbrev pub asked_by : Talk → Talk → Result ℕ HttpFault → Exchange
 asked_by old new result = exchange old.arrival.from old.came.bytes.items old.told.bytes.items new.told.bytes.items result
 
-abbrev pub IsAnswered : {A : Type 0} → (A → Exchange → A → Type 0) → A → Talk → Talk → A → Type 0
-IsAnswered answers before old new after = (result : Result ℕ HttpFault) × answers before (asked_by old new result) after
+-- the input ended within the request, as far as it came
+abbrev pub is_end : HttpFault → Bool
+is_end fault.Ended = true
+is_end fault.NoMemory = false
+is_end fault.ReadFault = false
+is_end fault.WriteFault = false
+is_end fault.BadHead = false
+is_end fault.BadForm = false
+is_end fault.BadPeer = false
+is_end fault.NotFound = false
+is_end fault.NotAllowed = false
+is_end fault.NoLength = false
+is_end fault.TooBig = false
+is_end fault.FieldsTooLarge = false
+is_end fault.NotDone = false
+
+-- where a look leaves a connection: its reply goes out; it waits on where more has to come and may; else it is closed
+abbrev pub phase_by : Bool → Phase → Result ℕ HttpFault → Phase
+phase_by ended phase (Ok status) = Writing
+phase_by ended phase (Err fault) = if is_end fault && not ended then phase else Over
+
+abbrev pub IsAnswered : {A : Type 0} → (A → Exchange → A → Type 0) → Bool → A → Talk → Talk → A → Type 0
+IsAnswered answers ended before old new after =
+    (result : Result ℕ HttpFault) × answers before (asked_by old new result) after × (new.phase ≡ phase_by ended old.phase result)

@@ -7,7 +7,7 @@ ghost use Rattle.press_server.specs.Accepting.{is_wanting, miss_of};
 ghost use Rattle.press_server.specs.Answering.{credit};
 ghost use Rattle.press_server.specs.Lanes.{IsCredited, call_at};
 ghost use Rattle.press_server.specs.Talking.{freed, is_reading};
-ghost use Rattle.press_server.specs.Turning.{call_of, ends_at, holder_named, talk_of};
+ghost use Rattle.press_server.specs.Turning.{KeepsAllButCalls, call_of, ends_at, holder_named, talk_of};
 
 use crate::answers::{Answers, Outgoing, Time};
 use crate::call::Call;
@@ -322,6 +322,7 @@ impl Server {
     fn step_call<A: Answers>(&mut self, answers: &mut A, place: usize)
         ensures credits { MatchOption (call_at self.old.calls place) (answers.new ≡ answers.old)
             (λ call. IsCredited A.hears call answers.old answers.new) }
+        ensures rest { KeepsAllButCalls self.new self.old }
     {
         let Some(call) = self.calls.get_mut(place) else {
             return;

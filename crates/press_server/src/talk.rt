@@ -174,10 +174,10 @@ impl Talk {
         ensures turn { IsTrue result → self.new.phase ≢ Reading }
         ensures waits { IsFalse result → self.new.phase ≡ self.old.phase }
         ensures came { self.new.came.bytes ≡ self.old.came.bytes }
-        ensures asks { IsTrue (ended || is_due self.old) → IsAnswered A.answers
+        ensures asks { IsTrue (ended || is_due self.old) → IsAnswered A.answers ended
             answers.old self.old self.new answers.new }
         ensures asks_only { IsFalse (ended || is_due self.old) → (answers.new ≡ answers.old)
-            × (self.new.told.bytes ≡ self.old.told.bytes) }
+            × (self.new.told.bytes ≡ self.old.told.bytes) × (self.new.phase ≡ self.old.phase) }
         ensures arrival { self.new.arrival ≡ self.old.arrival }
     {
         if !ended && !self.came.is_due() {
