@@ -1,13 +1,16 @@
 -- The open connections (own).
-use Rattle.std.specs.Prelude.{ℕ, ◌≡◌, ◌≤◌, ◌<◌, ◌⊎◌, ◌-◌, ◌+◌, ◌&&◌, Bool, true, false, List, [], ◌∷◌, ◌++◌, map, Option, Some, None, IsSome, Result, Ok, Err, not, option_and_then, unwrap_or, option_map, is_none, slice_get, slice_set, length, nat_le, position, if◌then◌else◌}
+use Rattle.std.specs.Prelude.{ℕ, ◌≡◌, ◌≤◌, ◌<◌, ◌⊎◌, ◌-◌, ◌+◌, ◌&&◌, Bool, true, false, List, [], ◌∷◌, ◌++◌, map, Option, Some, None, IsSome, Result, Ok, Err, not, option_and_then, unwrap_or, option_map, is_none, slice_get, slice_set, length, nat_le, bytes_eq, position, if◌then◌else◌}
 use Rattle.std.specs.Time.{instant_nanos}
 use Rattle.press_http.specs.declared.fault.HttpFault.{HttpFault}
 use Rattle.press_http.specs.declared.fault.HttpFault.TheVariants as fault
 use Rattle.press_server.specs.Answering.{Exchange, exchange}
 use Rattle.std.specs.declared.time.Instant.{Instant}
+use Rattle.std.specs.declared.net.ip_addr.IpAddr.{IpAddr}
+use Rattle.std.specs.declared.net.ip_addr.IpAddr.TheVariants.{V4, V6}
 use Rattle.press_server.specs.declared.talk.Phase.{Phase}
 use Rattle.press_server.specs.declared.talk.Phase.TheVariants.{Reading, Writing, Ending, Over}
 use Rattle.press_server.specs.declared.talk.Talk.{Talk}
+use Rattle.press_server.specs.declared.talks.Rank.{Rank}
 use Rattle.press_server.specs.declared.talks.Talks.{Talks}
 
 -- its request isn't whole yet
@@ -48,47 +51,76 @@ count_of test (slot ∷ rest) = (if meets test slot then 1 else 0) + count_of te
 abbrev pub is_unheard : Instant → Talk → Bool
 is_unheard now talk = is_late now talk && is_reading talk
 
--- a connection in that phase may give way to those of a round, the first of which has that number: it came before them
-abbrev pub MayGo : Phase → ℕ → List (Option Talk) → ℕ → Talk → Type 0
-MayGo phase first slots place talk = (slice_get slots place ≡ Some (Some talk)) × (talk.phase ≡ phase) × (talk.arrival.number < first)
+-- two addresses are the same
+abbrev pub is_same : IpAddr → IpAddr → Bool
+is_same (V4 one) (V4 other) = bytes_eq one.octets other.octets
+is_same (V6 one) (V6 other) = bytes_eq one.segments other.segments
+is_same (V4 one) (V6 other) = false
+is_same (V6 one) (V4 other) = false
+
+abbrev pub is_from : IpAddr → Talk → Bool
+is_from address talk = is_same address talk.arrival.from
+
+-- an address has a quarter of the 1,024 places: what comes from it then is beyond its quarter
+abbrev pub is_crowded : IpAddr → List (Option Talk) → Bool
+is_crowded address slots = nat_le 256 (count_of (is_from address) slots)
+
+abbrev pub rank_of : Bool → Phase → Rank
+rank_of surplus phase = record { is_surplus = surplus; phase = phase }
+
+-- it came beyond its address's quarter, or didn't, and is in a phase
+abbrev pub HasRank : Rank → Talk → Type 0
+HasRank rank talk = (talk.arrival.is_surplus ≡ rank.is_surplus) × (talk.phase ≡ rank.phase)
+
+-- a connection of that rank may give way to those of a round, the first of which has that number: it came before them
+abbrev pub MayGo : Rank → ℕ → List (Option Talk) → ℕ → Talk → Type 0
+MayGo rank first slots place talk = (slice_get slots place ≡ Some (Some talk)) × HasRank rank talk × (talk.arrival.number < first)
 
 -- of those that may, none came before it
-abbrev pub IsOldest : Phase → ℕ → List (Option Talk) → ℕ → Type 0
-IsOldest phase first slots place =
-    (talk : Talk) × MayGo phase first slots place talk
-    × ((other : ℕ) (next : Talk) → MayGo phase first slots other next → talk.arrival.number ≤ next.arrival.number)
+abbrev pub IsOldest : Rank → ℕ → List (Option Talk) → ℕ → Type 0
+IsOldest rank first slots place =
+    (talk : Talk) × MayGo rank first slots place talk
+    × ((other : ℕ) (next : Talk) → MayGo rank first slots other next → talk.arrival.number ≤ next.arrival.number)
 
 -- none may
-abbrev pub HasNone : Phase → ℕ → List (Option Talk) → Type 0
-HasNone phase first slots = (place : ℕ) (talk : Talk) → MayGo phase first slots place talk → ⊥
+abbrev pub HasNone : Rank → ℕ → List (Option Talk) → Type 0
+HasNone rank first slots = (place : ℕ) (talk : Talk) → MayGo rank first slots place talk → ⊥
 
--- the oldest that was served and stays open goes first, else the oldest whose request isn't whole, else the oldest whose reply isn't out; none
--- that came in the same round
-abbrev pub GoesFirst : ℕ → List (Option Talk) → Option ℕ → Type 0
-GoesFirst first slots None = HasNone Ending first slots × HasNone Reading first slots × HasNone Writing first slots
-GoesFirst first slots (Some place) =
-    IsOldest Ending first slots place
-    ⊎ (HasNone Ending first slots × IsOldest Reading first slots place)
-    ⊎ (HasNone Ending first slots × HasNone Reading first slots × IsOldest Writing first slots place)
+-- of those beyond their address's quarter, or of the others, the oldest that was served and stays open goes first, else the oldest whose request
+-- isn't whole, else the oldest whose reply isn't out; none that came in the same round
+abbrev pub GoesFirst : Bool → ℕ → List (Option Talk) → Option ℕ → Type 0
+GoesFirst surplus first slots None =
+    HasNone (rank_of surplus Ending) first slots × HasNone (rank_of surplus Reading) first slots × HasNone (rank_of surplus Writing) first slots
+GoesFirst surplus first slots (Some place) =
+    IsOldest (rank_of surplus Ending) first slots place
+    ⊎ (HasNone (rank_of surplus Ending) first slots × IsOldest (rank_of surplus Reading) first slots place)
+    ⊎ (HasNone (rank_of surplus Ending) first slots × HasNone (rank_of surplus Reading) first slots × IsOldest (rank_of surplus Writing) first slots place)
+
+-- one that is beyond its address's quarter goes; where none does, one that comes beyond it puts out nobody, and another any
+abbrev pub MakesWay : Bool → ℕ → List (Option Talk) → Option ℕ → Type 0
+MakesWay surplus first slots gone =
+    (IsSome gone × GoesFirst true first slots gone)
+    ⊎ (GoesFirst true first slots None × (surplus ≡ true) × (gone ≡ None))
+    ⊎ (GoesFirst true first slots None × (surplus ≡ false) × GoesFirst false first slots gone)
 
 -- what stands at a place, if there is one, is put in for what stood there
 abbrev pub with_slot : Option ℕ → Option Talk → List (Option Talk) → List (Option Talk)
 with_slot place slot slots = unwrap_or (option_map (λ place. slice_set slots place slot) place) slots
 
 -- it is closed, and its place is free
-abbrev pub GivesWay : ℕ → List (Option Talk) → List (Option Talk) → Option ℕ → Type 0
-GivesWay first old new gone = GoesFirst first old gone × (new ≡ with_slot gone None old)
+abbrev pub GivesWay : Bool → ℕ → List (Option Talk) → List (Option Talk) → Option ℕ → Type 0
+GivesWay surplus first old new gone = MakesWay surplus first old gone × (new ≡ with_slot gone None old)
 
 -- no place is free, and fewer than 1,024 are taken
 abbrev pub MayGrow : List (Option Talk) → Type 0
 MayGrow slots = (position is_none slots ≡ None) × (length slots < 1024)
 
 -- the first free place is it, else one more, else that of one that gives way; there is none where none does
-abbrev pub MakesPlace : ℕ → List (Option Talk) → List (Option Talk) → Option ℕ → Type 0
-MakesPlace first old new place =
+abbrev pub MakesPlace : Bool → ℕ → List (Option Talk) → List (Option Talk) → Option ℕ → Type 0
+MakesPlace surplus first old new place =
     (IsSome place × (place ≡ position is_none old) × (new ≡ old))
     ⊎ (MayGrow old × (place ≡ Some (length old)) × (new ≡ old ++ None ∷ []))
-    ⊎ ((position is_none old ≡ None) × (1024 ≤ length old) × GivesWay first old new place)
+    ⊎ ((position is_none old ≡ None) × (1024 ≤ length old) × GivesWay surplus first old new place)
 
 -- another look at its request is due
 abbrev pub is_due : Talk → Bool

@@ -47,6 +47,9 @@ pub trait Answers {
     /// Where it listens.
     fn addr(&self) -> SocketAddr;
 
+    /// Whether it is an address of a member, from which any number of connections may come.
+    fn is_member(&self, from: IpAddr) -> bool;
+
     /// The reply to a request goes to `told`; its status. Ended where the request isn't whole.
     fn answer(&mut self, from: IpAddr, request: &[u8], told: &mut Vec<u8>) -> Result<u16, HttpFault>
         requires always { Unit {0} }

@@ -1,12 +1,12 @@
 //! A server over readiness: no connection is waited for, so one that says nothing, or reads nothing, holds up nobody.
 
-ghost use Rattle.std.specs.Prelude.{◌≡◌, ◌-◌, ◌/◌, ◌<◌, [], MatchOption, MatchResult, if◌then◌else◌, not, option_map};
+ghost use Rattle.std.specs.Prelude.{◌≡◌, ◌&&◌, ◌-◌, ◌/◌, ◌<◌, [], MatchOption, MatchResult, if◌then◌else◌, not, option_map};
 ghost use Rattle.std.specs.Duration.{as_nanos};
 ghost use Rattle.std.specs.IoError.{raw_os_error};
 ghost use Rattle.press_server.specs.Accepting.{is_wanting, miss_of};
 ghost use Rattle.press_server.specs.Answering.{credit};
 ghost use Rattle.press_server.specs.Lanes.{IsCredited, call_at};
-ghost use Rattle.press_server.specs.Talking.{freed, is_reading};
+ghost use Rattle.press_server.specs.Talking.{freed, is_crowded, is_reading};
 ghost use Rattle.press_server.specs.Turning.{KeepsAllButCalls, call_of, ends_at, holder_named, talk_of};
 
 use crate::answers::{Answers, Outgoing, Time};
@@ -174,16 +174,19 @@ impl Server {
         })
     }
 
-    // A connection that comes now.
-    fn arrival(&self, from: IpAddr) -> Arrival
+    // A connection that comes now. Those of members are never beyond a quarter.
+    fn arrival(&self, from: IpAddr, is_member: bool) -> Arrival
         ensures from { result.from ≡ from }
         ensures number { result.number ≡ self.entry.now.came }
         ensures begun { result.begun ≡ self.entry.now.now }
+        ensures surplus { result.is_surplus ≡
+            (not is_member && is_crowded from self.entry.now.talks.places.items) }
     {
         Arrival {
             from,
             number: self.came,
             begun: self.now,
+            is_surplus: !is_member && self.talks.is_crowded(from),
         }
     }
 
@@ -215,11 +218,11 @@ impl Server {
     fn begin<E: Write>(
         &mut self,
         stream: TcpStream,
-        from: IpAddr,
+        arrival: Arrival,
         first: u64,
         log: &mut E,
     ) -> io::Result<()> {
-        let talk = Talk::new(self.alloc, stream, self.arrival(from));
+        let talk = Talk::new(self.alloc, stream, arrival);
         self.came = self.came.saturating_add(1);
         let Some(place) = self.talks.enter(talk, first, log)? else {
             return Ok(());
@@ -251,14 +254,16 @@ impl Server {
 
     // Accepts those that wait, each at the time when it is taken. An error costs the one that it is of. Where nothing more can be opened, one that came in
     // an earlier round gives way; where none does, those that wait are tried again by time.
-    fn take<C: Clock, E: Write>(&mut self, clock: &C, log: &mut E) {
+    fn take<C: Clock, A: Answers, E: Write>(&mut self, clock: &C, answers: &A, log: &mut E) {
         let first = self.came;
         self.is_behind = false;
         for _ in 0..MOST_TAKEN {
             match self.listener.accept() {
                 Ok((stream, from)) => {
                     self.look_at_clock(clock);
-                    if self.begin(stream, from.ip(), first, log).is_err() {
+                    let from = from.ip();
+                    let arrival = self.arrival(from, answers.is_member(from));
+                    if self.begin(stream, arrival, first, log).is_err() {
                         log_closed(self.alloc, log, "nothing more can be opened");
                     }
                 }
@@ -266,7 +271,7 @@ impl Server {
                     Miss::NobodyWaits => return,
                     Miss::IsLost => {}
                     Miss::WaitsOn => {
-                        if self.talks.give_way(first, log).is_none() {
+                        if self.talks.give_way(false, first, log).is_none() {
                             self.is_behind = true;
                             return;
                         }
@@ -415,7 +420,7 @@ impl Server {
             }
         }
         if some_may_wait && self.is_open() {
-            self.take(clock, log);
+            self.take(clock, answers, log);
         }
     }
 

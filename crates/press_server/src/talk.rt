@@ -46,12 +46,14 @@ pub struct Arrival {
     /// How many came before it.
     pub number: u64,
     pub begun: Instant,
+    /// Whether its address had a quarter of the places already.
+    pub is_surplus: bool,
 }
 
 /// A connection to a client: its request so far, then its reply.
 pub struct Talk {
     stream: TcpStream,
-    arrival: Arrival,
+    pub arrival: Arrival,
     phase: Phase,
     came: Gathered,
     told: Sending,
@@ -127,6 +129,20 @@ impl Talk {
         ensures { result ≡ self.now.arrival.number }
     {
         self.arrival.number
+    }
+
+    /// The address from which it came.
+    pub fn from(&self) -> IpAddr
+        ensures { result ≡ self.now.arrival.from }
+    {
+        self.arrival.from
+    }
+
+    /// Whether its address had a quarter of the places already as it came.
+    pub fn is_surplus(&self) -> bool
+        ensures { result ≡ self.now.arrival.is_surplus }
+    {
+        self.arrival.is_surplus
     }
 
     /// Whether more may be read from it at once.

@@ -3,17 +3,28 @@
 ghost use Rattle.std.specs.Prelude.{◌≡◌, ◌<◌, ◌≤◌, [], IfErr, IfOk, IfSome, IsSomeAnd, List, MatchOption, None, Option, Some, is_none, position, slice_set};
 ghost use Rattle.std.specs.List.{list_all};
 ghost use Rattle.press_server.specs.declared.talk.Talk.{Talk};
-ghost use Rattle.press_server.specs.Talking.{GivesWay, GoesFirst, HasNone, IsOldest, MakesPlace, MayGrow, count_of, freed, is_late, is_reading, is_unheard, kept_unless, meets, talk_at, with_slot};
+ghost use Rattle.press_server.specs.Talking.{GivesWay, GoesFirst, HasNone, HasRank, IsOldest, MakesPlace, MakesWay, MayGrow, count_of, freed, is_crowded, is_from, is_late, is_reading, is_same, is_unheard, kept_unless, meets, talk_at, with_slot};
 
 use crate::talk::{Phase, Talk};
 use std::alloc::{AllocError, Global};
 use std::io::Write;
+use std::net::IpAddr;
 use std::time::Instant;
 
 // The most connections that are open at once.
 const MOST: usize = 1024;
 
+// A quarter of them.
+const QUARTER: usize = 256;
+
 const GIVEN_UP: &str = "given up for another";
+
+/// Those of a phase that came beyond their address's quarter, or didn't.
+#[derive(Clone, Copy)]
+pub struct Rank {
+    pub is_surplus: bool,
+    pub phase: Phase,
+}
 
 /// Connections by their places. Where each place is taken, one that was there before gives way to a newcomer.
 pub struct Talks {
@@ -57,24 +68,54 @@ fn end_all_late<E: Write>(slots: &mut [Option<Talk>], now: Instant, log: &mut E)
     count
 }
 
-// The number of a connection in that phase that came before the first of a round, and before what was found.
+fn is_same(one: IpAddr, other: IpAddr) -> bool
+    ensures { result ≡ is_same one other }
+{
+    one == other
+}
+
+// Whether a connection stands there that came from that address.
+fn is_from(slot: &Option<Talk>, from: IpAddr) -> bool
+    ensures { result ≡ meets (is_from from) slot.now }
+{
+    match slot {
+        Some(talk) => is_same(from, talk.from()),
+        None => false,
+    }
+}
+
+// How many came from that address.
+fn count_from(slots: &[Option<Talk>], from: IpAddr) -> usize
+    ensures { result ≡ count_of (is_from from) slots.now }
+{
+    let mut count: usize = 0;
+    for slot in slots {
+        count = count.saturating_add(usize::from(is_from(slot, from)));
+    }
+    count
+}
+
+// The number of a connection of that rank that came before the first of a round, and before what was found.
 fn number_before(
     found: Option<(usize, u64)>,
-    phase: Phase,
+    rank: Rank,
     first: u64,
     slot: &Option<Talk>,
 ) -> Option<u64>
     ensures { MatchOption result
-        ((talk : Talk) → slot.now ≡ Some talk → talk.phase ≡ phase →
+        ((talk : Talk) → slot.now ≡ Some talk → HasRank rank talk →
         talk.arrival.number < first → IsSomeAnd found (λ f. f.1 ≤ talk.arrival.number))
-        (λ number. (talk : Talk) × (slot.now ≡ Some talk) × (talk.phase ≡ phase)
+        (λ number. (talk : Talk) × (slot.now ≡ Some talk) × HasRank rank talk
         × (talk.arrival.number < first) × (number ≡ talk.arrival.number)
         × IfSome found (λ f. number < f.1)) }
 {
     let Some(talk) = slot else {
         return None;
     };
-    if talk.phase() != phase {
+    if talk.is_surplus() != rank.is_surplus {
+        return None;
+    }
+    if talk.phase() != rank.phase {
         return None;
     }
     if first <= talk.number() {
@@ -144,14 +185,21 @@ impl Talks {
         self.places.iter().position(|talk| talk.is_none())
     }
 
-    // The place of the oldest in that phase that came before the first of a round.
-    fn oldest(&self, phase: Phase, first: u64) -> Option<usize>
-        ensures { MatchOption result (HasNone phase first self.now.places.items)
-            (IsOldest phase first self.now.places.items) }
+    /// Whether an address has a quarter of the places.
+    pub fn is_crowded(&self, from: IpAddr) -> bool
+        ensures { result ≡ is_crowded from self.now.places.items }
+    {
+        QUARTER <= count_from(&self.places, from)
+    }
+
+    // The place of the oldest of that rank that came before the first of a round.
+    fn oldest(&self, rank: Rank, first: u64) -> Option<usize>
+        ensures { MatchOption result (HasNone rank first self.now.places.items)
+            (IsOldest rank first self.now.places.items) }
     {
         let mut found: Option<(usize, u64)> = None;
         for (place, slot) in self.places.iter().enumerate() {
-            if let Some(number) = number_before(found, phase, first, slot) {
+            if let Some(number) = number_before(found, rank, first, slot) {
                 found = Some((place, number));
             }
         }
@@ -159,26 +207,52 @@ impl Talks {
         Some(place)
     }
 
-    // Which one is to be closed for those of a round, the first of which has that number.
-    fn first_to_go(&self, first: u64) -> Option<usize>
-        ensures { GoesFirst first self.now.places.items result }
+    // Which goes first among those that came beyond their address's quarter, or among the others.
+    fn first_of(&self, is_surplus: bool, first: u64) -> Option<usize>
+        ensures { GoesFirst is_surplus first self.now.places.items result }
     {
-        if let Some(place) = self.oldest(Phase::Ending, first) {
+        let ending = Rank {
+            is_surplus,
+            phase: Phase::Ending,
+        };
+        let reading = Rank {
+            is_surplus,
+            phase: Phase::Reading,
+        };
+        let writing = Rank {
+            is_surplus,
+            phase: Phase::Writing,
+        };
+        if let Some(place) = self.oldest(ending, first) {
             return Some(place);
         }
-        if let Some(place) = self.oldest(Phase::Reading, first) {
+        if let Some(place) = self.oldest(reading, first) {
             return Some(place);
         }
-        self.oldest(Phase::Writing, first)
+        self.oldest(writing, first)
     }
 
-    /// Closes one for those of a round, the first of which has that number: the oldest that was served and stays open,
-    /// else the oldest whose request isn't whole, else the oldest, and none that came in that round. Returns its place,
-    /// if there was one.
-    pub fn give_way<E: Write>(&mut self, first: u64, log: &mut E) -> Option<usize>
-        ensures { GivesWay first self.old.places.items self.new.places.items result }
+    // Which one is to be closed for those of a round, the first of which has that number.
+    fn first_to_go(&self, is_surplus: bool, first: u64) -> Option<usize>
+        ensures { MakesWay is_surplus first self.now.places.items result }
     {
-        let place = self.first_to_go(first)?;
+        if let Some(place) = self.first_of(true, first) {
+            return Some(place);
+        }
+        if is_surplus {
+            return None;
+        }
+        self.first_of(false, first)
+    }
+
+    /// Closes one for those of a round, the first of which has that number: one that came as its address had a quarter
+    /// of the places, else, for a newcomer that doesn't come so itself, any; among those the oldest that was served and
+    /// stays open, else the oldest whose request isn't whole, else the oldest, and none that came in that round. Returns
+    /// its place, if there was one.
+    pub fn give_way<E: Write>(&mut self, is_surplus: bool, first: u64, log: &mut E) -> Option<usize>
+        ensures { GivesWay is_surplus first self.old.places.items self.new.places.items result }
+    {
+        let place = self.first_to_go(is_surplus, first)?;
         self.close(place, log, GIVEN_UP);
         Some(place)
     }
@@ -202,8 +276,13 @@ impl Talks {
     }
 
     // A place for one more, if there is one.
-    fn place<E: Write>(&mut self, first: u64, log: &mut E) -> Result<Option<usize>, AllocError>
-        ensures made { IfOk result (MakesPlace first self.old.places.items self.new.places.items) }
+    fn place<E: Write>(
+        &mut self,
+        is_surplus: bool,
+        first: u64,
+        log: &mut E,
+    ) -> Result<Option<usize>, AllocError>
+        ensures made { IfOk result (MakesPlace is_surplus first self.old.places.items self.new.places.items) }
         ensures no_memory { IfErr result (λ _. MayGrow self.old.places.items
             × (self.new.places.items ≡ self.old.places.items)) }
     {
@@ -215,7 +294,7 @@ impl Talks {
             self.places.push(None)?;
             return Ok(Some(count));
         }
-        Ok(self.give_way(first, log))
+        Ok(self.give_way(is_surplus, first, log))
     }
 
     fn put(&mut self, place: usize, talk: Talk)
@@ -235,12 +314,12 @@ impl Talks {
         log: &mut E,
     ) -> Result<Option<usize>, AllocError>
         ensures entered { IfOk result (λ place. (slots : List (Option Talk))
-            × MakesPlace first self.old.places.items slots place
+            × MakesPlace talk.arrival.is_surplus first self.old.places.items slots place
             × (self.new.places.items ≡ with_slot place (Some talk) slots)) }
         ensures no_memory { IfErr result (λ _. MayGrow self.old.places.items
             × (self.new.places.items ≡ self.old.places.items)) }
     {
-        let Some(place) = self.place(first, log)? else {
+        let Some(place) = self.place(talk.arrival.is_surplus, first, log)? else {
             talk.give_up(log, GIVEN_UP);
             return Ok(None);
         };

@@ -56,6 +56,10 @@ impl<S: PromiseStore> Answers for Alone<'_, S> {
         self.addr
     }
 
+    fn is_member(&self, _from: IpAddr) -> bool {
+        false
+    }
+
     fn answer(
         &mut self,
         _from: IpAddr,

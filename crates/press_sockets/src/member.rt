@@ -332,6 +332,10 @@ impl<S: PromiseStore> Answers for Clustered<'_, S> {
         }
     }
 
+    fn is_member(&self, from: IpAddr) -> bool {
+        self.peers.has(from)
+    }
+
     fn answer(&mut self, from: IpAddr, request: &[u8], told: &mut Vec<u8>) -> Result<u16, HttpFault>
         requires always { Unit {0} }
     {
