@@ -5,3 +5,4 @@ pub mod Heads
 pub mod Padding
 pub mod Answering
 pub mod Accepting
+pub mod Losing

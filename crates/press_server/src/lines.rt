@@ -1,18 +1,19 @@
 //! Lines that hold up nobody who writes them.
 
-ghost use Rattle.std.specs.Prelude.{◌≡◌, ◌+◌, ◌⊎◌, min};
-ghost use Rattle.std.specs.Io.KnownBytes.{Appends};
-ghost use Rattle.press_text.specs.Streams.{AppendsProperFront};
+ghost use Rattle.std.specs.Prelude.{◌≡◌};
+ghost use Rattle.press_server.specs.Losing.{Puts};
 
+use crate::outlet::{Outlet, put_all};
+use crate::server::seconds_of;
+use jiff::Timestamp;
 use mio::unix::SourceFd;
 use mio::{Events, Interest, Poll, Token};
-use press_text::write_once;
-use std::alloc::Global;
+use std::alloc::{AllocError, Global};
 use std::io;
 use std::io::{ErrorKind, Write};
 use std::net::Net;
 use std::os::fd::RawFd;
-use std::time::Duration;
+use std::time::{Clock, Duration};
 
 // What a pipe that is ready takes at once (PIPE_BUF).
 const PIECE: usize = 4096;
@@ -65,8 +66,8 @@ impl Watch {
     }
 }
 
-// A writer that is written to only as long as its descriptor takes what comes at once.
-struct Ready<W> {
+/// A writer that is written to only as long as its descriptor takes what comes at once.
+pub struct Ready<W> {
     writer: W,
     watch: Option<Watch>,
 }
@@ -107,17 +108,20 @@ impl<W: Write> Write for Ready<W> {
     }
 }
 
-/// Lines on a writer: each goes out at once, or it is lost, and counted. The next that goes out comes behind the count.
-pub struct Lines<W> {
-    ready: Ready<W>,
+/// Lines on a writer, each behind the time: it goes out at once, or it is lost, and counted. The next that goes out comes
+/// behind the count.
+pub struct Lines<'c, C, O> {
+    clock: &'c C,
+    ready: O,
     // How many were lost since the count was told.
     lost: u64,
     alloc: Global,
 }
 
-impl<W: Drop> Drop for Lines<W> {
+impl<C, O: Drop> Drop for Lines<'_, C, O> {
     fn drop(self) {
         let Lines {
+            clock: _,
             ready: _,
             lost: _,
             alloc: _,
@@ -125,48 +129,66 @@ impl<W: Drop> Drop for Lines<W> {
     }
 }
 
-impl<W: Write + Drop> Lines<W> {
-    /// Lines on the writer to that descriptor.
-    pub fn new<R: AllocGlobal + Net>(rt: &R, descriptor: RawFd, writer: W) -> io::Result<Lines<W>> {
-        let watch = Watch::new(rt, rt.alloc(), descriptor)?;
+impl<'c, C: AllocGlobal + Clock + Net, W: Write + Drop> Lines<'c, C, Ready<W>> {
+    /// Lines on the writer to that descriptor, with the time by that clock.
+    pub fn new(clock: &'c C, descriptor: RawFd, writer: W) -> io::Result<Lines<'c, C, Ready<W>>> {
+        let watch = Watch::new(clock, clock.alloc(), descriptor)?;
         Ok(Lines {
+            clock,
             ready: Ready { writer, watch },
             lost: 0,
-            alloc: rt.alloc(),
+            alloc: clock.alloc(),
         })
+    }
+}
+
+impl<C: Clock, O: Outlet + Drop> Lines<'_, C, O> {
+    // The time in UTC, to the second.
+    fn time(&self) -> Timestamp {
+        let seconds = seconds_of(self.clock.since_1970());
+        let seconds = i64::try_from(seconds).unwrap_or(i64::MAX);
+        Timestamp::from_second(seconds).unwrap_or(Timestamp::MAX)
     }
 
     // Tells how many were lost; only then they count no more.
     fn tell_lost(&mut self) {
-        let lost = self.lost;
-        let Ok(line) = format!(in self.alloc; "{lost} lines lost\n") else {
+        let (time, lost) = (self.time(), self.lost);
+        let Ok(line) = format!(in self.alloc; "{time} {lost} lines lost\n") else {
             return;
         };
-        if write_once(&mut self.ready, line.as_bytes()).is_ok() {
+        if put_all(&mut self.ready, line.as_bytes()) {
             self.lost = 0;
         }
     }
 
+    // The line behind the time.
+    fn timed(&self, line: &[u8]) -> Result<Vec<u8>, AllocError> {
+        let time = self.time();
+        let mut timed = format!(in self.alloc; "{time} ")?.into_bytes();
+        timed.extend_from_slice(line)?;
+        Ok(timed)
+    }
+
     // A line goes out whole, or is lost.
     fn put(&mut self, line: &[u8])
-        ensures { ((self.new.lost ≡ self.old.lost)
-            × Appends (W.contents self.old.ready.writer) (W.contents self.new.ready.writer) line.now)
-            ⊎ ((self.new.lost ≡ min (self.old.lost + 1) 18446744073709551615)
-            × AppendsProperFront (W.contents self.old.ready.writer)
-            (W.contents self.new.ready.writer) line.now) }
+        ensures { Puts O.contents O.fails line.now self.old.ready self.new.ready
+            self.old.lost self.new.lost }
     {
-        if write_once(&mut self.ready, line).is_err() {
+        if !put_all(&mut self.ready, line) {
             self.lost = self.lost.saturating_add(1);
         }
     }
 }
 
-impl<W: Write + Drop> Write for Lines<W> {
+impl<C: Clock, O: Outlet + Drop> Write for Lines<'_, C, O> {
     fn write(&mut self, line: &[u8]) -> io::Result<usize> {
         if self.lost > 0 {
             self.tell_lost();
         }
-        self.put(line);
+        match self.timed(line) {
+            Ok(timed) => self.put(&timed),
+            Err(_) => self.lost = self.lost.saturating_add(1),
+        }
         Ok(line.len())
     }
 

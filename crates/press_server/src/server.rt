@@ -99,7 +99,7 @@ fn miss_of(error: &io::Error) -> Miss
 }
 
 // Seconds since 1970. Before that, and by a clock that can't be read, it is 1970.
-fn seconds_of(since: io::Result<Duration>) -> u64
+pub fn seconds_of(since: io::Result<Duration>) -> u64
     ensures { MatchResult since (λ past. result ≡ as_nanos past / 1000000000) (λ _. result ≡ 0) }
 {
     match since {
@@ -264,7 +264,7 @@ impl Server {
                     let from = from.ip();
                     let arrival = self.arrival(from, answers.is_member(from));
                     if self.begin(stream, arrival, first, log).is_err() {
-                        log_closed(self.alloc, log, "nothing more can be opened");
+                        log_closed(self.alloc, log, from, "nothing more can be opened");
                     }
                 }
                 Err(e) => match miss_of(&e) {

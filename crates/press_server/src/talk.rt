@@ -83,21 +83,9 @@ fn write_line<E: Write>(log: &mut E, line: Result<String, AllocError>) {
     }
 }
 
-/// A line says why a connection was closed.
-pub fn log_closed<E: Write>(alloc: Global, log: &mut E, why: &str) {
-    write_line(log, format!(in alloc; "closed: {why}\n"));
-}
-
-fn log_fault<E: Write>(alloc: Global, log: &mut E, fault: HttpFault) {
-    write_line(log, format!(in alloc; "closed: {fault}\n"));
-}
-
-fn log_served<E: Write>(alloc: Global, log: &mut E, came: &Gathered, status: u16, count: usize) {
-    let (method, target) = came.asked();
-    write_line(
-        log,
-        format!(in alloc; "{method} {target} {status} {count}\n"),
-    );
+/// A line says whose connection was closed, and why.
+pub fn log_closed<E: Write>(alloc: Global, log: &mut E, from: IpAddr, why: &str) {
+    write_line(log, format!(in alloc; "{from} closed: {why}\n"));
 }
 
 impl Talk {
@@ -166,7 +154,21 @@ impl Talk {
 
     /// Gives it up before its request was whole: a line says why.
     pub fn give_up<E: Write>(self, log: &mut E, why: &str) {
-        log_closed(self.alloc, log, why);
+        log_closed(self.alloc, log, self.arrival.from, why);
+    }
+
+    fn log_fault<E: Write>(&self, log: &mut E, fault: HttpFault) {
+        let from = self.arrival.from;
+        write_line(log, format!(in self.alloc; "{from} closed: {fault}\n"));
+    }
+
+    fn log_served<E: Write>(&self, log: &mut E, status: u16) {
+        let (from, count) = (self.arrival.from, self.told.bytes.len());
+        let (method, target) = self.came.asked();
+        write_line(
+            log,
+            format!(in self.alloc; "{from} {method} {target} {status} {count}\n"),
+        );
     }
 
     // Reads what has come of the request; returns whether the input has ended.
@@ -205,7 +207,7 @@ impl Talk {
             &mut self.told.bytes,
         ) {
             Ok(status) => {
-                log_served(self.alloc, log, &self.came, status, self.told.bytes.len());
+                self.log_served(log, status);
                 self.phase = Phase::Writing;
                 true
             }
@@ -214,7 +216,7 @@ impl Talk {
                 false
             }
             Err(fault) => {
-                log_fault(self.alloc, log, fault);
+                self.log_fault(log, fault);
                 self.phase = Phase::Over;
                 true
             }
@@ -227,7 +229,7 @@ impl Talk {
         match self.gather() {
             Ok(ended) => self.look(answers, ended, log),
             Err(_) => {
-                log_fault(self.alloc, log, HttpFault::ReadFault);
+                self.log_fault(log, HttpFault::ReadFault);
                 self.phase = Phase::Over;
                 true
             }
