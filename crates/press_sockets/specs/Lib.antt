@@ -1,3 +1,4 @@
 pub mod Listening
 pub mod Members
 pub mod Turns
+pub mod Screening

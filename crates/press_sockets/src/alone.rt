@@ -1,6 +1,6 @@
 //! A node by itself behind a server: it has nobody to call.
 
-use crate::screen::{Screen, Sort, refuse_form};
+use crate::screen::{Screen, Sort, refuse_form, refuse_without_memory};
 use crate::turn::serve_turn;
 use press_acceptor::PromiseStore;
 use press_http::HttpFault;
@@ -47,6 +47,21 @@ impl<'s, S: PromiseStore> Alone<'s, S> {
     }
 }
 
+impl<S: PromiseStore> Alone<'_, S> {
+    fn reply(&mut self, request: &[u8], told: &mut Vec<u8>) -> Result<u16, HttpFault>
+        requires always { Unit {0} }
+    {
+        match self.screen.sort_of(self.alloc, request)? {
+            Sort::Editor if self.screen.has_editor() => self.screen.show_editor(self.alloc, told),
+            Sort::Command(at) if self.screen.is_ahead(at, self.time.seconds) => refuse_form(told),
+            _ => {
+                let mut rest = request;
+                serve_turn(self.alloc, &mut self.node, &mut rest, told)
+            }
+        }
+    }
+}
+
 impl<S: PromiseStore> Answers for Alone<'_, S> {
     ghost answers = { λ _ _ _. Unit {0} };
 
@@ -68,13 +83,9 @@ impl<S: PromiseStore> Answers for Alone<'_, S> {
     ) -> Result<u16, HttpFault>
         requires always { Unit {0} }
     {
-        match self.screen.sort_of(self.alloc, request) {
-            Sort::Editor if self.screen.has_editor() => self.screen.show_editor(self.alloc, told),
-            Sort::Command(at) if self.screen.is_ahead(at, self.time.seconds) => refuse_form(told),
-            _ => {
-                let mut rest = request;
-                serve_turn(self.alloc, &mut self.node, &mut rest, told)
-            }
+        match self.reply(request, told) {
+            Err(HttpFault::NoMemory) => refuse_without_memory(told),
+            replied => replied,
         }
     }
 

@@ -5,7 +5,8 @@ ghost use Rattle.std.specs.Prelude.{◌≡◌};
 use crate::pace::{Due, Pace};
 use crate::peers::{Peers, member_at};
 use crate::screen::{
-    Screen, Sort, Standing, not_found, refuse_for_now, refuse_form, show_ready, sort_of,
+    Screen, Sort, Standing, not_found, refuse_for_now, refuse_form, refuse_without_memory,
+    show_ready, sort_of,
 };
 use press_acceptor::PromiseStore;
 use press_http::HttpFault;
@@ -318,6 +319,23 @@ impl<'s, S: PromiseStore> Clustered<'s, S> {
         };
         show_ready(self.alloc, standing, told)
     }
+
+    fn reply(&mut self, from: IpAddr, request: &[u8], told: &mut Vec<u8>) -> Result<u16, HttpFault>
+        requires always { Unit {0} }
+    {
+        let is_peer = self.peers.has(from);
+        if is_peer && is_message(request) {
+            return self.serve(request, told);
+        }
+        match sort_of(self.alloc, request)? {
+            Sort::Ready => self.show_ready(told),
+            Sort::Editor if self.screen.has_editor() => self.screen.show_editor(self.alloc, told),
+            Sort::Peer if !is_peer => not_found(told),
+            Sort::Command(_) | Sort::Page if !self.pace.is_settled() => refuse_for_now(told),
+            Sort::Command(at) if self.screen.is_ahead(at, self.time.seconds) => refuse_form(told),
+            _ => self.serve(request, told),
+        }
+    }
 }
 
 impl<S: PromiseStore> Answers for Clustered<'_, S> {
@@ -339,17 +357,9 @@ impl<S: PromiseStore> Answers for Clustered<'_, S> {
     fn answer(&mut self, from: IpAddr, request: &[u8], told: &mut Vec<u8>) -> Result<u16, HttpFault>
         requires always { Unit {0} }
     {
-        let is_peer = self.peers.has(from);
-        if is_peer && is_message(request) {
-            return self.serve(request, told);
-        }
-        match sort_of(self.alloc, request) {
-            Sort::Ready => self.show_ready(told),
-            Sort::Editor if self.screen.has_editor() => self.screen.show_editor(self.alloc, told),
-            Sort::Peer if !is_peer => not_found(told),
-            Sort::Command(_) | Sort::Page if !self.pace.is_settled() => refuse_for_now(told),
-            Sort::Command(at) if self.screen.is_ahead(at, self.time.seconds) => refuse_form(told),
-            _ => self.serve(request, told),
+        match self.reply(from, request, told) {
+            Err(HttpFault::NoMemory) => refuse_without_memory(told),
+            replied => replied,
         }
     }
 

@@ -1,5 +1,10 @@
 //! What a server does with a request before its node sees it.
 
+ghost use Rattle.std.specs.Prelude.{◌≡◌, ◌≢◌, IfOk, MatchResult, Some};
+ghost use Rattle.std.specs.Io.KnownBytes.{Appends};
+ghost use Rattle.press_http.specs.Replies.{fault_bytes};
+ghost use Rattle.press_sockets.specs.Screening.{IsOfSort, sort_by, sort_named};
+
 use press_http::{Asked, HttpFault, read_request, route, write_fault, write_reply};
 use press_page::{ContentKind, Reply};
 use press_server::words_of;
@@ -23,7 +28,9 @@ pub enum Sort {
     Other,
 }
 
-fn sort_of_asked(asked: &Asked) -> Sort {
+fn sort_of_asked(asked: &Asked) -> Sort
+    ensures { result ≡ sort_named asked.now }
+{
     match asked {
         Asked::Peer(_) => Sort::Peer,
         Asked::Command(stamped) => Sort::Command(stamped.at.seconds()),
@@ -31,22 +38,36 @@ fn sort_of_asked(asked: &Asked) -> Sort {
     }
 }
 
-/// What a request asks for.
-pub fn sort_of(alloc: Global, bytes: &[u8]) -> Sort {
+// A request that is refused is of no sort; where there was no memory, nothing is known of it.
+fn sort_refused(fault: HttpFault) -> Result<Sort, HttpFault>
+    ensures { MatchResult result (λ sort. (sort ≡ Sort.Other) × (fault ≢ HttpFault.NoMemory))
+        (λ e. (e ≡ HttpFault.NoMemory) × (fault ≡ HttpFault.NoMemory)) }
+{
+    match fault {
+        HttpFault::NoMemory => Err(fault),
+        _ => Ok(Sort::Other),
+    }
+}
+
+/// What a request asks for. Its only fault is that there is no memory to see it.
+pub fn sort_of(alloc: Global, bytes: &[u8]) -> Result<Sort, HttpFault>
+    ensures { MatchResult result (IsOfSort bytes.now) (λ e. e ≡ HttpFault.NoMemory) }
+{
     let mut rest = bytes;
-    let Ok(request) = read_request(alloc, &mut rest) else {
-        return Sort::Other;
+    let request = match read_request(alloc, &mut rest) {
+        Ok(request) => request,
+        Err(fault) => return sort_refused(fault),
     };
     let (method, target) = words_of(bytes);
     if method == "GET" && target == "/ready" {
-        return Sort::Ready;
+        return Ok(Sort::Ready);
     }
     if method == "GET" && target == "/editor" {
-        return Sort::Editor;
+        return Ok(Sort::Editor);
     }
     match route(alloc, &request) {
-        Ok(asked) => sort_of_asked(&asked),
-        Err(_) => Sort::Other,
+        Ok(asked) => Ok(sort_of_asked(&asked)),
+        Err(fault) => sort_refused(fault),
     }
 }
 
@@ -72,9 +93,9 @@ impl Screen {
     }
 
     /// What a request asks for, where that matters for what an operator asked for.
-    pub fn sort_of(&self, alloc: Global, bytes: &[u8]) -> Sort {
+    pub fn sort_of(&self, alloc: Global, bytes: &[u8]) -> Result<Sort, HttpFault> {
         if self.editor.is_none() && self.ahead.is_none() {
-            return Sort::Other;
+            return Ok(Sort::Other);
         }
         sort_of(alloc, bytes)
     }
@@ -117,6 +138,15 @@ pub fn refuse_form(told: &mut Vec<u8>) -> Result<u16, HttpFault> {
 pub fn not_found(told: &mut Vec<u8>) -> Result<u16, HttpFault> {
     write_fault(told, 404)?;
     Ok(404)
+}
+
+/// There was no memory to see what was asked, or for the reply.
+pub fn refuse_without_memory(told: &mut Vec<u8>) -> Result<u16, HttpFault>
+    ensures { IfOk result (λ status. (status ≡ 503)
+        × Appends (Some told.old.items) (Some told.new.items) (fault_bytes 503)) }
+{
+    write_fault(told, 503)?;
+    Ok(503)
 }
 
 fn tell(told: &mut Vec<u8>, line: &[u8]) -> Result<(), HttpFault> {

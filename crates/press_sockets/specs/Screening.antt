@@ -1,0 +1,25 @@
+-- What a server sees of a request before its node does (own).
+use Rattle.std.specs.Prelude.{◌≡◌, ◌≢◌, ◌⊎◌, ◌++◌, List, ℕ, Option, Some, Result, Ok, Err}
+use Rattle.press_http.specs.declared.asked.Asked.{Asked}
+use Rattle.press_http.specs.declared.asked.Asked.TheVariants as asked
+use Rattle.press_http.specs.declared.fault.HttpFault.{HttpFault}
+use Rattle.press_http.specs.declared.fault.HttpFault.TheVariants.{NoMemory}
+use Rattle.press_node.specs.Serving.{AsksFor}
+use Rattle.press_sockets.specs.declared.screen.Sort.{Sort}
+use Rattle.press_sockets.specs.declared.screen.Sort.TheVariants.{Ready, Editor, Peer, Command, Page, Other}
+
+abbrev pub sort_named : Asked → Sort
+sort_named (asked.Peer message) = Peer
+sort_named (asked.Command stamped) = Command stamped.at
+sort_named (asked.Page target) = Page
+
+-- what is refused is of no sort
+abbrev pub sort_by : Result Asked HttpFault → Sort
+sort_by (Ok what) = sort_named what
+sort_by (Err fault) = Other
+
+-- it is one of the server's own paths, or the sort of what the bytes ask for, and not of want of memory
+abbrev pub IsOfSort : List ℕ → Sort → Type 0
+IsOfSort bytes sort =
+    (sort ≡ Ready) ⊎ (sort ≡ Editor)
+    ⊎ ((seen left : List ℕ) × (bytes ≡ seen ++ left) × ((meant : Result Asked HttpFault) × AsksFor seen (Some left) meant × (meant ≢ Err NoMemory) × (sort ≡ sort_by meant)))
