@@ -1,12 +1,14 @@
 -- A turn of a server: what a connection, and behind a command that was taken a wake with the node's own messages, make of a node (own). A fault of any event ends it
 -- there.
-use Rattle.std.specs.Prelude.{◌≡◌, ◌≢◌, ◌⊎◌, ◌<◌, ◌≤◌, ℕ, zero, suc, List, [], ◌∷◌, ◌++◌, Option, None, Some, IsSome, Result, Ok, Err}
+use Rattle.std.specs.Prelude.{◌≡◌, ◌≢◌, ◌⊎◌, ◌<◌, ◌≤◌, ℕ, zero, suc, false, List, [], ◌∷◌, ◌++◌, Option, None, Some, Result, Ok, Err}
+use Rattle.press_acceptor.specs.declared.fault.StoreFault.{StoreFault}
 use Rattle.press_http.specs.declared.fault.HttpFault.{HttpFault}
 use Rattle.press_wire.specs.declared.message.Message.{Message}
 use Rattle.press_node.specs.declared.event.Event.TheVariants.{Wake, Deliver}
 use Rattle.press_node.specs.declared.fault.NodeFault.{NodeFault}
 use Rattle.press_node.specs.declared.fault.NodeFault.TheVariants.{NoMemory}
 use Rattle.press_node.specs.declared.serve.Served.{Served}
+use Rattle.press_node.specs.Faults.{of_store, stops}
 use Rattle.press_node.specs.Nodes.{NodeMove}
 use Rattle.press_node.specs.Serving.{Serves}
 
@@ -39,10 +41,16 @@ module _ {N : Type 0} (moved : N → N → NodeMove) where
       (outcome : Result (List Message) NodeFault) × (next : N) × (moved node next).plays Wake outcome
       × GoesOn (λ sent. Delivers most_deliveries sent next after fault) next after fault outcome
 
-  -- It is woken until a wake fails or applies nothing more. The function counts what a node has applied.
-  pub data CatchesUp (count : N → ℕ) : N → N → Type 0 where
-    rests : (node after : N) (fault : Option NodeFault) → Wakes node after fault → IsSome fault ⊎ (count after ≤ count node) → CatchesUp count node after
-    goes_on : (node next after : N) → Wakes node next None → count node < count next → CatchesUp count next after → CatchesUp count node after
+  -- It is woken until a wake applies nothing more or is refused; what stops it ends that with a fault. The function counts what a node has applied.
+  pub data CatchesUp (count : N → ℕ) : N → N → Option StoreFault → Type 0 where
+    rests : (node after : N) → Wakes node after None → count after ≤ count node → CatchesUp count node after None
+    is_refused : (node after : N) (fault : NodeFault) → Wakes node after (Some fault) → stops fault ≡ false → CatchesUp count node after None
+    is_stopped : (node after : N) (stop : StoreFault) → Wakes node after (Some (of_store stop)) → CatchesUp count node after (Some stop)
+    goes_on : (node next after : N) (stop : Option StoreFault) → Wakes node next None → count node < count next → CatchesUp count next after stop → CatchesUp count node after stop
+
+  -- it began so, and has caught up with its store
+  abbrev pub HasCaughtUp : (N → ℕ) → (N → Type 0) → N → Type 0
+  HasCaughtUp count Began node = (fresh : N) × Began fresh × CatchesUp count fresh node None
 
   -- behind 202 there is a wake, whatever comes of it, and behind any other status nothing
   abbrev pub WakesAfter : ℕ → N → N → Type 0

@@ -1,10 +1,11 @@
 //! What a member of a cluster begins with: its peers, its store, and how many slots it knows to be chosen.
 
-ghost use Rattle.std.specs.Prelude.{◌≡◌, IfOk, length, option_map};
+ghost use Rattle.std.specs.Prelude.{◌≡◌, ◌≢◌, IfOk, length, option_map};
 ghost use Rattle.press_callbacks.specs.Kits.{kit_view};
-ghost use Rattle.press_node.specs.Nodes.{kit_of, state_of, store_of};
-ghost use Rattle.press_node.specs.States.{started_at};
+ghost use Rattle.press_node.specs.Nodes.{kit_of, node_moved, state_of, store_of};
+ghost use Rattle.press_node.specs.States.{applied_count, started_at};
 ghost use Rattle.press_sockets.specs.Members.{number_of};
+ghost use Rattle.press_sockets.specs.Turns.{HasCaughtUp};
 
 use crate::member::{Clustered, Party};
 use crate::pace::Pace;
@@ -90,6 +91,32 @@ fn begin_member<S: PromiseStore + Drop>(
     }
 }
 
+// The same member, which has caught up with its store where it is the only one.
+fn begin_caught_up<S: PromiseStore + Drop>(
+    alloc: Global,
+    peers: &Peers,
+    kit: Kit,
+    store: S,
+) -> Result<Node<S>, ServeFault>
+    requires always { Unit {0} }
+    ensures kit { IfOk result (λ node. kit_of node ≡ kit_view kit) }
+    ensures joins { length peers.now.all.items ≢ 1 → IfOk result
+        (λ node. (S.seen (store_of node)).is_honest → state_of node
+        ≡ started_at peers.now.own (length peers.now.all.items) (S.seen store).kept.last_round) }
+    ensures caught_up { length peers.now.all.items ≡ 1 → IfOk result
+        (λ node. HasCaughtUp (λ a b. node_moved S.seen a b) (λ n. applied_count (state_of n))
+        (λ n. (S.seen (store_of n)).is_honest → state_of n
+        ≡ started_at peers.now.own (length peers.now.all.items) (S.seen store).kept.last_round)
+        node) }
+{
+    let mut node = begin_member(alloc, peers, kit, store)?;
+    if peers.count() != 1 {
+        return Ok(node);
+    }
+    catch_up(alloc, &mut node)?;
+    Ok(node)
+}
+
 /// The member, over its store.
 pub fn join<'s, D: Alter + Drop>(
     alloc: Global,
@@ -102,9 +129,6 @@ pub fn join<'s, D: Alter + Drop>(
     let mut party = party;
     let mut store = store;
     party.pace.told(chosen_by(&mut store)?);
-    let mut node = begin_member(alloc, &party.peers, kit, store)?;
-    if party.peers.count() == 1 {
-        catch_up(alloc, &mut node);
-    }
+    let node = begin_caught_up(alloc, &party.peers, kit, store)?;
     Ok(Clustered::new(alloc, node, party))
 }

@@ -2,8 +2,12 @@
 
 ghost use Rattle.std.specs.Prelude.{◌≡◌, IfOk, string_bytes};
 ghost use Rattle.press_text.specs.Streams.{AppendsFront};
+ghost use Rattle.press_callbacks.specs.Kits.{kit_view};
+ghost use Rattle.press_node.specs.Nodes.{kit_of, node_moved, state_of, store_of};
+ghost use Rattle.press_node.specs.States.{applied_count, started_at};
 ghost use Rattle.press_sockets.specs.Listening.{listening_line, where_of};
 ghost use Rattle.press_sockets.specs.Listening.Where.{alone_at, member_of};
+ghost use Rattle.press_sockets.specs.Turns.{HasCaughtUp};
 
 use crate::alone::Alone;
 use crate::joining::{Seat, join, seat_of};
@@ -42,11 +46,33 @@ pub fn begin<S: PromiseStore + Drop>(
     alloc: Global,
     kit: Kit,
     store: S,
-) -> Result<Node<S>, StoreFault> {
+) -> Result<Node<S>, StoreFault>
+    ensures kit { IfOk result (λ node. kit_of node ≡ kit_view kit) }
+    ensures begins { IfOk result (λ node. (S.seen (store_of node)).is_honest → state_of node
+        ≡ started_at 1 1 (S.seen store).kept.last_round) }
+{
     match Node::start(alloc, member(), 1, kit, store) {
         Ok(node) => Ok(node),
         Err(StartFault { fault, .. }) => Err(fault),
     }
+}
+
+// The same node, once it has caught up with its store.
+fn begin_caught_up<S: PromiseStore + Drop>(
+    alloc: Global,
+    kit: Kit,
+    store: S,
+) -> Result<Node<S>, StoreFault>
+    requires always { Unit {0} }
+    ensures kit { IfOk result (λ node. kit_of node ≡ kit_view kit) }
+    ensures caught_up { IfOk result (λ node. HasCaughtUp (λ a b. node_moved S.seen a b)
+        (λ n. applied_count (state_of n))
+        (λ n. (S.seen (store_of n)).is_honest → state_of n
+        ≡ started_at 1 1 (S.seen store).kept.last_round) node) }
+{
+    let mut node = begin(alloc, kit, store)?;
+    catch_up(alloc, &mut node)?;
+    Ok(node)
 }
 
 #[tactic(auto, unfolding(crate::specs::Listening::listening_line))]
@@ -164,8 +190,7 @@ fn serve_alone<S: PromiseStore + Drop, W: Write, E: Write>(
         ..
     } = beside;
     let Start { rt, setup } = start;
-    let mut node = begin(rt.alloc(), kit, store)?;
-    catch_up(rt.alloc(), &mut node);
+    let node = begin_caught_up(rt.alloc(), kit, store)?;
     let addr = loopback(port_of(setup.place));
     let mut alone = Alone::new(rt.alloc(), addr, node, &screen);
     serve_over(start, &mut alone, writer, error)
@@ -198,8 +223,8 @@ fn serve_stored<D: Alter + Drop, W: Write, E: Write>(
 
 impl Setup<'_> {
     /// Serves one node: it listens, writes its line, and serves connections until as many as were asked for had their
-    /// turn, or until it is ended, with a line for each on the other writer. One by itself is first woken until nothing
-    /// more is applied; a member of a cluster answers no page and no command until its peers have nothing newer.
+    /// turn, or until it is ended, with a line for each on the other writer. One by itself has caught up with its store
+    /// by then; a member of a cluster answers no page and no command until its peers have nothing newer.
     #[tactic(auto, using(crate::proofs::Fronts::nothing))]
     pub fn serve<W: Write, E: Write>(
         &self,

@@ -1,12 +1,14 @@
 //! One turn of a server: a connection, and after a command that was taken a wake with what the node sends to itself.
 
-ghost use Rattle.std.specs.Prelude.{◌≡◌, ◌++◌, OnOk};
+ghost use Rattle.std.specs.Prelude.{◌≡◌, ◌++◌, OnOk, MatchOption, false};
+ghost use Rattle.press_acceptor.specs.Seen.{fault_in};
+ghost use Rattle.press_node.specs.Faults.{of_store, stops};
 ghost use Rattle.press_node.specs.Nodes.{kit_of, node_moved, state_of};
 ghost use Rattle.press_node.specs.Plays.{sent};
 ghost use Rattle.press_node.specs.States.{applied_count};
 ghost use Rattle.press_sockets.specs.Turns.{CatchesUp, Delivers, ServesTurn, Wakes, fault_of};
 
-use press_acceptor::PromiseStore;
+use press_acceptor::{PromiseStore, StoreFault};
 use press_http::HttpFault;
 use press_node::{Event, Node, NodeFault, serve_one};
 use press_wire::Message;
@@ -84,19 +86,40 @@ pub fn wake<S: PromiseStore>(alloc: Global, node: &mut Node<S>) -> Result<(), No
     }
 }
 
-/// Has what its store keeps chosen again, and applied: wakes it until a wake fails or applies nothing more.
-pub fn catch_up<S: PromiseStore>(alloc: Global, node: &mut Node<S>)
+// What stopped the node, where the fault is more than a refusal.
+fn stop_of(fault: NodeFault) -> Option<StoreFault>
+    ensures { MatchOption result (stops fault ≡ false) (λ by. fault ≡ of_store by) }
+{
+    match fault {
+        NodeFault::NoMemory => Some(StoreFault::NoMemory),
+        NodeFault::Disk => Some(StoreFault::Disk),
+        NodeFault::Damaged => Some(StoreFault::Damaged),
+        NodeFault::Down
+        | NodeFault::TooLong
+        | NodeFault::Full
+        | NodeFault::SlotsUsedUp
+        | NodeFault::RoundsUsedUp => None,
+    }
+}
+
+/// Has what its store keeps chosen again, and applied: wakes it until a wake applies nothing more or is refused. Out of
+/// memory, or a fault of the store, in one of them is returned.
+pub fn catch_up<S: PromiseStore>(alloc: Global, node: &mut Node<S>) -> Result<(), StoreFault>
     requires always { Unit {0} }
-    ensures { CatchesUp (λ a b. node_moved S.seen a b)
-        (λ n. applied_count (state_of n)) node.old node.new }
+    ensures kit { kit_of node.new ≡ kit_of node.old }
+    ensures catches_up { CatchesUp (λ a b. node_moved S.seen a b)
+        (λ n. applied_count (state_of n)) node.old node.new (fault_in result) }
 {
     'wakes: loop {
         let applied = node.applied();
-        let Ok(()) = wake(alloc, node) else {
-            return;
-        };
+        if let Err(fault) = wake(alloc, node) {
+            return match stop_of(fault) {
+                Some(stop) => Err(stop),
+                None => Ok(()),
+            };
+        }
         if node.applied() <= applied {
-            return;
+            return Ok(());
         }
     }
 }
