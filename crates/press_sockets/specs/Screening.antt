@@ -1,9 +1,10 @@
 -- What a server sees of a request before its node does (own).
-use Rattle.std.specs.Prelude.{◌≡◌, ◌≢◌, ◌⊎◌, ◌++◌, List, ℕ, Option, Some, Result, Ok, Err}
+use Rattle.std.specs.Prelude.{◌≡◌, ◌≢◌, ◌⊎◌, List, ℕ, Option, Some, Result, Ok, Err}
 use Rattle.press_http.specs.declared.asked.Asked.{Asked}
 use Rattle.press_http.specs.declared.asked.Asked.TheVariants as asked
 use Rattle.press_http.specs.declared.fault.HttpFault.{HttpFault}
 use Rattle.press_http.specs.declared.fault.HttpFault.TheVariants.{NoMemory}
+use Rattle.std.specs.Io.KnownBytes.{Consumes}
 use Rattle.press_node.specs.Serving.{AsksFor}
 use Rattle.press_sockets.specs.declared.screen.Sort.{Sort}
 use Rattle.press_sockets.specs.declared.screen.Sort.TheVariants.{Ready, Editor, Peer, Command, Page, Other}
@@ -22,4 +23,5 @@ sort_by (Err fault) = Other
 abbrev pub IsOfSort : List ℕ → Sort → Type 0
 IsOfSort bytes sort =
     (sort ≡ Ready) ⊎ (sort ≡ Editor)
-    ⊎ ((seen left : List ℕ) × (bytes ≡ seen ++ left) × ((meant : Result Asked HttpFault) × AsksFor seen (Some left) meant × (meant ≢ Err NoMemory) × (sort ≡ sort_by meant)))
+    ⊎ ((seen : List ℕ) × (left : Option (List ℕ)) × Consumes (Some bytes) left seen × (meant : Result Asked HttpFault) × AsksFor seen left meant
+    × (meant ≢ Err NoMemory) × (sort ≡ sort_by meant))
