@@ -1,6 +1,10 @@
 //! Plays a node by itself over memory: `press_alone WORD ..`. `new`, `kit=FILE`, `fails-before=N` and `fails-after=N`
-//! begin with new nodes; `replay=FILE` plays the schedule of a cluster; any other FILE is a connection that is served,
-//! and `cuts=FILE` a connection for each byte at which it may be cut;
+//! begin with new nodes; `replay=FILE` plays the schedule of a cluster, `long=N:FILE` the one that a file's lines
+//! make where the second stands N times, and `numbers=FILE` those that its lines are with each of some numbers; any
+//! other FILE is a connection that is served, and `cuts=FILE` a connection for each byte at which it may be cut;
+//! `reads=FILE` and `writes=FILE` are connections of which each read, or each write, fails in turn; `wants=FILE` and
+//! `wants-in=KIT FILE ..` run a play file, and schedules, over closures that run out of memory at each of their calls in
+//! turn, and `replay-fails=FILE` a schedule over reads and writes that fail likewise;
 //! `wake`, `deliver`, `settle`, `stop` and `fill=N` are what happens beside connections; `commands=N`, `applies=N` and,
 //! before a FILE, `serves=N` are for whoever measures it.
 //!
@@ -8,14 +12,22 @@
 //! `docs/DECISIONS.md` says why the checker wants it.
 #![tactic(auto)]
 
+mod cluster;
+mod downs;
+mod failing;
+mod faults;
+mod fuse;
 mod lines;
 mod pieces;
 mod played;
 mod posts;
+mod runs;
 mod schedules;
 mod seat;
 mod seats;
 mod store;
+mod wanting;
+mod wants;
 mod word;
 mod words;
 

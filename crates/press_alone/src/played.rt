@@ -1,7 +1,8 @@
 //! A scene, played.
 
-use crate::schedules::replay_file;
+use crate::schedules::{fail_replay, play_cluster, replay_file, replay_long, replay_numbers};
 use crate::seats::Seats;
+use crate::wanting::play_wants;
 use crate::word::Word;
 use crate::words::{Scene, Start};
 use press_callbacks::{BoxedTurns, CallIn, Kit, Stored, script_turn};
@@ -17,7 +18,7 @@ const EMPTY_KIT: &[u8] = b"{\"callbacks\":[],\"plugins\":[]}";
 fn kit_file(rt: &HostRuntime, start: Start<'_>) -> anyhow::Result<Vec<u8>> {
     match start {
         Start::Kit(name) => Ok(fs::read(rt, name)?),
-        Start::New | Start::FailsBefore(_) | Start::FailsAfter(_) | Start::Replay(_) => {
+        _ => {
             let mut file = Vec::new(rt.alloc());
             file.extend_from_slice(EMPTY_KIT)?;
             Ok(file)
@@ -28,7 +29,9 @@ fn kit_file(rt: &HostRuntime, start: Start<'_>) -> anyhow::Result<Vec<u8>> {
 // The bytes of the file that an argument names.
 fn request(rt: &HostRuntime, word: Word<'_>) -> anyhow::Result<Vec<u8>> {
     match word {
-        Word::File(name) | Word::Cuts(name) => Ok(fs::read(rt, name)?),
+        Word::File(name) | Word::Cuts(name) | Word::Reads(name) | Word::Writes(name) => Ok(fs::read(
+            rt, name,
+        )?),
         _ => Ok(Vec::new(rt.alloc())),
     }
 }
@@ -37,6 +40,11 @@ fn request(rt: &HostRuntime, word: Word<'_>) -> anyhow::Result<Vec<u8>> {
 pub fn play(rt: &HostRuntime, scene: &Scene<'_>) -> anyhow::Result<()> {
     match scene.start {
         Start::Replay(name) => replay_file(rt, name),
+        Start::Long(count, name) => replay_long(rt, count, name),
+        Start::Numbers(name) => replay_numbers(rt, name),
+        Start::Fails(name) => fail_replay(rt, name),
+        Start::Wants(name) => play_wants(rt, name),
+        Start::WantsIn(name) => play_cluster(rt, name, scene.words.as_slice()),
         Start::New | Start::Kit(_) | Start::FailsBefore(_) | Start::FailsAfter(_) => {
             play_words(rt, scene)
         }

@@ -7,12 +7,16 @@ use crate::pieces::Pieces;
 use crate::posts::post;
 use crate::store::Failing;
 use crate::word::Turn;
+use press_apply::Stamped;
 use press_callbacks::Kit;
+use press_http::HttpFault;
 use press_node::{Event, Node, NodeFault, Served, StartFault, serve_one};
+use press_page::{Reply, Target};
 use press_wire::{Message, Node as Member};
 use std::alloc::{AllocError, Global};
 use std::collections::VecDeque;
 use std::io;
+use std::io::{Read, Write};
 
 /// A node by itself, the messages that it sent to itself, and in what pieces its connections come.
 #[derive(Drop)]
@@ -177,14 +181,79 @@ impl Seat {
     }
 
     /// Submits a command, which is then chosen.
-    pub fn choose(&mut self, seq: u32) -> anyhow::Result<()>
+    pub fn choose(&mut self, command: Stamped) -> Result<(), NodeFault>
         requires always { Unit {0} }
     {
-        let command = post(self.alloc, seq)?;
         self.on(Event::Submit(command))?;
+        self.go_on()
+    }
+
+    /// Wakes the node, and delivers messages until none waits.
+    pub fn go_on(&mut self) -> Result<(), NodeFault>
+        requires always { Unit {0} }
+    {
         self.on(Event::Wake)?;
-        self.deliver_all(&mut 0)?;
-        Ok(())
+        self.deliver_all(&mut 0)
+    }
+
+    /// Whether the node is down, and answers so.
+    pub fn is_down(&mut self) -> bool
+        requires always { Unit {0} }
+    {
+        let got: Result<Reply, NodeFault> = self.node.get(&Target::Front);
+        self.node.is_down()
+            && self.node.applied() == 0
+            && got.err() == Some(NodeFault::Down)
+            && self.on(Event::Wake).err() == Some(NodeFault::Down)
+    }
+
+    /// The reply to the bytes of one connection in one piece.
+    pub fn reply_to(&mut self, bytes: &[u8]) -> anyhow::Result<Vec<u8>>
+        requires always { Unit {0} }
+    {
+        let mut reader = Pieces::new(bytes, bytes.len());
+        let mut reply = Vec::new(self.alloc);
+        self.serve_on(&mut reader, &mut reply)?;
+        Ok(reply)
+    }
+
+    pub fn store(&self) -> &Failing {
+        self.node.store()
+    }
+
+    /// Serves a connection; the status of its reply.
+    pub fn serve_on<R: Read, W: Write>(
+        &mut self,
+        reader: &mut R,
+        writer: &mut W,
+    ) -> Result<u16, HttpFault>
+        requires always { Unit {0} }
+    {
+        let Served { status, outbox } = serve_one(&mut self.node, reader, writer)?;
+        match self.wait(outbox) {
+            Ok(_) => Ok(status),
+            Err(AllocError) => Err(HttpFault::NoMemory),
+        }
+    }
+
+    /// Ends the node; its kit and its store.
+    pub fn down(self) -> (Kit, Failing)
+        requires always { Unit {0} }
+    {
+        let Seat { node, .. } = self;
+        node.down()
+    }
+
+    /// Kit and store of a node that doesn't start.
+    pub fn refused_start(
+        alloc: Global,
+        kit: Kit,
+        store: Failing,
+    ) -> anyhow::Result<(Kit, Failing)> {
+        match Node::start(alloc, member(), 1, kit, store) {
+            Ok(_) => Err(anyhow::anyhow!("a node over a shut store")),
+            Err(StartFault { kit, store, .. }) => Ok((kit, store)),
+        }
     }
 
     /// Serves the bytes of one connection in one piece, and drops its reply.

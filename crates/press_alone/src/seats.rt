@@ -1,6 +1,7 @@
 //! Nodes side by side, whose connections come in pieces of different sizes. They have to answer alike.
 
-use crate::posts::applied;
+use crate::faults::Connections;
+use crate::posts::{applied, post};
 use crate::seat::Seat;
 use crate::store::{Failing, Plan};
 use crate::word::{Turn, Word};
@@ -122,14 +123,15 @@ impl Seats {
     fn commands(&mut self, count: u32) -> anyhow::Result<Vec<u8>>
         requires always { Unit {0} }
     {
-        let mut k = 0;
+        let (mut k, alloc) = (0, self.alloc);
         if let Some(seat) = self.alone() {
             for seq in 0..count {
-                seat.choose(seq)?;
+                let command = post(alloc, seq)?;
+                seat.choose(command)?;
             }
             k = seat.applied();
         }
-        Ok(format!(in self.alloc; "commands={count}: k={k}\n")?.into_bytes())
+        Ok(format!(in alloc; "commands={count}: k={k}\n")?.into_bytes())
     }
 
     fn serves(&mut self, request: &[u8], times: u32) -> anyhow::Result<Vec<u8>>
@@ -143,6 +145,25 @@ impl Seats {
             k = seat.applied();
         }
         Ok(format!(in self.alloc; "serves={times}: k={k}\n")?.into_bytes())
+    }
+
+    fn failing(&mut self, word: Word<'_>, request: &[u8]) -> anyhow::Result<Vec<u8>>
+        requires always { Unit {0} }
+    {
+        let alloc = self.alloc;
+        let Some(seat) = self.alone() else {
+            return Ok(Vec::new(alloc));
+        };
+        let mut connections = Connections {
+            alloc,
+            seat,
+            request,
+        };
+        match word {
+            Word::Reads(name) => Ok(connections.reads(name)?.into_bytes()),
+            Word::Writes(name) => Ok(connections.writes(name)?.into_bytes()),
+            _ => Ok(Vec::new(alloc)),
+        }
     }
 
     /// What is printed for an argument; a file's bytes come with it.
@@ -159,6 +180,7 @@ impl Seats {
                 Ok(Vec::new(self.alloc))
             }
             Word::Cuts(name) => self.cuts(name, request),
+            Word::Reads(_) | Word::Writes(_) => self.failing(word, request),
             Word::File(name) => match self.times.take() {
                 Some(times) => self.serves(request, times),
                 None => self.serve(name, request),

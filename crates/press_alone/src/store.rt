@@ -56,6 +56,18 @@ impl Failing {
         }
     }
 
+    /// What is kept, over a device that is shut.
+    pub fn shut(self) -> Failing {
+        let Failing { memory, .. } = self;
+        Failing {
+            memory,
+            plan: Plan::Never,
+            saves: 0,
+            works: false,
+            faults: 0,
+        }
+    }
+
     pub fn memory(&self) -> &MemoryStore {
         &self.memory
     }

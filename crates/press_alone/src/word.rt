@@ -29,6 +29,10 @@ pub enum Word<'w> {
     Serves(u32),
     /// Each front of a file is served, from none of its bytes to all but the last.
     Cuts(&'w str),
+    /// A file is served, and each of its reads fails in turn.
+    Reads(&'w str),
+    /// A file is served, and each write of its reply fails in turn.
+    Writes(&'w str),
     /// A file is served.
     File(&'w str),
 }
@@ -50,14 +54,25 @@ impl<'w> Word<'w> {
         None
     }
 
+    fn named(word: &'w str) -> Option<Word<'w>> {
+        if let Some(name) = word.strip_prefix("cuts=") {
+            return Some(Word::Cuts(name));
+        }
+        if let Some(name) = word.strip_prefix("reads=") {
+            return Some(Word::Reads(name));
+        }
+        let name = word.strip_prefix("writes=")?;
+        Some(Word::Writes(name))
+    }
+
     pub fn from_word(word: &'w str) -> Word<'w> {
         match word {
             "wake" => Word::Turn(Turn::Wake),
             "deliver" => Word::Turn(Turn::Deliver),
             "settle" => Word::Turn(Turn::Settle),
             "stop" => Word::Stop,
-            _ => match word.strip_prefix("cuts=") {
-                Some(name) => Word::Cuts(name),
+            _ => match Word::named(word) {
+                Some(named) => named,
                 None => Word::counted(word).unwrap_or(Word::File(word)),
             },
         }

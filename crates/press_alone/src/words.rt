@@ -15,15 +15,25 @@ pub enum Start<'w> {
     FailsAfter(u32),
     /// No node, but the schedule of a file.
     Replay(&'w str),
+    /// The schedule of a file whose second line stands that many times.
+    Long(u32, &'w str),
+    /// The schedules that a file's lines are with each of some numbers.
+    Numbers(&'w str),
+    /// What a play file has, over closures that run out of memory.
+    Wants(&'w str),
+    /// Schedules over the kit of a file, whose closures run out of memory.
+    WantsIn(&'w str),
+    /// The schedule of a file, over a reader and a writer that fail.
+    Fails(&'w str),
 }
 
 impl<'w> Start<'w> {
     /// When the stores fail.
     pub fn plan(self) -> Plan {
         match self {
-            Start::New | Start::Kit(_) | Start::Replay(_) => Plan::Never,
             Start::FailsBefore(number) => Plan::Before(number),
             Start::FailsAfter(number) => Plan::After(number),
+            _ => Plan::Never,
         }
     }
 
@@ -36,6 +46,22 @@ impl<'w> Start<'w> {
         }
         if let Some(name) = word.strip_prefix("replay=") {
             return Some(Start::Replay(name));
+        }
+        if let Some(name) = word.strip_prefix("numbers=") {
+            return Some(Start::Numbers(name));
+        }
+        if let Some(rest) = word.strip_prefix("long=") {
+            let (count, name) = rest.split_once(':')?;
+            return Some(Start::Long(count.parse().ok()?, name));
+        }
+        if let Some(name) = word.strip_prefix("wants=") {
+            return Some(Start::Wants(name));
+        }
+        if let Some(name) = word.strip_prefix("wants-in=") {
+            return Some(Start::WantsIn(name));
+        }
+        if let Some(name) = word.strip_prefix("replay-fails=") {
+            return Some(Start::Fails(name));
         }
         if let Some(number) = number_behind("fails-before=", word) {
             return Some(Start::FailsBefore(number));
