@@ -1,5 +1,5 @@
 -- What an object has at its keys (RFC 8259, 4), or the place that is bad. Of a repeated key the last counts, as the kit's `serde_json` reads it.
-use Rattle.std.specs.Prelude.{ℕ, ◌+◌, ◌^◌, ℤ, pos, List, [], ◌∷◌, Bool, false, bytes_eq, if◌then◌else◌, nat_lt, option_and_then, option_map, Option, Some, None, Result, Ok, Err, codes}
+use Rattle.std.specs.Prelude.{ℕ, ◌+◌, ◌^◌, ℤ, pos, List, [], ◌∷◌, Bool, false, bytes_eq, if◌then◌else◌, length, nat_le, nat_lt, option_and_then, option_map, Option, Some, None, Result, Ok, Err, codes}
 use Rattle.std.specs.List.{list_any, list_all}
 use Rattle.serde_json.specs.Data.{Data, Items, no_items, item, Members, no_members, member}
 use Rattle.serde_json.specs.Find.{get, as_str, as_number, as_u64, as_i64, as_array, as_object}
@@ -89,6 +89,13 @@ list_of (item d ds) = d ∷ list_of ds
 
 abbrev pub list_in : Data → Option (List Data)
 list_in d = option_map list_of (as_array d)
+
+abbrev pub few : ℕ → List Data → Option (List Data)
+few most ds = if nat_le (length ds) most then Some ds else None
+
+-- a list of at most so many items
+abbrev pub few_in : ℕ → Data → Option (List Data)
+few_in most d = option_and_then (few most) (list_in d)
 
 abbrev pub list_at : Place → List ℕ → Data → Result (List Data) Place
 list_at at key d = or_bad at (option_and_then list_in (get key d))

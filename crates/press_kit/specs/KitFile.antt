@@ -1,6 +1,6 @@
 -- Kit file: the callbacks and plugins that a JSON document (RFC 8259) gives, or the first place at which it is bad (own).
 -- A text is a list of parts, of which a string is this very text. Keys that nobody names are bad, so that a misspelt one does not pass for a default.
-use Rattle.std.specs.Prelude.{ℕ, ◌^◌, ℤ, List, [], ◌∷◌, length, nat_le, if◌then◌else◌, bytes_eq, Option, Some, None, is_some, option_map, option_and_then, Result, Ok, Err, codes}
+use Rattle.std.specs.Prelude.{ℕ, ◌-◌, ◌^◌, ℤ, List, [], ◌∷◌, length, nat_le, if◌then◌else◌, bytes_eq, Option, Some, None, is_some, option_map, option_and_then, Result, Ok, Err, codes}
 use Rattle.std.specs.Str.{is_utf8}
 use Rattle.serde_json.specs.Data.{Data}
 use Rattle.serde_json.specs.Read.{read}
@@ -25,7 +25,7 @@ use Rattle.press_kit.specs.declared.op_kind.OpKind.{OpKind}
 use Rattle.press_kit.specs.declared.op_kind.OpKind.TheVariants as kind
 use Rattle.press_kit.specs.declared.kit_parts.Scripted.{Scripted}
 use Rattle.press_kit.specs.declared.kit_parts.KitParts.{KitParts}
-use Rattle.press_kit.specs.Fields.{◌>>=◌, or_bad, only, text_at, name_at, number_in, number_at, below, default, signed_in, made, has_only, priority_at, accepted_at, list_in, list_at, each}
+use Rattle.press_kit.specs.Fields.{◌>>=◌, or_bad, only, text_at, name_at, number_in, number_at, below, default, signed_in, made, has_only, priority_at, accepted_at, list_in, few_in, list_at, each}
 use Rattle.press_kit.specs.Ops.{kind_of, keys_of}
 
 -- ---- files
@@ -104,17 +104,21 @@ parts_at at key d = do
   it ← or_bad at (get key d)
   text_of at it
 
-abbrev pub texts_where : Place → Option Data → Result (List (List Part)) Place
-texts_where at None = Ok []
-texts_where at (Some d) = do
-  ds ← or_bad at (list_in d)
+abbrev pub texts_where : ℕ → Place → Option Data → Result (List (List Part)) Place
+texts_where most at None = Ok []
+texts_where most at (Some d) = do
+  ds ← or_bad at (few_in most d)
   each text_of at 0 ds
 
--- the texts of a list, none where the key is missing
-abbrev pub texts_at : Place → List ℕ → Data → Result (List (List Part)) Place
-texts_at at key d = texts_where at (get key d)
+-- the texts of a list, at most so many, none where the key is missing
+abbrev pub texts_at : ℕ → Place → List ℕ → Data → Result (List (List Part)) Place
+texts_at most at key d = texts_where most at (get key d)
 
 -- ---- steps
+
+-- the most arguments that a step hands to a hook's callbacks, the text that a filter runs on among them
+abbrev pub most_args : ℕ
+most_args = 5
 
 abbrev pub hook_at : Place → Data → Result (List ℕ) Place
 hook_at at d = name_at 64 at (codes "hook") d
@@ -170,13 +174,13 @@ unfoldable pub filtered : Place → Data → Result Op Place
 filtered at d = do
   hook ← hook_at at d
   value ← parts_at at (codes "value") d
-  more ← texts_at at (codes "more") d
+  more ← texts_at (most_args - 1) at (codes "more") d
   Ok (op.Apply hook value more)
 
 unfoldable pub done : Place → Data → Result Op Place
 done at d = do
   hook ← hook_at at d
-  args ← texts_at at (codes "args") d
+  args ← texts_at most_args at (codes "args") d
   Ok (op.Do hook args)
 
 unfoldable pub hook_asked : Place → Data → Result Op Place

@@ -213,3 +213,15 @@ pub fn list(value: &Value) -> Option<&[Value]>
         Some(values) => Some(values.as_slice()),
     }
 }
+
+/// The values of an array of at most so many.
+pub fn few(value: &Value, most: usize) -> Option<&[Value]>
+    ensures { option_map (λ vs. map view vs.now) result ≡ spec.few_in most (view value.now) }
+{
+    let values = list(value)?;
+    if values.len() <= most {
+        Some(values)
+    } else {
+        None
+    }
+}

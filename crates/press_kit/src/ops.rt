@@ -19,6 +19,9 @@ use press_text::Every;
 use serde_json::Value;
 use std::alloc::Global;
 
+// The most arguments that a step hands to a hook's callbacks, the text that a filter runs on among them.
+const MOST_ARGS: usize = 5;
+
 fn every_named(word: &str) -> Option<Every>
     ensures { result ≡ spec.every_of word.now }
 {
@@ -172,7 +175,7 @@ impl<'v> Fields<'v> {
         Ok(Op::Apply {
             hook: self.hook("hook")?,
             value: self.parts("value")?,
-            more: self.texts("more")?,
+            more: self.texts("more", MOST_ARGS - 1)?,
         })
     }
 
@@ -182,7 +185,7 @@ impl<'v> Fields<'v> {
     {
         Ok(Op::Do {
             hook: self.hook("hook")?,
-            args: self.texts("args")?,
+            args: self.texts("args", MOST_ARGS)?,
         })
     }
 

@@ -9,7 +9,7 @@ ghost use Rattle.press_kit.specs.Fields.{or_bad};
 ghost use Rattle.press_kit.specs.KitFile as spec;
 
 use crate::fault::KitFileFault;
-use crate::fields::{Fields, has_only, list, number32};
+use crate::fields::{Fields, few, has_only, list, number32};
 use crate::listed::{Listed, each};
 use crate::place::Place;
 use press_callbacks::{Part, Parts, Source};
@@ -149,15 +149,15 @@ impl<'v> Fields<'v> {
         Parts::read(self.alloc, self.at, value)
     }
 
-    /// Texts by their parts; none where the key is missing.
-    pub fn texts(&self, key: &str) -> Result<Items<Parts>, KitFileFault>
-        ensures { Gives Refuses Ok result (spec.texts_at self.now.at key.now
+    /// At most so many texts by their parts; none where the key is missing.
+    pub fn texts(&self, key: &str, most: usize) -> Result<Items<Parts>, KitFileFault>
+        ensures { Gives Refuses Ok result (spec.texts_at most self.now.at key.now
             (view self.now.value.now)) }
     {
         match self.value.get(key) {
             None => Ok(Items::new(self.alloc)),
             Some(told) => {
-                let values = list(told).ok_or(self.at)?;
+                let values = few(told, most).ok_or(self.at)?;
                 each(self.alloc, self.at, values)
             }
         }
