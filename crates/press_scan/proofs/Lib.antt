@@ -9,6 +9,7 @@ pub mod Gathers
 pub mod Heads
 pub mod Lists
 pub mod Lower
+pub mod Many
 pub mod MapAtts
 pub mod Missings
 pub mod Named

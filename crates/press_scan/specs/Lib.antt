@@ -13,3 +13,4 @@ pub mod AttributesOf
 pub mod Keys
 pub mod Entries
 pub mod Kept
+pub mod Folded

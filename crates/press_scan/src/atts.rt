@@ -1,24 +1,33 @@
-ghost use Rattle.std.specs.Prelude.{◌≡◌, ◌<◌, length, option_map, slice_index_or};
+ghost use Rattle.std.specs.Prelude.{◌≡◌, ◌<◌, ◌^◌, true, IfOk, OnErr, length, option_map, slice_index_or};
 ghost use Rattle.indexmap.specs.IndexMap.{values};
 ghost use Rattle.press_scan.specs.Attributes.{value_of};
+ghost use Rattle.press_scan.specs.AttributesOf.{attributes_of};
 ghost use Rattle.press_scan.specs.Entries.{HaveOwnKeys};
 ghost use Rattle.press_scan.specs.Kept.{IsKept, kept_atts};
 
 use crate::att::Att;
 use crate::att_key::AttKey;
+use crate::folded_atts::FoldedAtts;
 use crate::kept::Kept;
 use indexmap::IndexMap;
+use press_text::Text;
+use std::alloc::{AllocError, Global};
 use std::marker::Model;
+
+// So many attributes stay as they are, since they take little room.
+const FEW_ATTS: usize = 64;
 
 /// Attributes in order: those of a text, each name once, or a list as it was given.
 #[derive(Debug)]
 pub struct Atts {
     kept: Kept,
+    // The text that they are of, where they are many. In a box, since few have it, and every call has room for it.
+    text: Option<Box<Text>>,
 }
 
 impl Drop for Atts {
     fn drop(self) {
-        let Atts { kept: _ } = self;
+        let Atts { kept: _, text: _ } = self;
     }
 }
 
@@ -28,11 +37,13 @@ impl Model for Atts {
 
     ghost Value = { List Att };
 
-    ghost use Rattle.press_scan.specs.Kept.{kept_atts, IsKept};
+    ghost use Rattle.std.specs.Prelude.{IfSome};
+    ghost use Rattle.press_scan.specs.Kept.{kept_atts, AreManyOf, IsKept};
 
     ghost view = { λ a. kept_atts a.kept };
 
-    ghost invariant = { λ a. IsKept a.kept };
+    ghost invariant = { λ a. IsKept a.kept
+        × IfSome a.text (λ b. AreManyOf b.value (kept_atts a.kept)) };
 }
 
 impl Atts {
@@ -42,24 +53,30 @@ impl Atts {
     {
         Atts {
             kept: Kept::Listed(entries),
+            text: None,
         }
     }
 
-    /// Takes no memory.
-    pub(crate) fn from_kept(kept: Kept) -> Atts
-        requires { IsKept kept }
-        ensures { result ≡ kept_atts kept }
+    /// The attributes of a text. Many keep that text beside them, to be folded to it, and take memory for it.
+    pub(crate) fn from_kept(alloc: Global, kept: Kept, text: &str) -> Result<Atts, AllocError>
+        requires kept { IsKept kept }
+        requires text { kept_atts kept ≡ attributes_of text.now }
+        requires short { length text.now < 2 ^ 32 }
+        ensures value { IfOk result (λ atts. atts ≡ kept_atts kept) }
+        ensures memory { OnErr result (64 < length (kept_atts kept)) }
     {
-        Atts { kept }
+        let text = if kept.len() > FEW_ATTS {
+            Some(boxed(alloc, text)?)
+        } else {
+            None
+        };
+        Ok(Atts { kept, text })
     }
 
     pub fn len(&self) -> usize
         ensures { result ≡ length self.now }
     {
-        match &self.kept {
-            Kept::Listed(atts) => atts.len(),
-            Kept::Keyed(atts) => atts.len(),
-        }
+        self.kept.len()
     }
 
     /// The value of that key.
@@ -81,6 +98,34 @@ impl Atts {
             Kept::Listed(atts) => &atts[place],
             Kept::Keyed(atts) => &atts[place],
         }
+    }
+
+    /// Whether folding makes a text of them, as of more than 64 attributes of a text, and of no others.
+    pub fn folds_to_text(&self) -> bool
+        ensures { result ≡ true → 64 < length self.now }
+    {
+        self.text.is_some()
+    }
+
+    /// Folds them while nobody reads them: many attributes of a text become that text, which may have two bytes for an
+    /// attribute, where it takes fifty to a hundred here. Takes no memory.
+    pub fn fold(self) -> FoldedAtts
+        ensures { result ≡ self }
+    {
+        let Atts { kept, text } = self;
+        match text {
+            Some(text) => FoldedAtts::of_text(text),
+            None => FoldedAtts::as_they_are(Atts { kept, text: None }),
+        }
+    }
+}
+
+fn boxed(alloc: Global, text: &str) -> Result<Box<Text>, AllocError>
+    ensures { IfOk result (λ b. b.value ≡ text.now) }
+{
+    match Box::new(alloc, Text::from_str(alloc, text)?) {
+        Ok(text) => Ok(text),
+        Err(_) => Err(AllocError),
     }
 }
 

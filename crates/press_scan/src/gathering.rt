@@ -60,10 +60,14 @@ impl Gathering {
         Ok(Gathering { kept, next: 0 })
     }
 
-    fn into_atts(self) -> Atts
-        ensures { result ≡ self.atts }
+    // Takes memory for the text of many alone.
+    fn into_atts(self, alloc: Global, text: &str) -> Result<Atts, AllocError>
+        requires text { self.atts ≡ attributes_of text.now }
+        requires short { length text.now < 2 ^ 32 }
+        ensures value { IfOk result (λ atts. atts ≡ self.atts) }
+        ensures memory { OnErr result (64 < length self.atts) }
     {
-        Atts::from_kept(self.kept)
+        Atts::from_kept(alloc, self.kept, text)
     }
 
     // Stores a value under a name.
@@ -204,7 +208,8 @@ pub fn attributes(alloc: Global, text: &str) -> Result<Atts, AllocError>
     'tokens: loop {
         let place = next_place(text, at);
         if place == text.len() {
-            return Ok(found.into_atts());
+            let atts = found.into_atts(alloc, text)?;
+            return Ok(atts);
         }
         let token = token_of(text, place);
         take(alloc, text, &mut found, token)?;

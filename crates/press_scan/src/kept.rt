@@ -21,6 +21,17 @@ pub enum Kept {
     Keyed(Box<IndexMap<AttKey, Att>>),
 }
 
+impl Kept {
+    pub fn len(&self) -> usize
+        ensures { result ≡ length (kept_atts self.now) }
+    {
+        match self {
+            Kept::Listed(atts) => atts.len(),
+            Kept::Keyed(atts) => atts.len(),
+        }
+    }
+}
+
 /// An empty map, for attributes each under its key.
 pub fn new_keyed(alloc: Global) -> Result<Kept, AllocError>
     ensures list { IfOk result (λ kept. kept_atts kept ≡ []) }
