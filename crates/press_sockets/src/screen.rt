@@ -3,11 +3,10 @@
 ghost use Rattle.std.specs.Prelude.{◌≡◌, ◌≢◌, IfOk, MatchResult, Some};
 ghost use Rattle.std.specs.Io.KnownBytes.{Appends};
 ghost use Rattle.press_http.specs.Replies.{fault_bytes};
-ghost use Rattle.press_sockets.specs.Screening.{IsOfSort, sort_by, sort_named};
+ghost use Rattle.press_sockets.specs.Screening.{IsOfSort, asks_editor, asks_ready, sort_by, sort_named};
 
 use press_http::{Asked, HttpFault, read_request, route, write_fault, write_reply};
 use press_page::{ContentKind, Reply};
-use press_server::words_of;
 use press_text::{Text, write_once};
 use std::alloc::{AllocError, Global};
 
@@ -49,6 +48,18 @@ fn sort_refused(fault: HttpFault) -> Result<Sort, HttpFault>
     }
 }
 
+fn asks_ready(bytes: &[u8]) -> bool
+    ensures { result ≡ asks_ready bytes.now }
+{
+    bytes.starts_with(b"GET /ready ")
+}
+
+fn asks_editor(bytes: &[u8]) -> bool
+    ensures { result ≡ asks_editor bytes.now }
+{
+    bytes.starts_with(b"GET /editor ")
+}
+
 /// What a request asks for. Its only fault is that there is no memory to see it.
 pub fn sort_of(alloc: Global, bytes: &[u8]) -> Result<Sort, HttpFault>
     ensures { MatchResult result (IsOfSort bytes.now) (λ e. e ≡ HttpFault.NoMemory) }
@@ -58,11 +69,10 @@ pub fn sort_of(alloc: Global, bytes: &[u8]) -> Result<Sort, HttpFault>
         Ok(request) => request,
         Err(fault) => return sort_refused(fault),
     };
-    let (method, target) = words_of(bytes);
-    if method == "GET" && target == "/ready" {
+    if asks_ready(bytes) {
         return Ok(Sort::Ready);
     }
-    if method == "GET" && target == "/editor" {
+    if asks_editor(bytes) {
         return Ok(Sort::Editor);
     }
     match route(alloc, &request) {
