@@ -1,8 +1,9 @@
 //! Reads files as requests, commands and messages: `press_bytes FILE ..` prints what each asks or spells, or which
 //! fault it has. `replies` in place of a file prints replies, `writes` replies whose writes fail; after a word `fails`
 //! it is shown what comes of requests whose reads fail, after a word `spoils` what comes of files that are cut,
-//! lengthened, or have a number at its greatest, and after a word `times=N` or `heads=N` the files are only read, that
-//! many times, for measuring.
+//! lengthened, or have a number at its greatest, after a word `lengths` what comes of requests whose `Content-Length`
+//! is at a limit or past it, and after a word `times=N` or `heads=N` the files are only read, that many times, for
+//! measuring.
 #![tactic(auto)]
 
 mod failing;
@@ -18,7 +19,7 @@ use crate::failing::{show_failing_reads, show_failing_writes};
 use crate::kind::Kind;
 use crate::replies::show_replies;
 use crate::requests::show_request;
-use crate::spoiled::show_spoiled;
+use crate::spoiled::{show_lengths, show_spoiled};
 use crate::times::{again, heads};
 use crate::wires::show_spelled;
 use press_apply::Value;
@@ -31,6 +32,7 @@ enum Task {
     Show,
     Fail,
     Spoil,
+    Lengthen,
     Read(u32),
     ReadHead(u32),
 }
@@ -43,6 +45,9 @@ impl Task {
         }
         if word == "spoils" {
             return Some(Task::Spoil);
+        }
+        if word == "lengths" {
+            return Some(Task::Lengthen);
         }
         if let Some(times) = word.strip_prefix("times=") {
             return times.parse().ok().map(Task::Read);
@@ -74,6 +79,7 @@ fn play(rt: &HostRuntime, task: Task, name: &str) -> anyhow::Result<()> {
         Task::Show => show(rt, name, &bytes)?,
         Task::Fail => show_failing_reads(rt, name, &bytes)?,
         Task::Spoil => show_spoiled(rt, name, &bytes)?,
+        Task::Lengthen => show_lengths(rt, name, &bytes)?,
         Task::Read(times) => again(rt.alloc(), Kind::of(name), &bytes, times),
         Task::ReadHead(times) => heads(&bytes, times),
     }

@@ -6,6 +6,21 @@ use press_apply::Value;
 use press_wire::Message;
 use std::alloc::{AllocError, Global};
 
+// Before a length in a head.
+const LENGTH: &[u8] = b"Content-Length: ";
+
+// Lengths at the limit of a body and past it, at the greatest numbers of 32 and of 64 bits, past them, and one of 100
+// digits.
+const LENGTHS: [&str; 7] = [
+    "65535",
+    "65536",
+    "65537",
+    "4294967295",
+    "18446744073709551615",
+    "18446744073709551616",
+    "9999999999999999999999999999999999999999999999999999999999999999999999999999999999999999999999999999",
+];
+
 // What bytes are read as.
 #[derive(Clone, Copy, PartialEq, Eq, Drop)]
 enum Outcome {
@@ -126,4 +141,31 @@ pub fn show_spoiled(rt: &HostRuntime, name: &str, bytes: &[u8]) -> anyhow::Resul
         show_raised(rt, name, bytes, ("four at 255", 4))?;
     }
     Ok(())
+}
+
+// The bytes with this in place of the digits of each length.
+fn of_length(alloc: Global, bytes: &[u8], length: &str) -> Result<Vec<u8>, AllocError> {
+    let (mut changed, mut is_length) = (Vec::new(alloc), false);
+    for byte in bytes {
+        if is_length && byte.is_ascii_digit() {
+            continue;
+        }
+        changed.push(*byte)?;
+        is_length = changed.as_slice().ends_with(LENGTH);
+        if is_length {
+            changed.extend_from_slice(length.as_bytes())?;
+        }
+    }
+    Ok(changed)
+}
+
+/// How often a request has which outcome where each length that its head names is one of `LENGTHS`, in their order.
+pub fn show_lengths(rt: &HostRuntime, name: &str, bytes: &[u8]) -> anyhow::Result<()> {
+    let alloc = rt.alloc();
+    let mut runs = Vec::new(alloc);
+    for length in LENGTHS {
+        let changed = of_length(alloc, bytes, length)?;
+        count(&mut runs, Outcome::of(alloc, Kind::of(name), &changed))?;
+    }
+    show_runs(rt, name, "lengths", runs)
 }
