@@ -7,3 +7,4 @@ pub mod Links
 pub mod Outcome
 pub mod Run
 pub mod Standing
+pub mod Waiting

@@ -1,8 +1,9 @@
 //! What a run has open.
 
-ghost use Rattle.std.specs.Prelude.{◌≡◌, ◌+◌, ◌*◌, ◌<◌, ◌≤◌, ◌^◌, None, IfOk, OnOk, IsSome, length, option_map, slice_get};
+ghost use Rattle.std.specs.Prelude.{◌≡◌, ◌+◌, ◌*◌, ◌<◌, ◌≤◌, ◌^◌, [], None, IfOk, OnOk, OnErr, IsSome, length, option_map, slice_get};
 ghost use Rattle.press_run.specs.Run.{handed_on, next_call};
 ghost use Rattle.press_run.specs.Frames.{TakesAnswer, put, taken};
+ghost use Rattle.press_run.specs.Waiting.{with_atts};
 
 use crate::held::Held;
 use crate::step::{Kind, Step};
@@ -10,7 +11,7 @@ use crate::texts;
 use press_callbacks::CallIn;
 use press_hooks::RunId;
 use press_posts::Fire;
-use press_scan::Scan;
+use press_scan::{Atts, FoldedAtts, Scan};
 use press_text::{Items, Text, Texts};
 use std::alloc::{AllocError, Global};
 use std::mem;
@@ -137,6 +138,24 @@ impl OpenCallback {
     {
         self.call.last = last;
         self.further(0)
+    }
+
+    /// Its attributes, folded. It has none from then on.
+    pub fn fold_atts(&mut self, alloc: Global) -> FoldedAtts
+        ensures atts { result ≡ self.old.call.atts }
+        ensures rest { self.new ≡ with_atts self.old [] }
+    {
+        let none = Atts::from_vec(Vec::new(alloc));
+        mem::replace(&mut self.call.atts, none).fold()
+    }
+
+    /// Gives it these attributes.
+    pub fn unfold_atts(&mut self, alloc: Global, atts: FoldedAtts) -> Result<(), AllocError>
+        ensures atts { OnOk result (self.new ≡ with_atts self.old atts) }
+        ensures memory { OnErr result (64 < length atts) }
+    {
+        self.call.atts = atts.unfold(alloc)?;
+        Ok(())
     }
 }
 

@@ -1,12 +1,14 @@
-ghost use Rattle.std.specs.Prelude.{◌≡◌, [], ◌∷◌, OnOk, MatchOption};
+ghost use Rattle.std.specs.Prelude.{◌≡◌, [], ◌∷◌, IfOk, OnErr, OnOk, MatchOption};
+ghost use Rattle.press_run.specs.Waiting.{FirstHasManyAtts};
 
 use crate::frame::Frame;
+use crate::waiting::Waiting;
 use std::alloc::{AllocError, Global};
 use std::marker::Model;
 
 /// The frames that wait, the innermost first.
 pub struct Frames {
-    frames: Vec<Frame>,
+    frames: Vec<Waiting>,
 }
 
 impl Drop for Frames {
@@ -37,14 +39,21 @@ impl Frames {
     pub fn push(&mut self, frame: Frame) -> Result<(), AllocError>
         ensures { OnOk result (self.new ≡ frame ∷ self.old) }
     {
-        self.frames.push(frame)?;
+        let alloc = *self.frames.allocator();
+        self.frames.push(Waiting::new(alloc, frame))?;
         Ok(())
     }
 
-    pub fn pop(&mut self) -> Option<Frame>
-        ensures { MatchOption result ((self.old ≡ []) × (self.new ≡ []))
-            (λ f. self.old ≡ f ∷ self.new) }
+    /// The innermost frame, where one waits. Takes memory for a callback with many attributes alone.
+    pub fn pop(&mut self) -> Result<Option<Frame>, AllocError>
+        ensures frame { IfOk result (λ o. MatchOption o ((self.old ≡ []) × (self.new ≡ []))
+            (λ f. self.old ≡ f ∷ self.new)) }
+        ensures memory { OnErr result (FirstHasManyAtts self.old) }
     {
-        self.frames.pop()
+        let alloc = *self.frames.allocator();
+        match self.frames.pop() {
+            Some(waiting) => Ok(Some(waiting.into_frame(alloc)?)),
+            None => Ok(None),
+        }
     }
 }

@@ -1,12 +1,13 @@
 //! What frames hold in a box, so that they are moved as a few words.
 
-ghost use Rattle.std.specs.Prelude.{◌≡◌, ◌<◌, ◌^◌, IfOk, IsSome, IsTrue, OnOk};
+ghost use Rattle.std.specs.Prelude.{◌≡◌, ◌<◌, ◌^◌, [], true, IfOk, IsSome, IsTrue, OnErr, OnOk, length};
 ghost use Rattle.press_hooks.specs.NextEntry.{is_innermost};
 ghost use Rattle.press_callbacks.specs.Kits.{Scripts};
 ghost use Rattle.press_run.specs.Run.{handed_on, next_call};
 ghost use Rattle.press_run.specs.Frames.{GoesOn, IsFew, MovesTo, Steps, put};
 ghost use Rattle.press_run.specs.Limits.{ShowsLimits};
 ghost use Rattle.press_run.specs.Standing.{standing};
+ghost use Rattle.press_run.specs.Waiting.{with_atts};
 ghost use Rattle.press_run.specs.declared.frame.Frame.TheVariants as frame;
 
 use crate::callbacks::Callbacks;
@@ -15,6 +16,7 @@ use crate::link::SiteLink;
 use crate::machine::Machine;
 use crate::run_fault::RunFault;
 use crate::step::{Moved, Step};
+use press_scan::FoldedAtts;
 use press_text::Text;
 use std::alloc::{AllocError, Global};
 use std::marker::Model;
@@ -73,6 +75,29 @@ impl Held<OpenCallback> {
         } }
     {
         self.inside.with_last(last)
+    }
+
+    /// Whether its attributes are so many that they fold to a text.
+    pub fn has_many_atts(&self) -> bool
+        ensures { result ≡ true → 64 < length self.now.call.atts }
+    {
+        self.inside.call.atts.folds_to_text()
+    }
+
+    /// Its attributes, folded. It has none from then on.
+    pub fn fold_atts(&mut self, alloc: Global) -> FoldedAtts
+        ensures atts { result ≡ self.old.call.atts }
+        ensures rest { self.new ≡ with_atts self.old [] }
+    {
+        self.inside.fold_atts(alloc)
+    }
+
+    /// Gives it these attributes.
+    pub fn unfold_atts(&mut self, alloc: Global, atts: FoldedAtts) -> Result<(), AllocError>
+        ensures atts { OnOk result (self.new ≡ with_atts self.old atts) }
+        ensures memory { OnErr result (64 < length atts) }
+    {
+        self.inside.unfold_atts(alloc, atts)
     }
 }
 

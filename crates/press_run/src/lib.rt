@@ -20,6 +20,7 @@ mod run_fault;
 mod shortcodes;
 mod step;
 mod texts;
+mod waiting;
 
 pub use boots::{boot, boot_actions};
 pub use callbacks::Callbacks;

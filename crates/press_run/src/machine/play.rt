@@ -81,7 +81,7 @@ impl<L: SiteLink + Drop> Machine<L> {
                 }
                 Moved::By(Step::Takes(text)) => top.take(text)?,
                 Moved::By(Step::Gives(text)) => {
-                    let Some(frame) = waiting.pop() else {
+                    let Some(frame) = waiting.pop()? else {
                         return Ok(text);
                     };
                     top = frame;

@@ -32,22 +32,22 @@ loop-waiting-preserved-in-Continue-branch-4 g c = record {
 pub returns-in_default-clause-gives : goal.returns-in_default-clause-gives
 returns-in_default-clause-gives g c =
     ends g.L.SiteLink.changes (g.K.Callbacks.scripts c.args.kit.now) (meant g.L.SiteLink.changes (g.K.Callbacks.scripts c.args.kit.now) c.args.top (around (standing g.L.SiteLink.view g.L.SiteLink.fixed c.args.self.now)) (state_of (standing g.L.SiteLink.view g.L.SiteLink.fixed c.args.self.now))) (round c.args.top (around (standing g.L.SiteLink.view g.L.SiteLink.fixed c.args.self.now))) c.loop-waiting.waiting c.loop-waiting.top (standing g.L.SiteLink.view g.L.SiteLink.fixed c.loop-waiting.self) c.loop-waiting.invariant.playing
-    c.in-By-Gives.text (standing g.L.SiteLink.view g.L.SiteLink.fixed c.step.new.self) (rw (c.in-By-Gives.is, c.in-By-Gives.field-0-is) at c.in_ok-step.ensures.steps) c.in_default.ensures.0
+    c.in-By-Gives.text (standing g.L.SiteLink.view g.L.SiteLink.fixed c.step.new.self) (rw (c.in-By-Gives.is, c.in-By-Gives.field-0-is) at c.in_ok-step.ensures.steps) (rw c.in_default.is at c.in_ok-frame-in-By-Gives.ensures.frame).0
 
 pub take-requires-in-By-Gives : goal.take-requires-in-By-Gives
 take-requires-in-By-Gives g c =
     pops g.L.SiteLink.changes (g.K.Callbacks.scripts c.args.kit.now) (meant g.L.SiteLink.changes (g.K.Callbacks.scripts c.args.kit.now) c.args.top (around (standing g.L.SiteLink.view g.L.SiteLink.fixed c.args.self.now)) (state_of (standing g.L.SiteLink.view g.L.SiteLink.fixed c.args.self.now))) (round c.args.top (around (standing g.L.SiteLink.view g.L.SiteLink.fixed c.args.self.now))) c.loop-waiting.waiting c.loop-waiting.top (standing g.L.SiteLink.view g.L.SiteLink.fixed c.loop-waiting.self) c.loop-waiting.invariant.playing
-    c.in-By-Gives.text (standing g.L.SiteLink.view g.L.SiteLink.fixed c.step.new.self) (rw (c.in-By-Gives.is, c.in-By-Gives.field-0-is) at c.in_ok-step.ensures.steps) c.in-Some.frame c.in-Some.frame c.pop.new.self c.in-Some.ensures
+    c.in-By-Gives.text (standing g.L.SiteLink.view g.L.SiteLink.fixed c.step.new.self) (rw (c.in-By-Gives.is, c.in-By-Gives.field-0-is) at c.in_ok-step.ensures.steps) c.in-Some.frame c.in-Some.frame c.pop.new.self (rw c.in-Some.is at c.in_ok-frame-in-By-Gives.ensures.frame)
 
-pub loop-waiting-smaller-in-Continue-branch-6 : goal.loop-waiting-smaller-in-Continue-branch-6
-loop-waiting-smaller-in-Continue-branch-6 g c =
+pub loop-waiting-smaller-in-Continue-branch-8 : goal.loop-waiting-smaller-in-Continue-branch-8
+loop-waiting-smaller-in-Continue-branch-8 g c =
     gives_less g.L.SiteLink.changes (g.K.Callbacks.scripts c.args.kit.now) (meant g.L.SiteLink.changes (g.K.Callbacks.scripts c.args.kit.now) c.args.top (around (standing g.L.SiteLink.view g.L.SiteLink.fixed c.args.self.now)) (state_of (standing g.L.SiteLink.view g.L.SiteLink.fixed c.args.self.now))) (round c.args.top (around (standing g.L.SiteLink.view g.L.SiteLink.fixed c.args.self.now))) c.loop-waiting.waiting c.loop-waiting.top (standing g.L.SiteLink.view g.L.SiteLink.fixed c.loop-waiting.self) c.loop-waiting.invariant.playing
-    c.in-By-Gives.text (standing g.L.SiteLink.view g.L.SiteLink.fixed c.step.new.self) (rw (c.in-By-Gives.is, c.in-By-Gives.field-0-is) at c.in_ok-step.ensures.steps) c.in-Some.frame c.take-in-By-Gives.new.self c.pop.new.self c.in-Some.ensures c.in_ok-take-in-By-Gives.ensures
+    c.in-By-Gives.text (standing g.L.SiteLink.view g.L.SiteLink.fixed c.step.new.self) (rw (c.in-By-Gives.is, c.in-By-Gives.field-0-is) at c.in_ok-step.ensures.steps) c.in-Some.frame c.take-in-By-Gives.new.self c.pop.new.self (rw c.in-Some.is at c.in_ok-frame-in-By-Gives.ensures.frame) c.in_ok-take-in-By-Gives.ensures
 
-pub loop-waiting-preserved-in-Continue-branch-6 : goal.loop-waiting-preserved-in-Continue-branch-6
-loop-waiting-preserved-in-Continue-branch-6 g c = record {
+pub loop-waiting-preserved-in-Continue-branch-8 : goal.loop-waiting-preserved-in-Continue-branch-8
+loop-waiting-preserved-in-Continue-branch-8 g c = record {
   playing = gives g.L.SiteLink.changes (g.K.Callbacks.scripts c.args.kit.now) (meant g.L.SiteLink.changes (g.K.Callbacks.scripts c.args.kit.now) c.args.top (around (standing g.L.SiteLink.view g.L.SiteLink.fixed c.args.self.now)) (state_of (standing g.L.SiteLink.view g.L.SiteLink.fixed c.args.self.now))) (round c.args.top (around (standing g.L.SiteLink.view g.L.SiteLink.fixed c.args.self.now))) c.loop-waiting.waiting c.loop-waiting.top (standing g.L.SiteLink.view g.L.SiteLink.fixed c.loop-waiting.self) c.loop-waiting.invariant.playing
-      c.in-By-Gives.text (standing g.L.SiteLink.view g.L.SiteLink.fixed c.step.new.self) (rw (c.in-By-Gives.is, c.in-By-Gives.field-0-is) at c.in_ok-step.ensures.steps) c.in-Some.frame c.take-in-By-Gives.new.self c.pop.new.self c.in-Some.ensures c.in_ok-take-in-By-Gives.ensures;
+      c.in-By-Gives.text (standing g.L.SiteLink.view g.L.SiteLink.fixed c.step.new.self) (rw (c.in-By-Gives.is, c.in-By-Gives.field-0-is) at c.in_ok-step.ensures.steps) c.in-Some.frame c.take-in-By-Gives.new.self c.pop.new.self (rw c.in-Some.is at c.in_ok-frame-in-By-Gives.ensures.frame) c.in_ok-take-in-By-Gives.ensures;
   limits = c.in_ok-step.ensures.limits ∙ c.loop-waiting.invariant.limits;
 }
 
@@ -83,3 +83,6 @@ returns-in_default-clause-fixed g c = c.in_ok-step.ensures.fixed ∙ plays_fixed
 
 pub returns-in_err-take-in-By-Gives-clause-fixed : goal.returns-in_err-take-in-By-Gives-clause-fixed
 returns-in_err-take-in-By-Gives-clause-fixed g c = c.in_ok-step.ensures.fixed ∙ plays_fixed g.L.SiteLink.changes (g.K.Callbacks.scripts c.args.kit.now) (meant g.L.SiteLink.changes (g.K.Callbacks.scripts c.args.kit.now) c.args.top (around (standing g.L.SiteLink.view g.L.SiteLink.fixed c.args.self.now)) (state_of (standing g.L.SiteLink.view g.L.SiteLink.fixed c.args.self.now))) c.loop-waiting.waiting c.loop-waiting.top c.args.top (standing g.L.SiteLink.view g.L.SiteLink.fixed c.loop-waiting.self) (standing g.L.SiteLink.view g.L.SiteLink.fixed c.args.self.now) c.loop-waiting.invariant.playing
+
+pub returns-in_err-frame-in-By-Gives-clause-fixed : goal.returns-in_err-frame-in-By-Gives-clause-fixed
+returns-in_err-frame-in-By-Gives-clause-fixed g c = c.in_ok-step.ensures.fixed ∙ plays_fixed g.L.SiteLink.changes (g.K.Callbacks.scripts c.args.kit.now) (meant g.L.SiteLink.changes (g.K.Callbacks.scripts c.args.kit.now) c.args.top (around (standing g.L.SiteLink.view g.L.SiteLink.fixed c.args.self.now)) (state_of (standing g.L.SiteLink.view g.L.SiteLink.fixed c.args.self.now))) c.loop-waiting.waiting c.loop-waiting.top c.args.top (standing g.L.SiteLink.view g.L.SiteLink.fixed c.loop-waiting.self) (standing g.L.SiteLink.view g.L.SiteLink.fixed c.args.self.now) c.loop-waiting.invariant.playing
