@@ -1,7 +1,7 @@
 //! A frame while it waits. A page may have dozens of callbacks open one in another, each with half a million attributes.
 
-ghost use Rattle.std.specs.Prelude.{◌≡◌, IfOk, OnErr};
-ghost use Rattle.press_run.specs.Waiting.{HasManyAtts};
+ghost use Rattle.std.specs.Prelude.{◌≡◌, ◌<◌, IfOk, OnErr, length};
+ghost use Rattle.press_run.specs.Waiting.{HasManyAtts, with_atts};
 ghost use Rattle.press_run.specs.declared.frame.Frame.TheVariants as frame;
 
 use crate::frame::{Frame, OpenCallback};
@@ -51,17 +51,25 @@ impl Waiting {
         }
     }
 
-    fn of_callback(alloc: Global, mut callback: Held<OpenCallback>) -> Waiting
+    fn of_callback(alloc: Global, callback: Held<OpenCallback>) -> Waiting
         ensures { result ≡ frame.Callback callback }
     {
         if callback.has_many_atts() {
-            let atts = callback.fold_atts(alloc);
-            return Waiting {
-                stowed: Stowed::Folded(callback, atts),
-            };
+            return Waiting::folded(alloc, callback);
         }
         Waiting {
             stowed: Stowed::Whole(Frame::Callback(callback)),
+        }
+    }
+
+    // Few callbacks come here, so the others have no room for it.
+    #[inline(never)]
+    fn folded(alloc: Global, mut callback: Held<OpenCallback>) -> Waiting
+        ensures { result ≡ frame.Callback callback }
+    {
+        let atts = callback.fold_atts(alloc);
+        Waiting {
+            stowed: Stowed::Folded(callback, atts),
         }
     }
 
@@ -73,10 +81,21 @@ impl Waiting {
         let Waiting { stowed } = self;
         match stowed {
             Stowed::Whole(frame) => Ok(frame),
-            Stowed::Folded(mut callback, atts) => {
-                callback.unfold_atts(alloc, atts)?;
-                Ok(Frame::Callback(callback))
-            }
+            Stowed::Folded(callback, atts) => unfolded(alloc, callback, atts),
         }
     }
+}
+
+// The callback with these attributes.
+#[inline(never)]
+fn unfolded(
+    alloc: Global,
+    mut callback: Held<OpenCallback>,
+    atts: FoldedAtts,
+) -> Result<Frame, AllocError>
+    ensures frame { IfOk result (λ f. f ≡ frame.Callback (with_atts callback atts)) }
+    ensures memory { OnErr result (64 < length atts) }
+{
+    callback.unfold_atts(alloc, atts)?;
+    Ok(Frame::Callback(callback))
 }
