@@ -1,5 +1,5 @@
 -- The open connections (own).
-use Rattle.std.specs.Prelude.{ℕ, ◌≡◌, ◌≤◌, ◌<◌, ◌⊎◌, ◌-◌, ◌+◌, ◌&&◌, Bool, true, false, List, [], ◌∷◌, ◌++◌, map, Option, Some, None, IsSome, Result, Ok, Err, not, option_and_then, unwrap_or, option_map, is_none, slice_get, slice_set, length, nat_le, bytes_eq, position, if◌then◌else◌}
+use Rattle.std.specs.Prelude.{ℕ, ◌≡◌, ◌≤◌, ◌<◌, ◌⊎◌, ◌-◌, ◌+◌, ◌/◌, ◌&&◌, Bool, true, false, List, [], ◌∷◌, ◌++◌, map, Option, Some, None, IsSome, Result, Ok, Err, not, option_and_then, unwrap_or, option_map, is_none, slice_get, slice_set, length, nat_le, bytes_eq, position, if◌then◌else◌}
 use Rattle.std.specs.Time.{instant_nanos}
 use Rattle.press_http.specs.declared.fault.HttpFault.{HttpFault}
 use Rattle.press_http.specs.declared.fault.HttpFault.TheVariants as fault
@@ -61,9 +61,9 @@ is_same (V6 one) (V4 other) = false
 abbrev pub is_from : IpAddr → Talk → Bool
 is_from address talk = is_same address talk.arrival.from
 
--- an address has a quarter of the 1,024 places: what comes from it then is beyond its quarter
-abbrev pub is_crowded : IpAddr → List (Option Talk) → Bool
-is_crowded address slots = nat_le 256 (count_of (is_from address) slots)
+-- an address has a quarter of all places: what comes from it then is beyond its quarter
+abbrev pub is_crowded : ℕ → IpAddr → List (Option Talk) → Bool
+is_crowded most address slots = nat_le (most / 4) (count_of (is_from address) slots)
 
 abbrev pub rank_of : Bool → Phase → Rank
 rank_of surplus phase = record { is_surplus = surplus; phase = phase }
@@ -111,16 +111,16 @@ with_slot place slot slots = unwrap_or (option_map (λ place. slice_set slots pl
 abbrev pub GivesWay : Bool → ℕ → List (Option Talk) → List (Option Talk) → Option ℕ → Type 0
 GivesWay surplus first old new gone = MakesWay surplus first old gone × (new ≡ with_slot gone None old)
 
--- no place is free, and fewer than 1,024 are taken
-abbrev pub MayGrow : List (Option Talk) → Type 0
-MayGrow slots = (position is_none slots ≡ None) × (length slots < 1024)
+-- no place is free, and fewer are taken than may be
+abbrev pub MayGrow : ℕ → List (Option Talk) → Type 0
+MayGrow most slots = (position is_none slots ≡ None) × (length slots < most)
 
 -- the first free place is it, else one more, else that of one that gives way; there is none where none does
-abbrev pub MakesPlace : Bool → ℕ → List (Option Talk) → List (Option Talk) → Option ℕ → Type 0
-MakesPlace surplus first old new place =
+abbrev pub MakesPlace : ℕ → Bool → ℕ → List (Option Talk) → List (Option Talk) → Option ℕ → Type 0
+MakesPlace most surplus first old new place =
     (IsSome place × (place ≡ position is_none old) × (new ≡ old))
-    ⊎ (MayGrow old × (place ≡ Some (length old)) × (new ≡ old ++ None ∷ []))
-    ⊎ ((position is_none old ≡ None) × (1024 ≤ length old) × GivesWay surplus first old new place)
+    ⊎ (MayGrow most old × (place ≡ Some (length old)) × (new ≡ old ++ None ∷ []))
+    ⊎ ((position is_none old ≡ None) × (most ≤ length old) × GivesWay surplus first old new place)
 
 -- another look at its request is due
 abbrev pub is_due : Talk → Bool

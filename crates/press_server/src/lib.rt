@@ -15,4 +15,4 @@ mod talks;
 pub use answers::{Answers, Errand, Outgoing, Time};
 pub use gathered::words_of;
 pub use lines::Lines;
-pub use server::Server;
+pub use server::{Server, Task};

@@ -108,6 +108,17 @@ pub fn seconds_of(since: io::Result<Duration>) -> u64
     }
 }
 
+/// What a server is to do.
+#[derive(Clone, Copy)]
+pub struct Task {
+    /// After how many connections it ends; without it, when it is ended.
+    pub turns: Option<u32>,
+    /// The most connections that are open at once.
+    pub most: usize,
+    /// Whether requests go out by time.
+    pub is_timed: bool,
+}
+
 /// A listener, the connections that came by it, and the requests that go out.
 pub struct Server {
     poll: Poll,
@@ -147,13 +158,17 @@ impl Drop for Server {
 }
 
 impl Server {
-    /// Listens at an address, for a number of connections, or until it is ended.
+    /// Listens at an address.
     pub fn listen<R: AllocGlobal + Net + Clock>(
         rt: &R,
         addr: SocketAddr,
-        turns: Option<u32>,
-        is_timed: bool,
+        task: Task,
     ) -> io::Result<Server> {
+        let Task {
+            turns,
+            most,
+            is_timed,
+        } = task;
         let poll = Poll::new(rt)?;
         let mut listener = TcpListener::bind(rt, addr)?;
         poll.registry()
@@ -162,7 +177,7 @@ impl Server {
         Ok(Server {
             poll,
             listener,
-            talks: Talks::new(rt.alloc()),
+            talks: Talks::new(rt.alloc(), most),
             calls: Calls::new(rt.alloc()),
             came: 0,
             is_behind: false,
@@ -180,7 +195,8 @@ impl Server {
         ensures number { result.number ≡ self.entry.now.came }
         ensures begun { result.begun ≡ self.entry.now.now }
         ensures surplus { result.is_surplus ≡
-            (not is_member && is_crowded from self.entry.now.talks.places.items) }
+            (not is_member && is_crowded self.entry.now.talks.most from
+            self.entry.now.talks.places.items) }
     {
         Arrival {
             from,

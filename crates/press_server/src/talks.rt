@@ -11,12 +11,6 @@ use std::io::Write;
 use std::net::IpAddr;
 use std::time::Instant;
 
-// The most connections that are open at once.
-const MOST: usize = 1024;
-
-// A quarter of them.
-const QUARTER: usize = 256;
-
 const GIVEN_UP: &str = "given up for another";
 
 /// Those of a phase that came beyond their address's quarter, or didn't.
@@ -29,6 +23,8 @@ pub struct Rank {
 /// Connections by their places. Where each place is taken, one that was there before gives way to a newcomer.
 pub struct Talks {
     places: Vec<Option<Talk>>,
+    // The most connections that are open at once.
+    most: usize,
 }
 
 // A connection ends, with a line where its request wasn't whole; whether it wasn't.
@@ -149,16 +145,19 @@ fn end_all_unheard(slots: &mut [Option<Talk>])
 
 impl Drop for Talks {
     fn drop(self) {
-        let Talks { places: _ } = self;
+        let Talks { places: _, most: _ } = self;
     }
 }
 
 impl Talks {
-    pub fn new(alloc: Global) -> Talks
-        ensures { result.places.items ≡ [] }
+    /// None is open yet, and so many may be at once.
+    pub fn new(alloc: Global, most: usize) -> Talks
+        ensures none { result.places.items ≡ [] }
+        ensures most { result.most ≡ most }
     {
         Talks {
             places: Vec::new(alloc),
+            most,
         }
     }
 
@@ -187,9 +186,9 @@ impl Talks {
 
     /// Whether an address has a quarter of the places.
     pub fn is_crowded(&self, from: IpAddr) -> bool
-        ensures { result ≡ is_crowded from self.now.places.items }
+        ensures { result ≡ is_crowded self.now.most from self.now.places.items }
     {
-        QUARTER <= count_from(&self.places, from)
+        self.most / 4 <= count_from(&self.places, from)
     }
 
     // The place of the oldest of that rank that came before the first of a round.
@@ -282,15 +281,16 @@ impl Talks {
         first: u64,
         log: &mut E,
     ) -> Result<Option<usize>, AllocError>
-        ensures made { IfOk result (MakesPlace is_surplus first self.old.places.items self.new.places.items) }
-        ensures no_memory { IfErr result (λ _. MayGrow self.old.places.items
+        ensures made { IfOk result (MakesPlace self.old.most is_surplus first self.old.places.items
+            self.new.places.items) }
+        ensures no_memory { IfErr result (λ _. MayGrow self.old.most self.old.places.items
             × (self.new.places.items ≡ self.old.places.items)) }
     {
         if let Some(place) = self.free_place() {
             return Ok(Some(place));
         }
         let count = self.places.len();
-        if count < MOST {
+        if count < self.most {
             self.places.push(None)?;
             return Ok(Some(count));
         }
@@ -314,9 +314,9 @@ impl Talks {
         log: &mut E,
     ) -> Result<Option<usize>, AllocError>
         ensures entered { IfOk result (λ place. (slots : List (Option Talk))
-            × MakesPlace talk.arrival.is_surplus first self.old.places.items slots place
+            × MakesPlace self.old.most talk.arrival.is_surplus first self.old.places.items slots place
             × (self.new.places.items ≡ with_slot place (Some talk) slots)) }
-        ensures no_memory { IfErr result (λ _. MayGrow self.old.places.items
+        ensures no_memory { IfErr result (λ _. MayGrow self.old.most self.old.places.items
             × (self.new.places.items ≡ self.old.places.items)) }
     {
         let Some(place) = self.place(talk.arrival.is_surplus, first, log)? else {

@@ -1,3 +1,4 @@
+pub mod Files
 pub mod Listening
 pub mod Members
 pub mod Turns

@@ -12,8 +12,7 @@ use crate::pace::Pace;
 use crate::peers::Peers;
 use crate::screen::Screen;
 use crate::serve_fault::ServeFault;
-use crate::serving::Start;
-use crate::setup::Place;
+use crate::setup::{Place, Setup};
 use crate::turn::catch_up;
 use press_acceptor::{PromiseStore, StoreFault};
 use press_callbacks::Kit;
@@ -43,11 +42,10 @@ impl Seat {
 }
 
 /// The place of the member that a server is to be, which wants a file for its store. None for a node by itself.
-pub fn seat_of(start: Start<'_>) -> Result<Option<Seat>, ServeFault>
+pub fn seat_of(rt: &HostRuntime, setup: &Setup<'_>) -> Result<Option<Seat>, ServeFault>
     ensures { IfOk result (λ seat. option_map (λ seat. seat.peers.own) seat
-        ≡ number_of start.entry.setup.now.place) }
+        ≡ number_of setup.now.place) }
 {
-    let Start { rt, setup } = start;
     let Place::Member { id, peers, tick } = setup.place else {
         return Ok(None);
     };

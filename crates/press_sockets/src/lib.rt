@@ -2,6 +2,7 @@
 #![tactic(auto)]
 
 mod alone;
+mod files;
 mod joining;
 mod member;
 mod pace;

@@ -12,7 +12,7 @@ use thiserror::Error;
 pub enum ServeFault {
     #[error("no memory")]
     NoMemory,
-    /// The listener could not be opened.
+    /// The listener could not be opened, or too few files may be open.
     #[error("no connection could be opened")]
     NoConnections,
     #[error("the page for editors could not be read")]

@@ -10,6 +10,7 @@ ghost use Rattle.press_sockets.specs.Listening.Where.{alone_at, member_of};
 ghost use Rattle.press_sockets.specs.Turns.{HasCaughtUp};
 
 use crate::alone::Alone;
+use crate::files::{FEWEST, OWN, most_connections, open_files};
 use crate::joining::{Seat, join, seat_of};
 use crate::screen::Screen;
 use crate::serve_fault::ServeFault;
@@ -18,7 +19,7 @@ use crate::turn::catch_up;
 use press_acceptor::{MemoryStore, PromiseStore, StoreFault};
 use press_callbacks::Kit;
 use press_node::{Node, StartFault};
-use press_server::{Answers, Lines, Server};
+use press_server::{Answers, Lines, Server, Task};
 use press_store::SqlStore;
 use press_text::{Text, write_once};
 use press_wire::Node as Member;
@@ -30,6 +31,9 @@ use std::net::{IpAddr, Ipv4Addr, SocketAddr};
 
 // The descriptor of the writer for lines.
 const STANDARD_ERROR: i32 = 2;
+
+// Where a process finds its limits.
+const LIMITS: &str = "/proc/self/limits";
 
 // The only member of its cluster.
 fn member() -> Member
@@ -103,6 +107,8 @@ fn listening_line(alloc: Global, place: &Place<'_>) -> Result<String, AllocError
 pub struct Start<'a> {
     pub rt: &'a HostRuntime,
     pub setup: &'a Setup<'a>,
+    /// The most connections that are open at once.
+    pub most: usize,
 }
 
 // Writes the line that it listens.
@@ -131,13 +137,43 @@ fn serve_over<A: Answers, W: Write, E: Write>(
     ensures { AppendsFront (W.contents writer.old) (W.contents writer.new)
         (listening_line (where_of start.entry.setup.now.place)) }
 {
-    let Start { rt, setup } = start;
-    let is_timed = matches!(setup.place, Place::Member { .. });
-    let mut server = Server::listen(rt, answers.addr(), setup.turns, is_timed)?;
+    let Start { rt, setup, most } = start;
+    let task = Task {
+        turns: setup.turns,
+        most,
+        is_timed: matches!(setup.place, Place::Member { .. }),
+    };
+    let mut server = Server::listen(rt, answers.addr(), task)?;
     let mut lines = Lines::new(rt, STANDARD_ERROR, error)?;
     announce(rt.alloc(), &setup.place, writer)?;
     server.serve(rt, answers, &mut lines)?;
     Ok(())
+}
+
+// A line says that too few files may be open; one that can't be written is dropped.
+fn tell_few<E: Write>(alloc: Global, files: u64, error: &mut E) {
+    let needed = OWN.saturating_add(FEWEST);
+    let line = format!(in alloc;
+        "press: the limit of open files is {files}, and {needed} are needed\n"
+    );
+    if let Ok(line) = line {
+        let _ = write_once(error, line.as_bytes());
+    }
+}
+
+// How many connections may be open at once. Limits that can't be read are none.
+fn most_open<E: Write>(rt: &HostRuntime, error: &mut E) -> Result<usize, ServeFault> {
+    let files = match fs::read(rt, LIMITS) {
+        Ok(limits) => open_files(&limits),
+        Err(_) => None,
+    };
+    match most_connections(files) {
+        Some(most) => Ok(most),
+        None => {
+            tell_few(rt.alloc(), files.unwrap_or(0), error);
+            Err(ServeFault::NoConnections)
+        }
+    }
 }
 
 fn screen_of(rt: &HostRuntime, setup: &Setup<'_>) -> Result<Screen, ServeFault> {
@@ -189,7 +225,7 @@ fn serve_alone<S: PromiseStore + Drop, W: Write, E: Write>(
         kit,
         ..
     } = beside;
-    let Start { rt, setup } = start;
+    let Start { rt, setup, .. } = start;
     let node = begin_caught_up(rt.alloc(), kit, store)?;
     let addr = loopback(port_of(setup.place));
     let mut alone = Alone::new(rt.alloc(), addr, node, &screen);
@@ -236,8 +272,13 @@ impl Setup<'_> {
         ensures { AppendsFront (W.contents writer.old) (W.contents writer.new)
             (listening_line (where_of self.now.place)) }
     {
-        let start = Start { rt, setup: self };
-        let seat = seat_of(start)?;
+        let seat = seat_of(rt, self)?;
+        let most = most_open(rt, error)?;
+        let start = Start {
+            rt,
+            setup: self,
+            most,
+        };
         let screen = screen_of(rt, self)?;
         let beside = Beside {
             start,
