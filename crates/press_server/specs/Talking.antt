@@ -11,6 +11,7 @@ use Rattle.press_server.specs.declared.talk.Phase.{Phase}
 use Rattle.press_server.specs.declared.talk.Phase.TheVariants.{Reading, Writing, Ending, Over}
 use Rattle.press_server.specs.declared.talk.Talk.{Talk}
 use Rattle.press_server.specs.declared.talks.Rank.{Rank}
+use Rattle.press_server.specs.declared.talks.Round.{Round}
 use Rattle.press_server.specs.declared.talks.Talks.{Talks}
 
 -- its request isn't whole yet
@@ -26,6 +27,17 @@ is_reading talk = is_phase_reading talk.phase
 -- ten seconds or more are over since it began
 abbrev pub is_late : Instant → Talk → Bool
 is_late now talk = nat_le 10000000000 (instant_nanos now - instant_nanos talk.arrival.begun)
+
+-- its reply isn't out yet
+abbrev pub is_phase_writing : Phase → Bool
+is_phase_writing Reading = false
+is_phase_writing Writing = true
+is_phase_writing Ending = false
+is_phase_writing Over = false
+
+-- its reply isn't out, and its socket took nothing of it for a second or more
+abbrev pub is_stalled : Instant → Talk → Bool
+is_stalled now talk = is_phase_writing talk.phase && nat_le 1000000000 (instant_nanos now - instant_nanos talk.taken)
 
 -- the connection at a place
 abbrev pub talk_at : Talks → ℕ → Option Talk
@@ -65,62 +77,77 @@ is_from address talk = is_same address talk.arrival.from
 abbrev pub is_crowded : ℕ → IpAddr → List (Option Talk) → Bool
 is_crowded most address slots = nat_le (most / 4) (count_of (is_from address) slots)
 
-abbrev pub rank_of : Bool → Phase → Rank
-rank_of surplus phase = record { is_surplus = surplus; phase = phase }
+abbrev pub rank_of : Bool → Phase → Bool → Rank
+rank_of surplus phase stalled = record { is_surplus = surplus; phase = phase; is_stalled = stalled }
 
--- it came beyond its address's quarter, or didn't, and is in a phase
-abbrev pub HasRank : Rank → Talk → Type 0
-HasRank rank talk = (talk.arrival.is_surplus ≡ rank.is_surplus) × (talk.phase ≡ rank.phase)
+abbrev pub ending : Bool → Rank
+ending surplus = rank_of surplus Ending false
 
--- a connection of that rank may give way to those of a round, the first of which has that number: it came before them
-abbrev pub MayGo : Rank → ℕ → List (Option Talk) → ℕ → Talk → Type 0
-MayGo rank first slots place talk = (slice_get slots place ≡ Some (Some talk)) × HasRank rank talk × (talk.arrival.number < first)
+abbrev pub reading : Bool → Rank
+reading surplus = rank_of surplus Reading false
+
+abbrev pub stalled : Bool → Rank
+stalled surplus = rank_of surplus Writing true
+
+abbrev pub writing : Bool → Rank
+writing surplus = rank_of surplus Writing false
+
+-- it came beyond its address's quarter, or didn't, is in a phase, and its reply is stalled, or isn't
+abbrev pub HasRank : Instant → Rank → Talk → Type 0
+HasRank now rank talk = (talk.arrival.is_surplus ≡ rank.is_surplus) × (talk.phase ≡ rank.phase) × (is_stalled now talk ≡ rank.is_stalled)
+
+-- a connection of that rank may give way to those of a round: it came before the first of them
+abbrev pub MayGo : Rank → Round → List (Option Talk) → ℕ → Talk → Type 0
+MayGo rank round slots place talk =
+    (slice_get slots place ≡ Some (Some talk)) × HasRank round.now rank talk × (talk.arrival.number < round.first)
 
 -- of those that may, none came before it
-abbrev pub IsOldest : Rank → ℕ → List (Option Talk) → ℕ → Type 0
-IsOldest rank first slots place =
-    (talk : Talk) × MayGo rank first slots place talk
-    × ((other : ℕ) (next : Talk) → MayGo rank first slots other next → talk.arrival.number ≤ next.arrival.number)
+abbrev pub IsOldest : Rank → Round → List (Option Talk) → ℕ → Type 0
+IsOldest rank round slots place =
+    (talk : Talk) × MayGo rank round slots place talk
+    × ((other : ℕ) (next : Talk) → MayGo rank round slots other next → talk.arrival.number ≤ next.arrival.number)
 
 -- none may
-abbrev pub HasNone : Rank → ℕ → List (Option Talk) → Type 0
-HasNone rank first slots = (place : ℕ) (talk : Talk) → MayGo rank first slots place talk → ⊥
+abbrev pub HasNone : Rank → Round → List (Option Talk) → Type 0
+HasNone rank round slots = (place : ℕ) (talk : Talk) → MayGo rank round slots place talk → ⊥
 
 -- of those beyond their address's quarter, or of the others, the oldest that was served and stays open goes first, else the oldest whose request
--- isn't whole, else the oldest whose reply isn't out; none that came in the same round
-abbrev pub GoesFirst : Bool → ℕ → List (Option Talk) → Option ℕ → Type 0
-GoesFirst surplus first slots None =
-    HasNone (rank_of surplus Ending) first slots × HasNone (rank_of surplus Reading) first slots × HasNone (rank_of surplus Writing) first slots
-GoesFirst surplus first slots (Some place) =
-    IsOldest (rank_of surplus Ending) first slots place
-    ⊎ (HasNone (rank_of surplus Ending) first slots × IsOldest (rank_of surplus Reading) first slots place)
-    ⊎ (HasNone (rank_of surplus Ending) first slots × HasNone (rank_of surplus Reading) first slots × IsOldest (rank_of surplus Writing) first slots place)
+-- isn't whole, else the oldest of whose reply nothing was taken for a second, else the oldest whose reply isn't out; none that came in the same round
+abbrev pub GoesFirst : Bool → Round → List (Option Talk) → Option ℕ → Type 0
+GoesFirst surplus round slots None =
+    HasNone (ending surplus) round slots × HasNone (reading surplus) round slots × HasNone (stalled surplus) round slots × HasNone (writing surplus) round slots
+GoesFirst surplus round slots (Some place) =
+    IsOldest (ending surplus) round slots place
+    ⊎ (HasNone (ending surplus) round slots × IsOldest (reading surplus) round slots place)
+    ⊎ (HasNone (ending surplus) round slots × HasNone (reading surplus) round slots × IsOldest (stalled surplus) round slots place)
+    ⊎ (HasNone (ending surplus) round slots × HasNone (reading surplus) round slots × HasNone (stalled surplus) round slots
+    × IsOldest (writing surplus) round slots place)
 
 -- one that is beyond its address's quarter goes; where none does, one that comes beyond it puts out nobody, and another any
-abbrev pub MakesWay : Bool → ℕ → List (Option Talk) → Option ℕ → Type 0
-MakesWay surplus first slots gone =
-    (IsSome gone × GoesFirst true first slots gone)
-    ⊎ (GoesFirst true first slots None × (surplus ≡ true) × (gone ≡ None))
-    ⊎ (GoesFirst true first slots None × (surplus ≡ false) × GoesFirst false first slots gone)
+abbrev pub MakesWay : Bool → Round → List (Option Talk) → Option ℕ → Type 0
+MakesWay surplus round slots gone =
+    (IsSome gone × GoesFirst true round slots gone)
+    ⊎ (GoesFirst true round slots None × (surplus ≡ true) × (gone ≡ None))
+    ⊎ (GoesFirst true round slots None × (surplus ≡ false) × GoesFirst false round slots gone)
 
 -- what stands at a place, if there is one, is put in for what stood there
 abbrev pub with_slot : Option ℕ → Option Talk → List (Option Talk) → List (Option Talk)
 with_slot place slot slots = unwrap_or (option_map (λ place. slice_set slots place slot) place) slots
 
 -- it is closed, and its place is free
-abbrev pub GivesWay : Bool → ℕ → List (Option Talk) → List (Option Talk) → Option ℕ → Type 0
-GivesWay surplus first old new gone = MakesWay surplus first old gone × (new ≡ with_slot gone None old)
+abbrev pub GivesWay : Bool → Round → List (Option Talk) → List (Option Talk) → Option ℕ → Type 0
+GivesWay surplus round old new gone = MakesWay surplus round old gone × (new ≡ with_slot gone None old)
 
 -- no place is free, and fewer are taken than may be
 abbrev pub MayGrow : ℕ → List (Option Talk) → Type 0
 MayGrow most slots = (position is_none slots ≡ None) × (length slots < most)
 
 -- the first free place is it, else one more, else that of one that gives way; there is none where none does
-abbrev pub MakesPlace : ℕ → Bool → ℕ → List (Option Talk) → List (Option Talk) → Option ℕ → Type 0
-MakesPlace most surplus first old new place =
+abbrev pub MakesPlace : ℕ → Bool → Round → List (Option Talk) → List (Option Talk) → Option ℕ → Type 0
+MakesPlace most surplus round old new place =
     (IsSome place × (place ≡ position is_none old) × (new ≡ old))
     ⊎ (MayGrow most old × (place ≡ Some (length old)) × (new ≡ old ++ None ∷ []))
-    ⊎ ((position is_none old ≡ None) × (most ≤ length old) × GivesWay surplus first old new place)
+    ⊎ ((position is_none old ≡ None) × (most ≤ length old) × GivesWay surplus round old new place)
 
 -- another look at its request is due
 abbrev pub is_due : Talk → Bool

@@ -28,6 +28,13 @@ impl Sending {
         Sending { bytes, sent: 0 }
     }
 
+    /// How many of them are out.
+    pub fn sent(&self) -> usize
+        ensures { result ≡ self.now.sent }
+    {
+        self.sent
+    }
+
     // What is left.
     fn left(&self) -> &[u8]
         ensures { result.now ≡ drop self.now.sent self.now.bytes.items }

@@ -13,7 +13,7 @@ use crate::answers::{Answers, Outgoing, Time};
 use crate::call::Call;
 use crate::calls::Calls;
 use crate::talk::{Arrival, Phase, Talk, log_closed};
-use crate::talks::Talks;
+use crate::talks::{Round, Talks};
 use mio::net::{TcpListener, TcpStream};
 use mio::{Events, Interest, Poll, Token};
 use std::alloc::Global;
@@ -235,12 +235,12 @@ impl Server {
         &mut self,
         stream: TcpStream,
         arrival: Arrival,
-        first: u64,
+        round: Round,
         log: &mut E,
     ) -> io::Result<()> {
         let talk = Talk::new(self.alloc, stream, arrival);
         self.came = self.came.saturating_add(1);
-        let Some(place) = self.talks.enter(talk, first, log)? else {
+        let Some(place) = self.talks.enter(talk, round, log)? else {
             return Ok(());
         };
         let watched = self.watch(place);
@@ -271,7 +271,10 @@ impl Server {
     // Accepts those that wait, each at the time when it is taken. An error costs the one that it is of. Where nothing more can be opened, one that came in
     // an earlier round gives way; where none does, those that wait are tried again by time.
     fn take<C: Clock, A: Answers, E: Write>(&mut self, clock: &C, answers: &A, log: &mut E) {
-        let first = self.came;
+        let round = Round {
+            first: self.came,
+            now: self.now,
+        };
         self.is_behind = false;
         for _ in 0..MOST_TAKEN {
             match self.listener.accept() {
@@ -279,7 +282,7 @@ impl Server {
                     self.look_at_clock(clock);
                     let from = from.ip();
                     let arrival = self.arrival(from, answers.is_member(from));
-                    if self.begin(stream, arrival, first, log).is_err() {
+                    if self.begin(stream, arrival, round, log).is_err() {
                         log_closed(self.alloc, log, from, "nothing more can be opened");
                     }
                 }
@@ -287,7 +290,7 @@ impl Server {
                     Miss::NobodyWaits => return,
                     Miss::IsLost => {}
                     Miss::WaitsOn => {
-                        if self.talks.give_way(false, first, log).is_none() {
+                        if self.talks.give_way(false, round, log).is_none() {
                             self.is_behind = true;
                             return;
                         }
@@ -325,10 +328,11 @@ impl Server {
     fn step<A: Answers, E: Write>(&mut self, answers: &mut A, place: usize, log: &mut E)
         requires always { Unit {0} }
     {
+        let now = self.now;
         let Some(talk) = self.talks.get_mut(place) else {
             return;
         };
-        let had_turn = talk.step(answers, log);
+        let had_turn = talk.step(answers, now, log);
         let is_over = talk.phase() == Phase::Over;
         let has_more = talk.has_more();
         if is_over || (has_more && self.watch_again(place).is_err()) {

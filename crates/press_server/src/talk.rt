@@ -1,8 +1,8 @@
 //! One connection, from its beginning to its end.
 
-ghost use Rattle.std.specs.Prelude.{◌≡◌, ◌≢◌, ◌≤◌, ◌⊎◌, ◌||◌, [], IfOk, IsFalse, IsTrue, length};
-ghost use Rattle.press_server.specs.declared.talk.Phase.TheVariants.{Ending, Reading};
-ghost use Rattle.press_server.specs.Talking.{IsAnswered, is_due, is_late};
+ghost use Rattle.std.specs.Prelude.{◌≡◌, ◌≢◌, ◌≤◌, ◌⊎◌, ◌||◌, [], IfOk, IsFalse, IsTrue, if◌then◌else◌, length, nat_lt};
+ghost use Rattle.press_server.specs.declared.talk.Phase.TheVariants.{Ending, Reading, Writing};
+ghost use Rattle.press_server.specs.Talking.{IsAnswered, is_due, is_late, is_stalled};
 
 use crate::answers::Answers;
 use crate::gathered::Gathered;
@@ -26,6 +26,9 @@ const MOST_AWAY: u32 = 64;
 
 // The time limit of all its reads and writes together.
 const SECONDS: u64 = 10;
+
+// A reply of which nothing was taken for so many seconds is stalled.
+const STALLED: u64 = 1;
 
 #[derive(Clone, Copy, PartialEq, Eq)]
 pub enum Phase {
@@ -59,6 +62,8 @@ pub struct Talk {
     told: Sending,
     // More may be there to be read than was read, though nothing else comes.
     has_more: bool,
+    // When its socket last took some of the reply, or the reply was made.
+    taken: Instant,
     alloc: Global,
 }
 
@@ -71,6 +76,7 @@ impl Drop for Talk {
             came: _,
             told: _,
             has_more: _,
+            taken: _,
             alloc: _,
         } = self;
     }
@@ -102,6 +108,7 @@ impl Talk {
             came: Gathered::new(alloc),
             told: Sending::new(Vec::new(alloc)),
             has_more: false,
+            taken: arrival.begun,
             alloc,
         }
     }
@@ -152,6 +159,14 @@ impl Talk {
         Duration::from_secs(SECONDS) <= now.duration_since(self.arrival.begun)
     }
 
+    /// Whether its socket took nothing of its reply for a second or more.
+    pub fn is_stalled(&self, now: Instant) -> bool
+        ensures { result ≡ is_stalled now self.now }
+    {
+        self.phase == Phase::Writing
+            && Duration::from_secs(STALLED) <= now.duration_since(self.taken)
+    }
+
     /// Gives it up before its request was whole: a line says why.
     pub fn give_up<E: Write>(self, log: &mut E, why: &str) {
         log_closed(self.alloc, log, self.arrival.from, why);
@@ -186,7 +201,13 @@ impl Talk {
     }
 
     // Looks at what came, if that is due; returns whether the connection had its turn.
-    fn look<A: Answers, E: Write>(&mut self, answers: &mut A, ended: bool, log: &mut E) -> bool
+    fn look<A: Answers, E: Write>(
+        &mut self,
+        answers: &mut A,
+        ended: bool,
+        now: Instant,
+        log: &mut E,
+    ) -> bool
         requires always { Unit {0} }
         ensures ended { IsTrue ended → IsTrue result }
         ensures turn { IsTrue result → self.new.phase ≢ Reading }
@@ -197,6 +218,7 @@ impl Talk {
         ensures asks_only { IsFalse (ended || is_due self.old) → (answers.new ≡ answers.old)
             × (self.new.told.bytes ≡ self.old.told.bytes) × (self.new.phase ≡ self.old.phase) }
         ensures arrival { self.new.arrival ≡ self.old.arrival }
+        ensures made { self.old.phase ≢ Writing → self.new.phase ≡ Writing → self.new.taken ≡ now }
     {
         if !ended && !self.came.is_due() {
             return false;
@@ -209,6 +231,7 @@ impl Talk {
             Ok(status) => {
                 self.log_served(log, status);
                 self.phase = Phase::Writing;
+                self.taken = now;
                 true
             }
             Err(HttpFault::Ended) if !ended => {
@@ -223,11 +246,11 @@ impl Talk {
         }
     }
 
-    fn hear<A: Answers, E: Write>(&mut self, answers: &mut A, log: &mut E) -> bool
+    fn hear<A: Answers, E: Write>(&mut self, answers: &mut A, now: Instant, log: &mut E) -> bool
         requires always { Unit {0} }
     {
         match self.gather() {
-            Ok(ended) => self.look(answers, ended, log),
+            Ok(ended) => self.look(answers, ended, now, log),
             Err(_) => {
                 self.log_fault(log, HttpFault::ReadFault);
                 self.phase = Phase::Over;
@@ -237,14 +260,21 @@ impl Talk {
     }
 
     // Sends the reply as far as the socket takes it; once all is out the write side is shut.
-    fn send(&mut self) -> io::Result<()>
+    fn send(&mut self, now: Instant) -> io::Result<()>
         ensures whole { self.new.phase ≡ self.old.phase ⊎
             length self.new.told.bytes.items ≤ self.new.told.sent }
         ensures over { IfOk result (λ _.
             length self.new.told.bytes.items ≤ self.new.told.sent → self.new.phase ≡ Ending) }
         ensures same { self.new.told.bytes ≡ self.old.told.bytes }
+        ensures taken { self.new.taken ≡ (if nat_lt self.old.told.sent self.new.told.sent
+            then now else self.old.taken) }
     {
-        if self.told.send(&mut self.stream)? {
+        let before = self.told.sent();
+        let sent = self.told.send(&mut self.stream);
+        if before < self.told.sent() {
+            self.taken = now;
+        }
+        if sent? {
             self.stream.shutdown(Shutdown::Write)?;
             self.phase = Phase::Ending;
         }
@@ -270,9 +300,9 @@ impl Talk {
     }
 
     // What is left to do after a look.
-    fn reply(&mut self) -> io::Result<()> {
+    fn reply(&mut self, now: Instant) -> io::Result<()> {
         if self.phase == Phase::Writing {
-            self.send()?;
+            self.send(now)?;
         }
         if self.phase == Phase::Ending {
             self.read_away()?;
@@ -282,12 +312,12 @@ impl Talk {
 
     /// Does what its socket is ready for; returns whether the connection had its turn by that: a reply was made, or it
     /// was closed without one.
-    pub fn step<A: Answers, E: Write>(&mut self, answers: &mut A, log: &mut E) -> bool
+    pub fn step<A: Answers, E: Write>(&mut self, answers: &mut A, now: Instant, log: &mut E) -> bool
         requires always { Unit {0} }
     {
         self.has_more = false;
-        let had_turn = self.phase == Phase::Reading && self.hear(answers, log);
-        if self.reply().is_err() {
+        let had_turn = self.phase == Phase::Reading && self.hear(answers, now, log);
+        if self.reply(now).is_err() {
             self.phase = Phase::Over;
         }
         had_turn

@@ -3,7 +3,7 @@
 ghost use Rattle.std.specs.Prelude.{◌≡◌, ◌<◌, ◌≤◌, [], IfErr, IfOk, IfSome, IsSomeAnd, List, MatchOption, None, Option, Some, is_none, position, slice_set};
 ghost use Rattle.std.specs.List.{list_all};
 ghost use Rattle.press_server.specs.declared.talk.Talk.{Talk};
-ghost use Rattle.press_server.specs.Talking.{GivesWay, GoesFirst, HasNone, HasRank, IsOldest, MakesPlace, MakesWay, MayGrow, count_of, freed, is_crowded, is_from, is_late, is_reading, is_same, is_unheard, kept_unless, meets, talk_at, with_slot};
+ghost use Rattle.press_server.specs.Talking.{GivesWay, GoesFirst, HasNone, HasRank, IsOldest, MakesPlace, MakesWay, MayGrow, count_of, freed, is_crowded, is_from, is_late, is_reading, is_same, is_unheard, kept_unless, meets, rank_of, talk_at, with_slot};
 
 use crate::talk::{Phase, Talk};
 use std::alloc::{AllocError, Global};
@@ -18,6 +18,17 @@ const GIVEN_UP: &str = "given up for another";
 pub struct Rank {
     pub is_surplus: bool,
     pub phase: Phase,
+    /// Whether a second or more is over since their sockets took anything of a reply that isn't out.
+    pub is_stalled: bool,
+}
+
+/// Connections that are taken one after the other, before others have their turn.
+#[derive(Clone, Copy)]
+pub struct Round {
+    /// The number of the first of them.
+    pub first: u64,
+    /// A time up to which all that came was looked at.
+    pub now: Instant,
 }
 
 /// Connections by their places. Where each place is taken, one that was there before gives way to a newcomer.
@@ -95,14 +106,14 @@ fn count_from(slots: &[Option<Talk>], from: IpAddr) -> usize
 fn number_before(
     found: Option<(usize, u64)>,
     rank: Rank,
-    first: u64,
+    round: Round,
     slot: &Option<Talk>,
 ) -> Option<u64>
     ensures { MatchOption result
-        ((talk : Talk) → slot.now ≡ Some talk → HasRank rank talk →
-        talk.arrival.number < first → IsSomeAnd found (λ f. f.1 ≤ talk.arrival.number))
-        (λ number. (talk : Talk) × (slot.now ≡ Some talk) × HasRank rank talk
-        × (talk.arrival.number < first) × (number ≡ talk.arrival.number)
+        ((talk : Talk) → slot.now ≡ Some talk → HasRank round.now rank talk →
+        talk.arrival.number < round.first → IsSomeAnd found (λ f. f.1 ≤ talk.arrival.number))
+        (λ number. (talk : Talk) × (slot.now ≡ Some talk) × HasRank round.now rank talk
+        × (talk.arrival.number < round.first) × (number ≡ talk.arrival.number)
         × IfSome found (λ f. number < f.1)) }
 {
     let Some(talk) = slot else {
@@ -114,7 +125,10 @@ fn number_before(
     if talk.phase() != rank.phase {
         return None;
     }
-    if first <= talk.number() {
+    if talk.is_stalled(round.now) != rank.is_stalled {
+        return None;
+    }
+    if round.first <= talk.number() {
         return None;
     }
     match found {
@@ -192,13 +206,13 @@ impl Talks {
     }
 
     // The place of the oldest of that rank that came before the first of a round.
-    fn oldest(&self, rank: Rank, first: u64) -> Option<usize>
-        ensures { MatchOption result (HasNone rank first self.now.places.items)
-            (IsOldest rank first self.now.places.items) }
+    fn oldest(&self, rank: Rank, round: Round) -> Option<usize>
+        ensures { MatchOption result (HasNone rank round self.now.places.items)
+            (IsOldest rank round self.now.places.items) }
     {
         let mut found: Option<(usize, u64)> = None;
         for (place, slot) in self.places.iter().enumerate() {
-            if let Some(number) = number_before(found, rank, first, slot) {
+            if let Some(number) = number_before(found, rank, round, slot) {
                 found = Some((place, number));
             }
         }
@@ -206,52 +220,67 @@ impl Talks {
         Some(place)
     }
 
-    // Which goes first among those that came beyond their address's quarter, or among the others.
-    fn first_of(&self, is_surplus: bool, first: u64) -> Option<usize>
-        ensures { GoesFirst is_surplus first self.now.places.items result }
+    fn oldest_in(
+        &self,
+        is_surplus: bool,
+        phase: Phase,
+        is_stalled: bool,
+        round: Round,
+    ) -> Option<usize>
+        ensures { MatchOption result
+            (HasNone (rank_of is_surplus phase is_stalled) round self.now.places.items)
+            (IsOldest (rank_of is_surplus phase is_stalled) round self.now.places.items) }
     {
-        let ending = Rank {
+        let rank = Rank {
             is_surplus,
-            phase: Phase::Ending,
+            phase,
+            is_stalled,
         };
-        let reading = Rank {
-            is_surplus,
-            phase: Phase::Reading,
-        };
-        let writing = Rank {
-            is_surplus,
-            phase: Phase::Writing,
-        };
-        if let Some(place) = self.oldest(ending, first) {
-            return Some(place);
-        }
-        if let Some(place) = self.oldest(reading, first) {
-            return Some(place);
-        }
-        self.oldest(writing, first)
+        self.oldest(rank, round)
     }
 
-    // Which one is to be closed for those of a round, the first of which has that number.
-    fn first_to_go(&self, is_surplus: bool, first: u64) -> Option<usize>
-        ensures { MakesWay is_surplus first self.now.places.items result }
+    // Which goes first among those that came beyond their address's quarter, or among the others.
+    fn first_of(&self, is_surplus: bool, round: Round) -> Option<usize>
+        ensures { GoesFirst is_surplus round self.now.places.items result }
     {
-        if let Some(place) = self.first_of(true, first) {
+        if let Some(place) = self.oldest_in(is_surplus, Phase::Ending, false, round) {
+            return Some(place);
+        }
+        if let Some(place) = self.oldest_in(is_surplus, Phase::Reading, false, round) {
+            return Some(place);
+        }
+        if let Some(place) = self.oldest_in(is_surplus, Phase::Writing, true, round) {
+            return Some(place);
+        }
+        self.oldest_in(is_surplus, Phase::Writing, false, round)
+    }
+
+    // Which one is to be closed for those of a round.
+    fn first_to_go(&self, is_surplus: bool, round: Round) -> Option<usize>
+        ensures { MakesWay is_surplus round self.now.places.items result }
+    {
+        if let Some(place) = self.first_of(true, round) {
             return Some(place);
         }
         if is_surplus {
             return None;
         }
-        self.first_of(false, first)
+        self.first_of(false, round)
     }
 
-    /// Closes one for those of a round, the first of which has that number: one that came as its address had a quarter
-    /// of the places, else, for a newcomer that doesn't come so itself, any; among those the oldest that was served and
-    /// stays open, else the oldest whose request isn't whole, else the oldest, and none that came in that round. Returns
-    /// its place, if there was one.
-    pub fn give_way<E: Write>(&mut self, is_surplus: bool, first: u64, log: &mut E) -> Option<usize>
-        ensures { GivesWay is_surplus first self.old.places.items self.new.places.items result }
+    /// Closes one for those of a round: one that came as its address had a quarter of the places, else, for a newcomer
+    /// that doesn't come so itself, any; among those the oldest that was served and stays open, else the oldest whose
+    /// request isn't whole, else the oldest of whose reply nothing was taken for a second, else the oldest, and none
+    /// that came in that round. Returns its place, if there was one.
+    pub fn give_way<E: Write>(
+        &mut self,
+        is_surplus: bool,
+        round: Round,
+        log: &mut E,
+    ) -> Option<usize>
+        ensures { GivesWay is_surplus round self.old.places.items self.new.places.items result }
     {
-        let place = self.first_to_go(is_surplus, first)?;
+        let place = self.first_to_go(is_surplus, round)?;
         self.close(place, log, GIVEN_UP);
         Some(place)
     }
@@ -278,10 +307,10 @@ impl Talks {
     fn place<E: Write>(
         &mut self,
         is_surplus: bool,
-        first: u64,
+        round: Round,
         log: &mut E,
     ) -> Result<Option<usize>, AllocError>
-        ensures made { IfOk result (MakesPlace self.old.most is_surplus first self.old.places.items
+        ensures made { IfOk result (MakesPlace self.old.most is_surplus round self.old.places.items
             self.new.places.items) }
         ensures no_memory { IfErr result (λ _. MayGrow self.old.most self.old.places.items
             × (self.new.places.items ≡ self.old.places.items)) }
@@ -294,7 +323,7 @@ impl Talks {
             self.places.push(None)?;
             return Ok(Some(count));
         }
-        Ok(self.give_way(is_surplus, first, log))
+        Ok(self.give_way(is_surplus, round, log))
     }
 
     fn put(&mut self, place: usize, talk: Talk)
@@ -305,21 +334,21 @@ impl Talks {
         }
     }
 
-    /// Puts a connection of a round, the first of which has that number, at a free place, at a new one, or at that of
-    /// one that gives way; where none does, it is closed. Returns its place.
+    /// Puts a connection of a round at a free place, at a new one, or at that of one that gives way; where none does, it
+    /// is closed. Returns its place.
     pub fn enter<E: Write>(
         &mut self,
         talk: Talk,
-        first: u64,
+        round: Round,
         log: &mut E,
     ) -> Result<Option<usize>, AllocError>
         ensures entered { IfOk result (λ place. (slots : List (Option Talk))
-            × MakesPlace self.old.most talk.arrival.is_surplus first self.old.places.items slots place
+            × MakesPlace self.old.most talk.arrival.is_surplus round self.old.places.items slots place
             × (self.new.places.items ≡ with_slot place (Some talk) slots)) }
         ensures no_memory { IfErr result (λ _. MayGrow self.old.most self.old.places.items
             × (self.new.places.items ≡ self.old.places.items)) }
     {
-        let Some(place) = self.place(talk.arrival.is_surplus, first, log)? else {
+        let Some(place) = self.place(talk.arrival.is_surplus, round, log)? else {
             talk.give_up(log, GIVEN_UP);
             return Ok(None);
         };
