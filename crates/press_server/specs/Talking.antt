@@ -1,5 +1,5 @@
 -- The open connections (own).
-use Rattle.std.specs.Prelude.{ℕ, ◌≡◌, ◌≤◌, ◌<◌, ◌⊎◌, ◌-◌, ◌+◌, ◌/◌, ◌&&◌, Bool, true, false, List, [], ◌∷◌, ◌++◌, map, Option, Some, None, IsSome, Result, Ok, Err, not, option_and_then, unwrap_or, option_map, is_none, slice_get, slice_set, length, nat_le, bytes_eq, position, if◌then◌else◌}
+use Rattle.std.specs.Prelude.{ℕ, ◌≡◌, ◌≤◌, ◌<◌, ◌⊎◌, ◌-◌, ◌+◌, ◌/◌, ◌&&◌, ◌||◌, Bool, true, false, List, [], ◌∷◌, ◌++◌, map, Option, Some, None, IsSome, Result, Ok, Err, not, option_and_then, unwrap_or, option_map, is_none, slice_get, slice_set, length, nat_le, nat_lt, bytes_eq, position, if◌then◌else◌}
 use Rattle.std.specs.Time.{instant_nanos}
 use Rattle.press_http.specs.declared.fault.HttpFault.{HttpFault}
 use Rattle.press_http.specs.declared.fault.HttpFault.TheVariants as fault
@@ -7,6 +7,8 @@ use Rattle.press_server.specs.Answering.{Exchange, exchange}
 use Rattle.std.specs.declared.time.Instant.{Instant}
 use Rattle.std.specs.declared.net.ip_addr.IpAddr.{IpAddr}
 use Rattle.std.specs.declared.net.ip_addr.IpAddr.TheVariants.{V4, V6}
+use Rattle.press_server.specs.declared.talk.Group.{Group}
+use Rattle.press_server.specs.declared.talk.Group.TheVariants.{Surplus, Within, Member}
 use Rattle.press_server.specs.declared.talk.Phase.{Phase}
 use Rattle.press_server.specs.declared.talk.Phase.TheVariants.{Reading, Writing, Ending, Over}
 use Rattle.press_server.specs.declared.talk.Talk.{Talk}
@@ -38,6 +40,19 @@ is_phase_writing Over = false
 -- its reply isn't out, and its socket took nothing of it for a second or more
 abbrev pub is_stalled : Instant → Talk → Bool
 is_stalled now talk = is_phase_writing talk.phase && nat_le 1000000000 (instant_nanos now - instant_nanos talk.taken)
+
+abbrev pub is_member : Group → Bool
+is_member Surplus = false
+is_member Within = false
+is_member Member = true
+
+-- it is no member's
+abbrev pub is_stranger : Talk → Bool
+is_stranger talk = not (is_member talk.arrival.group)
+
+-- a connection of a member, or not, that comes as its address has a quarter of the places, or hasn't
+abbrev pub group_of : Bool → Bool → Group
+group_of member crowded = if member then Member else if crowded then Surplus else Within
 
 -- the connection at a place
 abbrev pub talk_at : Talks → ℕ → Option Talk
@@ -77,24 +92,24 @@ is_from address talk = is_same address talk.arrival.from
 abbrev pub is_crowded : ℕ → IpAddr → List (Option Talk) → Bool
 is_crowded most address slots = nat_le (most / 4) (count_of (is_from address) slots)
 
-abbrev pub rank_of : Bool → Phase → Bool → Rank
-rank_of surplus phase stalled = record { is_surplus = surplus; phase = phase; is_stalled = stalled }
+abbrev pub rank_of : Group → Phase → Bool → Rank
+rank_of group phase stalled = record { group = group; phase = phase; is_stalled = stalled }
 
-abbrev pub ending : Bool → Rank
-ending surplus = rank_of surplus Ending false
+abbrev pub ending : Group → Rank
+ending group = rank_of group Ending false
 
-abbrev pub reading : Bool → Rank
-reading surplus = rank_of surplus Reading false
+abbrev pub reading : Group → Rank
+reading group = rank_of group Reading false
 
-abbrev pub stalled : Bool → Rank
-stalled surplus = rank_of surplus Writing true
+abbrev pub stalled : Group → Rank
+stalled group = rank_of group Writing true
 
-abbrev pub writing : Bool → Rank
-writing surplus = rank_of surplus Writing false
+abbrev pub writing : Group → Rank
+writing group = rank_of group Writing false
 
--- it came beyond its address's quarter, or didn't, is in a phase, and its reply is stalled, or isn't
+-- it is of a group, in a phase, and its reply is stalled, or isn't
 abbrev pub HasRank : Instant → Rank → Talk → Type 0
-HasRank now rank talk = (talk.arrival.is_surplus ≡ rank.is_surplus) × (talk.phase ≡ rank.phase) × (is_stalled now talk ≡ rank.is_stalled)
+HasRank now rank talk = (talk.arrival.group ≡ rank.group) × (talk.phase ≡ rank.phase) × (is_stalled now talk ≡ rank.is_stalled)
 
 -- a connection of that rank may give way to those of a round: it came before the first of them
 abbrev pub MayGo : Rank → Round → List (Option Talk) → ℕ → Talk → Type 0
@@ -111,43 +126,55 @@ IsOldest rank round slots place =
 abbrev pub HasNone : Rank → Round → List (Option Talk) → Type 0
 HasNone rank round slots = (place : ℕ) (talk : Talk) → MayGo rank round slots place talk → ⊥
 
--- of those beyond their address's quarter, or of the others, the oldest that was served and stays open goes first, else the oldest whose request
--- isn't whole, else the oldest of whose reply nothing was taken for a second, else the oldest whose reply isn't out; none that came in the same round
-abbrev pub GoesFirst : Bool → Round → List (Option Talk) → Option ℕ → Type 0
-GoesFirst surplus round slots None =
-    HasNone (ending surplus) round slots × HasNone (reading surplus) round slots × HasNone (stalled surplus) round slots × HasNone (writing surplus) round slots
-GoesFirst surplus round slots (Some place) =
-    IsOldest (ending surplus) round slots place
-    ⊎ (HasNone (ending surplus) round slots × IsOldest (reading surplus) round slots place)
-    ⊎ (HasNone (ending surplus) round slots × HasNone (reading surplus) round slots × IsOldest (stalled surplus) round slots place)
-    ⊎ (HasNone (ending surplus) round slots × HasNone (reading surplus) round slots × HasNone (stalled surplus) round slots
-    × IsOldest (writing surplus) round slots place)
+-- of a group the oldest that was served and stays open goes first, else the oldest whose request isn't whole, else the oldest of whose reply nothing
+-- was taken for a second, else the oldest whose reply isn't out; none that came in the same round
+abbrev pub GoesFirst : Group → Round → List (Option Talk) → Option ℕ → Type 0
+GoesFirst group round slots None =
+    HasNone (ending group) round slots × HasNone (reading group) round slots × HasNone (stalled group) round slots × HasNone (writing group) round slots
+GoesFirst group round slots (Some place) =
+    IsOldest (ending group) round slots place
+    ⊎ (HasNone (ending group) round slots × IsOldest (reading group) round slots place)
+    ⊎ (HasNone (ending group) round slots × HasNone (reading group) round slots × IsOldest (stalled group) round slots place)
+    ⊎ (HasNone (ending group) round slots × HasNone (reading group) round slots × HasNone (stalled group) round slots
+    × IsOldest (writing group) round slots place)
 
--- one that is beyond its address's quarter goes; where none does, one that comes beyond it puts out nobody, and another any
-abbrev pub MakesWay : Bool → Round → List (Option Talk) → Option ℕ → Type 0
-MakesWay surplus round slots gone =
-    (IsSome gone × GoesFirst true round slots gone)
-    ⊎ (GoesFirst true round slots None × (surplus ≡ true) × (gone ≡ None))
-    ⊎ (GoesFirst true round slots None × (surplus ≡ false) × GoesFirst false round slots gone)
+-- where none is beyond its address's quarter: one that comes beyond it puts out nobody, another one that is no member's, and a member's such a one, and
+-- a member's where there is none
+abbrev pub GoesFor : Group → Round → List (Option Talk) → Option ℕ → Type 0
+GoesFor Surplus round slots gone = gone ≡ None
+GoesFor Within round slots gone = GoesFirst Within round slots gone
+GoesFor Member round slots gone =
+    (IsSome gone × GoesFirst Within round slots gone) ⊎ (GoesFirst Within round slots None × GoesFirst Member round slots gone)
+
+-- one that is beyond its address's quarter goes; where none does, it depends on who comes
+abbrev pub MakesWay : Group → Round → List (Option Talk) → Option ℕ → Type 0
+MakesWay newcomer round slots gone =
+    (IsSome gone × GoesFirst Surplus round slots gone) ⊎ (GoesFirst Surplus round slots None × GoesFor newcomer round slots gone)
 
 -- what stands at a place, if there is one, is put in for what stood there
 abbrev pub with_slot : Option ℕ → Option Talk → List (Option Talk) → List (Option Talk)
 with_slot place slot slots = unwrap_or (option_map (λ place. slice_set slots place slot) place) slots
 
 -- it is closed, and its place is free
-abbrev pub GivesWay : Bool → Round → List (Option Talk) → List (Option Talk) → Option ℕ → Type 0
-GivesWay surplus round old new gone = MakesWay surplus round old gone × (new ≡ with_slot gone None old)
+abbrev pub GivesWay : Group → Round → List (Option Talk) → List (Option Talk) → Option ℕ → Type 0
+GivesWay newcomer round old new gone = MakesWay newcomer round old gone × (new ≡ with_slot gone None old)
 
 -- no place is free, and fewer are taken than may be
 abbrev pub MayGrow : ℕ → List (Option Talk) → Type 0
 MayGrow most slots = (position is_none slots ≡ None) × (length slots < most)
 
--- the first free place is it, else one more, else that of one that gives way; there is none where none does
-abbrev pub MakesPlace : ℕ → Bool → Round → List (Option Talk) → List (Option Talk) → Option ℕ → Type 0
-MakesPlace most surplus round old new place =
-    (IsSome place × (place ≡ position is_none old) × (new ≡ old))
-    ⊎ (MayGrow most old × (place ≡ Some (length old)) × (new ≡ old ++ None ∷ []))
-    ⊎ ((position is_none old ≡ None) × (most ≤ length old) × GivesWay surplus round old new place)
+-- it is a member's, or so many that aren't are fewer than all places but the sixteenth that is kept back for members
+abbrev pub has_room : ℕ → Group → List (Option Talk) → Bool
+has_room most newcomer slots = is_member newcomer || nat_lt (count_of is_stranger slots) (most - most / 16)
+
+-- where it may have a place beside the others the first free one is it, else one more, else that of one that gives way; where it may not, that of one
+-- that gives way; there is none where none does
+abbrev pub MakesPlace : ℕ → Group → Round → List (Option Talk) → List (Option Talk) → Option ℕ → Type 0
+MakesPlace most newcomer round old new place =
+    ((has_room most newcomer old ≡ true) × IsSome place × (place ≡ position is_none old) × (new ≡ old))
+    ⊎ ((has_room most newcomer old ≡ true) × MayGrow most old × (place ≡ Some (length old)) × (new ≡ old ++ None ∷ []))
+    ⊎ ((has_room most newcomer old ≡ true) × (position is_none old ≡ None) × (most ≤ length old) × GivesWay newcomer round old new place)
+    ⊎ ((has_room most newcomer old ≡ false) × GivesWay newcomer round old new place)
 
 -- another look at its request is due
 abbrev pub is_due : Talk → Bool

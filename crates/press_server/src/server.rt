@@ -1,18 +1,18 @@
 //! A server over readiness: no connection is waited for, so one that says nothing, or reads nothing, holds up nobody.
 
-ghost use Rattle.std.specs.Prelude.{◌≡◌, ◌&&◌, ◌-◌, ◌/◌, ◌<◌, [], MatchOption, MatchResult, if◌then◌else◌, not, option_map};
+ghost use Rattle.std.specs.Prelude.{◌≡◌, ◌-◌, ◌/◌, ◌<◌, [], MatchOption, MatchResult, if◌then◌else◌, not, option_map};
 ghost use Rattle.std.specs.Duration.{as_nanos};
 ghost use Rattle.std.specs.IoError.{raw_os_error};
 ghost use Rattle.press_server.specs.Accepting.{is_wanting, miss_of};
 ghost use Rattle.press_server.specs.Answering.{credit};
 ghost use Rattle.press_server.specs.Lanes.{IsCredited, call_at};
-ghost use Rattle.press_server.specs.Talking.{freed, is_crowded, is_reading};
+ghost use Rattle.press_server.specs.Talking.{freed, group_of, is_crowded, is_reading};
 ghost use Rattle.press_server.specs.Turning.{KeepsAllButCalls, call_of, ends_at, holder_named, talk_of};
 
 use crate::answers::{Answers, Outgoing, Time};
 use crate::call::Call;
 use crate::calls::Calls;
-use crate::talk::{Arrival, Phase, Talk, log_closed};
+use crate::talk::{Arrival, Group, Phase, Talk, log_closed};
 use crate::talks::{Round, Talks};
 use mio::net::{TcpListener, TcpStream};
 use mio::{Events, Interest, Poll, Token};
@@ -108,6 +108,19 @@ pub fn seconds_of(since: io::Result<Duration>) -> u64
     }
 }
 
+// Those of members are never beyond a quarter.
+fn group_of(is_member: bool, is_crowded: bool) -> Group
+    ensures { result ≡ group_of is_member is_crowded }
+{
+    if is_member {
+        return Group::Member;
+    }
+    if is_crowded {
+        return Group::Surplus;
+    }
+    Group::Within
+}
+
 /// What a server is to do.
 #[derive(Clone, Copy)]
 pub struct Task {
@@ -189,20 +202,19 @@ impl Server {
         })
     }
 
-    // A connection that comes now. Those of members are never beyond a quarter.
+    // A connection that comes now.
     fn arrival(&self, from: IpAddr, is_member: bool) -> Arrival
         ensures from { result.from ≡ from }
         ensures number { result.number ≡ self.entry.now.came }
         ensures begun { result.begun ≡ self.entry.now.now }
-        ensures surplus { result.is_surplus ≡
-            (not is_member && is_crowded self.entry.now.talks.most from
-            self.entry.now.talks.places.items) }
+        ensures group { result.group ≡ group_of is_member
+            (is_crowded self.entry.now.talks.most from self.entry.now.talks.places.items) }
     {
         Arrival {
             from,
             number: self.came,
             begun: self.now,
-            is_surplus: !is_member && self.talks.is_crowded(from),
+            group: group_of(is_member, self.talks.is_crowded(from)),
         }
     }
 
@@ -269,7 +281,7 @@ impl Server {
     }
 
     // Accepts those that wait, each at the time when it is taken. An error costs the one that it is of. Where nothing more can be opened, one that came in
-    // an earlier round gives way; where none does, those that wait are tried again by time.
+    // an earlier round gives way, but none of a member, since nothing is known of who waits; where none does, those that wait are tried again by time.
     fn take<C: Clock, A: Answers, E: Write>(&mut self, clock: &C, answers: &A, log: &mut E) {
         let round = Round {
             first: self.came,
@@ -290,7 +302,7 @@ impl Server {
                     Miss::NobodyWaits => return,
                     Miss::IsLost => {}
                     Miss::WaitsOn => {
-                        if self.talks.give_way(false, round, log).is_none() {
+                        if self.talks.give_way(Group::Within, round, log).is_none() {
                             self.is_behind = true;
                             return;
                         }

@@ -2,7 +2,7 @@
 
 ghost use Rattle.std.specs.Prelude.{◌≡◌, ◌≢◌, ◌≤◌, ◌⊎◌, ◌||◌, [], IfOk, IsFalse, IsTrue, if◌then◌else◌, length, nat_lt};
 ghost use Rattle.press_server.specs.declared.talk.Phase.TheVariants.{Ending, Reading, Writing};
-ghost use Rattle.press_server.specs.Talking.{IsAnswered, is_due, is_late, is_stalled};
+ghost use Rattle.press_server.specs.Talking.{IsAnswered, is_due, is_late, is_member, is_stalled};
 
 use crate::answers::Answers;
 use crate::gathered::Gathered;
@@ -42,6 +42,29 @@ pub enum Phase {
     Over,
 }
 
+/// Whose a connection is, as it came.
+#[derive(Clone, Copy, PartialEq, Eq)]
+pub enum Group {
+    /// Of an address that had a quarter of the places already.
+    Surplus,
+    /// Of another.
+    Within,
+    /// Of an address of a member, whatever it had.
+    Member,
+}
+
+impl Group {
+    /// Whether it is a member's.
+    pub fn is_member(self) -> bool
+        ensures { result ≡ is_member self }
+    {
+        match self {
+            Group::Surplus | Group::Within => false,
+            Group::Member => true,
+        }
+    }
+}
+
 /// How a connection came.
 #[derive(Clone, Copy)]
 pub struct Arrival {
@@ -49,8 +72,7 @@ pub struct Arrival {
     /// How many came before it.
     pub number: u64,
     pub begun: Instant,
-    /// Whether its address had a quarter of the places already.
-    pub is_surplus: bool,
+    pub group: Group,
 }
 
 /// A connection to a client: its request so far, then its reply.
@@ -133,11 +155,11 @@ impl Talk {
         self.arrival.from
     }
 
-    /// Whether its address had a quarter of the places already as it came.
-    pub fn is_surplus(&self) -> bool
-        ensures { result ≡ self.now.arrival.is_surplus }
+    /// Whose it is.
+    pub fn group(&self) -> Group
+        ensures { result ≡ self.now.arrival.group }
     {
-        self.arrival.is_surplus
+        self.arrival.group
     }
 
     /// Whether more may be read from it at once.

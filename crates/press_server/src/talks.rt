@@ -2,21 +2,25 @@
 
 ghost use Rattle.std.specs.Prelude.{◌≡◌, ◌<◌, ◌≤◌, [], IfErr, IfOk, IfSome, IsSomeAnd, List, MatchOption, None, Option, Some, is_none, position, slice_set};
 ghost use Rattle.std.specs.List.{list_all};
+ghost use Rattle.press_server.specs.declared.talk.Group.TheVariants.{Member};
 ghost use Rattle.press_server.specs.declared.talk.Talk.{Talk};
-ghost use Rattle.press_server.specs.Talking.{GivesWay, GoesFirst, HasNone, HasRank, IsOldest, MakesPlace, MakesWay, MayGrow, count_of, freed, is_crowded, is_from, is_late, is_reading, is_same, is_unheard, kept_unless, meets, rank_of, talk_at, with_slot};
+ghost use Rattle.press_server.specs.Talking.{GivesWay, GoesFirst, GoesFor, HasNone, HasRank, IsOldest, MakesPlace, MakesWay, MayGrow, count_of, freed, has_room, is_crowded, is_from, is_late, is_reading, is_same, is_stranger, is_unheard, kept_unless, meets, rank_of, talk_at, with_slot};
 
-use crate::talk::{Phase, Talk};
+use crate::talk::{Group, Phase, Talk};
 use std::alloc::{AllocError, Global};
 use std::io::Write;
 use std::net::IpAddr;
 use std::time::Instant;
 
+// The part of all places that is kept back for members: a sixteenth.
+const KEPT_BACK: usize = 16;
+
 const GIVEN_UP: &str = "given up for another";
 
-/// Those of a phase that came beyond their address's quarter, or didn't.
+/// Those of a group that are in a phase.
 #[derive(Clone, Copy)]
 pub struct Rank {
-    pub is_surplus: bool,
+    pub group: Group,
     pub phase: Phase,
     /// Whether a second or more is over since their sockets took anything of a reply that isn't out.
     pub is_stalled: bool,
@@ -102,6 +106,27 @@ fn count_from(slots: &[Option<Talk>], from: IpAddr) -> usize
     count
 }
 
+// Whether a connection stands there that isn't a member's.
+fn is_stranger(slot: &Option<Talk>) -> bool
+    ensures { result ≡ meets is_stranger slot.now }
+{
+    match slot {
+        Some(talk) => !talk.group().is_member(),
+        None => false,
+    }
+}
+
+// How many are no members'.
+fn count_strangers(slots: &[Option<Talk>]) -> usize
+    ensures { result ≡ count_of is_stranger slots.now }
+{
+    let mut count: usize = 0;
+    for slot in slots {
+        count = count.saturating_add(usize::from(is_stranger(slot)));
+    }
+    count
+}
+
 // The number of a connection of that rank that came before the first of a round, and before what was found.
 fn number_before(
     found: Option<(usize, u64)>,
@@ -119,7 +144,7 @@ fn number_before(
     let Some(talk) = slot else {
         return None;
     };
-    if talk.is_surplus() != rank.is_surplus {
+    if talk.group() != rank.group {
         return None;
     }
     if talk.phase() != rank.phase {
@@ -220,67 +245,73 @@ impl Talks {
         Some(place)
     }
 
-    fn oldest_in(
-        &self,
-        is_surplus: bool,
-        phase: Phase,
-        is_stalled: bool,
-        round: Round,
-    ) -> Option<usize>
+    fn oldest_in(&self, group: Group, phase: Phase, is_stalled: bool, round: Round) -> Option<usize>
         ensures { MatchOption result
-            (HasNone (rank_of is_surplus phase is_stalled) round self.now.places.items)
-            (IsOldest (rank_of is_surplus phase is_stalled) round self.now.places.items) }
+            (HasNone (rank_of group phase is_stalled) round self.now.places.items)
+            (IsOldest (rank_of group phase is_stalled) round self.now.places.items) }
     {
         let rank = Rank {
-            is_surplus,
+            group,
             phase,
             is_stalled,
         };
         self.oldest(rank, round)
     }
 
-    // Which goes first among those that came beyond their address's quarter, or among the others.
-    fn first_of(&self, is_surplus: bool, round: Round) -> Option<usize>
-        ensures { GoesFirst is_surplus round self.now.places.items result }
+    // Which goes first of a group.
+    fn first_of(&self, group: Group, round: Round) -> Option<usize>
+        ensures { GoesFirst group round self.now.places.items result }
     {
-        if let Some(place) = self.oldest_in(is_surplus, Phase::Ending, false, round) {
+        if let Some(place) = self.oldest_in(group, Phase::Ending, false, round) {
             return Some(place);
         }
-        if let Some(place) = self.oldest_in(is_surplus, Phase::Reading, false, round) {
+        if let Some(place) = self.oldest_in(group, Phase::Reading, false, round) {
             return Some(place);
         }
-        if let Some(place) = self.oldest_in(is_surplus, Phase::Writing, true, round) {
+        if let Some(place) = self.oldest_in(group, Phase::Writing, true, round) {
             return Some(place);
         }
-        self.oldest_in(is_surplus, Phase::Writing, false, round)
+        self.oldest_in(group, Phase::Writing, false, round)
     }
 
-    // Which one is to be closed for those of a round.
-    fn first_to_go(&self, is_surplus: bool, round: Round) -> Option<usize>
-        ensures { MakesWay is_surplus round self.now.places.items result }
+    // Which goes first for a member's, where none is beyond its address's quarter.
+    fn first_for_member(&self, round: Round) -> Option<usize>
+        ensures { GoesFor Member round self.now.places.items result }
     {
-        if let Some(place) = self.first_of(true, round) {
+        if let Some(place) = self.first_of(Group::Within, round) {
             return Some(place);
         }
-        if is_surplus {
-            return None;
-        }
-        self.first_of(false, round)
+        self.first_of(Group::Member, round)
     }
 
-    /// Closes one for those of a round: one that came as its address had a quarter of the places, else, for a newcomer
-    /// that doesn't come so itself, any; among those the oldest that was served and stays open, else the oldest whose
-    /// request isn't whole, else the oldest of whose reply nothing was taken for a second, else the oldest, and none
-    /// that came in that round. Returns its place, if there was one.
+    // Which one is to be closed for one of a round, of that group.
+    fn first_to_go(&self, newcomer: Group, round: Round) -> Option<usize>
+        ensures { MakesWay newcomer round self.now.places.items result }
+    {
+        if let Some(place) = self.first_of(Group::Surplus, round) {
+            return Some(place);
+        }
+        match newcomer {
+            Group::Surplus => None,
+            Group::Within => self.first_of(Group::Within, round),
+            Group::Member => self.first_for_member(round),
+        }
+    }
+
+    /// Closes one for one of a round, of that group: one that came as its address had a quarter of the places, else, for
+    /// a newcomer that doesn't come so itself, any other that is no member's, else, for a member's, any; among those the
+    /// oldest that was served and stays open, else the oldest whose request isn't whole, else the oldest of whose reply
+    /// nothing was taken for a second, else the oldest, and none that came in that round. Returns its place, if there was
+    /// one.
     pub fn give_way<E: Write>(
         &mut self,
-        is_surplus: bool,
+        newcomer: Group,
         round: Round,
         log: &mut E,
     ) -> Option<usize>
-        ensures { GivesWay is_surplus round self.old.places.items self.new.places.items result }
+        ensures { GivesWay newcomer round self.old.places.items self.new.places.items result }
     {
-        let place = self.first_to_go(is_surplus, round)?;
+        let place = self.first_to_go(newcomer, round)?;
         self.close(place, log, GIVEN_UP);
         Some(place)
     }
@@ -303,18 +334,29 @@ impl Talks {
         }
     }
 
-    // A place for one more, if there is one.
+    // Whether one of that group may have a place beside those that are there.
+    fn has_room(&self, newcomer: Group) -> bool
+        ensures { result ≡ has_room self.now.most newcomer self.now.places.items }
+    {
+        let for_strangers = self.most - self.most / KEPT_BACK;
+        newcomer.is_member() || count_strangers(&self.places) < for_strangers
+    }
+
+    // A place for one more of that group, if there is one.
     fn place<E: Write>(
         &mut self,
-        is_surplus: bool,
+        newcomer: Group,
         round: Round,
         log: &mut E,
     ) -> Result<Option<usize>, AllocError>
-        ensures made { IfOk result (MakesPlace self.old.most is_surplus round self.old.places.items
+        ensures made { IfOk result (MakesPlace self.old.most newcomer round self.old.places.items
             self.new.places.items) }
         ensures no_memory { IfErr result (λ _. MayGrow self.old.most self.old.places.items
             × (self.new.places.items ≡ self.old.places.items)) }
     {
+        if !self.has_room(newcomer) {
+            return Ok(self.give_way(newcomer, round, log));
+        }
         if let Some(place) = self.free_place() {
             return Ok(Some(place));
         }
@@ -323,7 +365,7 @@ impl Talks {
             self.places.push(None)?;
             return Ok(Some(count));
         }
-        Ok(self.give_way(is_surplus, round, log))
+        Ok(self.give_way(newcomer, round, log))
     }
 
     fn put(&mut self, place: usize, talk: Talk)
@@ -343,12 +385,12 @@ impl Talks {
         log: &mut E,
     ) -> Result<Option<usize>, AllocError>
         ensures entered { IfOk result (λ place. (slots : List (Option Talk))
-            × MakesPlace self.old.most talk.arrival.is_surplus round self.old.places.items slots place
+            × MakesPlace self.old.most talk.arrival.group round self.old.places.items slots place
             × (self.new.places.items ≡ with_slot place (Some talk) slots)) }
         ensures no_memory { IfErr result (λ _. MayGrow self.old.most self.old.places.items
             × (self.new.places.items ≡ self.old.places.items)) }
     {
-        let Some(place) = self.place(talk.arrival.is_surplus, round, log)? else {
+        let Some(place) = self.place(talk.arrival.group, round, log)? else {
             talk.give_up(log, GIVEN_UP);
             return Ok(None);
         };
