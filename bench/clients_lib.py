@@ -4,6 +4,7 @@ import calendar
 import collections
 import contextlib
 import os
+import random
 import re
 import resource
 import socket
@@ -22,6 +23,8 @@ IDLE = 1_000
 MOST_OPEN = 1_024
 QUARTER = 256
 SECONDS = 10
+# What one that doesn't read receives at once.
+LITTLE = 4_096
 HERE = "127.0.0.1"
 
 WHYS = ("the input ended within a request", "a read failed", "its time is over", "given up for another", "nothing more can be opened")
@@ -37,12 +40,12 @@ def insert(seq, title="a&b", content="Hi there", at=None):
     return form(editor="ann", seq=seq, at=99 + seq if at is None else at, kind="insert", title=title, content=content, status="publish")
 
 
-def connected(port, is_narrow=False, address=HERE, host=HERE):
-    """A connection. Of a narrow one the kernel keeps some 50,000 bytes that aren't read; of others 3,000,000 and more, so that a page never waits in the server."""
+def connected(port, receives=None, address=HERE, host=HERE):
+    """A connection. Of one that receives so few bytes at once the kernel keeps some 50,000 that aren't read; of others 3,000,000 and more, so that a page never waits in the server."""
     it = socket.socket()
     it.bind((address, 0))
-    if is_narrow:
-        it.setsockopt(socket.SOL_SOCKET, socket.SO_RCVBUF, 4_096)
+    if receives:
+        it.setsockopt(socket.SOL_SOCKET, socket.SO_RCVBUF, receives)
         it.setsockopt(socket.IPPROTO_TCP, socket.TCP_MAXSEG, 536)
     it.settimeout(20)
     it.connect((host, port))
@@ -130,9 +133,9 @@ class Row:
                 it.sendall(rest)
         return sum(self.hear(it, begun) for it in them)
 
-    def told(self, what, note=""):
+    def told(self, what, note="", most=MOST_MS):
         worst = max(self.times)
-        is_good = worst <= MOST_MS and not self.wrong
+        is_good = worst <= most and not self.wrong
         print(f"| {what} | {statistics.median(self.times):.2f} | {worst:.2f} | {note}{'' if is_good else ' **bad**'}{f' {self.wrong} wrong' if self.wrong else ''} |", flush=True)
         return is_good
 
@@ -232,9 +235,11 @@ def limited(most):
 
 
 def free_port(host=HERE):
-    with socket.socket() as it:
-        it.bind((host, 0))
-        return it.getsockname()[1]
+    """A port below those that the kernel gives to clients."""
+    while True:
+        with contextlib.suppress(OSError), socket.socket() as it:
+            it.bind((host, random.randrange(10_000, 32_000)))
+            return it.getsockname()[1]
 
 
 @contextlib.contextmanager

@@ -15,7 +15,7 @@ import threading
 import time
 
 from clients_lib import (
-    FRONT, GET, HERE, IDLE, MOST_OPEN, QUARTER, SECONDS, SEEN, Row, answer, asked, connected, fill_front, first_page, form, free_port, insert, limited,
+    FRONT, GET, HERE, IDLE, LITTLE, MOST_OPEN, QUARTER, SECONDS, SEEN, Row, answer, asked, connected, fill_front, first_page, form, free_port, insert, limited,
     many, may_open, open_files, read_all, said, served, serving, started,
 )
 
@@ -23,6 +23,16 @@ FEW = 20
 SERVED = 1_100
 UNREAD = 8_000
 OTHER = "127.0.0.2"
+
+@contextlib.contextmanager
+def held_up(server):
+    """The server stands still meanwhile, so that all that comes is there at once when it goes on."""
+    os.kill(server.pid, signal.SIGSTOP)
+    try:
+        yield
+    finally:
+        os.kill(server.pid, signal.SIGCONT)
+
 
 # ---- descriptors
 
@@ -111,14 +121,15 @@ def unread(program, is_quick):
         least = len(open_files(server))
         them = []
         for _ in range(SERVED):
-            it = connected(port, True)
+            it = connected(port, LITTLE)
             it.sendall(FRONT)
             them.append(it)
+        time.sleep(2)
         row.ask()
         note = f"{len(row.times) - row.wrong} of {len(row.times)} answered"
         held = len(open_files(server)) - least
         if not is_quick:
-            time.sleep(SECONDS + 1)
+            time.sleep(SECONDS)
             left = len(open_files(server)) - least
             row.wrong += left > 0
             note += f"; {held:,} were open, {max(left, 0)} of them after {SECONDS} s"
@@ -128,8 +139,12 @@ def unread(program, is_quick):
 
 
 READERS = 64
-# What one that reads takes in a twentieth of a second, so that its page lasts some four seconds.
-SIP = 2_048
+NEWCOMERS = 200
+# A page that is read slowly: each reader takes so much of it at once, and waits so many seconds then. What one receives at once has to be little, or the kernel takes the whole page.
+LONG_PAGE = 900_000
+SIP, PAUSE = 4_096, 0.01
+BIG = {"callbacks": [{"name": "big", "script": [{"op": "return", "text": ["x" * LONG_PAGE]}]}], "plugins": [{"name": "big", "load": [{"tag": "big", "callback": "big"}]}]}
+LONG_GET = b"GET /?p=12 HTTP/1.1\r\nHost: a\r\n\r\n"
 
 
 class Sipping(threading.Thread):
@@ -151,35 +166,47 @@ class Sipping(threading.Thread):
                 if not piece:
                     open_ones.discard(it)
             if not self.is_quick.is_set():
-                time.sleep(0.05)
+                time.sleep(PAUSE)
 
 
 def slow_readers(program):
     """Those that have taken nothing of their pages for over a second give way before those that take some, though these came before them."""
-    with serving(program, "slow readers") as (server, port):
-        row = Row(port, first_page(port))
-        whole = fill_front(port)
-        addresses = [f"127.0.2.{number}" for number in range(1, 5)]
-        them = []
-        for number in range(MOST_OPEN):
-            it = connected(port, True, addresses[number % 4])
-            it.sendall(FRONT)
-            them.append(it)
-            if number + 1 == READERS:
-                sipping = Sipping(list(them))
-                sipping.start()
-        time.sleep(1.5)
-        row.ask()
-        count = row.ask_at_once(QUARTER - 1)
-        sipping.is_quick.set()
-        sipping.join()
-        good = sum(b"".join(pieces).partition(b"\r\n\r\n")[2] == whole for pieces in sipping.came.values())
-        for it in them:
-            it.close()
+    with tempfile.TemporaryDirectory() as room:
+        kit = pathlib.Path(room) / "kit.json"
+        kit.write_text(json.dumps(BIG))
+        with serving(program, "slow readers", "--kit", str(kit)) as (server, port):
+            row = Row(port, first_page(port))
+            whole = fill_front(port)
+            # The twelfth post is the oldest, so that the front page doesn't show it.
+            for it in (insert(12, content="[big]", at=1), form(editor="ann", seq=13, at=200, kind="activate", plugin="big")):
+                assert asked(port, it)[0] == 202
+            long = asked(port, LONG_GET)[1]
+            addresses = [f"127.0.2.{number}" for number in range(1, 5)]
+            readers = [connected(port, LITTLE, addresses[number % 4]) for number in range(READERS)]
+            others = [connected(port, LITTLE, addresses[number % 4]) for number in range(MOST_OPEN - READERS)]
+            for them, request in ((readers, LONG_GET), (others, FRONT)):
+                for it in them:
+                    it.sendall(request)
+            time.sleep(1)
+            sipping = Sipping(readers)
+            sipping.start()
+            time.sleep(1.5)
+            row.ask()
+            # All of them are accepted in one round, so that none of them gives way to another.
+            with held_up(server):
+                newcomers = [connected(port) for _ in range(NEWCOMERS)]
+                for it in newcomers:
+                    it.sendall(GET)
+            count = row.end(newcomers, b"")
+            sipping.is_quick.set()
+            sipping.join()
+            good = sum(b"".join(pieces).partition(b"\r\n\r\n")[2] == long for pieces in sipping.came.values())
+            for it in (*readers, *others):
+                it.close()
     row.wrong += READERS - good
     yield row.told(
-        f"{MOST_OPEN - READERS} that don't read a page of {len(whole):,} bytes, behind {READERS} that read it slowly, {QUARTER - 1} that come at once",
-        f"{count} of {QUARTER - 1} answered; {good} of the {READERS} got their whole page",
+        f"{len(others)} that don't read a page of {len(whole):,} bytes, behind {READERS} that read one of {len(long):,} slowly, {NEWCOMERS} that come at once",
+        f"{count} of {NEWCOMERS} answered; {good} of the {READERS} got their whole page",
     )
 
 
@@ -188,7 +215,10 @@ def slow_readers(program):
 MEMBERS = ("127.0.0.4", "127.0.0.2", "127.0.0.3")
 PEER = MEMBERS[1]
 KEPT = 64
-STRANGERS = (("two addresses", (HERE, "127.0.0.9")), ("eight addresses, none of them with more than its quarter", tuple(f"127.0.1.{number}" for number in range(1, 9))))
+NINE = (HERE, "127.0.0.9")
+EIGHT = tuple(f"127.0.1.{number}" for number in range(1, 9))
+# Where strangers come from, and how many files the member may open.
+STRANGERS = (("two addresses", NINE, None), ("eight, none of them beyond its quarter", EIGHT, None), ("eight, at most 512 open files", EIGHT, 512))
 
 
 def message(sender, receiver):
@@ -211,8 +241,8 @@ def member_of_three(program, name, *words, **further):
 def members(program):
     """Members are heard behind a table full of strangers, and their connections stand in it."""
     told = message(2, 1)
-    for what, addresses in STRANGERS:
-        with member_of_three(program, f"members behind {what}") as (server, port):
+    for what, addresses, most in STRANGERS:
+        with member_of_three(program, f"members behind {what}", most=most) as (server, port):
             with many(port, 2 * IDLE, addresses, MEMBERS[0]):
                 time.sleep(0.5)
                 yield Row(port, b"", told, PEER, MEMBERS[0]).ask().told(f"a member's message behind {2 * IDLE:,} strangers of {what}, who say nothing")
@@ -230,16 +260,8 @@ def members(program):
 # ---- long rounds, and what is held
 
 LARGE = 300
-
-
-@contextlib.contextmanager
-def held_up(server):
-    """The server stands still meanwhile, so that all that comes is there at once when it goes on."""
-    os.kill(server.pid, signal.SIGSTOP)
-    try:
-        yield
-    finally:
-        os.kill(server.pid, signal.SIGCONT)
+# A page behind these may take longer, for they are one round.
+MOST_LONG = 1_000
 
 
 def answered_whole(them, whole):
@@ -268,7 +290,7 @@ def long_round(program, is_quick):
             row.hear(last, time.perf_counter())
             came, turns = came + answered_whole(them, whole), turns + LARGE
         row.wrong += turns - came
-        yield row.told(f"{LARGE} pages of {len(whole):,} bytes that are asked at once, one of 5 times", f"{came:,} of {turns:,} came whole")
+        yield row.told(f"{LARGE} pages of {len(whole):,} bytes that are asked at once, one of 5 times", f"{came:,} of {turns:,} came whole", MOST_LONG)
         if is_quick:
             return
         row, late = Row(port, row.page), SEEN.whys["closed: its time is over"]
@@ -288,7 +310,7 @@ def long_round(program, is_quick):
         came = answered_whole(them, whole)
         row.wrong += LARGE - came
     row.wrong += SEEN.whys["closed: its time is over"] - late
-    yield row.told("the same, its last byte a fiftieth of a second before its ten seconds are over", f"answered after {(sent - begun) + row.times[0] / 1e3:.2f} s in all, and not told late")
+    yield row.told("the same, its last byte a fiftieth of a second before its ten seconds are over", f"answered after {(sent - begun) + row.times[0] / 1e3:.2f} s in all, and not told late", MOST_LONG)
 
 
 SENDERS = 1_000
@@ -309,6 +331,9 @@ def held_bodies(program):
             it = connected(port)
             it.sendall(head + b"x" * (LONGEST_BODY - 1))
             them.append(it)
+        row.ask(1)
+        first = row.times.pop()
+        time.sleep(1)
         row.ask()
         peak = SEEN.peak(name, server)
         for it in them:
@@ -320,7 +345,7 @@ def held_bodies(program):
     row.wrong += (peak > most) + SENDERS - statuses[400]
     yield row.told(
         f"{SENDERS:,} that have sent {LONGEST_BODY - 1:,} bytes of a body of {LONGEST_BODY:,}",
-        f"{peak:,} KB of memory at most, of {most:,} that they may take; {statuses[400]:,} got 400 behind the last byte",
+        f"{peak:,} KB of memory at most, of {most:,} that they may take; {statuses[400]:,} got 400 behind the last byte; one that is asked right behind them waits {first:.0f} ms",
     )
 
 
