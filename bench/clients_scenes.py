@@ -69,7 +69,7 @@ def without_descriptors(program):
 
 def refused_at_start(program, most):
     """Whether a server that may open so few files says so, and ends."""
-    run = subprocess.run([program, "serve", "--port", str(free_port())], stdin=subprocess.DEVNULL, capture_output=True, timeout=10, preexec_fn=limited(most))
+    run = subprocess.run([program, "serve", "--port", str(free_port())], stdin=subprocess.DEVNULL, capture_output=True, timeout=3, preexec_fn=limited(most))
     lines = run.stderr.decode("latin-1").splitlines()
     named = [line for line in lines if "open files" in line]
     is_good = (run.returncode, run.stdout) == (2, b"") and any(line.startswith("press: fault 40") for line in lines) and bool(named)
