@@ -26,9 +26,11 @@ SECONDS = 10
 # What one that doesn't read receives at once.
 LITTLE = 4_096
 HERE = "127.0.0.1"
+# The addresses from which clients of the last server came.
+USED = set()
 
 WHYS = ("the input ended within a request", "a read failed", "its time is over", "given up for another", "nothing more can be opened")
-LINE = re.compile(r"(\d{4}-\d\d-\d\dT\d\d:\d\d:\d\dZ) (?:(\d+) lines lost|127\.\d{1,3}\.\d{1,3}\.\d{1,3} (closed: (?:%s)|[!-~]+ [!-~]+ [1-5]\d\d \d+))\n" % "|".join(WHYS))
+LINE = re.compile(r"(\d{4}-\d\d-\d\dT\d\d:\d\d:\d\dZ) (?:(\d+) lines lost|(127\.\d{1,3}\.\d{1,3}\.\d{1,3}) (closed: (?:%s)|[!-~]+ [!-~]+ [1-5]\d\d \d+))\n" % "|".join(WHYS))
 
 
 def form(**fields):
@@ -42,6 +44,7 @@ def insert(seq, title="a&b", content="Hi there", at=None):
 
 def connected(port, receives=None, address=HERE, host=HERE):
     """A connection. Of one that receives so few bytes at once the kernel keeps some 50,000 that aren't read; of others 3,000,000 and more, so that a page never waits in the server."""
+    USED.add(address)
     it = socket.socket()
     it.bind((address, 0))
     if receives:
@@ -149,6 +152,7 @@ def said(what, note, is_good):
 @contextlib.contextmanager
 def many(port, count, addresses=(HERE,), host=HERE):
     """So many connections, begun at once from these addresses by turns, that say nothing."""
+    USED.update(addresses)
     them = []
     for number in range(count):
         it = socket.socket()
@@ -210,18 +214,18 @@ class Seen:
         return self.peaks[name]
 
     def read(self, name, lines, first=None, last=None):
-        """Counts a server's lines, each of which has to begin with a time between these two, in order, and with its client's address."""
+        """Counts a server's lines, each of which has to begin with a time between these two, in order, and with the address of a client."""
         for line in lines:
             self.lines += 1
             form = LINE.fullmatch(line.decode("latin-1"))
             at = form and calendar.timegm(time.strptime(form[1], "%Y-%m-%dT%H:%M:%SZ"))
-            if not form or (first is not None and not first <= at <= last):
+            if not form or (first is not None and not first <= at <= last) or form[3] not in (None, *USED):
                 self.bad.append(line)
                 continue
             first = first and at
             self.firsts.setdefault(name, form[1])
-            if form[3]:
-                self.whys[form[3] if form[3].startswith("closed: ") else "served"] += 1
+            if form[4]:
+                self.whys[form[4] if form[4].startswith("closed: ") else "served"] += 1
             else:
                 self.whys["lost"] += int(form[2])
 
@@ -245,6 +249,7 @@ def free_port(host=HERE):
 @contextlib.contextmanager
 def started(program, words, line, name, most=None, env=None, is_timely=True):
     """A server, once it has told that it listens. Its memory and its lines are kept at its end."""
+    USED.clear()
     with tempfile.TemporaryFile() as log:
         begun = int(time.time())
         server = subprocess.Popen([program, "serve", *words], stdout=subprocess.PIPE, stderr=log, preexec_fn=limited(most), env=env)
