@@ -138,6 +138,8 @@ def unread(program, is_quick):
     yield row.told(f"{SERVED:,} that don't read a page of {len(whole):,} bytes", note)
 
 
+# A sixteenth of the places is for members alone.
+MOST_STRANGERS = MOST_OPEN - MOST_OPEN // 16
 READERS = 64
 NEWCOMERS = 200
 # A page that is read slowly: each reader takes so much of it at once, and waits so many seconds then. What one receives at once has to be little, or the kernel takes the whole page.
@@ -183,7 +185,7 @@ def slow_readers(program):
             long = asked(port, LONG_GET)[1]
             addresses = [f"127.0.2.{number}" for number in range(1, 5)]
             readers = [connected(port, LITTLE, addresses[number % 4]) for number in range(READERS)]
-            others = [connected(port, LITTLE, addresses[number % 4]) for number in range(MOST_OPEN - READERS)]
+            others = [connected(port, LITTLE, addresses[number % 4]) for number in range(MOST_STRANGERS - READERS)]
             for them, request in ((readers, LONG_GET), (others, FRONT)):
                 for it in them:
                     it.sendall(request)
