@@ -24,7 +24,9 @@ use std::time::{Clock, Duration, Instant};
 
 const LISTENER: usize = 0;
 
-const EVENTS: usize = 256;
+// More than can be ready at once (1,024 connections, 192 requests, the listener), so that a round looks at all that came
+// before any is told late.
+const EVENTS: usize = 2_048;
 
 // The most connections that are taken before others have their turn.
 const MOST_TAKEN: u32 = 256;
