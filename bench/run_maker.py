@@ -159,7 +159,7 @@ class Maker:
         later = self.hooks[self.hooks.index(home) + 1 :] if home in self.hooks else self.hooks
         hook = self.chance.choice(later) if later and not self.happens(self.manner.wild) else self.some("none", *self.hooks) if self.happens(self.manner.wild) else "none"
         if self.happens(0.6):
-            return {"op": "apply", "hook": hook, "value": self.some([VALUE], self.parts()), **self.some({}, {"more": [self.parts() for _ in range(self.chance.randint(0, 3))]})}
+            return {"op": "apply", "hook": hook, "value": self.some([VALUE], self.parts()), **self.some({}, {"more": [self.parts() for _ in range(self.chance.randint(0, 2))]})}
         return {"op": "do", "hook": hook, **self.some({}, {"args": [self.parts() for _ in range(self.chance.randint(0, 3))]})}
 
     def scanned(self):

@@ -118,7 +118,7 @@ texts_at most at key d = texts_where most at (get key d)
 
 -- the most arguments that a step hands to a hook's callbacks, the text that a filter runs on among them
 abbrev pub most_args : ℕ
-most_args = 5
+most_args = 3
 
 abbrev pub hook_at : Place → Data → Result (List ℕ) Place
 hook_at at d = name_at 64 at (codes "hook") d

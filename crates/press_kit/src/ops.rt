@@ -20,7 +20,7 @@ use serde_json::Value;
 use std::alloc::Global;
 
 // The most arguments that a step hands to a hook's callbacks, the text that a filter runs on among them.
-const MOST_ARGS: usize = 5;
+const MOST_ARGS: usize = 3;
 
 fn every_named(word: &str) -> Option<Every>
     ensures { result ≡ spec.every_of word.now }
