@@ -330,14 +330,14 @@ def near_its_end(program, count):
     )
 
 
-SENDERS = 1_000
+SENDERS = 900
 LONGEST_BODY = 65_536
 # A request, of which so many bytes are read at most, is in memory of up to twice that (docs/OPERATING.md).
 MOST_READ = 155_647
 
 
 def held_bodies(program):
-    """The memory of a server of which 1,000 clients have sent the longest body but for its last byte, and who answers them all then."""
+    """The memory of a server of which 900 clients have sent the longest body but for its last byte, and who answers them all then."""
     name = "bodies that lack a byte"
     with serving(program, name) as (server, port):
         row = Row(port, first_page(port))
