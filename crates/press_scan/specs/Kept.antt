@@ -1,24 +1,19 @@
--- How attributes are kept: as they were listed, or each under its key.
+-- How attributes are kept: as they were listed, or each value under its key.
 use Rattle.std.specs.Prelude.{◌≡◌, ⊤, ℕ, ◌<◌, ◌^◌, List, length}
-use Rattle.indexmap.specs.IndexMap.{values}
 use Rattle.press_scan.specs.declared.att.Att.{Att}
 use Rattle.press_scan.specs.declared.kept.Kept.{Kept}
 use Rattle.press_scan.specs.declared.kept.Kept.TheVariants.{Listed, Keyed}
-use Rattle.press_scan.specs.Entries.{HaveOwnKeys, AreBefore}
+use Rattle.press_scan.specs.Entries.{atts_of, AreBefore}
 use Rattle.press_scan.specs.AttributesOf.{attributes_of}
 
 abbrev pub kept_atts : Kept → List Att
 kept_atts (Listed atts) = atts.items
-kept_atts (Keyed atts) = values atts.value
+kept_atts (Keyed atts) = atts_of atts.value.entries
 
-abbrev pub IsKept : Kept → Type 0
-IsKept (Listed atts) = ⊤
-IsKept (Keyed atts) = HaveOwnKeys atts.value.entries
-
--- the same, and each number under which one is kept is below the next one
+-- each number under which one is kept is below the next one
 abbrev pub IsNumbered : ℕ → Kept → Type 0
 IsNumbered next (Listed atts) = ⊤
-IsNumbered next (Keyed atts) = HaveOwnKeys atts.value.entries × AreBefore next atts.value.entries
+IsNumbered next (Keyed atts) = AreBefore next atts.value.entries
 
 -- many attributes of a text, of which they can be told again
 abbrev pub AreManyOf : List ℕ → List Att → Type 0

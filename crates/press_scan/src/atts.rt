@@ -1,9 +1,8 @@
-ghost use Rattle.std.specs.Prelude.{◌≡◌, ◌<◌, ◌^◌, true, IfOk, OnErr, length, option_map, slice_index_or};
-ghost use Rattle.indexmap.specs.IndexMap.{values};
+ghost use Rattle.std.specs.Prelude.{◌≡◌, ◌<◌, ◌^◌, true, Some, IfOk, OnErr, length, option_map, slice_get};
 ghost use Rattle.press_scan.specs.Attributes.{value_of};
 ghost use Rattle.press_scan.specs.AttributesOf.{attributes_of};
-ghost use Rattle.press_scan.specs.Entries.{HaveOwnKeys};
-ghost use Rattle.press_scan.specs.Kept.{IsKept, kept_atts};
+ghost use Rattle.press_scan.specs.Entries.{atts_of};
+ghost use Rattle.press_scan.specs.Kept.{kept_atts};
 
 use crate::att::Att;
 use crate::att_key::AttKey;
@@ -38,12 +37,11 @@ impl Model for Atts {
     ghost Value = { List Att };
 
     ghost use Rattle.std.specs.Prelude.{IfSome};
-    ghost use Rattle.press_scan.specs.Kept.{kept_atts, AreManyOf, IsKept};
+    ghost use Rattle.press_scan.specs.Kept.{kept_atts, AreManyOf};
 
     ghost view = { λ a. kept_atts a.kept };
 
-    ghost invariant = { λ a. IsKept a.kept
-        × IfSome a.text (λ b. AreManyOf b.value (kept_atts a.kept)) };
+    ghost invariant = { λ a. IfSome a.text (λ b. AreManyOf b.value (kept_atts a.kept)) };
 }
 
 impl Atts {
@@ -59,7 +57,6 @@ impl Atts {
 
     /// The attributes of a text. Many keep that text beside them, to be folded to it, and take memory for it.
     pub(crate) fn from_kept(alloc: Global, kept: Kept, text: &str) -> Result<Atts, AllocError>
-        requires kept { IsKept kept }
         requires text { kept_atts kept ≡ attributes_of text.now }
         requires short { length text.now < 2 ^ 32 }
         ensures value { IfOk result (λ atts. atts ≡ kept_atts kept) }
@@ -89,14 +86,15 @@ impl Atts {
         }
     }
 
-    /// The attribute at a place of the list, which must be within it.
-    pub fn at(&self, place: usize) -> &Att
+    /// The key and the value of the attribute at a place of the list, which must be within it.
+    pub fn at(&self, place: usize) -> (&AttKey, &str)
         requires { place < length self.now }
-        ensures { result.now ≡ slice_index_or self.now place result.now }
+        ensures { slice_get self.now place
+            ≡ Some (record { key = result.0.now; value = result.1.now }) }
     {
         match &self.kept {
-            Kept::Listed(atts) => &atts[place],
-            Kept::Keyed(atts) => &atts[place],
+            Kept::Listed(atts) => listed_at(atts.as_slice(), place),
+            Kept::Keyed(atts) => keyed_at(atts, place),
         }
     }
 
@@ -140,13 +138,33 @@ fn listed_value<'a>(atts: &'a [Att], key: &AttKey) -> Option<&'a str>
     None
 }
 
+fn listed_at(atts: &[Att], place: usize) -> (&AttKey, &str)
+    requires { place < length atts.now }
+    ensures { slice_get atts.now place
+        ≡ Some (record { key = result.0.now; value = result.1.now }) }
+{
+    let att = &atts[place];
+    (&att.key, att.value.as_str())
+}
+
 #[tactic(auto, using(crate::proofs::MapAtts::looked_up))]
-fn keyed_value<'a>(atts: &'a IndexMap<AttKey, Att>, key: &AttKey) -> Option<&'a str>
-    requires { HaveOwnKeys atts.now.entries }
-    ensures { option_map (λ v. v.now) result ≡ value_of key.now (values atts.now) }
+fn keyed_value<'a>(atts: &'a IndexMap<AttKey, Text>, key: &AttKey) -> Option<&'a str>
+    ensures { option_map (λ v. v.now) result ≡ value_of key.now (atts_of atts.now.entries) }
 {
     match atts.get(key) {
-        Some(att) => Some(att.value.as_str()),
+        Some(value) => Some(value.as_str()),
         None => None,
     }
+}
+
+#[tactic(auto, using(crate::proofs::MapAtts::att_at, crate::proofs::MapAtts::as_many))]
+fn keyed_at(atts: &IndexMap<AttKey, Text>, place: usize) -> (&AttKey, &str)
+    requires { place < length (atts_of atts.now.entries) }
+    ensures { slice_get (atts_of atts.now.entries) place
+        ≡ Some (record { key = result.0.now; value = result.1.now }) }
+{
+    let Some((key, value)) = atts.get_index(place) else {
+        unreachable!()
+    };
+    (key, value.as_str())
 }

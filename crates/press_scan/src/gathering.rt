@@ -71,13 +71,13 @@ impl Gathering {
     }
 
     // Stores a value under a name.
-    fn put_name(&mut self, alloc: Global, name: Text, value: Text) -> Result<(), AllocError>
+    fn put_name(&mut self, name: Text, value: Text) -> Result<(), AllocError>
         ensures atts { OnOk result (self.new.atts ≡ with_name self.old.atts name value) }
         ensures next { OnOk result (self.new.next ≡ self.old.next) }
     {
         match &mut self.kept {
             Kept::Listed(atts) => list_name(atts, name, value),
-            Kept::Keyed(atts) => key_name(atts, alloc, name, value),
+            Kept::Keyed(atts) => key_name(atts, name, value),
         }
     }
 
@@ -141,7 +141,7 @@ fn take(alloc: Global, text: &str, found: &mut Gathering, token: Token) -> Resul
         Some(name) => {
             let name = lower(alloc, text, name)?;
             let value = part(alloc, text, token.value)?;
-            found.put_name(alloc, name, value)
+            found.put_name(name, value)
         }
         None => {
             let value = part(alloc, text, token.value)?;

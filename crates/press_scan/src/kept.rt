@@ -1,9 +1,8 @@
 //! How attributes are kept: a few in a list, many in a map.
 
 ghost use Rattle.std.specs.Prelude.{◌≡◌, ◌<◌, ◌+◌, ◌++◌, ◌∷◌, [], ℕ, IfOk, IfSome, OnOk, OnErr, length, position};
-ghost use Rattle.indexmap.specs.IndexMap.{values};
 ghost use Rattle.press_scan.specs.Attributes.{has_name, with_name};
-ghost use Rattle.press_scan.specs.Entries.{HaveOwnKeys, AreBefore};
+ghost use Rattle.press_scan.specs.Entries.{atts_of, AreBefore};
 ghost use Rattle.press_scan.specs.Kept.{IsNumbered, kept_atts};
 ghost use Rattle.press_scan.specs.declared.att_key.AttKey.TheVariants.{Place};
 
@@ -13,12 +12,12 @@ use indexmap::IndexMap;
 use press_text::Text;
 use std::alloc::{AllocError, Global};
 
-/// As they were listed, where a key may occur twice, or each under its key. The map is in a box, since few texts have one, and
-/// every call has room for it.
+/// As they were listed, where a key may occur twice, or each value under its key. The map is in a box, since few texts have one,
+/// and every call has room for it.
 #[derive(Debug, Drop)]
 pub enum Kept {
     Listed(Vec<Att>),
-    Keyed(Box<IndexMap<AttKey, Att>>),
+    Keyed(Box<IndexMap<AttKey, Text>>),
 }
 
 impl Kept {
@@ -86,47 +85,34 @@ pub fn list_number(atts: &mut Vec<Att>, number: u32, value: Text) -> Result<(), 
 }
 
 /// Stores a value under a name, which is looked up by its hash.
-#[tactic(auto, using(crate::proofs::MapAtts::own_inserted, crate::proofs::MapAtts::before_inserted, crate::proofs::MapAtts::name_inserted))]
+#[tactic(auto, using(crate::proofs::MapAtts::before_inserted, crate::proofs::MapAtts::name_inserted))]
 pub fn key_name(
-    atts: &mut IndexMap<AttKey, Att>,
-    alloc: Global,
+    atts: &mut IndexMap<AttKey, Text>,
     name: Text,
     value: Text,
 ) -> Result<(), AllocError>
-    requires { HaveOwnKeys atts.old.entries }
-    ensures keys { HaveOwnKeys atts.new.entries }
     ensures before { (next : ℕ) → AreBefore next atts.old.entries
         → AreBefore next atts.new.entries }
-    ensures ok { OnOk result (values atts.new ≡ with_name (values atts.old) name value) }
+    ensures ok { OnOk result (atts_of atts.new.entries
+        ≡ with_name (atts_of atts.old.entries) name value) }
 {
-    let key = AttKey::Name(name.copy(alloc)?);
-    let att = Att {
-        key: AttKey::Name(name),
-        value,
-    };
-    atts.insert(key, att)?;
+    atts.insert(AttKey::Name(name), value)?;
     Ok(())
 }
 
 /// Puts a value without a name last, under its number.
-#[tactic(auto, using(crate::proofs::MapAtts::own_inserted, crate::proofs::MapAtts::before_numbered, crate::proofs::MapAtts::number_inserted))]
+#[tactic(auto, using(crate::proofs::MapAtts::before_numbered, crate::proofs::MapAtts::number_inserted))]
 pub fn key_number(
-    atts: &mut IndexMap<AttKey, Att>,
+    atts: &mut IndexMap<AttKey, Text>,
     number: u32,
     value: Text,
 ) -> Result<(), AllocError>
-    requires keys { HaveOwnKeys atts.old.entries }
-    requires before { AreBefore number atts.old.entries }
-    ensures keys { HaveOwnKeys atts.new.entries }
+    requires { AreBefore number atts.old.entries }
     ensures before { OnOk result (AreBefore (number + 1) atts.new.entries) }
-    ensures ok { OnOk result (values atts.new ≡ values atts.old
+    ensures ok { OnOk result (atts_of atts.new.entries ≡ atts_of atts.old.entries
         ++ record { key = Place number; value = value } ∷ []) }
     ensures err { OnErr result (AreBefore number atts.new.entries) }
 {
-    let att = Att {
-        key: AttKey::Place(number),
-        value,
-    };
-    atts.insert(AttKey::Place(number), att)?;
+    atts.insert(AttKey::Place(number), value)?;
     Ok(())
 }

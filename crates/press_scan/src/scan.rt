@@ -19,6 +19,7 @@ use crate::next::{Opening, next_opening};
 use crate::scan_step::ScanStep;
 use crate::shortcode::Shortcode;
 use crate::tag_table::TagTable;
+use press_text::make_room;
 use std::alloc::{AllocError, Global};
 use std::marker::Model;
 
@@ -81,7 +82,9 @@ fn push_part(out: &mut String, text: &str, from: usize, to: usize) -> Result<(),
         ++ slice_range text.now from to) }
     ensures err { OnErr result (string_bytes out.new ≡ string_bytes out.old) }
 {
-    out.push_str(&text[from..to])
+    let part = &text[from..to];
+    make_room(out, part.len())?;
+    out.push_str(part)
 }
 
 fn front_bracket(shortcode: Shortcode) -> &'static str
@@ -121,8 +124,10 @@ fn push_answer(
 {
     if shortcode.lead || shortcode.tail {
         let piece = in_brackets(alloc, shortcode, answer)?;
+        make_room(out, piece.len())?;
         return out.push_str(piece.as_str());
     }
+    make_room(out, answer.len())?;
     out.push_str(answer)
 }
 

@@ -1,6 +1,6 @@
 //! A site at work, which can go back.
 
-ghost use Rattle.std.specs.Prelude.{◌≡◌, None, Err, IfOk, IfErr};
+ghost use Rattle.std.specs.Prelude.{◌≡◌, None, Err, IfOk, IfErr, OnErr};
 ghost use Rattle.press_site.specs.Back.{MayEventBack, MayPostsGoBack, Notes, NotesSome};
 ghost use Rattle.press_site.specs.Becomes.{Becomes};
 ghost use Rattle.press_site.specs.Contents.{ChangesSome};
@@ -87,6 +87,7 @@ impl OpenSite {
         ensures ok { IfOk result (λ s. s ≡ record (self.site)
             { outcomes = with_outcome token outcome self.site.outcomes }) }
         ensures err { IfErr result (λ s. s ≡ begun_of self) }
+        ensures memory { OnErr result (outcome_of token self.site.outcomes ≡ None) }
     {
         let OpenSite { site, undo } = self;
         let (mut site, mut undo) = (site, undo);

@@ -62,11 +62,11 @@ impl Outcomes {
         self.kept.get(token).copied()
     }
 
-    /// Keeps what became of a command, for good.
+    /// Keeps what became of a command, for good. Only a token that has no outcome takes memory.
     pub fn keep(&mut self, token: Token, outcome: Outcome) -> Result<(), AllocError>
-        requires { outcome_of token self.old ≡ None }
         ensures ok { OnOk result (self.new ≡ with_outcome token outcome self.old) }
         ensures err { OnErr result (self.new ≡ self.old) }
+        ensures memory { OnErr result (outcome_of token self.old ≡ None) }
     {
         self.kept.insert(token, outcome)?;
         Ok(())

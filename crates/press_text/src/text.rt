@@ -1,6 +1,7 @@
 ghost use Rattle.std.specs.Prelude.{◌≡◌, ◌<◌, ◌≤◌, [], ◌++◌, ◌==◌, length, string_bytes, OnOk, OnErr, IfOk};
 ghost use Rattle.press_text.specs.Texts.{bytes_of};
 
+use crate::growth::make_room;
 use crate::short::{MOST, Short};
 use std::alloc::{AllocError, Global};
 use std::fmt;
@@ -151,6 +152,7 @@ impl Text {
             }
             Held::Shared(rc) => {
                 if let Some(own) = Rc::get_mut(rc) {
+                    make_room(own, more.len())?;
                     return own.push_str(more);
                 }
             }

@@ -9,5 +9,5 @@ invariant_of-self c = elim c.match-self.branch [
   | in-Listed w ↦ subst the_invariant (sym w.self-inside-is) tt
   | in-Keyed w ↦ (
       let stood = subst (IsNumbered c.self.inside.next) w.in-Keyed.is c.self.invariant in
-      subst the_invariant (sym w.self-inside-is) (w.key_name.ensures.keys, w.key_name.ensures.before c.self.inside.next (rw w.deref_mut.ensures.value stood.1)))
+      subst the_invariant (sym w.self-inside-is) (w.key_name.ensures.before c.self.inside.next (rw w.deref_mut.ensures.value stood)))
 ]
