@@ -1,7 +1,9 @@
 -- What is kept of a reply that comes in pieces.
-use Rattle.std.proofs.Common.{◌≡◌, ℕ, zero, suc, ◌-◌, List, [], ◌∷◌, ◌++◌, length, take, refl, sym, ap, ◌∙◌, append-nil, arith}
+use Rattle.std.proofs.Common.{◌≡◌, ℕ, zero, suc, ◌-◌, List, [], ◌∷◌, ◌++◌, drop, length, take, true, refl, sym, ap, ◌∙◌, append-nil, arith}
 use Rattle.std.proofs.Math.Seq.{take-nil}
-use Rattle.std.proofs.lemmas.List.{append_assoc, length-append}
+use Rattle.std.proofs.lemmas.List.{append_assoc, length-append, take-append-drop}
+use Rattle.std.specs.Cmp.Lexicographic.{bytes_decides}
+use Rattle.std.specs.Str.{bytes_eq}
 use Rattle.press_loop.specs.Carrying.{front_length, with_more}
 
 take_both : (k : ℕ) (xs ys : List ℕ) → take k (xs ++ ys) ≡ take k xs ++ take (k - length (take k xs)) ys
@@ -25,3 +27,13 @@ more_of_both front xs ys =
     append_assoc front (take k xs) (take (front_length - length (front ++ take k xs)) ys)
     ∙ ap (λ n. front ++ (take k xs ++ take n ys)) e
     ∙ ap (λ (zs : List ℕ). front ++ zs) (sym (take_both k xs ys))
+
+-- bytes that some others begin with, and the rest of those
+pub whole_again : (came written : List ℕ) → bytes_eq (take (length came) written) came ≡ true → came ++ drop (length came) written ≡ written
+whole_again came written same =
+    ap (λ (xs : List ℕ). xs ++ drop (length came) written) (sym ((bytes_decides (take (length came) written) came).0 same))
+    ∙ take-append-drop (length came) written
+
+pub still_whole : (heard bytes left rest written : List ℕ) → heard ++ left ≡ written → bytes ++ rest ≡ left → (heard ++ bytes) ++ rest ≡ written
+still_whole heard bytes left rest written all more =
+    append_assoc heard bytes rest ∙ ap (λ (xs : List ℕ). heard ++ xs) more ∙ all

@@ -33,9 +33,9 @@ front_length = 12
 abbrev pub with_more : List ℕ → List ℕ → List ℕ
 with_more front bytes = front ++ take (front_length - length front) bytes
 
--- Bytes of a reply came, as many as this says, and the front was kept.
-abbrev pub Hears : Option (List ℕ) → Option (List ℕ) → List ℕ → List ℕ → (ℕ → Type 0) → Type 0
-Hears old new front front' AreMany = (bytes : List ℕ) × Consumes old new bytes × (front' ≡ with_more front bytes) × AreMany (length bytes)
+-- Bytes of a reply came, which this says, and the front was kept.
+abbrev pub Hears : Option (List ℕ) → Option (List ℕ) → List ℕ → List ℕ → (List ℕ → Type 0) → Type 0
+Hears old new front front' AreThese = (bytes : List ℕ) × Consumes old new bytes × (front' ≡ with_more front bytes) × AreThese bytes
 
 -- The front of a reply spells its status.
 abbrev pub Spells : List ℕ → ℕ → Type 0

@@ -1,6 +1,6 @@
 //! Connections over the loopback, of which the program holds both ends.
 
-ghost use Rattle.std.specs.Prelude.{◌≡◌, None, [], IfOk, OnOk};
+ghost use Rattle.std.specs.Prelude.{◌≡◌, ◌++◌, None, [], IfOk, IfSome, OnOk, take};
 ghost use Rattle.std.specs.Io.{ReadsAtMost, WritesAtMost};
 ghost use Rattle.std.specs.Io.KnownBytes.{IsAtEnd, ReadConsumes, WriteAppends};
 ghost use Rattle.press_loop.specs.Carrying.{Brings, Gives, Hears, Sends, SendsSome, Tells};
@@ -76,22 +76,25 @@ impl<S: Read + Write> Client<'_, S> {
         Ok(sent)
     }
 
-    // Receives this many bytes of the reply.
-    fn hear(&mut self, count: usize) -> io::Result<()>
+    // Receives these bytes of the reply; an error where others come.
+    fn hear(&mut self, written: &[u8]) -> io::Result<()>
         ensures hears { Hears (S.remaining self.old.stream) (S.remaining self.new.stream)
-            self.old.front self.new.front (λ came. OnOk result (came ≡ count)) }
+            self.old.front self.new.front (λ came. OnOk result (came ≡ written.now)) }
         ensures request { self.new.request.now ≡ self.old.request.now }
     {
         let mut piece = [0u8; PIECE];
-        let mut left = count;
-        while left > 0 {
-            let room = left.min(PIECE);
+        let mut left = written;
+        while !left.is_empty() {
+            let room = left.len().min(PIECE);
             let came = self.stream.read(&mut piece[..room])?;
             if came == 0 {
                 return Err(io::Error::from(ErrorKind::UnexpectedEof));
             }
             self.front.keep(&piece[..came]);
-            left -= came;
+            let Some(rest) = behind(left, &piece[..came]) else {
+                return Err(io::Error::from(ErrorKind::InvalidData));
+            };
+            left = rest;
         }
         Ok(())
     }
@@ -118,6 +121,14 @@ impl<S: Read + Write> Client<'_, S> {
         }
         Ok(())
     }
+}
+
+// What is left of some bytes behind those that came; None where others came.
+#[tactic(auto, using(crate::proofs::Heard::whole_again))]
+fn behind<'a>(written: &'a [u8], came: &[u8]) -> Option<&'a [u8]>
+    ensures { IfSome result (λ left. came.now ++ left.now ≡ written.now) }
+{
+    written.strip_prefix(came)
 }
 
 /// A connection as its server has it. What is read here the client sends just before, and what is written here it
@@ -162,12 +173,12 @@ impl<S: Read + Write> Write for Connection<'_, S> {
             result }
         ensures hears { Hears (S.remaining self.old.client.stream)
             (S.remaining self.new.client.stream) self.old.client.front self.new.client.front
-            (λ came. IfOk result (λ n. came ≡ n)) }
+            (λ came. IfOk result (λ n. came ≡ take n buf.now)) }
         ensures request { self.new.client.request.now ≡ self.old.client.request.now }
     {
         let count = buf.len().min(PIECE);
         let sent = self.server.write(&buf[..count])?;
-        self.client.hear(sent)?;
+        self.client.hear(&buf[..sent])?;
         Ok(sent)
     }
 
