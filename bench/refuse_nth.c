@@ -1,5 +1,9 @@
 /* Stands in front of malloc and realloc, counts their calls, and refuses the one whose number REFUSE_NTH gives.
-   Without REFUSE_NTH it refuses none, and at the end prints how many there were. */
+   Without REFUSE_NTH it refuses none, and at the end prints how many there were.
+
+   The program imports no other function that allocates: `nm -D` shows malloc, realloc and free, and neither calloc nor
+   posix_memalign, aligned_alloc or mmap; bench/refusals looks at that each time. What a function of the C library takes
+   for itself (calloc, mmap) stands behind its own failure, and is refused here only where it asks malloc or realloc. */
 #define _GNU_SOURCE
 #include <dlfcn.h>
 #include <errno.h>
