@@ -1,7 +1,8 @@
-use super::scripts::{Fuse, appending, called, given, goes_on};
+use super::scripts::{appending, called, fails_once, given, goes_on};
 use press_callbacks::{BoxedTurns, CallIn, Callback, Kit, Stored, script_turn};
 use press_text::CallbackId;
 use std::alloc::Global;
+use std::cell::Cell;
 use std::test::Fail;
 
 // A callback answers what its closure does, also where the script has a turn.
@@ -10,11 +11,11 @@ fn a_closure_in_no_box_is_called(rt: HostRuntime) -> Result<(), Fail> {
     let alloc = rt.alloc();
     let script = appending(alloc, "q")?;
     let own = appending(alloc, "q")?;
-    let fuse = Fuse::new(2);
+    let calls = Cell::new(0u32);
     let callback = Callback::new(
         CallbackId::new("add_q")?,
         script,
-        move |i: &CallIn| fuse.turn(alloc, &own, i),
+        move |i: &CallIn| fails_once(alloc, &calls, &own, i),
     );
     let call = called(alloc, 0)?;
     assert!(rt; goes_on(callback.turn(&call), "vq"));
@@ -52,8 +53,8 @@ fn plays_script_not_closure(rt: HostRuntime) -> Result<(), Fail> {
     let alloc = rt.alloc();
     let script = appending(alloc, "q")?;
     let own = appending(alloc, "q")?;
-    let fuse = Fuse::new(2);
-    let call: BoxedTurns = Box::new(alloc, move |i: &CallIn| fuse.turn(alloc, &own, i))?;
+    let calls = Cell::new(0u32);
+    let call: BoxedTurns = Box::new(alloc, move |i: &CallIn| fails_once(alloc, &calls, &own, i))?;
     let stored = Stored::new(CallbackId::new("add_q")?, script, call);
     assert!(rt; goes_on(given(alloc, &stored, 0), "vq"));
     assert!(rt; given(alloc, &stored, 0).is_err());

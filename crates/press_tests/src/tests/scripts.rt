@@ -24,32 +24,20 @@ pub fn appending(alloc: Global, text: &str) -> Result<Script, AllocError>
     Ok(Items::from_vec(vec![in alloc; set]?))
 }
 
-/// Counts the calls of a closure, of which one runs out of memory.
-#[derive(Drop)]
-pub struct Fuse {
-    calls: Cell<u32>,
-    last: u32,
-}
-
-impl Fuse {
-    /// The call of that number runs out of memory, and none for 0.
-    pub fn new(last: u32) -> Fuse {
-        Fuse {
-            calls: Cell::new(0),
-            last,
-        }
+/// The script's turn, except that the second call runs out of memory.
+pub fn fails_once(
+    alloc: Global,
+    calls: &Cell<u32>,
+    script: &Script,
+    input: &CallIn,
+) -> Result<Turn, AllocError>
+    ensures { IfOk result (λ t. t ≡ turn_of script.now input.now) }
+{
+    calls.set(calls.get().wrapping_add(1));
+    if calls.get() == 2 {
+        return Err(AllocError);
     }
-
-    /// The script's turn, or out of memory.
-    pub fn turn(&self, alloc: Global, script: &Script, input: &CallIn) -> Result<Turn, AllocError>
-        ensures { IfOk result (λ t. t ≡ turn_of script.now input.now) }
-    {
-        self.calls.set(self.calls.get().wrapping_add(1));
-        if self.calls.get() == self.last {
-            return Err(AllocError);
-        }
-        script_turn(alloc, script, input)
-    }
+    script_turn(alloc, script, input)
 }
 
 /// A call at a turn, with the value `v`.
@@ -78,10 +66,10 @@ pub fn goes_on(turn: Result<Turn, AllocError>, want: &str) -> bool {
     }
 }
 
-/// The plugin `one`, which puts a callback on a hook.
-pub fn plugin(alloc: Global, hook: &str, callback: &str) -> Result<Plugin, Fail> {
+/// The plugin `one`, which puts a callback on the hook `h`.
+pub fn plugin(alloc: Global, callback: &str) -> Result<Plugin, Fail> {
     let load = Load::Hook {
-        hook: HookName::new(alloc, hook)?,
+        hook: HookName::new(alloc, "h")?,
         priority: 10,
         callback: CallbackId::new(callback)?,
         accepted: 1,
