@@ -7,6 +7,7 @@ import os
 import random
 import re
 import resource
+import signal
 import socket
 import statistics
 import struct
@@ -22,6 +23,9 @@ FRONT = b"GET / HTTP/1.1\r\nHost: a\r\n\r\n"
 IDLE = 1_000
 MOST_OPEN = 1_024
 QUARTER = 256
+# So many files a server keeps for itself, and the sixteenth part of its places for members alone (docs/OPERATING.md).
+OWN_FILES = 226
+FOR_MEMBERS = 16
 SECONDS = 10
 # What one that doesn't read receives at once.
 LITTLE = 4_096
@@ -275,6 +279,71 @@ def serving(program, name, *words, **further):
 
 def open_files(server):
     return [int(it) for it in os.listdir(f"/proc/{server.pid}/fd")]
+
+
+def places(files):
+    """How many connections a server may hold that may open so many files."""
+    return min(files - OWN_FILES, MOST_OPEN)
+
+
+def for_strangers(count):
+    """How many of so many places those have who are no members."""
+    return count - count // FOR_MEMBERS
+
+
+def tcp_table():
+    """Of each socket of this machine, by its inode: the port here, and the address and the port there. One reading may lack some, where others come and go meanwhile."""
+    with open("/proc/net/tcp", encoding="ascii") as table:
+        for line in list(table)[1:]:
+            _, here, there, _, _, _, _, _, _, inode, *_ = line.split()
+            yield f"socket:[{inode}]", (int(here[9:], 16), socket.inet_ntoa(bytes.fromhex(there[:8])[::-1]), int(there[9:], 16))
+
+
+def own_sockets(server):
+    for it in open_files(server):
+        with contextlib.suppress(OSError):
+            name = os.readlink(f"/proc/{server.pid}/fd/{it}")
+            if name.startswith("socket:"):
+                yield name
+
+
+def accepted(server, port):
+    """The addresses of the connections by that port that a server has accepted and not closed. What waits in the kernel is none of its files, nor is what was closed."""
+    seen = {}
+    for _ in range(10):
+        seen.update(tcp_table())
+        own = set(own_sockets(server))
+        if own <= seen.keys():
+            break
+    them = [seen[it] for it in own if it in seen]
+    return collections.Counter(address for here, address, there in them if here == port and there)
+
+
+def comes(is_so, seconds=5):
+    """Whether something comes to be so in that time."""
+    end = time.perf_counter() + seconds
+    while time.perf_counter() < end:
+        if is_so():
+            return True
+        time.sleep(0.02)
+    return False
+
+
+@contextlib.contextmanager
+def held_up(server):
+    """The server stands still meanwhile, so that all that comes is there at once when it goes on."""
+    os.kill(server.pid, signal.SIGSTOP)
+    try:
+        yield
+    finally:
+        os.kill(server.pid, signal.SIGCONT)
+
+
+def shimmed(room, name, text):
+    """A library of that text in a folder, to stand in front of the C library."""
+    it = f"{room}/{name}.so"
+    subprocess.run(["cc", "-shared", "-fPIC", "-O2", "-x", "c", "-o", it, "-", "-ldl"], input=text.encode(), check=True)
+    return it
 
 
 def may_open(server, most):

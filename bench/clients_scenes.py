@@ -3,36 +3,21 @@
 import collections
 import contextlib
 import json
-import os
 import pathlib
-import re
-import resource
-import signal
-import socket
 import subprocess
 import tempfile
 import threading
 import time
 
 from clients_lib import (
-    FRONT, GET, HERE, IDLE, LITTLE, MOST_OPEN, QUARTER, SECONDS, SEEN, Row, answer, asked, connected, fill_front, first_page, form, free_port, insert, limited,
-    many, may_open, open_files, read_all, said, served, serving, started,
+    FRONT, GET, HERE, IDLE, LITTLE, MOST_OPEN, QUARTER, SECONDS, SEEN, Row, accepted, answer, asked, comes, connected, fill_front, first_page, for_strangers, form, free_port,
+    held_up, insert, limited, many, may_open, open_files, places, said, served, serving, shimmed, started,
 )
 
 FEW = 20
 SERVED = 1_100
 UNREAD = 8_000
 OTHER = "127.0.0.2"
-
-@contextlib.contextmanager
-def held_up(server):
-    """The server stands still meanwhile, so that all that comes is there at once when it goes on."""
-    os.kill(server.pid, signal.SIGSTOP)
-    try:
-        yield
-    finally:
-        os.kill(server.pid, signal.SIGCONT)
-
 
 # ---- descriptors
 
@@ -76,8 +61,15 @@ def refused_at_start(program, most):
     return said(f"a start with at most {most} open files", f"status {run.returncode}, `{named[0] if named else run.stderr.decode('latin-1').strip()}`", is_good)
 
 
+def held_by(server, port, count):
+    """The addresses of those that a server holds, where more than so many come, once it has had time to take too many."""
+    comes(lambda: accepted(server, port).total() >= count)
+    time.sleep(1)
+    return accepted(server, port)
+
+
 def few_descriptors(program):
-    """Starts with too few open files, with few, and with as many as are wanted."""
+    """Starts with too few open files, with few, and with as many as are wanted: strangers have the places that are left to them, no more and no fewer."""
     try:
         yield refused_at_start(program, 40)
     except subprocess.TimeoutExpired:
@@ -85,10 +77,11 @@ def few_descriptors(program):
     for most in (512, 1_250):
         with serving(program, f"{most} open files", most=most) as (server, port):
             row = Row(port, first_page(port))
+            room = for_strangers(places(most))
             with many(port, most + 200):
-                time.sleep(1)
-                held = len(open_files(server))
-                yield row.ask().told(f"{most + 200:,} that say nothing, at most {most:,} open files", f"{held:,} of them are open")
+                held = held_by(server, port, room)
+                row.wrong += held.total() != room
+                yield row.ask().told(f"{most + 200:,} that say nothing, at most {most:,} open files", f"{held.total():,} of them are held, of {room:,} places for strangers")
 
 
 # ---- who gives way
@@ -139,7 +132,7 @@ def unread(program, is_quick):
 
 
 # A sixteenth of the places is for members alone.
-MOST_STRANGERS = MOST_OPEN - MOST_OPEN // 16
+MOST_STRANGERS = for_strangers(MOST_OPEN)
 READERS = 64
 NEWCOMERS = 200
 # A page that is read slowly: each reader takes so much of it at once, and waits so many seconds then. What one receives at once has to be little, or the kernel takes the whole page.
@@ -244,10 +237,13 @@ def members(program):
     """Members are heard behind a table full of strangers, and their connections stand in it."""
     told = message(2, 1)
     for what, addresses, most in STRANGERS:
+        room = for_strangers(places(most) if most else MOST_OPEN)
         with member_of_three(program, f"members behind {what}", most=most) as (server, port):
             with many(port, 2 * IDLE, addresses, MEMBERS[0]):
-                time.sleep(0.5)
-                yield Row(port, b"", told, PEER, MEMBERS[0]).ask().told(f"a member's message behind {2 * IDLE:,} strangers of {what}, who say nothing")
+                held = held_by(server, port, room).total()
+                row = Row(port, b"", told, PEER, MEMBERS[0])
+                row.wrong += held != room
+                yield row.ask().told(f"a member's message behind {2 * IDLE:,} strangers of {what}, who say nothing", f"{held:,} are held, of {room:,} places for strangers")
                 row = Row(port, b"", told, PEER, MEMBERS[0])
                 them = [row.connected() for _ in range(KEPT)]
                 for it in them:
@@ -391,9 +387,7 @@ BEFORE_1970 = 10 * 365 * 86_400
 def before_1970(program):
     """A clock before 1970 counts as 1970, for --ahead and for lines."""
     with tempfile.TemporaryDirectory() as room:
-        shim = f"{room}/back.so"
-        subprocess.run(["cc", "-shared", "-fPIC", "-O2", "-x", "c", "-o", shim, "-", "-ldl"], input=BACK.encode(), check=True)
-        env = {"LD_PRELOAD": shim, "SECONDS_BACK": str(int(time.time()) + BEFORE_1970)}
+        env = {"LD_PRELOAD": shimmed(room, "back", BACK), "SECONDS_BACK": str(int(time.time()) + BEFORE_1970)}
         lines = SEEN.lines
         with serving(program, "a clock before 1970", "--ahead", "60", env=env, is_timely=False) as (server, port):
             statuses = [asked(port, insert(seq, at=at))[0] for seq, at in ((1, 60), (2, 61), (3, 0))]
