@@ -81,9 +81,9 @@ impl OpenSite {
         site
     }
 
-    /// Keeps what became of a command, and leaves the site as it stands; without memory for that it goes back.
+    /// Keeps what became of a command, in place of what is kept under its token, and leaves the site as it stands; without memory for
+    /// that it goes back.
     pub fn settle_with(self, token: Token, outcome: Outcome) -> Result<Site, Site>
-        requires { outcome_of token self.site.outcomes ≡ None }
         ensures ok { IfOk result (λ s. s ≡ record (self.site)
             { outcomes = with_outcome token outcome self.site.outcomes }) }
         ensures err { IfErr result (λ s. s ≡ begun_of self) }

@@ -185,9 +185,8 @@ impl Site {
         self.outcomes.result_of(token)
     }
 
-    /// Keeps what became of a command, for good. Only a token that has no outcome takes memory.
+    /// Keeps what became of a command, in place of what is kept under its token. Only a token that has no outcome takes memory.
     pub fn keep(&mut self, token: Token, outcome: Outcome) -> Result<(), AllocError>
-        requires { outcome_of token self.old.outcomes ≡ None }
         ensures ok { OnOk result (self.new ≡ record self.old
             { outcomes = with_outcome token outcome self.old.outcomes }) }
         ensures err { OnErr result (self.new ≡ self.old) }
