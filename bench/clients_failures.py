@@ -12,6 +12,7 @@ from clients_lib import (
     GET, HERE, PAGES, SEEN, USED, Row, accepted, answer, asked, comes, connected, first_page, for_strangers, free_port, held_up, insert, many, may_open, open_files, places, said, serving,
     shimmed, started,
 )
+from counters import Counters, shim_in
 from clients_scenes import EIGHT, FEW, NINE, PEER, MEMBERS, member_of_three, message
 
 # ---- accepts that fail
@@ -297,3 +298,46 @@ def ended_reader(program):
         f"lines whose reader has ended, {2 * PAGES} pages, and one more behind a new reader",
         f"{'the server goes on' if status is None else f'the server ended by {-status}'}; {came} lines came, and {lost} were told to be lost",
     )
+
+
+# ---- no memory
+
+# More growths than a server has by itself while it is asked once.
+MARGIN = 20
+IN_TIME, AHEAD = 60, 1_000_000
+
+
+def refused_each(server, shim, row, what, status):
+    """Refuses each growth that a request of the row takes, which gets that status with ample memory. Each gets this, 503, or nothing; the time of each is the row's."""
+    counters = Counters(shim, server.pid)
+    ample = asked(row.port, row.request, row.address, row.host)
+    growths = max(counters.taken(lambda: asked(row.port, row.request, row.address, row.host)) for _ in range(5)) + MARGIN
+    got = collections.Counter()
+    for nth in range(1, growths + 1):
+        counters.refuse(nth)
+        begun = time.perf_counter()
+        with row.connected() as it, contextlib.suppress(OSError):
+            it.sendall(row.request)
+            reply = answer(it)
+        row.times.append((time.perf_counter() - begun) * 1e3)
+        counters.refuse(0)
+        got[reply[0]] += 1
+        row.wrong += reply != ample and reply[0] not in (0, 503)
+    row.wrong += (ample[0] != status) + (got[503] == 0) + (server.poll() is not None)
+    return row.told(what, f"{growths} growths refused: {got[503]} times 503, {got[0]} times nothing, else {status}")
+
+
+def without_memory(program):
+    """A request for which memory runs out while it is sorted doesn't get past what an operator's words refuse: a time too far ahead, a stranger's message, and anything at a member that isn't ready."""
+    now = int(time.time())
+    late, timely = insert(7, at=now + AHEAD), insert(8, at=now)
+    ahead = ("--ahead", str(IN_TIME))
+    with tempfile.TemporaryDirectory() as room:
+        shim = shim_in(room)
+        env = {**os.environ, "LD_PRELOAD": str(shim)}
+        with serving(program, "out of memory, a node by itself", *ahead, env=env) as (server, port):
+            good = refused_each(server, shim, Row(port, b"", late), "out of memory while a form of a time too far ahead is sorted", 400)
+            yield good and asked(port, b"GET /result/ann/7 HTTP/1.1\r\nHost: a\r\n\r\n")[0] == 404
+        with member_of_three(program, "out of memory, a member that isn't ready", *ahead, env=env) as (server, port):
+            for what, request, status in (("a page", GET, 503), ("a form", timely, 503), ("a form of a time too far ahead", late, 503), ("a stranger's message", message(2, 1), 404)):
+                yield refused_each(server, shim, Row(port, b"", request, host=MEMBERS[0]), f"out of memory while {what} is sorted, at a member that isn't ready", status)

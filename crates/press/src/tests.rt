@@ -1,3 +1,4 @@
+mod connections;
 mod fakes;
 mod fixtures;
 mod replays;

@@ -2,10 +2,9 @@
 
 use crate::failing::{Fails, Reader, Writer};
 use crate::seat::Seat;
+use crate::store::Failing;
 use press_http::HttpFault;
 use std::alloc::Global;
-
-const FRONT: &[u8] = b"GET / HTTP/1.1\r\nHost: a\r\n\r\n";
 
 /// One request, on one node.
 #[derive(Drop)]
@@ -16,26 +15,15 @@ pub struct Connections<'a> {
 }
 
 impl Connections<'_> {
-    // The node as it is seen: how many values it has applied, what it stores, and its front page.
-    fn seen(&mut self) -> anyhow::Result<Vec<u8>>
-        requires always { Unit {0} }
-    {
-        let (k, page) = (self.seat.applied(), self.seat.reply_to(FRONT)?);
-        let store = self.seat.store();
-        let mut seen = format!(in self.alloc; "{k} {store:?}")?.into_bytes();
-        seen.extend_from_slice(&page)?;
-        Ok(seen)
-    }
-
     // Whether a connection whose read of that number fails is closed at once, and the node is as it was.
     fn closes(&mut self, fails_at: u64) -> anyhow::Result<bool>
         requires always { Unit {0} }
     {
-        let before = self.seen()?;
+        let before = self.seat.seen()?;
         let mut reader = Reader::new(self.request, fails_at);
         let mut reply = Vec::new(self.alloc);
         let served = self.seat.serve_on(&mut reader, &mut reply);
-        let after = self.seen()?;
+        let after = self.seat.seen()?;
         Ok(
             served == Err(HttpFault::ReadFault)
                 && reader.reads == fails_at
@@ -63,41 +51,81 @@ impl Connections<'_> {
         let k = self.seat.applied();
         Ok(format!(in self.alloc; "reads={name}: {failed} of {reads} fail with 40, k={k}\n")?)
     }
+}
 
-    // Serves the request, and wakes the node; how many values it has applied more, and what came of the connection.
-    fn served(&mut self, writer: &mut Writer) -> anyhow::Result<(u64, Option<HttpFault>)>
+// What a connection leaves: what came of it, and the node, once it was woken, as it is seen.
+#[derive(Drop)]
+struct Left {
+    fault: Option<HttpFault>,
+    seen: Vec<u8>,
+}
+
+/// One request, on nodes that start over the same store.
+#[derive(Drop)]
+pub struct Writes<'a> {
+    alloc: Global,
+    store: Failing,
+    last: u32,
+    request: &'a [u8],
+}
+
+impl<'a> Writes<'a> {
+    /// Over what a node stores up to the slot behind those that it has applied.
+    pub fn on(alloc: Global, seat: &Seat, request: &'a [u8]) -> anyhow::Result<Writes<'a>> {
+        let last = u32::try_from(seat.applied())?.saturating_add(1);
+        let store = seat.store().copy(alloc, last)?;
+        Ok(Writes {
+            alloc,
+            store,
+            last,
+            request,
+        })
+    }
+
+    // A node over the store in place of this one.
+    fn anew(&self, seat: Seat) -> anyhow::Result<Seat>
         requires always { Unit {0} }
     {
-        let k = self.seat.applied();
+        seat.start_over(self.store.copy(self.alloc, self.last)?)
+    }
+
+    // Serves the request, and wakes the node.
+    fn serve(&self, seat: &mut Seat, writer: &mut Writer) -> anyhow::Result<Left>
+        requires always { Unit {0} }
+    {
         let mut reader = Reader::new(self.request, 0);
-        let fault = self.seat.serve_on(&mut reader, writer).err();
-        self.seat.go_on()?;
-        Ok((self.seat.applied().saturating_sub(k), fault))
+        let fault = seat.serve_on(&mut reader, writer).err();
+        seat.go_on()?;
+        let seen = seat.seen()?;
+        Ok(Left { fault, seen })
     }
 
     /// Serves the request with its reply taken byte by byte, then with each of the writes failing, in two ways: a front of the reply is
-    /// written, and what the request asks is done.
-    pub fn writes(&mut self, name: &str) -> anyhow::Result<String>
+    /// written, what the request asks is done, and the node is as after a whole reply. The node of the last one comes with the line.
+    pub fn fail(&self, seat: Seat, name: &str) -> anyhow::Result<(Seat, String)>
         requires always { Unit {0} }
     {
+        let mut seat = self.anew(seat)?;
         let mut whole = Writer::new(self.alloc, 0, Fails::WithError);
-        let (more, _) = self.served(&mut whole)?;
-        let (writes, mut failed) = (whole.writes, 0u64);
+        let Left { seen, .. } = self.serve(&mut seat, &mut whole)?;
+        let mut failed = 0u64;
         for fails in [Fails::WithError, Fails::TakesNone] {
-            for before in 0..writes {
-                let at = before.saturating_add(1);
-                let mut writer = Writer::new(self.alloc, at, fails);
-                let (done, fault) = self.served(&mut writer)?;
-                if fault == Some(HttpFault::WriteFault)
+            for before in 0..whole.writes {
+                let mut writer = Writer::new(self.alloc, before.saturating_add(1), fails);
+                seat = self.anew(seat)?;
+                let left = self.serve(&mut seat, &mut writer)?;
+                if left.fault == Some(HttpFault::WriteFault)
                     && writer.has_front_of(&whole.taken)
-                    && done == more
+                    && left.seen.as_slice() == seen.as_slice()
                 {
                     failed = failed.saturating_add(1);
                 }
             }
         }
-        let k = self.seat.applied();
-        let tried = writes.saturating_mul(2);
-        Ok(format!(in self.alloc; "writes={name}: {failed} of {tried} fail with 42, k={k}\n")?)
+        let (k, tried) = (seat.applied(), whole.writes.saturating_mul(2));
+        let line = format!(in self.alloc;
+            "writes={name}: {failed} of {tried} fail with 42, k={k}\n"
+        )?;
+        Ok((seat, line))
     }
 }

@@ -18,6 +18,8 @@ use std::collections::VecDeque;
 use std::io;
 use std::io::{Read, Write};
 
+const FRONT: &[u8] = b"GET / HTTP/1.1\r\nHost: a\r\n\r\n";
+
 /// A node by itself, the messages that it sent to itself, and in what pieces its connections come.
 #[derive(Drop)]
 pub struct Seat {
@@ -221,6 +223,17 @@ impl Seat {
         self.node.store()
     }
 
+    /// The node as it is seen: how many values it has applied, what it stores, and its front page.
+    pub fn seen(&mut self) -> anyhow::Result<Vec<u8>>
+        requires always { Unit {0} }
+    {
+        let page = self.reply_to(FRONT)?;
+        let (k, store) = (self.node.applied(), self.node.store());
+        let mut seen = format!(in self.alloc; "{k} {store:?}")?.into_bytes();
+        seen.extend_from_slice(&page)?;
+        Ok(seen)
+    }
+
     /// Serves a connection; the status of its reply.
     pub fn serve_on<R: Read, W: Write>(
         &mut self,
@@ -242,6 +255,20 @@ impl Seat {
     {
         let Seat { node, .. } = self;
         node.down()
+    }
+
+    /// Ends the node, and starts one over this store; what waited is dropped.
+    pub fn start_over(self, store: Failing) -> anyhow::Result<Seat>
+        requires always { Unit {0} }
+    {
+        let Seat {
+            node,
+            size,
+            alloc,
+            ..
+        } = self;
+        let (kit, _) = node.down();
+        Seat::start(alloc, kit, store, size)
     }
 
     /// Kit and store of a node that doesn't start.

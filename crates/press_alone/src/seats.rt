@@ -1,6 +1,6 @@
 //! Nodes side by side, whose connections come in pieces of different sizes. They have to answer alike.
 
-use crate::faults::Connections;
+use crate::faults::{Connections, Writes};
 use crate::posts::{applied, post};
 use crate::seat::Seat;
 use crate::store::{Failing, Plan};
@@ -147,7 +147,7 @@ impl Seats {
         Ok(format!(in self.alloc; "serves={times}: k={k}\n")?.into_bytes())
     }
 
-    fn failing(&mut self, word: Word<'_>, request: &[u8]) -> anyhow::Result<Vec<u8>>
+    fn reads(&mut self, name: &str, request: &[u8]) -> anyhow::Result<Vec<u8>>
         requires always { Unit {0} }
     {
         let alloc = self.alloc;
@@ -159,11 +159,21 @@ impl Seats {
             seat,
             request,
         };
-        match word {
-            Word::Reads(name) => Ok(connections.reads(name)?.into_bytes()),
-            Word::Writes(name) => Ok(connections.writes(name)?.into_bytes()),
-            _ => Ok(Vec::new(alloc)),
-        }
+        Ok(connections.reads(name)?.into_bytes())
+    }
+
+    fn writes(&mut self, name: &str, request: &[u8]) -> anyhow::Result<Vec<u8>>
+        requires always { Unit {0} }
+    {
+        let alloc = self.alloc;
+        self.seats.truncate(1);
+        let Some(seat) = self.seats.pop() else {
+            return Ok(Vec::new(alloc));
+        };
+        let writes = Writes::on(alloc, &seat, request)?;
+        let (seat, line) = writes.fail(seat, name)?;
+        self.seats.push(seat)?;
+        Ok(line.into_bytes())
     }
 
     /// What is printed for an argument; a file's bytes come with it.
@@ -180,7 +190,8 @@ impl Seats {
                 Ok(Vec::new(self.alloc))
             }
             Word::Cuts(name) => self.cuts(name, request),
-            Word::Reads(_) | Word::Writes(_) => self.failing(word, request),
+            Word::Reads(name) => self.reads(name, request),
+            Word::Writes(name) => self.writes(name, request),
             Word::File(name) => match self.times.take() {
                 Some(times) => self.serves(request, times),
                 None => self.serve(name, request),

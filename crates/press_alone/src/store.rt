@@ -72,6 +72,27 @@ impl Failing {
         &self.memory
     }
 
+    /// A store that keeps what this one does, up to this slot, over a device that doesn't fail.
+    pub fn copy(&self, alloc: Global, last: u32) -> Result<Failing, StoreFault> {
+        let mut memory = MemoryStore::new(alloc);
+        if let Some(round) = Round::new(self.memory.round()) {
+            memory.save_round(round)?;
+        }
+        for number in 1..=last {
+            let slot = Slot::new(number);
+            if let Some((slot, row)) = slot.and_then(|slot| Some((slot, self.memory.row(slot)?))) {
+                memory.save(slot, row)?;
+            }
+        }
+        Ok(Failing {
+            memory,
+            plan: Plan::Never,
+            saves: 0,
+            works: true,
+            faults: 0,
+        })
+    }
+
     // The device fails, and is shut. A failure past the greatest count is reported as damage.
     fn fails(&mut self) -> StoreFault
         ensures memory { self.new.memory ≡ self.old.memory }

@@ -1,5 +1,8 @@
 mod callbacks;
+mod clusters;
 mod demonstration;
+mod downs;
+mod fuse;
 mod hooks;
 mod learner;
 mod lints;
@@ -12,3 +15,4 @@ mod site;
 mod synod;
 mod texts;
 mod twin;
+mod wants;

@@ -2,7 +2,7 @@ use crate::tests::fixtures::asked_of;
 use std::alloc::Global;
 use std::test::Fail;
 
-const THREE_NODES: &str =
+pub const THREE_NODES: &str =
     r#"{"nodes":3,"steps":[{"do":"submit","node":1,"editor":"ann","seq":1,"at":100,"kind":"insert","title":"x","content":"Hello","status":"publish"},{"do":"wake","node":1},{"do":"deliver","message":1},{"do":"deliver","message":2},{"do":"deliver","message":3},{"do":"deliver","message":4},{"do":"deliver","message":5},{"do":"deliver","message":6},{"do":"deliver","message":7},{"do":"deliver","message":8},{"do":"deliver","message":9},{"do":"deliver","message":10},{"do":"deliver","message":11},{"do":"deliver","message":12},{"do":"deliver","message":13},{"do":"deliver","message":14},{"do":"deliver","message":15},{"do":"deliver","message":16},{"do":"deliver","message":17},{"do":"deliver","message":18},{"do":"get","node":3,"target":"result:ann/1"}]}"#;
 
 const DELIVERED: &str =
@@ -16,13 +16,13 @@ const GROWN: &str =
     "1 submit 1 sent 0 k=0\n2 submit 1 sent 0 k=0\n3 wake 1 sent 1-1 k=0\n4 deliver 1 node 1 sent 2-2 k=0\n5 deliver 2 node 1 sent 3-3 k=0\n6 deliver 3 node 1 sent 4-4 k=0\n7 deliver 4 node 1 sent 0 k=1\n8 wake 1 sent 5-5 k=1\n9 deliver 5 node 1 sent 6-6 k=1\n10 deliver 6 node 1 sent 7-7 k=1\n11 deliver 7 node 1 sent 8-8 k=1\n12 deliver 8 node 1 sent 0 k=2\n13 get 1 front 200 169 k=2\n<!DOCTYPE html>\n<html>\n<head>\n<title>Press</title>\n</head>\n<body>\n<h1>Press</h1>\n<article id=\"post-1\">\n<h2><a href=\"/?p=1\">xae</a></h2>\nHello\n</article>\n</body>\n</html>\n\n14 get 1 front 200 169 k=2\n<!DOCTYPE html>\n<html>\n<head>\n<title>Press</title>\n</head>\n<body>\n<h1>Press</h1>\n<article id=\"post-1\">\n<h2><a href=\"/?p=1\">xae</a></h2>\nHello\n</article>\n</body>\n</html>\n\nend 2\n";
 
 // A node stops as soon as it has saved its vote, and one after the first message that it sends.
-const STOP_AFTER_SAVE: &str =
+pub const STOP_AFTER_SAVE: &str =
     r#"{"nodes":3,"steps":[{"do":"submit","node":1,"editor":"ann","seq":1,"at":100,"kind":"insert","title":"x","content":"Hello","status":"publish"},{"do":"wake","node":1},{"do":"deliver","message":1},{"do":"deliver","message":2},{"do":"deliver","message":4},{"do":"deliver","message":5},{"do":"deliver","message":6},{"do":"deliver","message":7,"cut":"save"},{"do":"restart","node":2},{"do":"wake","node":3},{"do":"deliver","message":12},{"do":"deliver","message":13},{"do":"deliver","message":15},{"do":"deliver","message":16},{"do":"get","node":3,"target":"post:1"},{"do":"get","node":3,"target":"result:ann/1"}]}"#;
 
 const SAVED: &str =
     "1 submit 1 sent 0 k=0\n2 wake 1 sent 1-3 k=0\n3 deliver 1 node 1 sent 4-4 k=0\n4 deliver 2 node 2 sent 5-5 k=0\n5 deliver 4 node 1 sent 0 k=0\n6 deliver 5 node 1 sent 6-8 k=0\n7 deliver 6 node 1 sent 9-11 k=0\n8 deliver 7 node 2 sent 0 stop\n9 restart 2 sent 0 k=0\n10 wake 3 sent 12-14 k=0\n11 deliver 12 node 1 sent 15-15 k=0\n12 deliver 13 node 2 sent 16-16 k=0\n13 deliver 15 node 3 sent 0 k=0\n14 deliver 16 node 3 sent 0 k=1\n15 get 3 post:1 200 167 k=1\n<!DOCTYPE html>\n<html>\n<head>\n<title>Press</title>\n</head>\n<body>\n<h1>Press</h1>\n<article id=\"post-1\">\n<h2><a href=\"/?p=1\">x</a></h2>\nHello\n</article>\n</body>\n</html>\n\n16 get 3 result:ann/1 200 10 k=1\n{\"done\":1}\nend 0 0 1\n";
 
-const STOP_AFTER_MESSAGE: &str =
+pub const STOP_AFTER_MESSAGE: &str =
     r#"{"nodes":3,"steps":[{"do":"submit","node":1,"editor":"ann","seq":1,"at":100,"kind":"insert","title":"x","content":"Hello","status":"publish"},{"do":"wake","node":1},{"do":"deliver","message":1},{"do":"deliver","message":2},{"do":"deliver","message":4},{"do":"deliver","message":5},{"do":"deliver","message":6},{"do":"deliver","message":7,"cut":1},{"do":"deliver","message":9},{"do":"deliver","message":12},{"do":"get","node":1,"target":"post:1"},{"do":"get","node":1,"target":"result:ann/1"},{"do":"get","node":2,"target":"front"},{"do":"restart","node":2},{"do":"get","node":2,"target":"front"}]}"#;
 
 const SENT: &str =
