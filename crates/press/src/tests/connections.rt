@@ -1,6 +1,6 @@
 //! Schedules over sockets of the loopback whose ends are watched.
 
-use crate::tests::replays::{STOP_AFTER_MESSAGE, STOP_AFTER_SAVE, THREE_NODES};
+use crate::tests::replays::{STOP_AFTER_MESSAGE, STOP_AFTER_SAVE, THREE_NODES, long_form};
 use press_callbacks::Kit;
 use press_loop::loop_over;
 use std::alloc::{Alloc, Global};
@@ -166,13 +166,15 @@ fn seen_of(rt: &HostRuntime, schedule: &str) -> Result<(u32, u32, u32), Fail> {
 }
 
 // Each submit, message and request for a page has a connection, whose client sees it close; that of a step by which a node stops closes
-// without a byte.
+// without a byte. A form that is too long has none.
 #[test]
 fn each_step_has_a_connection_that_closes(rt: HostRuntime) -> Result<(), Fail> {
+    let long = long_form(rt.alloc())?;
     for (schedule, counts) in [
         (THREE_NODES, (20, 20, 0)),
         (STOP_AFTER_SAVE, (13, 13, 1)),
         (STOP_AFTER_MESSAGE, (13, 13, 1)),
+        (long.as_str(), (0, 0, 0)),
     ] {
         assert_eq!(rt; seen_of(&rt, schedule)?, counts);
     }

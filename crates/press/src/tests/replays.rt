@@ -62,8 +62,8 @@ fn schedules_come_over_sockets(rt: HostRuntime) -> Result<(), Fail> {
     Ok(())
 }
 
-// A command whose form has 66,074 bytes, which no request may have: each `&` of its content takes three.
-fn long_form(alloc: Global) -> Result<String, Fail> {
+/// A command whose form has 66,074 bytes, which no request may have: each `&` of its content takes three.
+pub fn long_form(alloc: Global) -> Result<String, Fail> {
     let mut file = String::from_str(
         alloc,
         r#"{"nodes":1,"steps":[{"do":"submit","node":1,"editor":"ann","seq":1,"at":100,"kind":"insert","title":"x","status":"draft","content":""#,
