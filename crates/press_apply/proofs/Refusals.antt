@@ -38,6 +38,7 @@ site_refused site.TooManyEvents s m h = ap (effected s) h
 site_refused site.AlreadyActive s m h = ap (effected s) h
 site_refused site.NotActive s m h = ap (effected s) h
 site_refused site.TooManyOptions s m h = ap (effected s) h
+site_refused site.BadProfile s m h = ap (effected s) h
 
 pub alone_refused : (f : SiteFault) (m : Result (SiteView × Changed) SiteFault) → change.Refuses f m → Refuses (of_site f) (alone m)
 alone_refused site.NoMemory m h = tt
@@ -50,6 +51,7 @@ alone_refused site.TooManyEvents m h = ap alone h
 alone_refused site.AlreadyActive m h = ap alone h
 alone_refused site.NotActive m h = ap alone h
 alone_refused site.TooManyOptions m h = ap alone h
+alone_refused site.BadProfile m h = ap alone h
 
 -- ---- a boot, and then the work
 

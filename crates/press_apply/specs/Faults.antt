@@ -29,3 +29,4 @@ of_site site.TooManyEvents = Site site.TooManyEvents
 of_site site.AlreadyActive = Site site.AlreadyActive
 of_site site.NotActive = Site site.NotActive
 of_site site.TooManyOptions = Site site.TooManyOptions
+of_site site.BadProfile = Site site.BadProfile

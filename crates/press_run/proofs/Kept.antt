@@ -3,12 +3,12 @@ use Rattle.std.proofs.Common.{◌≡◌, refl, sym, ap, ◌∙◌, List, ℕ, Op
 use Rattle.press_posts.specs.declared.fire.Fire.{Fire}
 use Rattle.press_site.specs.declared.changed.Changed.{Changed}
 use Rattle.press_site.specs.declared.effect.Effect.{Effect}
-use Rattle.press_site.specs.declared.effect.Effect.TheVariants.{Insert, Edit, Move, Delete, SetOption, Schedule, Take, Activate, Deactivate}
+use Rattle.press_site.specs.declared.effect.Effect.TheVariants.{Insert, Edit, Move, Delete, SetOption, Schedule, Take, Activate, Deactivate, Profile}
 use Rattle.press_site.specs.declared.fault.SiteFault.{SiteFault}
 use Rattle.press_site.specs.Becomes.{Becomes}
 use Rattle.press_site.specs.ContentView.{ContentView}
 use Rattle.press_site.specs.Contents.{taking}
-use Rattle.press_site.specs.Effects.{content_of, effect_on, with_content, with_options, with_plugins}
+use Rattle.press_site.specs.Effects.{content_of, effect_on, with_content, with_options, with_plugins, with_profile}
 use Rattle.press_site.specs.Options.{Values}
 use Rattle.press_site.specs.SiteView.{SiteView}
 use Rattle.press_run.specs.Links.{kept}
@@ -29,6 +29,10 @@ plugins : (s : SiteView) (r : Result (List (List ℕ)) SiteFault) → kept (or_s
 plugins s (Ok after) = refl
 plugins s (Err fault) = refl
 
+profile : (s : SiteView) (r : Result ℕ SiteFault) → kept (or_site s (with_profile s r)) ≡ kept s
+profile s (Ok to) = refl
+profile s (Err fault) = refl
+
 after_effect : (s : SiteView) (e : Effect) → kept (or_site s (effect_on s e)) ≡ kept s
 after_effect s (Insert draft) = content s _
 after_effect s (Edit id draft) = content s _
@@ -39,6 +43,7 @@ after_effect s (Schedule event) = content s _
 after_effect s (Take event) = content s (Ok (taking (content_of s) event s.moment))
 after_effect s (Activate plugin) = plugins s _
 after_effect s (Deactivate plugin) = plugins s _
+after_effect s (Profile to) = profile s _
 
 pub becomes_kept : (result : Result Changed SiteFault) (e : Effect) (old new : SiteView) → Becomes result (effect_on old e) old new → Some (kept new) ≡ Some (kept old)
 becomes_kept (Ok answer) e old new h = ap (λ x. Some (kept x)) (sym (ap (or_site old) h)) ∙ ap Some (after_effect old e)

@@ -35,8 +35,8 @@ by_shift : (shift : Option Shift) (new old : List Event) → MayGoBack shift new
 by_shift None new old g = g
 by_shift (Some shift) new old g = g.1
 
-pub went : (undone : Undone) (new old : ContentView) (id : ℕ) (p : Option Post) (posts : List (Option Post)) → undone.stood ≡ Some (OfPost id p) → undone.active ≡ None → new.posts ≡ posts → TakesBack id p posts old.posts → MayGoBack undone.shift new.events old.events → ContentGoesBack true undone new old
-went undone new old id p posts s a n t e = record { may = rw (s, n) (t.0, tt); same_posts = rw (s, n) t.1; may_events = may_shift undone.shift new.events old.events e; same_events = λ _. by_shift undone.shift new.events old.events e; no_options = λ (options : Values). rw s refl; no_active = a }
+pub went : (undone : Undone) (new old : ContentView) (id : ℕ) (p : Option Post) (posts : List (Option Post)) → undone.stood ≡ Some (OfPost id p) → undone.active ≡ None → undone.profile ≡ None → new.posts ≡ posts → TakesBack id p posts old.posts → MayGoBack undone.shift new.events old.events → ContentGoesBack true undone new old
+went undone new old id p posts s a f n t e = record { may = rw (s, n) (t.0, tt); same_posts = rw (s, n) t.1; may_events = may_shift undone.shift new.events old.events e; same_events = λ _. by_shift undone.shift new.events old.events e; no_options = λ (options : Values). rw s refl; no_active = a; no_profile = f }
 
 -- ---- a post's change once its events come in, or it is taken back
 
@@ -50,11 +50,11 @@ module _ (result : Result Done SiteFault) (id : ℕ) (p : Option Post) (posts : 
       by (Ok d) n c e = rw (m, n, c) refl
       by (Err f) n c e = rw (e.0, m) (tt, e.1 ∙ ap (λ (ps : List (Option Post)). record { posts = ps; events = old.events }) back.1)
 
-  pub ended_back : OnOk result (new ≡ record { posts = posts; events = es }) → IfOk result (λ d. d.undone.stood ≡ Some (OfPost id p)) → IfOk result (λ d. d.undone.active ≡ None) → IfOk result (λ d. MayGoBack d.undone.shift new.events old.events)
+  pub ended_back : OnOk result (new ≡ record { posts = posts; events = es }) → IfOk result (λ d. d.undone.stood ≡ Some (OfPost id p)) → IfOk result (λ d. d.undone.active ≡ None) → IfOk result (λ d. d.undone.profile ≡ None) → IfOk result (λ d. MayGoBack d.undone.shift new.events old.events)
       → IfOk result (λ d. ContentGoesBack true d.undone new old)
-  ended_back n s a e = by result n s a e
+  ended_back n s a f e = by result n s a f e
     where
-      by : (r : Result Done SiteFault) → OnOk r (new ≡ record { posts = posts; events = es }) → IfOk r (λ d. d.undone.stood ≡ Some (OfPost id p)) → IfOk r (λ d. d.undone.active ≡ None) → IfOk r (λ d. MayGoBack d.undone.shift new.events old.events)
+      by : (r : Result Done SiteFault) → OnOk r (new ≡ record { posts = posts; events = es }) → IfOk r (λ d. d.undone.stood ≡ Some (OfPost id p)) → IfOk r (λ d. d.undone.active ≡ None) → IfOk r (λ d. d.undone.profile ≡ None) → IfOk r (λ d. MayGoBack d.undone.shift new.events old.events)
           → IfOk r (λ d. ContentGoesBack true d.undone new old)
-      by (Ok d) n s a e = went d.undone new old id p posts s a (ap (λ (v : ContentView). v.posts) n) back e
-      by (Err f) n s a e = tt
+      by (Ok d) n s a f e = went d.undone new old id p posts s a f (ap (λ (v : ContentView). v.posts) n) back e
+      by (Err f) n s a _ e = tt

@@ -8,7 +8,7 @@ use Rattle.press_posts.specs.declared.post.Post.{Post}
 use Rattle.press_posts.specs.PostChange as post
 use Rattle.press_site.specs.declared.changed.Changed.{Changed}
 use Rattle.press_site.specs.declared.fault.SiteFault.{SiteFault}
-use Rattle.press_site.specs.declared.fault.SiteFault.TheVariants.{NoMemory, TooLong, NoSuchPost, NotTrashed, IsTrashed, TooManyPosts, TooManyEvents, AlreadyActive, NotActive, TooManyOptions}
+use Rattle.press_site.specs.declared.fault.SiteFault.TheVariants.{NoMemory, TooLong, NoSuchPost, NotTrashed, IsTrashed, TooManyPosts, TooManyEvents, AlreadyActive, NotActive, TooManyOptions, BadProfile}
 use Rattle.press_site.specs.Becomes.{Refuses, MayGrow}
 use Rattle.press_site.specs.ContentView.{ContentView}
 use Rattle.press_posts.specs.declared.fire.Fire.{Fire}
@@ -38,6 +38,7 @@ passed TooManyEvents x r h = ap (beside x) h
 passed AlreadyActive x r h = ap (beside x) h
 passed NotActive x r h = ap (beside x) h
 passed TooManyOptions x r h = ap (beside x) h
+passed BadProfile x r h = ap (beside x) h
 
 -- a refusal of the events, after the posts' own
 pub events_refused : (f : SiteFault) (meant : Result post.Changed PostFault) (x : post.Changed) (old : List Event) → meant ≡ Ok x → Refuses f (events_where x.goes x.comes x.id old) → Refuses f (with_events meant old)

@@ -4,7 +4,7 @@ use Rattle.std.specs.Prelude.{Result, Ok, Err, IfOk, ◌||◌, is_some, unwrap_o
 use Rattle.press_posts.specs.declared.fire.Fire.{Fire}
 use Rattle.press_site.specs.declared.changed.Changed.{Changed}
 use Rattle.press_site.specs.declared.fault.SiteFault.{SiteFault}
-use Rattle.press_site.specs.declared.fault.SiteFault.TheVariants.{NoMemory, TooLong, NoSuchPost, NotTrashed, IsTrashed, TooManyPosts, TooManyEvents, AlreadyActive, NotActive, TooManyOptions}
+use Rattle.press_site.specs.declared.fault.SiteFault.TheVariants.{NoMemory, TooLong, NoSuchPost, NotTrashed, IsTrashed, TooManyPosts, TooManyEvents, AlreadyActive, NotActive, TooManyOptions, BadProfile}
 use Rattle.press_site.specs.Back.{ContentGoesBack, Does, GoesBack}
 use Rattle.press_site.specs.Becomes.{Refuses, MayGrow}
 use Rattle.press_site.specs.ContentView.{ContentView}
@@ -30,6 +30,7 @@ refused_by h g e TooManyEvents r i = ap h i ∙ e TooManyEvents
 refused_by h g e AlreadyActive r i = ap h i ∙ e AlreadyActive
 refused_by h g e NotActive r i = ap h i ∙ e NotActive
 refused_by h g e TooManyOptions r i = ap h i ∙ e TooManyOptions
+refused_by h g e BadProfile r i = ap h i ∙ e BadProfile
 
 pub content_refused : (s : SiteView) (f : SiteFault) (r : Result (ContentView × Changed) SiteFault) → Refuses f r → Refuses f (with_content s r)
 content_refused s f r i = refused_by (with_content s) (λ x. tt) (λ g. refl) f r i
@@ -57,6 +58,7 @@ goes_back s undone b wants new e g = record {
   same_events = λ h. g.same_events (e h);
   same_options = g.no_options s.options;
   same_active = ap (λ (o : Option (List (List ℕ))). unwrap_or o s.active) g.no_active;
+  same_profile = ap (λ (o : Option ℕ). unwrap_or o s.profile) g.no_profile;
   same_moment = refl;
   same_outcomes = refl;
 }
@@ -71,7 +73,7 @@ back_of_post s (Err f) wants new g = tt
 
 -- ---- options and active plugins
 
-pub options_back : (s : SiteView) (wants : Bool) (undone : Undone) (name : List ℕ) (done : Option SetDone) (new : Values) → undone ≡ record { stood = option_map (λ (d : SetDone). OfOption name d.stood) done; shift = None; active = None } → set_back name done new ≡ s.options → GoesBack wants undone (record s { options = new }) s
+pub options_back : (s : SiteView) (wants : Bool) (undone : Undone) (name : List ℕ) (done : Option SetDone) (new : Values) → undone ≡ record { stood = option_map (λ (d : SetDone). OfOption name d.stood) done; shift = None; active = None; profile = None } → set_back name done new ≡ s.options → GoesBack wants undone (record s { options = new }) s
 options_back s wants undone name None new is e = subst (λ (u : Undone). GoesBack wants u (record s { options = new }) s) (sym is) (record {
   may = tt;
   same_posts = refl;
@@ -79,6 +81,7 @@ options_back s wants undone name None new is e = subst (λ (u : Undone). GoesBac
   same_events = λ _. refl;
   same_options = e;
   same_active = refl;
+  same_profile = refl;
   same_moment = refl;
   same_outcomes = refl;
 })
@@ -89,11 +92,12 @@ options_back s wants undone name (Some d) new is e = subst (λ (u : Undone). Goe
   same_events = λ _. refl;
   same_options = e;
   same_active = refl;
+  same_profile = refl;
   same_moment = refl;
   same_outcomes = refl;
 })
 
-pub active_back : (s : SiteView) (wants : Bool) (undone : Undone) (stood new : List (List ℕ)) → undone ≡ record { stood = None; shift = None; active = Some stood } → stood ≡ s.active → GoesBack wants undone (record s { active = new }) s
+pub active_back : (s : SiteView) (wants : Bool) (undone : Undone) (stood new : List (List ℕ)) → undone ≡ record { stood = None; shift = None; active = Some stood; profile = None } → stood ≡ s.active → GoesBack wants undone (record s { active = new }) s
 active_back s wants undone stood new is e = subst (λ (u : Undone). GoesBack wants u (record s { active = new }) s) (sym is) (record {
   may = tt;
   same_posts = refl;
@@ -101,6 +105,7 @@ active_back s wants undone stood new is e = subst (λ (u : Undone). GoesBack wan
   same_events = λ _. refl;
   same_options = refl;
   same_active = e;
+  same_profile = refl;
   same_moment = refl;
   same_outcomes = refl;
 })

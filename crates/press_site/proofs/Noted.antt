@@ -62,11 +62,12 @@ may_events None ws (Some (Moved to from time every)) b new old m e h = may_shift
 may_events None ws (Some (Went place event room marks)) b new old m e h = may_shift_push ws (Went place event room marks) new m (subst (MayEventsGoBack ws) (sym (e refl)) h)
 may_events None ws (Some (All stood)) b new old m e h = subst (MayEventsGoBack ws) (sym (e refl)) h
 
-same_site : (a b : SiteView) → a.moment ≡ b.moment → a.posts ≡ b.posts → a.events ≡ b.events → a.options ≡ b.options → a.active ≡ b.active → a.outcomes ≡ b.outcomes → a ≡ b
-same_site a b m p e o s k =
-    ap₂ (λ (x : ℕ) (y : List (Option Post)). let v : SiteView = record { moment = x; posts = y; events = a.events; options = a.options; active = a.active; outcomes = a.outcomes } in v) m p
-    ∙ ap₂ (λ (x : List Event) (y : List (List ℕ × List ℕ)). let v : SiteView = record { moment = b.moment; posts = b.posts; events = x; options = y; active = a.active; outcomes = a.outcomes } in v) e o
-    ∙ ap₂ (λ (x : List (List ℕ)) (y : List (Token × Outcome)). let v : SiteView = record { moment = b.moment; posts = b.posts; events = b.events; options = b.options; active = x; outcomes = y } in v) s k
+same_site : (a b : SiteView) → a.moment ≡ b.moment → a.posts ≡ b.posts → a.events ≡ b.events → a.options ≡ b.options → a.active ≡ b.active → a.profile ≡ b.profile → a.outcomes ≡ b.outcomes → a ≡ b
+same_site a b m p e o s f k =
+    ap₂ (λ (x : ℕ) (y : List (Option Post)). let v : SiteView = record { moment = x; profile = a.profile; posts = y; events = a.events; options = a.options; active = a.active; outcomes = a.outcomes } in v) m p
+    ∙ ap₂ (λ (x : List Event) (y : List (List ℕ × List ℕ)). let v : SiteView = record { moment = b.moment; profile = a.profile; posts = b.posts; events = x; options = y; active = a.active; outcomes = a.outcomes } in v) e o
+    ∙ ap₂ (λ (x : List (List ℕ)) (y : ℕ). let v : SiteView = record { moment = b.moment; profile = y; posts = b.posts; events = b.events; options = b.options; active = x; outcomes = a.outcomes } in v) s f
+    ∙ ap (λ (x : List (Token × Outcome)). let v : SiteView = record { moment = b.moment; profile = b.profile; posts = b.posts; events = b.events; options = b.options; active = b.active; outcomes = x } in v) k
 
 -- ---- a change
 
@@ -77,7 +78,8 @@ keeps_noted log undone before after g = let filled = filled_same (first_kept log
       (posts_same undone.stood log.stood after.posts before.posts g.same_posts)
       (ap (events_back (more_shifts log.events undone.shift log.shifts)) filled ∙ events_same log.events log.shifts undone.shift (is_some undone.stood) after.events before.events g.same_events)
       (options_same undone.stood log.stood after.options before.options g.same_options)
-      (kept_same log.active undone.active true after.active before.active (λ _. g.same_active)) g.same_outcomes;
+      (kept_same log.active undone.active true after.active before.active (λ _. g.same_active))
+      (kept_same log.profile undone.profile true after.profile before.profile (λ _. g.same_profile)) g.same_outcomes;
   may = λ h. (
     may_same undone.stood log.stood after.posts before.posts g.may g.same_posts h.0,
     subst (MayEventsGoBack (more_shifts log.events undone.shift log.shifts)) (sym filled) (may_events log.events log.shifts undone.shift (is_some undone.stood) after.events before.events g.may_events g.same_events h.1),
@@ -89,7 +91,7 @@ keeps_same log before after e = subst (λ (v : SiteView). Keeps log before log v
 
 went_back : (w : Bool) (undone : Undone) (after before : SiteView) → GoesBack w undone after before → (w || is_some undone.stood) ≡ true → site_back undone after ≡ before
 went_back w undone after before g e =
-    same_site _ _ g.same_moment g.same_posts (g.same_events e) g.same_options g.same_active g.same_outcomes
+    same_site _ _ g.same_moment g.same_posts (g.same_events e) g.same_options g.same_active g.same_profile g.same_outcomes
 
 -- ---- by its three ways out
 
@@ -114,3 +116,8 @@ module _ (meant : Result (SiteView × Changed) SiteFault) (before after : SiteVi
 pub may_of : (done : Result Done SiteFault) (w : Bool) (new old : SiteView) → IfOk done (λ d. GoesBack w d.undone new old) → IfOk done (λ d. MayPostsGoBack (told d.undone) new.posts × MayEventBack d.undone.shift new.events)
 may_of (Ok d) w new old g = (g.may, g.may_events)
 may_of (Err f) w new old g = tt
+
+-- ---- what takes no memory
+
+pub both : {b : Bool} → b ≡ true → b ≡ false → ⊥
+both t f = absurd (let e : true ≡ false = sym t ∙ f in cc)

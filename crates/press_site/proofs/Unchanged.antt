@@ -16,7 +16,7 @@ use Rattle.press_posts.specs.declared.post.Post.{Post}
 use Rattle.press_posts.specs.declared.status.Status.{Status}
 use Rattle.press_site.specs.declared.changed.Changed.{Changed}
 use Rattle.press_site.specs.declared.effect.Effect.{Effect}
-use Rattle.press_site.specs.declared.effect.Effect.TheVariants.{Insert, Edit, Move as MovePost, Delete, SetOption, Schedule, Take, Activate, Deactivate}
+use Rattle.press_site.specs.declared.effect.Effect.TheVariants.{Insert, Edit, Move as MovePost, Delete, SetOption, Schedule, Take, Activate, Deactivate, Profile}
 use Rattle.press_site.specs.declared.fault.SiteFault.{SiteFault}
 use Rattle.press_site.specs.declared.fault.SiteFault.TheVariants.{NoMemory, TooLong, TooManyOptions}
 use Rattle.press_site.specs.declared.stood.Done.{Done}
@@ -24,9 +24,10 @@ use Rattle.press_site.specs.Back.{Does}
 use Rattle.press_site.specs.Becomes.{MayGrow}
 use Rattle.press_site.specs.Contents.{ChangesSome, MovesPost, beside, beside_move, beside_status, events_of, events_where, put_in, some_events, taking, with_events}
 use Rattle.press_site.specs.ContentView.{ContentView}
-use Rattle.press_site.specs.Effects.{content_of, effect_on, fired, with_content, with_options, with_plugins}
+use Rattle.press_site.specs.Effects.{content_of, effect_on, fired, with_content, with_options, with_plugins, with_profile}
 use Rattle.press_site.specs.Options.{SetsSome, Values, added_fire, option_of, put_option, set_over, updated_fire}
 use Rattle.press_site.specs.Plugins.{activated, deactivated}
+use Rattle.press_site.specs.Profile.{switched}
 use Rattle.press_site.specs.SiteView.{SiteView}
 
 -- ---- what changed nothing leaves what stood
@@ -99,6 +100,10 @@ plugins_stay : (s : SiteView) (r : Result (List (List ℕ)) SiteFault) → Stays
 plugins_stay s (Ok names) = λ d. absurd (cc)
 plugins_stay s (Err fault) = tt
 
+profile_stays : (s : SiteView) (r : Result ℕ SiteFault) → Stays (with_profile s r) s
+profile_stays s (Ok profile) = λ d. absurd (cc)
+profile_stays s (Err fault) = tt
+
 pub effect_stays : (s : SiteView) (e : Effect) → Stays (effect_on s e) s
 effect_stays s (Insert d) = content_stays s _ (unless_stays (post.insert_fault d s.posts) (post.inserted (post.post_of (length s.posts + 1) d s.moment) s.posts) (content_of s) refl)
 effect_stays s (Edit id d) = content_stays s _ (edit_stays (post.post_at s.posts id) id d s.moment (content_of s))
@@ -109,6 +114,7 @@ effect_stays s (Schedule event) = content_stays s _ (put_in_stays (nat_lt 256 (l
 effect_stays s (Take event) = content_stays s (Ok (taking (content_of s) event s.moment)) (λ d. ap (λ (es : List Event). let v : ContentView = record { posts = s.posts; events = es } in v) (take_stays (place_of event s.events) event s.moment (content_of s) d))
 effect_stays s (Activate plugin) = plugins_stay s (activated plugin s.active)
 effect_stays s (Deactivate plugin) = plugins_stay s (deactivated plugin s.active)
+effect_stays s (Profile to) = profile_stays s (switched to s.profile)
 
 pub done_stays : (s : SiteView) (e : Effect) (done : Result Done SiteFault) (new : SiteView) → Does done (effect_on s e) s new → IfOk done (λ d. d.changed.did ≡ false → new ≡ s)
 done_stays s e (Ok d) new does = λ f. subst (λ (r : Result (SiteView × Changed) SiteFault). Stays r s) does (effect_stays s e) f

@@ -2,9 +2,9 @@
 use Rattle.std.specs.Prelude.{◌≡◌, refl, ℕ, List, [], ◌∷◌, true, false, Result, Ok, Err, codes}
 use Rattle.press_site.specs.declared.changed.Changed.{Changed}
 use Rattle.press_site.specs.declared.effect.Effect.{Effect}
-use Rattle.press_site.specs.declared.effect.Effect.TheVariants.{SetOption, Activate, Deactivate}
+use Rattle.press_site.specs.declared.effect.Effect.TheVariants.{SetOption, Activate, Deactivate, Profile}
 use Rattle.press_site.specs.declared.fault.SiteFault.{SiteFault}
-use Rattle.press_site.specs.declared.fault.SiteFault.TheVariants.{AlreadyActive, NotActive}
+use Rattle.press_site.specs.declared.fault.SiteFault.TheVariants.{AlreadyActive, NotActive, BadProfile}
 use Rattle.press_site.specs.Effects.{no_site, effect_on}
 use Rattle.press_site.specs.SiteView.{SiteView}
 
@@ -49,3 +49,20 @@ not_active = refl
 
 by_name : (then letters (Activate (codes "a"))).active ≡ codes "a" ∷ codes "letters" ∷ []
 by_name = refl
+
+-- ---- the profile
+
+first_again : told (effect_on no_site (Profile 1)) ≡ Err BadProfile
+first_again = refl
+
+switched_once : told (effect_on no_site (Profile 2)) ≡ Ok (record { id = 0; did = true; fires = [] })
+switched_once = refl
+
+in_second : (then no_site (Profile 2)).profile ≡ 2
+in_second = refl
+
+switched_twice : told (effect_on (then no_site (Profile 2)) (Profile 2)) ≡ Err BadProfile
+switched_twice = refl
+
+never_back : told (effect_on (then no_site (Profile 2)) (Profile 1)) ≡ Err BadProfile
+never_back = refl

@@ -1,5 +1,5 @@
 -- The way back: what was kept is put back, the last change first.
-use Rattle.std.specs.Prelude.{◌≡◌, List, [], ◌∷◌, Bool, true, false, ◌||◌, is_none, is_some, unwrap_or, Option, None, Some, Result, Ok, Err, IfOk}
+use Rattle.std.specs.Prelude.{◌≡◌, ◌≢◌, List, [], ◌∷◌, Bool, true, false, ◌||◌, is_none, is_some, unwrap_or, Option, None, Some, Result, Ok, Err, IfOk, MatchResult}
 use Rattle.press_events.specs.declared.event.Event.{Event}
 use Rattle.press_events.specs.declared.shift.Shift.{Shift}
 use Rattle.press_events.specs.Shifts.{MayShiftBack, shift_back}
@@ -16,7 +16,7 @@ use Rattle.press_site.specs.declared.fault.SiteFault.TheVariants.{NoMemory}
 use Rattle.press_site.specs.Becomes.{Becomes, Refuses}
 use Rattle.press_site.specs.Contents.{ChangesSome}
 use Rattle.press_site.specs.ContentView.{ContentView}
-use Rattle.press_site.specs.Log.{Log, told}
+use Rattle.press_site.specs.Log.{Log, note_grows, told}
 use Rattle.press_site.specs.Options.{Values, put_back}
 use Rattle.press_site.specs.SiteView.{SiteView}
 
@@ -75,6 +75,7 @@ site_back u s = record s {
   events = event_back u.shift s.events;
   options = options_back (told u) s.options;
   active = unwrap_or u.active s.active;
+  profile = unwrap_or u.profile s.profile;
 }
 
 -- with what a change of posts and events answers it may be taken back; events alone are told only where they are wanted
@@ -85,6 +86,7 @@ pub record ContentGoesBack (wants : Bool) (undone : Undone) (new old : ContentVi
   pub same_events : (wants || is_some undone.stood) ≡ true → event_back undone.shift new.events ≡ old.events
   pub no_options : (options : Values) → options_back (told undone) options ≡ options
   pub no_active : undone.active ≡ None
+  pub no_profile : undone.profile ≡ None
 
 -- with what any change answers; without what stood at a place, events are told only where they are wanted
 pub record GoesBack (wants : Bool) (undone : Undone) (new old : SiteView) : Type 0 where
@@ -94,6 +96,7 @@ pub record GoesBack (wants : Bool) (undone : Undone) (new old : SiteView) : Type
   pub same_events : (wants || is_some undone.stood) ≡ true → event_back undone.shift new.events ≡ old.events
   pub same_options : options_back (told undone) new.options ≡ old.options
   pub same_active : unwrap_or undone.active new.active ≡ old.active
+  pub same_profile : unwrap_or undone.profile new.profile ≡ old.profile
   pub same_moment : new.moment ≡ old.moment
   pub same_outcomes : new.outcomes ≡ old.outcomes
 
@@ -108,6 +111,7 @@ log_back log s = record s {
   events = events_back log.shifts (unwrap_or log.events s.events);
   options = options_back log.stood s.options;
   active = unwrap_or log.active s.active;
+  profile = unwrap_or log.profile s.profile;
 }
 
 abbrev pub MayLogGoBack : Log → List (Option Post) → List Event → Type 0
@@ -129,3 +133,7 @@ Notes done result given site old new =
 abbrev pub NotesSome : Result Done SiteFault → Result Changed SiteFault → SiteView → Type 0
 NotesSome done result given =
     (meant : Result (SiteView × Changed) SiteFault) (before : SiteView) → Does done meant before given → (done ≡ Err NoMemory → ChangesSome meant) → result ≡ Err NoMemory → ChangesSome meant
+
+-- a change that takes no memory, nor does its note
+abbrev pub TakesNone : Result Done SiteFault → Type 0
+TakesNone result = MatchResult result (λ d. note_grows d.undone ≡ false) (λ f. f ≢ NoMemory)

@@ -3,7 +3,7 @@
 use Rattle.press_text.specs.Gives.{GivesOrStays}
 use Rattle.std.specs.Prelude.{◌≡◌, ⊤, Result, Ok, Err}
 use Rattle.press_site.specs.declared.fault.SiteFault.{SiteFault}
-use Rattle.press_site.specs.declared.fault.SiteFault.TheVariants.{NoMemory, TooLong, NoSuchPost, NotTrashed, IsTrashed, TooManyPosts, TooManyEvents, AlreadyActive, NotActive, TooManyOptions}
+use Rattle.press_site.specs.declared.fault.SiteFault.TheVariants.{NoMemory, TooLong, NoSuchPost, NotTrashed, IsTrashed, TooManyPosts, TooManyEvents, AlreadyActive, NotActive, TooManyOptions, BadProfile}
 
 abbrev pub MayGrow : {A : Type 0} → Result A SiteFault → Type 0
 MayGrow (Ok after) = ⊤
@@ -20,6 +20,7 @@ Refuses TooManyEvents meant = meant ≡ Err TooManyEvents
 Refuses AlreadyActive meant = meant ≡ Err AlreadyActive
 Refuses NotActive meant = meant ≡ Err NotActive
 Refuses TooManyOptions meant = meant ≡ Err TooManyOptions
+Refuses BadProfile meant = meant ≡ Err BadProfile
 
 -- a change that answers something beside the state
 abbrev pub Becomes : {S A : Type 0} → Result A SiteFault → Result (S × A) SiteFault → S → S → Type 0

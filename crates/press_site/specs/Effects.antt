@@ -5,16 +5,17 @@ use Rattle.press_posts.specs.PostChange.Change.{Insert as PostInsert, Edit as Po
 use Rattle.press_posts.specs.declared.fire.Fire.{Fire}
 use Rattle.press_site.specs.declared.changed.Changed.{Changed}
 use Rattle.press_site.specs.declared.effect.Effect.{Effect}
-use Rattle.press_site.specs.declared.effect.Effect.TheVariants.{Insert, Edit, Move, Delete, SetOption, Schedule, Take, Activate, Deactivate}
+use Rattle.press_site.specs.declared.effect.Effect.TheVariants.{Insert, Edit, Move, Delete, SetOption, Schedule, Take, Activate, Deactivate, Profile}
 use Rattle.press_site.specs.declared.fault.SiteFault.{SiteFault}
 use Rattle.press_site.specs.Contents.{post_effect, scheduling, taking, no_post}
 use Rattle.press_site.specs.ContentView.{ContentView}
 use Rattle.press_site.specs.Options.{Values, set_option}
 use Rattle.press_site.specs.Plugins.{activated, deactivated}
+use Rattle.press_site.specs.Profile.{switched}
 use Rattle.press_site.specs.SiteView.{SiteView}
 
 abbrev pub no_site : SiteView
-no_site = record { moment = 0; posts = []; events = []; options = []; active = []; outcomes = [] }
+no_site = record { moment = 0; profile = 1; posts = []; events = []; options = []; active = []; outcomes = [] }
 
 -- how much a site holds
 abbrev pub size : SiteView → ℕ
@@ -40,6 +41,10 @@ abbrev pub with_plugins : SiteView → Result (List (List ℕ)) SiteFault → Re
 with_plugins s (Ok names) = Ok (record s { active = names }, no_post true)
 with_plugins s (Err fault) = Err fault
 
+abbrev pub with_profile : SiteView → Result ℕ SiteFault → Result (SiteView × Changed) SiteFault
+with_profile s (Ok profile) = Ok (record s { profile = profile }, no_post true)
+with_profile s (Err fault) = Err fault
+
 abbrev pub effect_on : SiteView → Effect → Result (SiteView × Changed) SiteFault
 effect_on s (Insert draft) = with_content s (post_effect (content_of s) (PostInsert draft) s.moment)
 effect_on s (Edit id draft) = with_content s (post_effect (content_of s) (PostEdit id draft) s.moment)
@@ -50,3 +55,4 @@ effect_on s (Schedule event) = with_content s (scheduling (content_of s) event)
 effect_on s (Take event) = with_content s (Ok (taking (content_of s) event s.moment))
 effect_on s (Activate plugin) = with_plugins s (activated plugin s.active)
 effect_on s (Deactivate plugin) = with_plugins s (deactivated plugin s.active)
+effect_on s (Profile to) = with_profile s (switched to s.profile)

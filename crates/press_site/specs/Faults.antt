@@ -5,7 +5,7 @@ use Rattle.press_events.specs.declared.fault.EventFault.TheVariants as event
 use Rattle.press_posts.specs.declared.fault.PostFault.{PostFault}
 use Rattle.press_posts.specs.declared.fault.PostFault.TheVariants as post
 use Rattle.press_site.specs.declared.fault.SiteFault.{SiteFault}
-use Rattle.press_site.specs.declared.fault.SiteFault.TheVariants.{NoMemory, TooLong, NoSuchPost, NotTrashed, IsTrashed, TooManyPosts, TooManyEvents, AlreadyActive, NotActive, TooManyOptions}
+use Rattle.press_site.specs.declared.fault.SiteFault.TheVariants.{NoMemory, TooLong, NoSuchPost, NotTrashed, IsTrashed, TooManyPosts, TooManyEvents, AlreadyActive, NotActive, TooManyOptions, BadProfile}
 
 abbrev pub site_fault_number : SiteFault → ℕ
 site_fault_number NoMemory = 0
@@ -18,6 +18,7 @@ site_fault_number TooManyEvents = 14
 site_fault_number AlreadyActive = 16
 site_fault_number NotActive = 17
 site_fault_number TooManyOptions = 18
+site_fault_number BadProfile = 19
 
 abbrev pub of_posts : PostFault → SiteFault
 of_posts post.NoMemory = NoMemory

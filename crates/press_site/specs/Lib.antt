@@ -11,5 +11,6 @@ pub mod Open
 pub mod Options
 pub mod Outcomes
 pub mod Plugins
+pub mod Profile
 pub mod Sets
 pub mod SiteView

@@ -1,6 +1,6 @@
 -- What an open site keeps to go back by: what stood where posts and options were changed, and the ways back of the events, the last changed last; all events
--- that stood, once they were kept, which go back before those ways; and the active plugins that stood before their first change.
-use Rattle.std.specs.Prelude.{ℕ, List, [], ◌∷◌, ◌++◌, Bool, true, false, ◌&&◌, is_none, Option, None, Some}
+-- that stood, once they were kept, which go back before those ways; and the active plugins and the profile that stood before their first change.
+use Rattle.std.specs.Prelude.{ℕ, List, [], ◌∷◌, ◌++◌, Bool, true, false, ◌&&◌, ◌||◌, is_none, is_some, Option, None, Some}
 use Rattle.press_events.specs.declared.event.Event.{Event}
 use Rattle.press_events.specs.declared.shift.Shift.{Shift}
 use Rattle.press_events.specs.declared.shift.Shift.TheVariants.{Came, Moved, Went, All}
@@ -12,10 +12,11 @@ pub record Log : Type 0 where
   pub shifts : List Shift
   pub events : Option (List Event)
   pub active : Option (List (List ℕ))
+  pub profile : Option ℕ
 
 -- nothing changed since
 abbrev pub fresh : Log
-fresh = record { stood = []; shifts = []; events = None; active = None }
+fresh = record { stood = []; shifts = []; events = None; active = None; profile = None }
 
 abbrev pub first_kept : {A : Type 0} → Option A → Option A → Option A
 first_kept None stood = stood
@@ -67,6 +68,10 @@ abbrev pub where_filled : Bool → List Event → Option (List Event)
 where_filled true events = Some events
 where_filled false events = None
 
+-- whether to note a change may take memory: one at a place, or one of events
+abbrev pub note_grows : Undone → Bool
+note_grows undone = is_some undone.stood || is_some undone.shift
+
 -- after a change, and with the events that stand then
 abbrev pub noted : Undone → List Event → Log → Log
 noted undone events log = record {
@@ -74,4 +79,5 @@ noted undone events log = record {
   shifts = more_shifts log.events undone.shift log.shifts;
   events = first_kept (first_kept log.events (all_of undone.shift)) (where_filled (is_none log.events && fills undone.shift log.shifts) events);
   active = first_kept log.active undone.active;
+  profile = first_kept log.profile undone.profile;
 }

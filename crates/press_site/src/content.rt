@@ -266,6 +266,7 @@ impl Content {
             ≡ record { id = id; did = true; fires = fires }) }
         ensures stood { IfOk result (λ d. d.undone.stood ≡ Some (OfPost id post)) }
         ensures active { IfOk result (λ d. d.undone.active ≡ None) }
+        ensures profile { IfOk result (λ d. d.undone.profile ≡ None) }
         ensures events { IfOk result (λ d. MayGoBack d.undone.shift
             self.new.events self.old.events) }
         ensures err { IfErr result (λ f. (f ≡ NoMemory) × (self.new ≡ record self.old
@@ -458,7 +459,8 @@ enum Beside {
 fn done(id: u64, fires: Items<Fire>, post: Option<Post>, shift: Option<Shift>) -> Done
     ensures { result ≡ record {
       changed = record { id = id; did = true; fires = fires };
-      undone = record { stood = Some (OfPost id post); shift = shift; active = None };
+      undone = record
+          { stood = Some (OfPost id post); shift = shift; active = None; profile = None };
     } }
 {
     let did = true;
@@ -471,7 +473,7 @@ fn done(id: u64, fires: Items<Fire>, post: Option<Post>, shift: Option<Shift>) -
 fn untouched(alloc: Global, id: u64) -> Done
     ensures { result ≡ record {
       changed = record { id = id; did = false; fires = [] };
-      undone = record { stood = None; shift = None; active = None };
+      undone = record { stood = None; shift = None; active = None; profile = None };
     } }
 {
     let (did, fires) = (false, Items::new(alloc));
@@ -484,7 +486,7 @@ fn untouched(alloc: Global, id: u64) -> Done
 fn done_alone(alloc: Global, did: bool, shift: Option<Shift>) -> Done
     ensures { result ≡ record {
       changed = record { id = 0; did = did; fires = [] };
-      undone = record { stood = None; shift = shift; active = None };
+      undone = record { stood = None; shift = shift; active = None; profile = None };
     } }
 {
     let (id, fires) = (0, Items::new(alloc));

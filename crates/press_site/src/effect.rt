@@ -15,4 +15,6 @@ pub enum Effect {
     Take(Event),
     Activate { plugin: Name },
     Deactivate { plugin: Name },
+    /// Switches to that profile.
+    Profile(u8),
 }

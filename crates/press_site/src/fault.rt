@@ -30,6 +30,8 @@ pub enum SiteFault {
     NotActive,
     #[error("too many options")]
     TooManyOptions,
+    #[error("not the next profile")]
+    BadProfile,
 }
 
 impl SiteFault {
@@ -48,6 +50,7 @@ impl SiteFault {
             SiteFault::AlreadyActive => 16,
             SiteFault::NotActive => 17,
             SiteFault::TooManyOptions => 18,
+            SiteFault::BadProfile => 19,
         }
     }
 }

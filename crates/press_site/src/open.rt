@@ -1,7 +1,7 @@
 //! A site at work, which can go back.
 
-ghost use Rattle.std.specs.Prelude.{◌≡◌, None, Err, IfOk, IfErr, OnErr};
-ghost use Rattle.press_site.specs.Back.{MayEventBack, MayPostsGoBack, Notes, NotesSome};
+ghost use Rattle.std.specs.Prelude.{ℕ, ◌≡◌, ◌≢◌, None, Err, IfOk, IfErr, OnErr};
+ghost use Rattle.press_site.specs.Back.{MayEventBack, MayPostsGoBack, Notes, NotesSome, TakesNone};
 ghost use Rattle.press_site.specs.Becomes.{Becomes};
 ghost use Rattle.press_site.specs.Contents.{ChangesSome};
 ghost use Rattle.press_site.specs.Effects.{effect_on};
@@ -61,12 +61,13 @@ impl OpenSite {
     }
 
     /// Makes a change, as `Site::effect` does, and records how it is taken back; without memory for that nothing is changed. What changes
-    /// nothing takes no memory.
+    /// nothing takes no memory, nor does a switch of profile.
     pub fn effect(&mut self, effect: Effect) -> Result<Changed, SiteFault>
         ensures does { Becomes result (effect_on self.old.site effect)
             self.old.site self.new.site }
         ensures begun { begun_of self.new ≡ begun_of self.old }
         ensures memory { result ≡ Err NoMemory → ChangesSome (effect_on self.old.site effect) }
+        ensures profile { (to : ℕ) → effect ≡ Effect.Profile to → result ≢ Err NoMemory }
     {
         let wants = self.undo.wants_events();
         let done = self.site.change(effect, wants);
@@ -121,6 +122,7 @@ fn noted(
         × MayEventBack d.undone.shift site.old.events) }
     ensures notes { Notes done result site.old site.new undo.old undo.new }
     ensures memory { NotesSome done result site.old }
+    ensures none { TakesNone done → result ≢ Err NoMemory }
 {
     let Done { changed, undone } = done?;
     if !changed.did {

@@ -1,10 +1,10 @@
 //! The whole site as one value.
 
-ghost use Rattle.std.specs.Prelude.{Bool, ◌≡◌, ◌<◌, length, [], false, None, Some, Ok, Err, true, IfOk, OnOk, OnErr, option_map, take};
+ghost use Rattle.std.specs.Prelude.{Bool, ℕ, ◌≡◌, ◌≢◌, ◌<◌, length, [], false, None, Some, Ok, Err, true, IfOk, OnOk, OnErr, option_map, take};
 ghost use Rattle.press_posts.specs.PostChange.{post_at};
 ghost use Rattle.press_posts.specs.Published.{published};
 ghost use Rattle.press_events.specs.DueEvents.{due};
-ghost use Rattle.press_site.specs.Back.{Does, GoesBack, MayEventBack, MayLogGoBack, MayPostsGoBack};
+ghost use Rattle.press_site.specs.Back.{Does, GoesBack, MayEventBack, MayLogGoBack, MayPostsGoBack, TakesNone};
 ghost use Rattle.press_site.specs.Back.{log_back, site_back};
 ghost use Rattle.press_site.specs.Becomes.{Becomes};
 ghost use Rattle.press_site.specs.Contents.{ChangesSome, no_post};
@@ -33,13 +33,18 @@ use press_text::{Items, Moment, Name, OptName, Text};
 use std::alloc::{AllocError, Global};
 use std::marker::Model;
 
-const PROFILE: u8 = 1;
+// The profile that a site begins with.
+const FIRST_PROFILE: u8 = 1;
 
-/// Posts, events, options, active plugins, and what became of each command, at a moment.
+// The one that it may be switched to.
+const NEXT_PROFILE: u8 = 2;
+
+/// Posts, events, options, active plugins, the profile, and what became of each command, at a moment.
 #[derive(Debug)]
 pub struct Site {
     alloc: Global,
     moment: Moment,
+    profile: u8,
     content: Content,
     options: Options,
     plugins: Plugins,
@@ -51,6 +56,7 @@ impl Drop for Site {
         let Site {
             alloc: _,
             moment: _,
+            profile: _,
             content: _,
             options: _,
             plugins: _,
@@ -66,6 +72,7 @@ impl Model for Site {
 
     ghost view = { λ s. record {
       moment = s.moment;
+      profile = s.profile;
       posts = s.content.posts;
       events = s.content.events;
       options = s.options;
@@ -75,13 +82,14 @@ impl Model for Site {
 }
 
 impl Site {
-    /// A site with nothing in it, at the first moment; takes no memory.
+    /// A site with nothing in it, at the first moment and with the first profile; takes no memory.
     pub fn new(alloc: Global) -> Site
         ensures { result ≡ no_site }
     {
         Site {
             alloc,
             moment: Moment::zero(),
+            profile: FIRST_PROFILE,
             content: Content::new(alloc),
             options: Options::new(alloc),
             plugins: Plugins::new(alloc),
@@ -98,6 +106,7 @@ impl Site {
         Ok(Site {
             alloc: self.alloc,
             moment: self.moment,
+            profile: self.profile,
             content: self.content.copy()?,
             options: self.options.copy()?,
             plugins: self.plugins.copy()?,
@@ -107,9 +116,9 @@ impl Site {
 
     /// The version of the rules that it goes by.
     pub fn profile(&self) -> u8
-        ensures { result ≡ 1 }
+        ensures { result ≡ self.now.profile }
     {
-        PROFILE
+        self.profile
     }
 
     /// The latest moment of a command so far.
@@ -203,10 +212,12 @@ impl Site {
         OpenSite::of(self.alloc, self)
     }
 
-    /// Makes a change: what it did and what is to be fired. After a refusal the site is as it was. What changes nothing takes no memory.
+    /// Makes a change: what it did and what is to be fired. After a refusal the site is as it was. What changes nothing takes no memory, nor
+    /// does a switch of profile.
     pub fn effect(&mut self, effect: Effect) -> Result<Changed, SiteFault>
         ensures does { Becomes result (effect_on self.old effect) self.old self.new }
         ensures memory { result ≡ Err NoMemory → ChangesSome (effect_on self.old effect) }
+        ensures profile { (to : ℕ) → effect ≡ Effect.Profile to → result ≢ Err NoMemory }
     {
         let Done { changed, undone } = self.change(effect, false)?;
         drop(undone);
@@ -218,6 +229,7 @@ impl Site {
         ensures does { Does result (effect_on self.old effect) self.old self.new }
         ensures back { IfOk result (λ d. GoesBack wants d.undone self.new self.old) }
         ensures memory { result ≡ Err NoMemory → ChangesSome (effect_on self.old effect) }
+        ensures profile { (to : ℕ) → effect ≡ Effect.Profile to → TakesNone result }
     {
         match effect {
             Effect::Insert(draft) => self.insert(draft),
@@ -229,6 +241,7 @@ impl Site {
             Effect::Take(event) => self.take(&event, wants),
             Effect::Activate { plugin } => self.activate(plugin),
             Effect::Deactivate { plugin } => self.deactivate(&plugin),
+            Effect::Profile(to) => self.switch(to),
         }
     }
 
@@ -242,6 +255,7 @@ impl Site {
             stood,
             shift,
             active,
+            profile,
         } = undone;
         if let Some(stood) = stood {
             stood.put_back(&mut self.content, &mut self.options);
@@ -252,6 +266,9 @@ impl Site {
         if let Some(active) = active {
             self.plugins = active;
         }
+        if let Some(profile) = profile {
+            self.profile = profile;
+        }
     }
 
     /// Takes all changes back that were noted. Takes no memory.
@@ -261,6 +278,7 @@ impl Site {
     {
         undo.back_content(&mut self.content, &mut self.options);
         undo.back_plugins(&mut self.plugins);
+        undo.back_profile(&mut self.profile);
     }
 
     fn insert(&mut self, draft: Draft) -> Result<Done, SiteFault>
@@ -362,13 +380,30 @@ impl Site {
         let undone = Undone::of_active(stood);
         Ok(Done { changed, undone })
     }
+
+    // Takes no memory.
+    fn switch(&mut self, to: u8) -> Result<Done, SiteFault>
+        ensures does { Does result (effect_on self.old (Effect.Profile to)) self.old self.new }
+        ensures back { (wants : Bool) → IfOk result
+            (λ d. GoesBack wants d.undone self.new self.old) }
+        ensures memory { TakesNone result }
+    {
+        if to != NEXT_PROFILE || self.profile != FIRST_PROFILE {
+            return Err(SiteFault::BadProfile);
+        }
+        let undone = Undone::of_profile(self.profile);
+        self.profile = to;
+        let changed = no_post(self.alloc);
+        Ok(Done { changed, undone })
+    }
 }
 
 // An option that was set.
 fn option_done(name: OptName, fires: Items<Fire>, value: Option<Text>) -> Done
     ensures { result ≡ record {
       changed = record { id = 0; did = true; fires = fires };
-      undone = record { stood = Some (OfOption name value); shift = None; active = None };
+      undone = record
+          { stood = Some (OfOption name value); shift = None; active = None; profile = None };
     } }
 {
     let (id, did) = (0, true);
@@ -381,7 +416,7 @@ fn option_done(name: OptName, fires: Items<Fire>, value: Option<Text>) -> Done
 fn nothing_done(alloc: Global) -> Done
     ensures { result ≡ record {
       changed = no_post false;
-      undone = record { stood = None; shift = None; active = None };
+      undone = record { stood = None; shift = None; active = None; profile = None };
     } }
 {
     let (id, did, fires) = (0, false, Items::new(alloc));

@@ -32,45 +32,66 @@ impl Stood {
     }
 }
 
-/// What a change is taken back with: what stood at the place of one, the way back of the events, and the active plugins that stood.
+/// What a change is taken back with: what stood at the place of one, the way back of the events, and the active plugins and
+/// the profile that stood.
 #[derive(Debug, Drop)]
 pub struct Undone {
     pub stood: Option<Stood>,
     pub shift: Option<Shift>,
     pub active: Option<Plugins>,
+    pub profile: Option<u8>,
 }
 
 impl Undone {
     /// Of a post or an option, and the events beside it.
     pub fn of(stood: Stood, shift: Option<Shift>) -> Undone
-        ensures { result ≡ record { stood = Some stood; shift = shift; active = None } }
+        ensures { result ≡ record
+            { stood = Some stood; shift = shift; active = None; profile = None } }
     {
         Undone {
             stood: Some(stood),
             shift,
             active: None,
+            profile: None,
         }
     }
 
     /// Of events alone.
     pub fn of_events(shift: Option<Shift>) -> Undone
-        ensures { result ≡ record { stood = None; shift = shift; active = None } }
+        ensures { result ≡ record
+            { stood = None; shift = shift; active = None; profile = None } }
     {
         Undone {
             stood: None,
             shift,
             active: None,
+            profile: None,
         }
     }
 
     /// Of active plugins.
     pub fn of_active(active: Plugins) -> Undone
-        ensures { result ≡ record { stood = None; shift = None; active = Some active } }
+        ensures { result ≡ record
+            { stood = None; shift = None; active = Some active; profile = None } }
     {
         Undone {
             stood: None,
             shift: None,
             active: Some(active),
+            profile: None,
+        }
+    }
+
+    /// Of the profile.
+    pub fn of_profile(profile: u8) -> Undone
+        ensures { result ≡ record
+            { stood = None; shift = None; active = None; profile = Some profile } }
+    {
+        Undone {
+            stood: None,
+            shift: None,
+            active: None,
+            profile: Some(profile),
         }
     }
 }

@@ -2,7 +2,7 @@
 
 ghost use Rattle.std.specs.Prelude.{◌≡◌, ◌<◌, [], ◌∷◌, ◌++◌, ◌||◌, ◌&&◌, Some, None, true, is_none, is_some, vec_len, vec_capacity, OnOk, OnErr, IfErr, IfOk, unwrap_or};
 ghost use Rattle.press_site.specs.Back.{MayEventsGoBack, MayLogGoBack, MayPostsGoBack, events_back, options_back, posts_back};
-ghost use Rattle.press_site.specs.Log.{all_of, fills, first_kept, fresh, noted, where_filled, with_shift, with_stood};
+ghost use Rattle.press_site.specs.Log.{all_of, fills, first_kept, fresh, note_grows, noted, where_filled, with_shift, with_stood};
 
 use crate::content::Content;
 use crate::options::Options;
@@ -19,6 +19,7 @@ pub struct Undo {
     shifts: Vec<Shift>,
     events: Option<Events>,
     active: Option<Plugins>,
+    profile: Option<u8>,
 }
 
 impl Drop for Undo {
@@ -28,6 +29,7 @@ impl Drop for Undo {
             shifts: _,
             events: _,
             active: _,
+            profile: _,
         } = self;
     }
 }
@@ -42,6 +44,7 @@ impl Model for Undo {
       shifts = u.shifts.items;
       events = u.events;
       active = u.active;
+      profile = u.profile;
     } };
 }
 
@@ -55,6 +58,7 @@ impl Undo {
             shifts: Vec::new(alloc),
             events: None,
             active: None,
+            profile: None,
         }
     }
 
@@ -71,6 +75,7 @@ impl Undo {
         ensures err { IfErr result (λ u. u ≡ undone) }
         ensures stays { OnErr result (self.new ≡ self.old) }
         ensures why { OnErr result ((is_none self.old.events || is_some undone.stood) ≡ true) }
+        ensures memory { OnErr result (note_grows undone ≡ true) }
     {
         let wants = self.events.is_none();
         if undone.stood.is_some() && !has_room(&mut self.stood) {
@@ -86,6 +91,7 @@ impl Undo {
             stood,
             shift,
             active,
+            profile,
         } = undone;
         push(&mut self.stood, stood);
         if wants {
@@ -93,6 +99,7 @@ impl Undo {
         }
         keep(&mut self.events, all);
         keep(&mut self.active, active);
+        keep(&mut self.profile, profile);
         Ok(())
     }
 
@@ -105,6 +112,7 @@ impl Undo {
         ensures all { IfOk result (λ all. all ≡ where_filled
             (is_none self.now.events && fills shift.now self.now.shifts) events.now) }
         ensures why { OnErr result (is_none self.now.events ≡ true) }
+        ensures memory { OnErr result (is_some shift.now ≡ true) }
     {
         if !self.wants_events() {
             return Ok(None);
@@ -139,6 +147,16 @@ impl Undo {
     {
         if let Some(stood) = self.active.take() {
             *plugins = stood;
+        }
+    }
+
+    /// Puts the profile back.
+    pub fn back_profile(&mut self, profile: &mut u8)
+        ensures back { profile.new ≡ unwrap_or self.old.profile profile.old }
+        ensures left { self.new ≡ record self.old { profile = None } }
+    {
+        if let Some(stood) = self.profile.take() {
+            *profile = stood;
         }
     }
 }

@@ -61,4 +61,4 @@ returns-clause-back c =
     let back = subst (λ (p : Option Post). TakesBack c.args.id p c.set_status.new.self posts) (sym st) t in
     let s : ContentView = record { posts = posts; events = c.self.inside.events } in
     subst (λ (v : ContentView). IfOk c.ended.result (λ d. ContentGoesBack true d.undone c.ended.new.self v)) c.self.view_is
-    (ended_back c.ended.result c.args.id c.in_ok-stood.stood c.set_status.new.self (events_beside c.args.beside c.self.inside.events) c.in_ok-fires.fires c.ended.new.self s back c.ended.ensures.new c.ended.ensures.stood c.ended.ensures.active c.ended.ensures.events)
+    (ended_back c.ended.result c.args.id c.in_ok-stood.stood c.set_status.new.self (events_beside c.args.beside c.self.inside.events) c.in_ok-fires.fires c.ended.new.self s back c.ended.ensures.new c.ended.ensures.stood c.ended.ensures.active c.ended.ensures.profile c.ended.ensures.events)

@@ -34,3 +34,6 @@ pub returns-clause-memory : goal.returns-clause-memory
 returns-clause-memory c =
     subst (λ (o : Open). c.noted.result ≡ Err NoMemory → ChangesSome (effect_on o.site c.args.effect)) c.self.view_is
     (c.noted.ensures.memory (effect_on c.self.inside.site c.args.effect) c.self.inside.site c.change-done.ensures.does c.change-done.ensures.memory)
+
+pub returns-clause-profile : goal.returns-clause-profile
+returns-clause-profile c = λ to e. c.noted.ensures.none (c.change-done.ensures.profile to e)

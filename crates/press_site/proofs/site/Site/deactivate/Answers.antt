@@ -6,6 +6,6 @@ use Rattle.press_site.proofs.site.Site.deactivate.Goals as goal
 
 pub returns-clause-back : goal.returns-clause-back
 returns-clause-back c = λ wants.
-    let s : SiteView = record { moment = c.self.inside.moment; posts = c.self.inside.content.posts; events = c.self.inside.content.events; options = c.self.inside.options; active = c.self.inside.plugins; outcomes = c.self.inside.outcomes } in
+    let s : SiteView = record { moment = c.self.inside.moment; profile = c.self.inside.profile; posts = c.self.inside.content.posts; events = c.self.inside.content.events; options = c.self.inside.options; active = c.self.inside.plugins; outcomes = c.self.inside.outcomes } in
     subst (λ (v : SiteView). GoesBack wants c.of_active-undone.result (record s { active = c.deactivate.new.self }) v) c.self.view_is
     (active_back s wants c.of_active-undone.result c.in_ok-stood.stood c.deactivate.new.self c.of_active-undone.ensures c.in_ok-stood.ensures.stood)

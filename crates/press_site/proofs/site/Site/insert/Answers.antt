@@ -10,12 +10,12 @@ use Rattle.press_site.proofs.site.Site.insert.Goals as goal
 
 pub returns-clause-does : goal.returns-clause-does
 returns-clause-does c =
-    let s : SiteView = record { moment = c.self.inside.moment; posts = c.self.inside.content.posts; events = c.self.inside.content.events; options = c.self.inside.options; active = c.self.inside.plugins; outcomes = c.self.inside.outcomes } in
+    let s : SiteView = record { moment = c.self.inside.moment; profile = c.self.inside.profile; posts = c.self.inside.content.posts; events = c.self.inside.content.events; options = c.self.inside.options; active = c.self.inside.plugins; outcomes = c.self.inside.outcomes } in
     subst (λ (v : SiteView). Does c.insert.result (with_content v (post_effect (content_of v) (Insert c.args.draft) v.moment)) v (with_new s c.insert.new.self)) c.self.view_is
     (does_lifted s c.insert.result (post_effect (content_of s) (Insert c.args.draft) s.moment) c.insert.new.self c.insert.ensures.does)
 
 pub returns-clause-back : goal.returns-clause-back
 returns-clause-back c = λ wants.
-    let s : SiteView = record { moment = c.self.inside.moment; posts = c.self.inside.content.posts; events = c.self.inside.content.events; options = c.self.inside.options; active = c.self.inside.plugins; outcomes = c.self.inside.outcomes } in
+    let s : SiteView = record { moment = c.self.inside.moment; profile = c.self.inside.profile; posts = c.self.inside.content.posts; events = c.self.inside.content.events; options = c.self.inside.options; active = c.self.inside.plugins; outcomes = c.self.inside.outcomes } in
     subst (λ (v : SiteView). IfOk c.insert.result (λ d. GoesBack wants d.undone (with_new s c.insert.new.self) v)) c.self.view_is
     (back_of_post s c.insert.result wants c.insert.new.self c.insert.ensures.back)

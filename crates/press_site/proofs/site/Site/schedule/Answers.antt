@@ -10,18 +10,18 @@ use Rattle.press_site.proofs.site.Site.schedule.Goals as goal
 
 pub returns-clause-does : goal.returns-clause-does
 returns-clause-does c =
-    let s : SiteView = record { moment = c.self.inside.moment; posts = c.self.inside.content.posts; events = c.self.inside.content.events; options = c.self.inside.options; active = c.self.inside.plugins; outcomes = c.self.inside.outcomes } in
+    let s : SiteView = record { moment = c.self.inside.moment; profile = c.self.inside.profile; posts = c.self.inside.content.posts; events = c.self.inside.content.events; options = c.self.inside.options; active = c.self.inside.plugins; outcomes = c.self.inside.outcomes } in
     subst (λ (v : SiteView). Does c.schedule.result (with_content v (scheduling (content_of v) c.args.event)) v (with_new s c.schedule.new.self)) c.self.view_is
     (does_lifted s c.schedule.result (scheduling (content_of s) c.args.event) c.schedule.new.self c.schedule.ensures.does)
 
 pub returns-clause-back : goal.returns-clause-back
 returns-clause-back c = λ wants.
-    let s : SiteView = record { moment = c.self.inside.moment; posts = c.self.inside.content.posts; events = c.self.inside.content.events; options = c.self.inside.options; active = c.self.inside.plugins; outcomes = c.self.inside.outcomes } in
+    let s : SiteView = record { moment = c.self.inside.moment; profile = c.self.inside.profile; posts = c.self.inside.content.posts; events = c.self.inside.content.events; options = c.self.inside.options; active = c.self.inside.plugins; outcomes = c.self.inside.outcomes } in
     subst (λ (v : SiteView). IfOk c.schedule.result (λ d. GoesBack wants d.undone (with_new s c.schedule.new.self) v)) c.self.view_is
     (back_of_post s c.schedule.result wants c.schedule.new.self c.schedule.ensures.back)
 
 pub returns-clause-memory : goal.returns-clause-memory
 returns-clause-memory c = λ e.
-    let s : SiteView = record { moment = c.self.inside.moment; posts = c.self.inside.content.posts; events = c.self.inside.content.events; options = c.self.inside.options; active = c.self.inside.plugins; outcomes = c.self.inside.outcomes } in
+    let s : SiteView = record { moment = c.self.inside.moment; profile = c.self.inside.profile; posts = c.self.inside.content.posts; events = c.self.inside.content.events; options = c.self.inside.options; active = c.self.inside.plugins; outcomes = c.self.inside.outcomes } in
     subst (λ (v : SiteView). ChangesSome (with_content v (scheduling (content_of v) c.args.event))) c.self.view_is
     (content_grows s (scheduling (content_of s) c.args.event) (c.schedule.ensures.memory e))

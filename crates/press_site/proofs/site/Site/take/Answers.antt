@@ -11,18 +11,18 @@ use Rattle.press_site.proofs.site.Site.take.Goals as goal
 
 pub returns-clause-does : goal.returns-clause-does
 returns-clause-does c =
-    let s : SiteView = record { moment = c.self.inside.moment; posts = c.self.inside.content.posts; events = c.self.inside.content.events; options = c.self.inside.options; active = c.self.inside.plugins; outcomes = c.self.inside.outcomes } in
+    let s : SiteView = record { moment = c.self.inside.moment; profile = c.self.inside.profile; posts = c.self.inside.content.posts; events = c.self.inside.content.events; options = c.self.inside.options; active = c.self.inside.plugins; outcomes = c.self.inside.outcomes } in
     subst (λ (v : SiteView). Does c.take.result (with_content v (Ok (taking (content_of v) c.args.event.now v.moment))) v (with_new s c.take.new.self)) c.self.view_is
     (does_lifted s c.take.result (Ok (taking (content_of s) c.args.event.now s.moment)) c.take.new.self c.take.ensures.does)
 
 pub returns-clause-back : goal.returns-clause-back
 returns-clause-back c =
-    let s : SiteView = record { moment = c.self.inside.moment; posts = c.self.inside.content.posts; events = c.self.inside.content.events; options = c.self.inside.options; active = c.self.inside.plugins; outcomes = c.self.inside.outcomes } in
+    let s : SiteView = record { moment = c.self.inside.moment; profile = c.self.inside.profile; posts = c.self.inside.content.posts; events = c.self.inside.content.events; options = c.self.inside.options; active = c.self.inside.plugins; outcomes = c.self.inside.outcomes } in
     subst (λ (v : SiteView). IfOk c.take.result (λ d. GoesBack c.args.wants d.undone (with_new s c.take.new.self) v)) c.self.view_is
     (back_lifted s c.take.result c.args.wants c.take.new.self c.take.ensures.back)
 
 pub returns-clause-memory : goal.returns-clause-memory
 returns-clause-memory c = λ e.
-    let s : SiteView = record { moment = c.self.inside.moment; posts = c.self.inside.content.posts; events = c.self.inside.content.events; options = c.self.inside.options; active = c.self.inside.plugins; outcomes = c.self.inside.outcomes } in
+    let s : SiteView = record { moment = c.self.inside.moment; profile = c.self.inside.profile; posts = c.self.inside.content.posts; events = c.self.inside.content.events; options = c.self.inside.options; active = c.self.inside.plugins; outcomes = c.self.inside.outcomes } in
     subst (λ (v : SiteView). ChangesSome (with_content v (Ok (taking (content_of v) c.args.event.now v.moment)))) c.self.view_is
     (content_grows s (Ok (taking (content_of s) c.args.event.now s.moment)) (subst (λ r. OnErr r (is_some (place_of c.args.event.now s.events) ≡ true)) e c.take.ensures.memory))
