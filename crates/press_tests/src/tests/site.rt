@@ -75,6 +75,7 @@ fn changes(alloc: Global) -> Result<Vec<Effect>, Fail> {
         Effect::Deactivate {
             plugin: Name::new(alloc, "a")?
         },
+        Effect::Profile(2),
     ]?)
 }
 
