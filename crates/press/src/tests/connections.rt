@@ -11,6 +11,8 @@ use std::net::{Net, OpenListener, OpenStream, SocketAddr, TcpListener, TcpStream
 use std::os::fd::{AsRawFd, RawFd};
 use std::test::Fail;
 
+const NODES: usize = 7;
+
 // How many connections were made, how many ended for their client, and how many of those without a byte.
 #[derive(Drop)]
 struct Seen {
@@ -153,7 +155,7 @@ impl<'s> Net for Watch<'s> {
 fn seen_of(rt: &HostRuntime, schedule: &str) -> Result<(u32, u32, u32), Fail> {
     let alloc = rt.alloc();
     let mut kits = Vec::new(alloc);
-    for _ in 0..7 {
+    for _ in 0..NODES {
         let kit = Kit::build(alloc, Vec::new(alloc), Vec::new(alloc))?;
         kits.push(kit)?;
     }
