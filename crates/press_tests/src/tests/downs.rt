@@ -1,13 +1,14 @@
 //! A node whose closures run out of memory at one of their calls.
 
+ghost use Rattle.std.specs.Prelude.{◌≡◌};
+
 use crate::tests::fuse::Fuse;
-use crate::tests::synod::node;
 use press_acceptor::MemoryStore;
 use press_apply::Stamped;
 use press_callbacks::Kit;
 use press_node::{Event, Node, NodeFault, serve_one};
 use press_page::Target;
-use press_wire::Message;
+use press_wire::{Message, Node as Member};
 use std::alloc::Global;
 use std::collections::VecDeque;
 use std::test::Fail;
@@ -44,8 +45,18 @@ fn chooses(alloc: Global, node: &mut Node<MemoryStore>, command: Stamped) -> Res
     plays(alloc, node, Event::Wake)
 }
 
+// The only member.
+fn member() -> Member
+    ensures { result ≡ 1 }
+{
+    let Some(member) = Member::new(1) else {
+        unreachable!()
+    };
+    member
+}
+
 fn started(alloc: Global, kit: Kit, store: MemoryStore) -> Result<Node<MemoryStore>, Fail> {
-    match Node::start(alloc, node(1)?, 1, kit, store) {
+    match Node::start(alloc, member(), 1, kit, store) {
         Ok(node) => Ok(node),
         Err(_) => Err(Fail::from("no start")),
     }
@@ -67,36 +78,56 @@ fn is_down(alloc: Global, node: &mut Node<MemoryStore>) -> Result<bool, Fail>
     )
 }
 
-/// Whether a node is down whose closures run out of memory at that call while it applies the last command, and comes back over its store.
-pub fn comes_back(
-    alloc: Global,
-    kit: Kit,
-    fuse: &Fuse,
-    commands: &[Stamped],
-    at: u64,
-) -> Result<(Kit, bool), Fail>
-    requires always { Unit {0} }
-{
-    let Some((last, others)) = commands.split_last() else {
-        return Err(Fail::from("no commands"));
-    };
-    fuse.set(0);
-    let mut node = started(alloc, kit, MemoryStore::new(alloc))?;
-    for command in others {
-        chooses(alloc, &mut node, command.copy(alloc)?)?;
+/// A new node that applies some commands, the last of them over closures of which one runs out of memory.
+#[derive(Drop)]
+pub struct OnNode<'a> {
+    pub alloc: Global,
+    pub fuse: &'a Fuse,
+    pub commands: &'a [Stamped],
+}
+
+impl OnNode<'_> {
+    // Whether the node is down where the call of that number runs out of memory, and comes back over its store. The kit comes back.
+    fn comes_back_at(&self, kit: Kit, at: u64) -> Result<(Kit, bool), Fail>
+        requires always { Unit {0} }
+    {
+        let alloc = self.alloc;
+        let Some((last, others)) = self.commands.split_last() else {
+            return Err(Fail::from("no commands"));
+        };
+        self.fuse.set(0);
+        let mut node = started(alloc, kit, MemoryStore::new(alloc))?;
+        for command in others {
+            chooses(alloc, &mut node, command.copy(alloc)?)?;
+        }
+        self.fuse.set(at);
+        let done = chooses(alloc, &mut node, last.copy(alloc)?);
+        let is_blown = self.fuse.is_blown();
+        let is_refused = done == Err(NodeFault::NoMemory) && is_down(alloc, &mut node)?;
+        self.fuse.set(0);
+        let (kit, store) = node.down();
+        let mut again = started(alloc, kit, store)?;
+        for _ in self.commands {
+            plays(alloc, &mut again, Event::Wake)?;
+        }
+        let is_back = again.applied() == self.commands.len() as u64;
+        let (kit, _) = again.down();
+        Ok((kit, is_blown && is_refused && is_back))
     }
-    fuse.set(at);
-    let done = chooses(alloc, &mut node, last.copy(alloc)?);
-    let is_refused = done == Err(NodeFault::NoMemory)
-        && fuse.is_blown()
-        && is_down(alloc, &mut node)?;
-    fuse.set(0);
-    let (kit, store) = node.down();
-    let mut again = started(alloc, kit, store)?;
-    for _ in commands {
-        plays(alloc, &mut again, Event::Wake)?;
+
+    /// Whether it is so at each of the calls, and at none after them.
+    pub fn comes_back(&self, kit: Kit, calls: u64) -> Result<bool, Fail>
+        requires always { Unit {0} }
+    {
+        let mut kit = kit;
+        for at in 1..=calls {
+            let (again, is_back) = self.comes_back_at(kit, at)?;
+            kit = again;
+            if !is_back {
+                return Ok(false);
+            }
+        }
+        let (_, is_back) = self.comes_back_at(kit, calls.saturating_add(1))?;
+        Ok(!is_back)
     }
-    let is_back = again.applied() == commands.len() as u64;
-    let (kit, _) = again.down();
-    Ok((kit, is_refused && is_back))
 }

@@ -1,8 +1,8 @@
 //! Closures that run out of memory at each of their calls in turn: in each kind of command, in pages, in runs, and on a node.
 
-use crate::tests::downs::comes_back;
+use crate::tests::downs::OnNode;
 use crate::tests::fuse::Fuse;
-use press_apply::{Value, apply};
+use press_apply::{Stamped, Value, apply};
 use press_callbacks::{BoxedTurns, CallIn, Kit, Stored};
 use press_kit::{KitParts, Play, read_play_file};
 use press_page::{Target, page};
@@ -54,9 +54,9 @@ const FILE: &str = r#"{"kit":{"callbacks":[
 "pages":["front","post:1","json:1"],
 "plays":[{"apply":"h","args":["x"]},{"apply":"h","args":["x"]},{"apply":"s","args":["[box]a [greet name=Bo] b[/box]"]}]}"#;
 
-// How often the closures are called by each command, each page and each run.
-const CALLS: [u64; 28] = [
-    0, 6, 6, 2, 6, 6, 2, 6, 2, 6, 2, 2, 2, 4, 0, 0, 0, 0, 6, 6, 6, 2, 4, 4, 4, 7, 11, 3,
+// How often each of the commands calls the closures.
+const COMMANDS: [u64; 22] = [
+    0, 6, 6, 2, 6, 6, 2, 6, 2, 6, 2, 2, 2, 4, 0, 0, 0, 0, 6, 6, 6, 2,
 ];
 
 fn is_same(alloc: Global, one: &Site, other: &Site) -> Result<bool, AllocError> {
@@ -67,47 +67,92 @@ fn is_same(alloc: Global, one: &Site, other: &Site) -> Result<bool, AllocError> 
     Ok(one.as_str() == other.as_str())
 }
 
-// How many calls of closures a command makes, where each of them can run out of memory with the site as it was; the site has it applied.
-fn calls_of(
+// A kit over closures of which one runs out of memory.
+#[derive(Drop)]
+struct Wants<'a> {
     alloc: Global,
-    kit: &Kit,
-    fuse: &Fuse,
-    site: &mut Site,
-    value: &Value,
-) -> Result<u64, Fail> {
-    let before = site.copy()?;
-    fuse.set(0);
-    apply(alloc, site, kit, value)?;
-    let calls = fuse.calls();
-    for at in 1..=calls {
-        let mut again = before.copy()?;
-        fuse.set(at);
-        let is_refused = apply(alloc, &mut again, kit, value).is_err();
-        if !is_refused || !fuse.is_blown() || !is_same(alloc, &before, &again)? {
-            return Err(Fail::from("a refused call leaves something else"));
-        }
-    }
-    Ok(calls)
+    kit: &'a Kit,
+    fuse: &'a Fuse,
 }
 
-// How many calls of closures a page makes, where each of them can run out of memory.
-fn calls_for(
-    alloc: Global,
-    kit: &Kit,
-    fuse: &Fuse,
-    site: &Site,
-    target: &Target,
-) -> Result<u64, Fail> {
-    fuse.set(0);
-    page(alloc, site, kit, target)?;
-    let calls = fuse.calls();
-    for at in 1..=calls {
-        fuse.set(at);
-        if page(alloc, site, kit, target).is_ok() || !fuse.is_blown() {
-            return Err(Fail::from("a refused call leaves a page"));
+impl Wants<'_> {
+    // How many calls of closures a command makes, where each of them can run out of memory with the site as it was; the site has it applied.
+    fn calls_of(&self, site: &mut Site, value: &Value) -> Result<u64, Fail> {
+        let before = site.copy()?;
+        self.fuse.set(0);
+        apply(self.alloc, site, self.kit, value)?;
+        let calls = self.fuse.calls();
+        for at in 1..=calls {
+            let mut again = before.copy()?;
+            self.fuse.set(at);
+            let is_refused = apply(self.alloc, &mut again, self.kit, value).is_err();
+            if !is_refused || !self.fuse.is_blown() || !is_same(self.alloc, &before, &again)? {
+                return Err(Fail::from("a refused call leaves something else"));
+            }
         }
+        Ok(calls)
     }
-    Ok(calls)
+
+    // How many each of the commands makes.
+    fn calls_of_all(&self, site: &mut Site, commands: &[Stamped]) -> Result<Vec<u64>, Fail> {
+        let mut calls = Vec::new(self.alloc);
+        for stamped in commands {
+            let value = Value::Cmd(stamped.copy(self.alloc)?);
+            calls.push(self.calls_of(site, &value)?)?;
+        }
+        Ok(calls)
+    }
+
+    // How many calls of closures a page makes, where each of them can run out of memory.
+    fn calls_for(&self, site: &Site, target: &Target) -> Result<u64, Fail> {
+        self.fuse.set(0);
+        page(self.alloc, site, self.kit, target)?;
+        let calls = self.fuse.calls();
+        for at in 1..=calls {
+            self.fuse.set(at);
+            let is_page = page(self.alloc, site, self.kit, target).is_ok();
+            if is_page || !self.fuse.is_blown() {
+                return Err(Fail::from("a refused call leaves a page"));
+            }
+        }
+        Ok(calls)
+    }
+
+    // How many each of the pages makes.
+    fn calls_for_all(&self, site: &Site, targets: &[Target]) -> Result<Vec<u64>, Fail> {
+        let mut calls = Vec::new(self.alloc);
+        for target in targets {
+            calls.push(self.calls_for(site, target)?)?;
+        }
+        Ok(calls)
+    }
+
+    // How many calls of closures a run makes, where each of them can run out of memory; the machine has done it.
+    fn calls_in(&self, machine: &mut Machine<Site>, play: &Play) -> Result<u64, Fail> {
+        let before = machine.copy(self.alloc)?;
+        self.fuse.set(0);
+        machine.run(self.kit, job_of(self.alloc, play)?)?;
+        let calls = self.fuse.calls();
+        for at in 1..=calls {
+            let mut again = before.copy(self.alloc)?;
+            self.fuse.set(at);
+            let fault = again.run(self.kit, job_of(self.alloc, play)?).err();
+            if fault != Some(RunFault::NoMemory) || !self.fuse.is_blown() {
+                return Err(Fail::from("a refused call gives something else"));
+            }
+        }
+        Ok(calls)
+    }
+
+    // How many each of the runs makes, from a boot on.
+    fn calls_in_all(&self, site: Site, plays: &[Play]) -> Result<Vec<u64>, Fail> {
+        let mut machine = Machine::new(self.alloc, self.kit, site)?;
+        let mut calls = Vec::new(self.alloc);
+        for play in plays {
+            calls.push(self.calls_in(&mut machine, play)?)?;
+        }
+        Ok(calls)
+    }
 }
 
 fn job_of(alloc: Global, play: &Play) -> Result<Job, AllocError> {
@@ -115,29 +160,6 @@ fn job_of(alloc: Global, play: &Play) -> Result<Job, AllocError> {
         hook: play.hook.copy(alloc)?,
         args: play.args.copy()?,
     })
-}
-
-// How many calls of closures a run makes, where each of them can run out of memory; the machine has done it.
-fn calls_in(
-    alloc: Global,
-    kit: &Kit,
-    fuse: &Fuse,
-    machine: &mut Machine<Site>,
-    play: &Play,
-) -> Result<u64, Fail> {
-    let before = machine.copy(alloc)?;
-    fuse.set(0);
-    machine.run(kit, job_of(alloc, play)?)?;
-    let calls = fuse.calls();
-    for at in 1..=calls {
-        let mut again = before.copy(alloc)?;
-        fuse.set(at);
-        let fault = again.run(kit, job_of(alloc, play)?).err();
-        if fault != Some(RunFault::NoMemory) || !fuse.is_blown() {
-            return Err(Fail::from("a refused call gives something else"));
-        }
-    }
-    Ok(calls)
 }
 
 #[test]
@@ -159,26 +181,24 @@ fn each_call_of_a_closure_wants_memory(rt: HostRuntime) -> Result<(), Fail> {
         )?;
         callbacks.push(Stored::new(scripted.id, scripted.script, call))?;
     }
-    let mut kit = Kit::build(alloc, callbacks, plugins.into_vec())?;
-    let commands = file.commands.as_slice();
+    let kit = Kit::build(alloc, callbacks, plugins.into_vec())?;
+    let wants = Wants {
+        alloc,
+        kit: &kit,
+        fuse: &fuse,
+    };
     let mut site = Site::new(alloc);
-    let mut calls = Vec::new(alloc);
-    for stamped in commands {
-        let value = Value::Cmd(stamped.copy(alloc)?);
-        calls.push(calls_of(alloc, &kit, &fuse, &mut site, &value)?)?;
-    }
-    for target in file.pages.as_slice() {
-        calls.push(calls_for(alloc, &kit, &fuse, &site, target)?)?;
-    }
-    let mut machine = Machine::new(alloc, &kit, site)?;
-    for play in file.plays.as_slice() {
-        calls.push(calls_in(alloc, &kit, &fuse, &mut machine, play)?)?;
-    }
-    assert_eq!(rt; calls.as_slice(), CALLS.as_slice());
-    for at in 1..=CALLS[1] {
-        let (again, is_back) = comes_back(alloc, kit, &fuse, &commands[..2], at)?;
-        kit = again;
-        assert!(rt; is_back);
-    }
+    let commands = wants.calls_of_all(&mut site, file.commands.as_slice())?;
+    assert_eq!(rt; commands.as_slice(), COMMANDS.as_slice());
+    let pages = wants.calls_for_all(&site, file.pages.as_slice())?;
+    assert_eq!(rt; pages.as_slice(), [4, 4, 4].as_slice());
+    let runs = wants.calls_in_all(site, file.plays.as_slice())?;
+    assert_eq!(rt; runs.as_slice(), [7, 11, 3].as_slice());
+    let node = OnNode {
+        alloc,
+        fuse: &fuse,
+        commands: &file.commands.as_slice()[..2],
+    };
+    assert!(rt; node.comes_back(kit, COMMANDS[1])?);
     Ok(())
 }
