@@ -188,16 +188,19 @@ fn each_call_of_a_closure_wants_memory(rt: HostRuntime) -> Result<(), Fail> {
         fuse: &fuse,
     };
     let mut site = Site::new(alloc);
-    let commands = wants.calls_of_all(&mut site, file.commands.as_slice())?;
-    assert_eq!(rt; commands.as_slice(), COMMANDS.as_slice());
+    let calls = wants.calls_of_all(&mut site, file.commands.as_slice())?;
+    assert_eq!(rt; calls.as_slice(), COMMANDS.as_slice());
     let pages = wants.calls_for_all(&site, file.pages.as_slice())?;
     assert_eq!(rt; pages.as_slice(), [4, 4, 4].as_slice());
     let runs = wants.calls_in_all(site, file.plays.as_slice())?;
     assert_eq!(rt; runs.as_slice(), [7, 11, 3].as_slice());
+    let Some(commands) = file.commands.as_slice().get(..2) else {
+        return Err(Fail::from("two commands"));
+    };
     let node = OnNode {
         alloc,
         fuse: &fuse,
-        commands: &file.commands.as_slice()[..2],
+        commands,
     };
     assert!(rt; node.comes_back(kit, COMMANDS[1])?);
     Ok(())
