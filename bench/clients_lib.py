@@ -33,7 +33,7 @@ HERE = "127.0.0.1"
 # The addresses from which clients of the last server came.
 USED = set()
 
-WHYS = ("the input ended within a request", "a read failed", "its time is over", "given up for another", "nothing more can be opened")
+WHYS = ("the input ended within a request", "a read failed", "a write failed", "its time is over", "given up for another", "nothing more can be opened")
 LINE = re.compile(r"(\d{4}-\d\d-\d\dT\d\d:\d\d:\d\dZ) (?:(\d+) lines lost|(127\.\d{1,3}\.\d{1,3}\.\d{1,3}) (closed: (?:%s)|[!-~]+ [!-~]+ [1-5]\d\d \d+))\n" % "|".join(WHYS))
 
 
