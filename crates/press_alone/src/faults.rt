@@ -82,11 +82,15 @@ impl<'a> Writes<'a> {
         })
     }
 
-    // A node over the store in place of this one.
+    // A node over the store in place of this one, which has applied as much as that one had.
     fn anew(&self, seat: Seat) -> anyhow::Result<Seat>
         requires always { Unit {0} }
     {
-        seat.start_over(self.store.copy(self.alloc, self.last)?)
+        let mut seat = seat.start_over(self.store.copy(self.alloc, self.last)?)?;
+        for _ in 1..self.last {
+            seat.go_on()?;
+        }
+        Ok(seat)
     }
 
     // Serves the request, and wakes the node.
