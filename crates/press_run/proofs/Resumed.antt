@@ -1,8 +1,12 @@
 -- From one step of the innermost frame to what is left of the whole run.
-use Rattle.std.proofs.Common.{◌≡◌, refl, sym, ◌∙◌, ap, subst, ℕ, ◌+◌, ◌<◌, ◌≤◌, List, [], ◌∷◌, Option, None, Result, arith}
+use Rattle.std.proofs.Common.{◌≡◌, refl, sym, ◌∙◌, ap, subst, ℕ, ◌+◌, ◌-◌, ◌<◌, ◌≤◌, List, [], ◌∷◌, length, Option, None, IsSome, Result, arith}
 use Rattle.press_callbacks.specs.Kits.{Scripts}
 use Rattle.press_run.specs.declared.run_fault.RunFault.{RunFault}
 use Rattle.press_run.specs.declared.run_fault.RunFault.TheVariants.{Limit, NoMemory}
+use Rattle.press_scan.specs.Scans.{Progress}
+use Rattle.press_run.specs.declared.frame.OpenScan.{OpenScan}
+use Rattle.press_run.specs.declared.frame.Filtering.{Filtering}
+use Rattle.press_run.specs.declared.frame.Filtering.TheVariants as filtering
 use Rattle.press_run.specs.declared.frame.Frame.{Frame}
 use Rattle.press_run.specs.declared.frame.Frame.TheVariants as frame
 use Rattle.press_run.specs.declared.step.Begun.{Begun}
@@ -14,7 +18,7 @@ use Rattle.press_run.specs.declared.step.Step.TheVariants as step
 use Rattle.press_run.specs.Links.{Changes}
 use Rattle.press_run.specs.Run.{◌>>=◌, Answer, answer}
 use Rattle.press_run.specs.Outcome.{Machine, Around, around, state_of, GivesText, Refuses}
-use Rattle.press_run.specs.Frames.{meant, taken, round, resumed, Ready, Waits, TakesAnswer, Stand, turns_left, weight, weight_waiting, all_wait, Goes, Opens, Nests, Takes, Gives, Leaves, Begins, Calls, Moves, awaited, moved}
+use Rattle.press_run.specs.Frames.{meant, taken, round, resumed, Ready, Waits, TakesAnswer, Stand, turns_left, weight, weight_waiting, scan_taken, scan_weight, scan_weight_waiting, ScanReady, ScanWaits, all_wait, Goes, Opens, Nests, Takes, Gives, Leaves, Begins, Calls, Moves, awaited, moved}
 
 -- ---- what is awaited comes to what it began as
 
@@ -112,23 +116,43 @@ same_round (frame.Hook h) text a = refl
 same_round (frame.Fires s) text a = refl
 same_round (frame.Scan s) text a = refl
 
+-- a scan that takes an answer, and how much is then left to do
+
+scan_ready : (k : Filtering) (f : OpenScan) (text : List ℕ) → ScanWaits k f.scan → ScanReady (scan_taken k f text).filtering (scan_taken k f text).scan
+scan_ready filtering.Off f text h = rw h.waiting (refl, h.short, h.inside)
+scan_ready (filtering.Comes tag) f text h = h
+scan_ready (filtering.Came first tag) f text h = absurd h
+
+abbrev pub left : OpenScan → ℕ
+left f = length f.scan.text - f.scan.at
+
+scan_less : (k : Filtering) (f : OpenScan) (text : List ℕ) → ScanWaits k f.scan → scan_weight (scan_taken k f text).filtering (left (scan_taken k f text)) ≤ scan_weight_waiting k (left f) + 1
+scan_less filtering.Off f text h = rw h.waiting (omega (arith, h.more, h.inside))
+scan_less (filtering.Comes tag) f text h = omega arith
+scan_less (filtering.Came first tag) f text h = absurd h
+
+scan_takes : (k : Filtering) (p : Progress) → ScanWaits k p → IsSome p.waiting
+scan_takes filtering.Off p h = rw h.waiting refl
+scan_takes (filtering.Comes tag) p h = rw h.waiting refl
+scan_takes (filtering.Came first tag) p h = absurd h
+
 taken_ready : (f : Frame) (text : List ℕ) (a : Around) → Waits f a → Ready (taken f text) a
 taken_ready (frame.Callback c) text a h = omega (arith, h)
 taken_ready (frame.Hook h) text a i = i
 taken_ready (frame.Fires s) text a h = tt
-taken_ready (frame.Scan s) text a h = rw h.waiting (refl, h.short, h.inside)
+taken_ready (frame.Scan s) text a h = scan_ready s.filtering s text h
 
 taken_less : (f : Frame) (text : List ℕ) (a : Around) → Waits f a → weight (taken f text) ≤ weight_waiting f + 1
 taken_less (frame.Callback c) text a h = omega arith
 taken_less (frame.Hook h) text a i = omega arith
 taken_less (frame.Fires s) text a h = omega arith
-taken_less (frame.Scan s) text a h = rw h.waiting (omega (arith, h.more, h.inside))
+taken_less (frame.Scan s) text a h = scan_less s.filtering s text h
 
 takes_answer : (f : Frame) (a : Around) → Waits f a → TakesAnswer f
 takes_answer (frame.Callback c) a h = h
 takes_answer (frame.Hook h) a i = tt
 takes_answer (frame.Fires s) a h = tt
-takes_answer (frame.Scan s) a h = rw h.waiting refl
+takes_answer (frame.Scan s) a h = scan_takes s.filtering s.scan h
 
 -- a site that is only read is so round any frame
 

@@ -10,7 +10,7 @@ use Rattle.press_scan.specs.Shortcodes.{IsShortcode, HasShortcode, IsNext, cut}
 use Rattle.press_scan.specs.FirstShortcode.{shortcode_from}
 use Rattle.press_scan.specs.Scans.{Progress, TakesText, TakesFront, TakesEscape, IsEscape, before as opens, behind}
 use Rattle.press_scan.specs.Tags.{names_of, callback_of}
-use Rattle.press_run.specs.Run.{◌>>=◌, only_if, within, is_short, State, Answer, answer, Meaning, scan_from, scan_rest, shortcode_result, shortcode_call, tag_answer, is_escape}
+use Rattle.press_run.specs.Run.{◌>>=◌, only_if, within, is_short, State, Answer, answer, Meaning, scan_from, scan_rest, shortcode_result, shortcode_answer, is_escape}
 use Rattle.press_run.specs.Frames.{put, scanned}
 
 -- the laws of shortcodes
@@ -154,9 +154,9 @@ module _ (some : ComputesSome) (none : ComputesNone) (ends : EndsWithin) (callba
 
     -- a shortcode that a callback answers
     called : (at : ℕ) (output : List ℕ) (c : Shortcode) → is_short output ≡ true → IsShortcode text (names_of s.tags) at c → (IsEscape c → ⊥)
-        → (tag_answer callback (callback_of (cut text c.tag) s.tags) (shortcode_call text c) s >>= λ a. within (output ++ (opens c ++ (a.text ++ behind c))) >>= λ longer. rest (suc (length text)) c.end longer a.state) ≡ rest (suc (length text)) at output s
+        → (shortcode_answer callback text c s >>= λ a. within (output ++ (opens c ++ (a.text ++ behind c))) >>= λ longer. rest (suc (length text)) c.end longer a.state) ≡ rest (suc (length text)) at output s
     called at output c short stands plain =
-        let o = tag_answer callback (callback_of (cut text c.tag) s.tags) (shortcode_call text c) s in
+        let o = shortcode_answer callback text c s in
         let w = ends text (names_of s.tags) at c stands in
         sym (here (length text) at output c short stands
         ∙ ap (λ x. shortcode_result callback text c s x >>= λ a. within (output ++ a.text) >>= λ longer. rest (length text) c.end longer a.state) (not_both c.lead c.tail plain)
@@ -186,7 +186,7 @@ module _ (some : ComputesSome) (none : ComputesNone) (ends : EndsWithin) (callba
 
   -- a shortcode waits for its answer
   pub shortcode_waits : (c : Shortcode) → IsShortcode old.text (names_of s.tags) old.at c → (IsEscape c → ⊥)
-      → (tag_answer callback (callback_of (cut old.text c.tag) s.tags) (shortcode_call old.text c) s >>= λ a. scanned callback (put (Some c) old a.text) a.state) ≡ scanned callback old s
+      → (shortcode_answer callback old.text c s >>= λ a. scanned callback (put (Some c) old a.text) a.state) ≡ scanned callback old s
   shortcode_waits c stands plain = called some none ends callback old.text s old.at old.output c short stands plain ∙ sym (scan_fits callback old s short)
 
   -- nothing is left

@@ -5,7 +5,7 @@ use Rattle.press_hooks.specs.HookRows.{add_row, remove_row, remove_rows, has_row
 use Rattle.press_callbacks.specs.declared.script.Op.{Op}
 use Rattle.press_callbacks.specs.declared.script.Op.TheVariants as op
 use Rattle.press_callbacks.specs.declared.script.Ask.TheVariants as ask
-use Rattle.press_callbacks.specs.declared.script.Source.TheVariants.{Att, Content, Value, Last}
+use Rattle.press_callbacks.specs.declared.script.Source.TheVariants.{Arg, Att, Content, Value, Last}
 use Rattle.press_callbacks.specs.declared.script.Part.TheVariants.{Lit, Raw, Escaped}
 use Rattle.press_callbacks.specs.Kits.{Scripts}
 use Rattle.press_scan.specs.declared.tag_row.TagRow.{TagRow}
@@ -295,3 +295,45 @@ nested = refl
 pub bracket_in_value : meant boxes box_tags (codes "[greet name=\"[box]\"]") ≡ Some (codes "Hello \"]")
 unfolding run_entries play at_depth scan_from shortcode_from attributes_of
 bracket_in_value = refl
+
+-- ---- marked-shortcodes: in profile 2 each answer goes through a filter that marks it with its tag
+
+abbrev marks : Scripts
+marks = (codes "mark", op.Set (Lit (codes "{") ∷ Raw Value ∷ Lit (codes "|") ∷ Raw (Arg 1) ∷ Lit (codes "}") ∷ []) ∷ []) ∷ boxes
+
+-- what a text means in a profile, with a callback on the filter
+abbrev meant_in : ℕ → Scripts → List ℕ → List ℕ → Option (List ℕ)
+meant_in profile scripts callback text = option_map (λ (w : Answer). w.text) (scan (callbacks_of read_only scripts) text
+    (record (tagged box_tags) { rows = add_row (codes "do_shortcode_tag") callback (pos 10) 2 []; site = record no_site { profile = profile } }))
+
+pub unmarked : meant_in 1 marks (codes "mark") (codes "[box]a [greet name=Bo] b[/box]") ≡ Some (codes "<div>a Hello Bo b</div>")
+unfolding run_entries play at_depth scan_from shortcode_from attributes_of
+unmarked = refl
+
+pub marked : meant_in 2 marks (codes "mark") (codes "[box]a [greet name=Bo] b[/box]") ≡ Some (codes "{<div>a {Hello Bo|greet} b</div>|box}")
+unfolding run_entries play at_depth scan_from shortcode_from attributes_of
+marked = refl
+
+pub marked_half_escape : meant_in 2 marks (codes "mark") (codes "[[greet name=Bo]") ≡ Some (codes "[{Hello Bo|greet}")
+unfolding run_entries play at_depth scan_from shortcode_from attributes_of
+marked_half_escape = refl
+
+pub unmarked_escape : meant_in 2 marks (codes "mark") (codes "[[greet]]") ≡ Some (codes "[greet]")
+unfolding run_entries play at_depth scan_from shortcode_from attributes_of
+unmarked_escape = refl
+
+-- a filter that empties the answer, one that adds a tag for the rest of the text, and one that applies itself
+abbrev on_answers : List Op → Scripts
+on_answers script = (codes "on_answers", script) ∷ boxes
+
+pub emptied : meant_in 2 (on_answers (op.Return [] ∷ [])) (codes "on_answers") (codes "a[greet name=Bo]b") ≡ Some (codes "ab")
+unfolding run_entries play at_depth scan_from shortcode_from attributes_of
+emptied = refl
+
+pub tag_added : meant_in 2 (on_answers (op.AddTag (codes "later") (codes "greet") ∷ [])) (codes "on_answers") (codes "[later name=Al][greet name=Bo][later name=Al]") ≡ Some (codes "[later name=Al]Hello BoHello Al")
+unfolding run_entries play at_depth scan_from shortcode_from attributes_of
+tag_added = refl
+
+pub applied_again : meant_in 2 (on_answers (op.Apply (codes "do_shortcode_tag") (Raw Value ∷ []) [] ∷ [])) (codes "on_answers") (codes "[greet name=Bo]") ≡ None
+unfolding run_entries play at_depth scan_from shortcode_from attributes_of
+applied_again = refl

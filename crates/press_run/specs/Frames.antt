@@ -1,5 +1,5 @@
 -- What is left of a run: its open frames, the innermost first, told by the words of Run.
-use Rattle.std.specs.Prelude.{◌≡◌, ℕ, suc, ◌+◌, ◌-◌, ◌*◌, ◌<◌, ◌≤◌, ◌^◌, ◌++◌, List, [], ◌∷◌, length, drop, Option, Some, None, IsSome, IsTrue, Result, MatchResult}
+use Rattle.std.specs.Prelude.{◌≡◌, ℕ, suc, ◌+◌, ◌-◌, ◌*◌, ◌<◌, ◌≤◌, ◌^◌, ◌++◌, List, [], ◌∷◌, length, drop, Bool, true, false, Option, Some, None, IsSome, IsTrue, Result, MatchResult}
 use Rattle.press_hooks.specs.NextEntry.{is_innermost, without_innermost}
 use Rattle.press_scan.specs.declared.shortcode.Shortcode.{Shortcode}
 use Rattle.press_scan.specs.Scans.{Progress, before, behind}
@@ -10,6 +10,9 @@ use Rattle.press_run.specs.declared.run_fault.RunFault.{RunFault}
 use Rattle.press_run.specs.declared.step.Kind.{Kind}
 use Rattle.press_run.specs.declared.step.Kind.TheVariants.{Filter, Action}
 use Rattle.press_run.specs.declared.frame.OpenCallback.{OpenCallback}
+use Rattle.press_run.specs.declared.frame.OpenScan.{OpenScan}
+use Rattle.press_run.specs.declared.frame.Filtering.{Filtering}
+use Rattle.press_run.specs.declared.frame.Filtering.TheVariants.{Off, Comes, Came}
 use Rattle.press_run.specs.declared.frame.Frame.{Frame}
 use Rattle.press_run.specs.declared.frame.Frame.TheVariants as frame
 use Rattle.press_run.specs.declared.step.Begun.{Begun}
@@ -21,7 +24,7 @@ use Rattle.press_run.specs.declared.step.Called.TheVariants as called
 use Rattle.press_run.specs.declared.step.Moved.{Moved}
 use Rattle.press_run.specs.declared.step.Moved.TheVariants as moves
 use Rattle.press_run.specs.Links.{Changes}
-use Rattle.press_run.specs.Run.{◌>>=◌, without_last, Answer, answer, State, Meaning, Stepped, within, scan_from, run_hook, run_entries, do_fires, play, at_depth, or_empty, after_step, counted_step, turn_step, handed_on, next_call, most_turns}
+use Rattle.press_run.specs.Run.{◌>>=◌, without_last, Answer, answer, State, Meaning, Stepped, within, filtered, scan_from, run_hook, run_entries, do_fires, play, at_depth, or_empty, after_step, counted_step, turn_step, handed_on, next_call, most_turns}
 use Rattle.press_run.specs.Outcome.{Machine, Around, around, state_of, innermost, Refuses}
 
 -- ---- what a frame comes to
@@ -42,6 +45,19 @@ scanned callback p s = do
   output ← within p.output
   scan_from callback (suc (length p.text)) p.text p.at output s
 
+-- the answer to a shortcode in its place
+abbrev pub put : Option Shortcode → Progress → List ℕ → Progress
+put None p text = p
+put (Some c) p text = record p { at = c.end; output = p.output ++ (before c ++ (text ++ behind c)); waiting = None }
+
+-- an answer that came is filtered before it is put in its place
+abbrev pub scan_meant : Meaning → Filtering → Progress → State → Option Answer
+scan_meant callback Off p s = scanned callback p s
+scan_meant callback (Comes tag) p s = scanned callback p s
+scan_meant callback (Came text tag) p s = do
+  a ← filtered callback tag text s
+  scanned callback (put p.waiting p a.text) a.state
+
 -- what a frame comes to as it goes on, where this stands round what is open
 abbrev pub meant : Changes → Scripts → Frame → Around → State → Option Answer
 meant changes scripts (frame.Callback c) a s = play changes (at_depth changes c.room scripts) (or_empty (script_at c.place scripts)) c.left c.call s
@@ -51,19 +67,25 @@ meant changes scripts (frame.Hook h) a s = do
 meant changes scripts (frame.Fires f) a s = do
   x ← do_fires (at_depth changes f.room scripts) (drop f.done f.fires) s
   answer f.gives x.state
-meant changes scripts (frame.Scan f) a s = scanned (at_depth changes f.room scripts) f.scan s
+meant changes scripts (frame.Scan f) a s = scan_meant (at_depth changes f.room scripts) f.filtering f.scan s
 
--- the answer to a shortcode in its place
-abbrev pub put : Option Shortcode → Progress → List ℕ → Progress
-put None p text = p
-put (Some c) p text = record p { at = c.end; output = p.output ++ (before c ++ (text ++ behind c)); waiting = None }
+-- whether a shortcode's answer is filtered as it comes
+abbrev pub filtering_where : List ℕ → Bool → Filtering
+filtering_where tag false = Off
+filtering_where tag true = Comes tag
+
+-- a scan with the answer that it waited for: the callback's, which is filtered first, or the one that is put in its place
+abbrev pub scan_taken : Filtering → OpenScan → List ℕ → OpenScan
+scan_taken Off f text = record f { scan = put f.scan.waiting f.scan text; filtering = Off }
+scan_taken (Comes tag) f text = record f { filtering = Came text tag }
+scan_taken (Came first tag) f text = record f { scan = put f.scan.waiting f.scan text; filtering = Off }
 
 -- a frame that waited, with the answer that it waited for
 abbrev pub taken : Frame → List ℕ → Frame
 taken (frame.Callback c) text = frame.Callback (record c { call = next_call c.call c.call.value text 0 })
 taken (frame.Hook h) text = frame.Hook (record h { args = handed_on h.kind text h.args })
 taken (frame.Fires f) text = frame.Fires f
-taken (frame.Scan f) text = frame.Scan (record f { scan = put f.scan.waiting f.scan text })
+taken (frame.Scan f) text = frame.Scan (scan_taken f.filtering f text)
 
 -- what stands round a frame
 abbrev pub round : Frame → Around → Around
@@ -94,17 +116,33 @@ pub record Awaits (p : Progress) : Type 0 where
   pub more : p.at < shortcode.end
   pub inside : shortcode.end ≤ length p.text
 
+abbrev pub IsCame : Filtering → Type 0
+IsCame Off = ⊥
+IsCame (Comes tag) = ⊥
+IsCame (Came text tag) = Unit {0}
+
+-- of a scan that goes on, and of one that waits
+abbrev pub ScanReady : Filtering → Progress → Type 0
+ScanReady Off p = GoesOn p
+ScanReady (Comes tag) p = ⊥
+ScanReady (Came text tag) p = Awaits p
+
+abbrev pub ScanWaits : Filtering → Progress → Type 0
+ScanWaits Off p = Awaits p
+ScanWaits (Comes tag) p = Awaits p
+ScanWaits (Came text tag) p = ⊥
+
 abbrev pub Ready : Frame → Around → Type 0
 Ready (frame.Callback c) a = IsFew 0 c
 Ready (frame.Hook h) a = IsTrue (is_innermost h.run a.open_runs)
 Ready (frame.Fires f) a = Unit {0}
-Ready (frame.Scan f) a = GoesOn f.scan
+Ready (frame.Scan f) a = ScanReady f.filtering f.scan
 
 abbrev pub Waits : Frame → Around → Type 0
 Waits (frame.Callback c) a = IsFew 1 c
 Waits (frame.Hook h) a = IsTrue (is_innermost h.run a.open_runs)
 Waits (frame.Fires f) a = Unit {0}
-Waits (frame.Scan f) a = Awaits f.scan
+Waits (frame.Scan f) a = ScanWaits f.filtering f.scan
 
 -- an answer can be taken
 abbrev pub TakesAnswer : Frame → Type 0
@@ -123,18 +161,29 @@ Stand (f ∷ fs) a base = Waits f a × Stand fs (round f a) base
 unfoldable pub turns_left : ℕ → ℕ
 turns_left turns = 2 ^ 70 * (most_turns - turns)
 
+-- of a scan that goes on, and of one that waits, by the bytes that are left
+abbrev pub scan_weight : Filtering → ℕ → ℕ
+scan_weight Off left = 3 * left + 5
+scan_weight (Comes tag) left = 3 * left + 5
+scan_weight (Came text tag) left = 3 * left + 4
+
+abbrev pub scan_weight_waiting : Filtering → ℕ → ℕ
+scan_weight_waiting Off left = 3 * left + 1
+scan_weight_waiting (Comes tag) left = 3 * left + 3
+scan_weight_waiting (Came text tag) left = 3 * left + 1
+
 -- of a frame that goes on, and of one that waits
 abbrev pub weight : Frame → ℕ
 weight (frame.Callback c) = 0
 weight (frame.Hook h) = 2
 weight (frame.Fires f) = 2 * (length f.fires - f.done) + 3
-weight (frame.Scan f) = (length f.scan.text - f.scan.at) + 3
+weight (frame.Scan f) = scan_weight f.filtering (length f.scan.text - f.scan.at)
 
 abbrev pub weight_waiting : Frame → ℕ
 weight_waiting (frame.Callback c) = 0
 weight_waiting (frame.Hook h) = 1
 weight_waiting (frame.Fires f) = 2 * (length f.fires - f.done) + 2
-weight_waiting (frame.Scan f) = (length f.scan.text - f.scan.at) + 1
+weight_waiting (frame.Scan f) = scan_weight_waiting f.filtering (length f.scan.text - f.scan.at)
 
 unfoldable pub all_wait : List Frame → ℕ
 all_wait [] = 0

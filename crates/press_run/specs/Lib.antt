@@ -1,5 +1,6 @@
 pub mod Boot
 pub mod Counts
+pub mod Earlier
 pub mod Faults
 pub mod Frames
 pub mod Limits

@@ -1,6 +1,6 @@
 -- The meaning of a run: what hooks, shortcodes and scripts give, and where a limit stops them (Plugin Handbook, Hooks; Shortcode API; the limits are own).
 -- An Option is None at a limit, and a limit met anywhere is met by the whole.
-use Rattle.std.specs.Prelude.{ℕ, zero, suc, ◌+◌, ◌-◌, ℤ, List, [], ◌∷◌, ◌++◌, length, take, slice_range, Bool, true, false, ◌&&◌, ltb, leb, bytes_eq, Option, Some, None, is_some, codes, decimal, count_by}
+use Rattle.std.specs.Prelude.{ℕ, zero, suc, ◌+◌, ◌-◌, ℤ, List, [], ◌∷◌, ◌++◌, length, take, slice_range, Bool, true, false, ◌&&◌, ltb, leb, bytes_eq, Option, Some, None, is_some, codes, decimal, count_by, nat_eq}
 use Rattle.std.specs.List.{list_any, list_all}
 use Rattle.std.specs.Fmt.{signed_decimal}
 use Rattle.press_text.specs.Lists.{with_first}
@@ -177,14 +177,34 @@ abbrev pub tag_answer : Meaning → Option (List ℕ) → CallIn → State → O
 tag_answer callback None call s = answer [] s
 tag_answer callback (Some id) call s = callback id call s
 
+-- in profile 2 it goes through this filter, with the tag (hook reference, `do_shortcode_tag`; two arguments, and the profile, are own)
+abbrev pub do_shortcode_tag : List ℕ
+do_shortcode_tag = codes "do_shortcode_tag"
+
+abbrev pub filters_answers : SiteView → Bool
+filters_answers site = nat_eq site.profile 2
+
+abbrev pub filtered : Meaning → List ℕ → List ℕ → State → Option Answer
+filtered callback tag text s = apply_hook callback do_shortcode_tag (text ∷ tag ∷ []) s
+
+abbrev pub filtered_where : Meaning → List ℕ → Answer → Bool → Option Answer
+filtered_where callback tag a false = Some a
+filtered_where callback tag a true = filtered callback tag a.text a.state
+
+-- what is put in a shortcode's place
+abbrev pub shortcode_answer : Meaning → List ℕ → Shortcode → State → Option Answer
+shortcode_answer callback text c s = do
+  a ← tag_answer callback (callback_of (cut text c.tag) s.tags) (shortcode_call text c) s
+  filtered_where callback (cut text c.tag) a (filters_answers s.site)
+
 abbrev pub is_escape : Shortcode → Bool
 is_escape c = c.lead && c.tail
 
--- a shortcode's result: of an escape its text without the first and the last byte, else its callback's answer between the brackets that are there
+-- a shortcode's result: of an escape its text without the first and the last byte, else its answer between the brackets that are there
 abbrev pub shortcode_result : Meaning → List ℕ → Shortcode → State → Bool → Option Answer
 shortcode_result callback text c s true = answer (slice_range text (c.start + 1) (c.end - 1)) s
 shortcode_result callback text c s false = do
-  a ← tag_answer callback (callback_of (cut text c.tag) s.tags) (shortcode_call text c) s
+  a ← shortcode_answer callback text c s
   answer (before c ++ (a.text ++ behind c)) a.state
 
 -- A text without a shortcode means itself; otherwise the front, then the first shortcode's result, then the meaning of the rest.

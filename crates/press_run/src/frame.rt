@@ -2,7 +2,8 @@
 
 ghost use Rattle.std.specs.Prelude.{◌≡◌, ◌+◌, ◌*◌, ◌<◌, ◌≤◌, ◌^◌, [], None, IfOk, OnOk, OnErr, IsSome, length, option_map, slice_get};
 ghost use Rattle.press_run.specs.Run.{handed_on, next_call};
-ghost use Rattle.press_run.specs.Frames.{TakesAnswer, put, taken};
+ghost use Rattle.press_run.specs.Frames.{TakesAnswer, scan_taken, taken};
+ghost use Rattle.press_run.specs.declared.frame.Filtering.TheVariants.{Came};
 ghost use Rattle.press_run.specs.Waiting.{with_atts};
 
 use crate::held::Held;
@@ -83,16 +84,32 @@ impl Drop for OpenFires {
     }
 }
 
+/// What becomes of the answer that a scan waits for.
+#[derive(Drop)]
+pub enum Filtering {
+    /// It is put in its place.
+    Off,
+    /// It goes through the filter first, with this tag.
+    Comes(Text),
+    /// It has come, and now goes through the filter.
+    Came { answer: Text, tag: Text },
+}
+
 /// A text with shortcodes, before its next piece.
 pub struct OpenScan {
     /// How many more callbacks may be open within it.
     pub room: u32,
     pub scan: Scan,
+    pub filtering: Filtering,
 }
 
 impl Drop for OpenScan {
     fn drop(self) {
-        let OpenScan { room: _, scan: _ } = self;
+        let OpenScan {
+            room: _,
+            scan: _,
+            filtering: _,
+        } = self;
     }
 }
 
@@ -195,14 +212,18 @@ impl OpenFires {
 }
 
 impl OpenScan {
-    /// The answer to the shortcode that the scan waits for.
+    /// Takes the answer that the scan waits for: that of a shortcode's callback, or the filter's.
     pub fn take(&mut self, text: Text) -> Result<(), AllocError>
         requires { IsSome self.old.scan.waiting }
-        ensures { OnOk result (self.new ≡ record self.old {
-          scan = put self.old.scan.waiting self.old.scan text;
-        }) }
+        ensures { OnOk result (self.new ≡ scan_taken self.old.filtering self.old text) }
     {
-        self.scan.put(text.as_str())
+        match mem::replace(&mut self.filtering, Filtering::Off) {
+            Filtering::Comes(tag) => {
+                self.filtering = Filtering::Came { answer: text, tag };
+                Ok(())
+            }
+            Filtering::Off | Filtering::Came { .. } => self.scan.put(text.as_str()),
+        }
     }
 
     /// The output of a scan that is at its end.

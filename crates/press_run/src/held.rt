@@ -4,7 +4,7 @@ ghost use Rattle.std.specs.Prelude.{◌≡◌, ◌<◌, ◌^◌, [], true, IfOk,
 ghost use Rattle.press_hooks.specs.NextEntry.{is_innermost};
 ghost use Rattle.press_callbacks.specs.Kits.{Scripts};
 ghost use Rattle.press_run.specs.Run.{handed_on, next_call};
-ghost use Rattle.press_run.specs.Frames.{GoesOn, IsFew, MovesTo, Steps, put};
+ghost use Rattle.press_run.specs.Frames.{IsFew, MovesTo, ScanReady, Steps, scan_taken};
 ghost use Rattle.press_run.specs.Limits.{ShowsLimits};
 ghost use Rattle.press_run.specs.Standing.{standing};
 ghost use Rattle.press_run.specs.Waiting.{with_atts};
@@ -148,7 +148,7 @@ impl Held<OpenScan> {
         machine: &mut Machine<L>,
         kit: &K,
     ) -> Result<Moved, RunFault>
-        requires { GoesOn self.old.scan }
+        requires { ScanReady self.old.filtering self.old.scan }
         ensures steps { MovesTo L.changes (K.scripts kit.now)
             (frame.Scan self.old) (frame.Scan self.new)
             (standing L.view L.fixed machine.old) (standing L.view L.fixed machine.new) result }
@@ -158,12 +158,10 @@ impl Held<OpenScan> {
         machine.piece(kit, &mut self.inside)
     }
 
-    /// The answer to the shortcode that the scan waits for.
+    /// Takes the answer that the scan waits for.
     pub fn take(&mut self, text: Text) -> Result<(), AllocError>
         requires { IsSome self.old.scan.waiting }
-        ensures { OnOk result (self.new ≡ record self.old {
-          scan = put self.old.scan.waiting self.old.scan text;
-        }) }
+        ensures { OnOk result (self.new ≡ scan_taken self.old.filtering self.old text) }
     {
         self.inside.take(text)
     }

@@ -6,14 +6,14 @@ ghost use Rattle.press_scan.specs.Shortcodes.{IsShortcode, cut};
 ghost use Rattle.press_scan.specs.Parts.{IsPart};
 ghost use Rattle.press_scan.specs.Tags.{names_of};
 ghost use Rattle.press_scan.specs.declared.span.Span.{Span};
-ghost use Rattle.press_run.specs.Run.{shortcode_call, content_of, is_short};
+ghost use Rattle.press_run.specs.Run.{shortcode_call, content_of, do_shortcode_tag, is_short};
 
 use crate::out::MOST_BYTES;
 use press_callbacks::CallIn;
 use press_scan::{
     Atts, Scan, Shortcode, Span, TagTable, attributes, computes_attributes, has_parts,
 };
-use press_text::{Text, Texts};
+use press_text::{HookName, Text, Texts};
 use std::alloc::{AllocError, Global};
 
 /// The call of the callback of a shortcode's tag.
@@ -37,6 +37,27 @@ pub fn shortcode_call(
         last: Text::new(alloc),
         turn: 0,
     })
+}
+
+/// Its tag.
+pub fn tag_of(
+    alloc: Global,
+    text: &str,
+    tags: &TagTable,
+    shortcode: Shortcode,
+) -> Result<Text, AllocError>
+    requires stands { IsShortcode text.now (names_of tags.now) shortcode.start shortcode }
+    ensures { IfOk result (λ t. t ≡ cut text.now shortcode.tag) }
+{
+    has_parts(text, tags, shortcode);
+    Text::from_str(alloc, part(text, shortcode.tag))
+}
+
+/// The hook that filters the answers to shortcodes.
+pub fn do_shortcode_tag(alloc: Global) -> Result<HookName, AllocError>
+    ensures { IfOk result (λ h. h ≡ do_shortcode_tag) }
+{
+    HookName::from_valid(alloc, "do_shortcode_tag")
 }
 
 /// Whether the output of a scan is within the bytes.

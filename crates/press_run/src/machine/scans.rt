@@ -1,26 +1,32 @@
 //! Texts with shortcodes, piece by piece.
 
-ghost use Rattle.std.specs.Prelude.{◌≡◌, ◌≤◌, false, length, IsErrOf};
+ghost use Rattle.std.specs.Prelude.{◌≡◌, ◌≤◌, ◌^◌, false, length, IfOk, IsErrOf};
 ghost use Rattle.press_scan.specs.Shortcodes.{IsShortcode, cut};
 ghost use Rattle.press_scan.specs.Tags.{callback_of, names_of};
 ghost use Rattle.press_callbacks.specs.Kits.{Scripts};
-ghost use Rattle.press_run.specs.Frames.{BeginsAs, CallsAs, GoesOn, MovesTo};
-ghost use Rattle.press_run.specs.Run.{at_depth, is_short, scan, shortcode_call, tag_answer};
+ghost use Rattle.press_run.specs.Frames.{Awaits, BeginsAs, CallsAs, GoesOn, IsCame, MovesTo, ScanReady, filtering_where};
+ghost use Rattle.press_run.specs.Run.{at_depth, filtered, filters_answers, is_short, scan, shortcode_call, tag_answer};
 ghost use Rattle.press_run.specs.Outcome.{state_of};
 ghost use Rattle.press_run.specs.Limits.{ShowsLimits};
 ghost use Rattle.press_run.specs.Standing.{standing};
 ghost use Rattle.press_run.specs.declared.frame.Frame.TheVariants as frame;
+ghost use Rattle.press_run.specs.declared.frame.Filtering.TheVariants.{Off};
 
 use super::Machine;
 use crate::callbacks::Callbacks;
-use crate::frame::{Frame, OpenScan};
+use crate::frame::{Filtering, Frame, OpenScan};
 use crate::held::Held;
 use crate::link::SiteLink;
 use crate::run_fault::RunFault;
-use crate::step::{Begun, Called, Moved, Step};
+use crate::step::{Begun, Called, Kind, Moved, Step};
 use crate::{shortcodes, texts};
 use press_scan::{Scan, ScanStep, Shortcode, computes_first, ends_within};
-use press_text::Text;
+use press_text::{Text, Texts};
+use std::alloc::AllocError;
+use std::mem;
+
+// The profile in which the answers to shortcodes are filtered.
+const FILTERS_ANSWERS: u8 = 2;
 
 impl<L: SiteLink + Drop> Machine<L> {
     /// What a text means, where a number of callbacks may be open.
@@ -30,7 +36,7 @@ impl<L: SiteLink + Drop> Machine<L> {
         ensures begins { (scripts : Scripts) → BeginsAs L.changes scripts
             (scan (at_depth L.changes room scripts) text
             (state_of (standing L.view L.fixed self.old)))
-            1048580 (standing L.view L.fixed self.old) (standing L.view L.fixed self.new) result }
+            (2 ^ 24) (standing L.view L.fixed self.old) (standing L.view L.fixed self.new) result }
         ensures fixed { L.fixed self.new.site ≡ L.fixed self.old.site }
         ensures limits { ShowsLimits result self.old self.new }
     {
@@ -40,18 +46,42 @@ impl<L: SiteLink + Drop> Machine<L> {
         }
         let inside = text.into_string()?;
         let alloc = self.counts.allocator();
-        let scan = Scan::new(alloc, inside);
-        let held = Held::new(alloc, OpenScan { room, scan })?;
+        let open = OpenScan {
+            room,
+            scan: Scan::new(alloc, inside),
+            filtering: Filtering::Off,
+        };
+        let held = Held::new(alloc, open)?;
         Ok(Begun::Opens(Frame::Scan(held)))
     }
 
-    /// The next piece: text up to a shortcode, an escape, or a shortcode, whose callback is called.
+    /// The next piece: text up to a shortcode, an escape, or a shortcode, whose callback is called. Where a callback's
+    /// answer came that is filtered, its filter.
     pub(crate) fn piece<K: Callbacks>(
         &mut self,
         kit: &K,
         scan: &mut OpenScan,
     ) -> Result<Moved, RunFault>
-        requires { GoesOn scan.old.scan }
+        requires { ScanReady scan.old.filtering scan.old.scan }
+        ensures long { is_short scan.old.scan.output ≡ false → scan.old.filtering ≡ Off
+            → IsErrOf result RunFault.Limit }
+        ensures steps { MovesTo L.changes (K.scripts kit.now)
+            (frame.Scan scan.old) (frame.Scan scan.new)
+            (standing L.view L.fixed self.old) (standing L.view L.fixed self.new) result }
+        ensures fixed { L.fixed self.new.site ≡ L.fixed self.old.site }
+        ensures limits { ShowsLimits result self.old self.new }
+    {
+        match &scan.filtering {
+            Filtering::Off => self.next_piece(kit, scan),
+            Filtering::Comes(_) => unreachable!(),
+            Filtering::Came { .. } => self.filter_answer(scan),
+        }
+    }
+
+    // The next piece, where no answer came.
+    fn next_piece<K: Callbacks>(&mut self, kit: &K, scan: &mut OpenScan) -> Result<Moved, RunFault>
+        requires goes_on { GoesOn scan.old.scan }
+        requires off { scan.old.filtering ≡ Off }
         ensures long { is_short scan.old.scan.output ≡ false → IsErrOf result RunFault.Limit }
         ensures steps { MovesTo L.changes (K.scripts kit.now)
             (frame.Scan scan.old) (frame.Scan scan.new)
@@ -68,7 +98,9 @@ impl<L: SiteLink + Drop> Machine<L> {
         match scan.scan.step(&self.tables.tags)? {
             ScanStep::Text => Ok(Moved::By(Step::Goes)),
             ScanStep::Call(shortcode) => {
+                let filtering = self.filtering(scan.scan.text(), shortcode)?;
                 let called = self.begin_shortcode(kit, scan.room, scan.scan.text(), shortcode)?;
+                scan.filtering = filtering;
                 Ok(called.awaited())
             }
             ScanStep::End => {
@@ -76,6 +108,57 @@ impl<L: SiteLink + Drop> Machine<L> {
                 Ok(Moved::By(Step::Gives(text)))
             }
         }
+    }
+
+    // The answer that came goes through the filter.
+    #[inline(never)]
+    fn filter_answer(&mut self, scan: &mut OpenScan) -> Result<Moved, RunFault>
+        requires awaits { Awaits scan.old.scan }
+        requires came { IsCame scan.old.filtering }
+        ensures steps { (scripts : Scripts) → MovesTo L.changes scripts
+            (frame.Scan scan.old) (frame.Scan scan.new)
+            (standing L.view L.fixed self.old) (standing L.view L.fixed self.new) result }
+        ensures fixed { L.fixed self.new.site ≡ L.fixed self.old.site }
+        ensures limits { ShowsLimits result self.old self.new }
+    {
+        let Filtering::Came { answer, tag } = mem::replace(&mut scan.filtering, Filtering::Off)
+        else {
+            unreachable!()
+        };
+        let begun = self.begin_filter(scan.room, answer, tag)?;
+        Ok(Moved::By(begun.awaited()))
+    }
+
+    // The filter, with an answer and the tag that it is of.
+    fn begin_filter(&mut self, room: u32, answer: Text, tag: Text) -> Result<Begun, RunFault>
+        ensures begins { (scripts : Scripts) → BeginsAs L.changes scripts
+            (filtered (at_depth L.changes room scripts) tag answer
+            (state_of (standing L.view L.fixed self.old)))
+            3 (standing L.view L.fixed self.old) (standing L.view L.fixed self.new) result }
+        ensures fixed { L.fixed self.new.site ≡ L.fixed self.old.site }
+        ensures limits { ShowsLimits result self.old self.new }
+    {
+        let alloc = self.counts.allocator();
+        let args = Texts::from_vec(vec![in alloc; answer, tag]?)?;
+        let hook = shortcodes::do_shortcode_tag(alloc)?;
+        let begun = self.begin(room, Kind::Filter, &hook, args);
+        drop(hook);
+        begun
+    }
+
+    // What becomes of the answer to a shortcode.
+    fn filtering(&self, text: &str, shortcode: Shortcode) -> Result<Filtering, AllocError>
+        requires stands { IsShortcode text.now (names_of self.now.tables.tags)
+            shortcode.start shortcode }
+        ensures { IfOk result (λ f. f ≡ filtering_where (cut text.now shortcode.tag)
+            (filters_answers (L.view self.now.site))) }
+    {
+        if self.site.site().profile() != FILTERS_ANSWERS {
+            return Ok(Filtering::Off);
+        }
+        let alloc = self.counts.allocator();
+        let tag = shortcodes::tag_of(alloc, text, &self.tables.tags, shortcode)?;
+        Ok(Filtering::Comes(tag))
     }
 
     // The callback of a shortcode's tag; a tag without one answers the empty text.

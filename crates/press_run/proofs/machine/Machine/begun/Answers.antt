@@ -28,7 +28,7 @@ pub returns-in_ok-begin_scan-in-Shortcodes-clause-steps : goal.returns-in_ok-beg
 returns-in_ok-begin_scan-in-Shortcodes-clause-steps g c = λ scripts.
     let m = at_depth g.L.SiteLink.changes c.args.callback.now.room scripts in
     let old = standing g.L.SiteLink.view g.L.SiteLink.fixed c.args.self.now in
-    rw c.awaited-in-Shortcodes.ensures (asks g.L.SiteLink.changes scripts c.args.callback.now old c.args.turn (scan m c.in-Shortcodes.text (state_of old)) 1048580 (standing g.L.SiteLink.view g.L.SiteLink.fixed c.begin_scan.new.self) c.in_ok-begin_scan-in-Shortcodes.field-0
+    rw c.awaited-in-Shortcodes.ensures (asks g.L.SiteLink.changes scripts c.args.callback.now old c.args.turn (scan m c.in-Shortcodes.text (state_of old)) (2 ^ 24) (standing g.L.SiteLink.view g.L.SiteLink.fixed c.begin_scan.new.self) c.in_ok-begin_scan-in-Shortcodes.field-0
     (scan_comes g.L.SiteLink.changes scripts c.args.callback.now old c.args.turn c.in-Shortcodes.text c.in-Shortcodes.is) (omega arith) c.requires.few (c.in_ok-begin_scan-in-Shortcodes.ensures.begins scripts))
 
 pub returns-in_ok-begin_change-in-SetOption-clause-steps : goal.returns-in_ok-begin_change-in-SetOption-clause-steps
