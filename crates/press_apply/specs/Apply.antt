@@ -29,7 +29,7 @@ use Rattle.press_run.specs.Boot.{boot_actions, booted_with}
 use Rattle.press_run.specs.Outcome.{started}
 use Rattle.press_run.specs.Run.{Answer, Meaning, State, apply_hook, callbacks_of, do_fires}
 use Rattle.press_apply.specs.declared.command.Command.{Command}
-use Rattle.press_apply.specs.declared.command.Command.TheVariants.{Insert, Update, Trash, Untrash, Delete, SetOption, Activate, Deactivate, Tick}
+use Rattle.press_apply.specs.declared.command.Command.TheVariants.{Insert, Update, Trash, Untrash, Delete, SetOption, Activate, Deactivate, Tick, Profile}
 use Rattle.press_apply.specs.declared.command.Stamped.{Stamped}
 use Rattle.press_apply.specs.declared.fault.ApplyFault.{ApplyFault}
 use Rattle.press_apply.specs.declared.fault.ApplyFault.TheVariants.{Limit, NoSuchPlugin, Site}
@@ -185,7 +185,7 @@ callbacks_on kit = callbacks_of effect_on kit.scripts
 abbrev pub booted : KitView → SiteView → (State → Result (State × ℕ) ApplyFault) → Result (SiteView × ℕ) ApplyFault
 booted kit site work = site_of (boots (callbacks_on kit) kit site >>= work)
 
--- plugins boot nothing and run no hook
+-- a change of the plugins and a switch of profile boot nothing and run no hook
 abbrev pub alone : Result (SiteView × Changed) SiteFault → Result (SiteView × ℕ) ApplyFault
 alone (Ok after) = Ok (after.0, after.1.id)
 alone (Err fault) = Err (Site fault)
@@ -200,6 +200,7 @@ work_of kit s (SetOption name value) = booted kit s (does (callbacks_on kit) (ef
 work_of kit s (Activate plugin) = if is_some (plugin_of plugin kit.plugins) then alone (effect_on s (effect.Activate plugin)) else Err NoSuchPlugin
 work_of kit s (Deactivate plugin) = alone (effect_on s (effect.Deactivate plugin))
 work_of kit s Tick = booted kit s (ticks (callbacks_on kit))
+work_of kit s (Profile to) = alone (effect_on s (effect.Profile to))
 
 -- ---- values
 

@@ -1,7 +1,7 @@
 -- Which values a copy may take memory for (own).
 use Rattle.std.specs.Prelude.{Bool, true, false}
 use Rattle.press_apply.specs.declared.command.Command.{Command}
-use Rattle.press_apply.specs.declared.command.Command.TheVariants.{Insert, Update, Trash, Untrash, Delete, SetOption, Activate, Deactivate, Tick}
+use Rattle.press_apply.specs.declared.command.Command.TheVariants.{Insert, Update, Trash, Untrash, Delete, SetOption, Activate, Deactivate, Tick, Profile}
 use Rattle.press_apply.specs.declared.value.Value.{Value}
 use Rattle.press_apply.specs.declared.value.Value.TheVariants.{Noop, Cmd}
 
@@ -21,3 +21,4 @@ has_text (SetOption name value) = true
 has_text (Activate plugin) = true
 has_text (Deactivate plugin) = true
 has_text Tick = false
+has_text (Profile to) = false

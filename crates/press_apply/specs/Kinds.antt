@@ -15,6 +15,7 @@ kind_of_command (command.SetOption name value) = kind.SetOption
 kind_of_command (command.Activate plugin) = kind.Activate
 kind_of_command (command.Deactivate plugin) = kind.Deactivate
 kind_of_command command.Tick = kind.Tick
+kind_of_command (command.Profile to) = kind.Profile
 
 abbrev pub kind_named : List ℕ → Option CommandKind
 kind_named word =
@@ -26,7 +27,8 @@ kind_named word =
     (if bytes_eq word (codes "option") then Some kind.SetOption else
     (if bytes_eq word (codes "activate") then Some kind.Activate else
     (if bytes_eq word (codes "deactivate") then Some kind.Deactivate else
-    (if bytes_eq word (codes "tick") then Some kind.Tick else None))))))))
+    (if bytes_eq word (codes "tick") then Some kind.Tick else
+    (if bytes_eq word (codes "profile") then Some kind.Profile else None)))))))))
 
 abbrev pub command_number : CommandKind → ℕ
 command_number kind.Insert = 1
@@ -38,6 +40,7 @@ command_number kind.SetOption = 6
 command_number kind.Activate = 7
 command_number kind.Deactivate = 8
 command_number kind.Tick = 9
+command_number kind.Profile = 10
 
 abbrev pub command_kind_of : ℕ → Option CommandKind
 command_kind_of n =
@@ -49,4 +52,5 @@ command_kind_of n =
     (if n == 6 then Some kind.SetOption else
     (if n == 7 then Some kind.Activate else
     (if n == 8 then Some kind.Deactivate else
-    (if n == 9 then Some kind.Tick else None))))))))
+    (if n == 9 then Some kind.Tick else
+    (if n == 10 then Some kind.Profile else None)))))))))

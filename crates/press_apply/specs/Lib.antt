@@ -1,5 +1,6 @@
 pub mod Apply
 pub mod Copies
+pub mod Earlier
 pub mod Faults
 pub mod Kinds
 pub mod Same

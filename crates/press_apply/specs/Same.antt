@@ -3,30 +3,31 @@ use Rattle.std.specs.Prelude.{ℕ, ◌==◌, ◌&&◌, List, [], Bool, false, by
 use Rattle.press_posts.specs.Transitions.{status_word}
 use Rattle.press_apply.specs.Kinds.{command_number, kind_of_command}
 use Rattle.press_apply.specs.declared.command.Command.{Command}
-use Rattle.press_apply.specs.declared.command.Command.TheVariants.{Insert, Update, Trash, Untrash, Delete, SetOption, Activate, Deactivate, Tick}
+use Rattle.press_apply.specs.declared.command.Command.TheVariants.{Insert, Update, Trash, Untrash, Delete, SetOption, Activate, Deactivate, Tick, Profile}
 use Rattle.press_apply.specs.declared.command.Stamped.{Stamped}
 use Rattle.press_apply.specs.declared.value.Value.{Value}
 use Rattle.press_apply.specs.declared.value.Value.TheVariants.{Noop, Cmd}
 
--- what a command is made of; a part that it lacks is 0 or empty
+-- what a command is made of: its number is the id of its post, or its profile; a part that it lacks is 0 or empty
 pub record Parts : Type 0 where
   pub kind : ℕ
-  pub id : ℕ
+  pub number : ℕ
   pub date : ℕ
   pub status : List ℕ
   pub first : List ℕ
   pub second : List ℕ
 
-abbrev pub id_in : Command → ℕ
-id_in (Insert draft) = 0
-id_in (Update id draft) = id
-id_in (Trash id) = id
-id_in (Untrash id) = id
-id_in (Delete id) = id
-id_in (SetOption name value) = 0
-id_in (Activate plugin) = 0
-id_in (Deactivate plugin) = 0
-id_in Tick = 0
+abbrev pub number_in : Command → ℕ
+number_in (Insert draft) = 0
+number_in (Update id draft) = id
+number_in (Trash id) = id
+number_in (Untrash id) = id
+number_in (Delete id) = id
+number_in (SetOption name value) = 0
+number_in (Activate plugin) = 0
+number_in (Deactivate plugin) = 0
+number_in Tick = 0
+number_in (Profile to) = to
 
 abbrev pub date_in : Command → ℕ
 date_in (Insert draft) = draft.date
@@ -38,6 +39,7 @@ date_in (SetOption name value) = 0
 date_in (Activate plugin) = 0
 date_in (Deactivate plugin) = 0
 date_in Tick = 0
+date_in (Profile to) = 0
 
 abbrev pub status_in : Command → List ℕ
 status_in (Insert draft) = status_word draft.status
@@ -49,6 +51,7 @@ status_in (SetOption name value) = []
 status_in (Activate plugin) = []
 status_in (Deactivate plugin) = []
 status_in Tick = []
+status_in (Profile to) = []
 
 abbrev pub first_in : Command → List ℕ
 first_in (Insert draft) = draft.title
@@ -60,6 +63,7 @@ first_in (SetOption name value) = name
 first_in (Activate plugin) = plugin
 first_in (Deactivate plugin) = plugin
 first_in Tick = []
+first_in (Profile to) = []
 
 abbrev pub second_in : Command → List ℕ
 second_in (Insert draft) = draft.content
@@ -71,12 +75,13 @@ second_in (SetOption name value) = value
 second_in (Activate plugin) = []
 second_in (Deactivate plugin) = []
 second_in Tick = []
+second_in (Profile to) = []
 
 abbrev pub parts_of : Command → Parts
-parts_of c = record { kind = command_number (kind_of_command c); id = id_in c; date = date_in c; status = status_in c; first = first_in c; second = second_in c }
+parts_of c = record { kind = command_number (kind_of_command c); number = number_in c; date = date_in c; status = status_in c; first = first_in c; second = second_in c }
 
 abbrev pub are_same : Parts → Parts → Bool
-are_same p q = (p.kind == q.kind) && ((p.id == q.id) && ((p.date == q.date) && (bytes_eq p.status q.status && (bytes_eq p.first q.first && bytes_eq p.second q.second))))
+are_same p q = (p.kind == q.kind) && ((p.number == q.number) && ((p.date == q.date) && (bytes_eq p.status q.status && (bytes_eq p.first q.first && bytes_eq p.second q.second))))
 
 abbrev pub is_same_command : Command → Command → Bool
 is_same_command c d = are_same (parts_of c) (parts_of d)

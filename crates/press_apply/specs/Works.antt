@@ -14,7 +14,7 @@ use Rattle.press_site.specs.Outcomes.{outcome_of}
 use Rattle.press_site.specs.SiteView.{SiteView}
 use Rattle.press_apply.specs.Apply.{callbacks_on, work_of}
 use Rattle.press_apply.specs.declared.command.Command.{Command}
-use Rattle.press_apply.specs.declared.command.Command.TheVariants.{Insert, Update, Trash, Untrash, Delete, SetOption, Activate, Deactivate, Tick}
+use Rattle.press_apply.specs.declared.command.Command.TheVariants.{Insert, Update, Trash, Untrash, Delete, SetOption, Activate, Deactivate, Tick, Profile}
 use Rattle.press_apply.specs.declared.fault.ApplyFault.{ApplyFault}
 use Rattle.press_apply.specs.declared.fault.ApplyFault.TheVariants.{NoMemory, Limit, NoSuchPlugin, Site}
 use Rattle.press_apply.specs.declared.value.Value.{Value}
@@ -86,7 +86,7 @@ IsOutcome (Err Limit) result = result ≡ Ok (Refused (apply_fault_number Limit)
 IsOutcome (Err NoSuchPlugin) result = result ≡ Ok (Refused (apply_fault_number NoSuchPlugin))
 IsOutcome (Err (Site fault)) result = result ≡ Ok (Refused (apply_fault_number (Site fault)))
 
--- which commands may take memory: all that boot, and of plugins those that aren't refused
+-- which commands may take memory: all that boot, and of plugins those that aren't refused; no switch of profile does
 abbrev pub TakesMemory : KitView → SiteView → Command → Type 0
 TakesMemory kit s (Insert draft) = ⊤
 TakesMemory kit s (Update id draft) = ⊤
@@ -97,6 +97,7 @@ TakesMemory kit s (SetOption name value) = ⊤
 TakesMemory kit s (Activate plugin) = IsOk (work_of kit s (Activate plugin))
 TakesMemory kit s (Deactivate plugin) = IsOk (work_of kit s (Deactivate plugin))
 TakesMemory kit s Tick = ⊤
+TakesMemory kit s (Profile to) = ⊥
 
 -- a noop and a known token take no memory
 abbrev pub TakesNone : Value → SiteView → Result Outcome AllocError → Type 0

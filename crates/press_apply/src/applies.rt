@@ -1,6 +1,6 @@
 //! One value applied to a site.
 
-ghost use Rattle.std.specs.Prelude.{◌≡◌, None, Ok, Err, MatchResult, false, max, IfOk, IfSome, OnErr, OnOk, is_some};
+ghost use Rattle.std.specs.Prelude.{◌≡◌, ◌≢◌, ℕ, None, Ok, Err, MatchResult, false, max, IfOk, IfSome, OnErr, OnOk, is_some};
 ghost use Rattle.press_callbacks.specs.Kits.{kit_view, plugin_of, plugins_in};
 ghost use Rattle.press_site.specs.Effects.{effect_on};
 ghost use Rattle.press_site.specs.Open.{begun_of};
@@ -217,6 +217,7 @@ fn work(alloc: Global, kit: &Kit, site: OpenSite, command: &Command) -> Worked
         Command::Activate { plugin } => activate(alloc, kit, site, plugin),
         Command::Deactivate { plugin } => deactivate(alloc, site, plugin),
         Command::Tick => tick(alloc, kit, site),
+        Command::Profile(to) => switch(site, *to),
     }
 }
 
@@ -360,6 +361,15 @@ fn deactivate(alloc: Global, site: OpenSite, plugin: &Name) -> Worked
     }
 }
 
+// Takes no memory.
+fn switch(site: OpenSite, to: u8) -> Worked
+    ensures works { Works (alone (effect_on site.site (Effect.Profile to))) site result }
+    ensures limits { TellsItsLimit result }
+    ensures memory { result.id ≢ Err ApplyFault.NoMemory }
+{
+    alone(site, Effect::Profile(to))
+}
+
 fn has_plugin(kit: &Kit, plugin: &Name) -> bool
     ensures { result ≡ is_some (plugin_of plugin.now (plugins_in kit.now)) }
 {
@@ -371,6 +381,7 @@ fn alone(mut site: OpenSite, effect: Effect) -> Worked
     ensures works { Works (alone (effect_on site.site effect)) site result }
     ensures limits { TellsItsLimit result }
     ensures memory { GrowsBehind result.id (alone (effect_on site.site effect)) }
+    ensures profile { (to : ℕ) → effect ≡ Effect.Profile to → result.id ≢ Err ApplyFault.NoMemory }
 {
     let id = changed(&mut site, effect);
     without_run(site, id)
@@ -394,6 +405,7 @@ fn changed(site: &mut OpenSite, effect: Effect) -> Result<u64, ApplyFault>
         (λ fault. Refuses fault (alone (effect_on site.old.site effect))) }
     ensures back { begun_of site.new ≡ begun_of site.old }
     ensures memory { GrowsBehind result (alone (effect_on site.old.site effect)) }
+    ensures profile { (to : ℕ) → effect ≡ Effect.Profile to → result ≢ Err ApplyFault.NoMemory }
 {
     let changed = site.effect(effect)?;
     Ok(changed.id)

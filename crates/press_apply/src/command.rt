@@ -21,6 +21,8 @@ pub enum Command {
     Deactivate { plugin: Name },
     /// Does what is due at the site's moment, which is never before the command's.
     Tick,
+    /// Switches the site to that profile.
+    Profile(u8),
 }
 
 /// A command with its token and its moment.
@@ -67,6 +69,7 @@ impl Command {
                 plugin: plugin.copy(alloc)?,
             }),
             Command::Tick => Ok(Command::Tick),
+            Command::Profile(to) => Ok(Command::Profile(*to)),
         }
     }
 }

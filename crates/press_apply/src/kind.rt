@@ -17,6 +17,7 @@ pub enum CommandKind {
     Activate,
     Deactivate,
     Tick,
+    Profile,
 }
 
 impl CommandKind {
@@ -34,6 +35,7 @@ impl CommandKind {
             Command::Activate { .. } => CommandKind::Activate,
             Command::Deactivate { .. } => CommandKind::Deactivate,
             Command::Tick => CommandKind::Tick,
+            Command::Profile(_) => CommandKind::Profile,
         }
     }
 
@@ -59,6 +61,8 @@ impl CommandKind {
             Some(CommandKind::Deactivate)
         } else if word == "tick" {
             Some(CommandKind::Tick)
+        } else if word == "profile" {
+            Some(CommandKind::Profile)
         } else {
             None
         }
@@ -77,6 +81,7 @@ impl CommandKind {
             7 => Some(CommandKind::Activate),
             8 => Some(CommandKind::Deactivate),
             9 => Some(CommandKind::Tick),
+            10 => Some(CommandKind::Profile),
             _ => None,
         }
     }
@@ -94,6 +99,7 @@ impl CommandKind {
             CommandKind::Activate => 7,
             CommandKind::Deactivate => 8,
             CommandKind::Tick => 9,
+            CommandKind::Profile => 10,
         }
     }
 }

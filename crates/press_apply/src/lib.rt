@@ -5,6 +5,7 @@ mod actions;
 mod applies;
 mod checks;
 mod command;
+mod earlier;
 mod edit;
 mod fault;
 mod kind;
@@ -15,6 +16,7 @@ mod work;
 
 pub use applies::apply;
 pub use command::{Command, Stamped};
+pub use earlier::folds_as_before;
 pub use fault::ApplyFault;
 pub use kind::CommandKind;
 pub use laws::{same_values_are_equal, token_answers_once};

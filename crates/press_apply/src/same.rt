@@ -1,21 +1,23 @@
 //! Whether two commands are the same.
 
 ghost use Rattle.std.specs.Prelude.{◌≡◌};
-ghost use Rattle.press_apply.specs.Same.{date_in, first_in, id_in, is_same_command, is_same_stamped, is_same_value, second_in, status_in};
+ghost use Rattle.press_apply.specs.Same.{date_in, first_in, is_same_command, is_same_stamped, is_same_value, number_in, second_in, status_in};
 
 use crate::command::{Command, Stamped};
 use crate::kind::CommandKind;
 use crate::value::Value;
 
 impl Command {
-    fn id(&self) -> u64
-        ensures { result ≡ id_in self.now }
+    // The id of its post, or its profile.
+    fn number(&self) -> u64
+        ensures { result ≡ number_in self.now }
     {
         match self {
             Command::Update { id, .. }
             | Command::Trash { id }
             | Command::Untrash { id }
             | Command::Delete { id } => *id,
+            Command::Profile(to) => *to as u64,
             Command::Insert(_)
             | Command::SetOption { .. }
             | Command::Activate { .. }
@@ -35,7 +37,8 @@ impl Command {
             | Command::SetOption { .. }
             | Command::Activate { .. }
             | Command::Deactivate { .. }
-            | Command::Tick => 0,
+            | Command::Tick
+            | Command::Profile(_) => 0,
         }
     }
 
@@ -50,7 +53,8 @@ impl Command {
             | Command::SetOption { .. }
             | Command::Activate { .. }
             | Command::Deactivate { .. }
-            | Command::Tick => "",
+            | Command::Tick
+            | Command::Profile(_) => "",
         }
     }
 
@@ -64,7 +68,8 @@ impl Command {
             Command::Trash { .. }
             | Command::Untrash { .. }
             | Command::Delete { .. }
-            | Command::Tick => "",
+            | Command::Tick
+            | Command::Profile(_) => "",
         }
     }
 
@@ -79,7 +84,8 @@ impl Command {
             | Command::Trash { .. }
             | Command::Untrash { .. }
             | Command::Delete { .. }
-            | Command::Tick => "",
+            | Command::Tick
+            | Command::Profile(_) => "",
         }
     }
 
@@ -88,7 +94,7 @@ impl Command {
         ensures { result ≡ is_same_command self.now other.now }
     {
         CommandKind::of(self).number() == CommandKind::of(other).number()
-            && self.id() == other.id()
+            && self.number() == other.number()
             && self.date() == other.date()
             && self.status() == other.status()
             && self.first() == other.first()

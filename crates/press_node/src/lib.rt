@@ -1,6 +1,7 @@
 //! One node of a cluster: a kit, a store, and what it has in memory. It answers events with messages and requests with pages.
 #![tactic(auto)]
 
+mod earlier;
 mod event;
 mod fault;
 mod fixed;
@@ -12,6 +13,7 @@ mod start_fault;
 mod state;
 mod up;
 
+pub use earlier::shows_as_before;
 pub use event::Event;
 pub use fault::NodeFault;
 pub use kept::Node;

@@ -1,3 +1,4 @@
+pub mod Earlier
 pub mod Json
 pub mod Page
 pub mod Rendering

@@ -3,6 +3,7 @@
 //! A page comes from a fresh boot of its own and only reads the site.
 #![tactic(auto)]
 
+mod earlier;
 mod filtered;
 mod hooks;
 mod json;
@@ -12,5 +13,6 @@ mod reply;
 mod targets;
 mod template;
 
+pub use earlier::pages_as_before;
 pub use pages::page;
 pub use reply::{ContentKind, Reply, Target};
