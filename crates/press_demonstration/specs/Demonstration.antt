@@ -1,5 +1,5 @@
 -- The demonstration kit: filters that append a letter, one that grows its own hook while it runs, two that run their own hook again, an action that
--- sets an option, and two shortcodes (own).
+-- sets an option, two shortcodes, and a filter that marks what shortcodes answer (own).
 use Rattle.std.specs.Prelude.{ℕ, pos, List, [], ◌∷◌, ◌++◌, map, codes}
 use Rattle.press_scan.specs.declared.att_key.AttKey.TheVariants.{Name}
 use Rattle.press_callbacks.specs.declared.script.Source.TheVariants.{Arg, Att, Content, Value, Last}
@@ -44,6 +44,10 @@ running hook = Apply hook (Raw Value ∷ []) [] ∷ (Return (Raw Last ∷ []) �
 abbrev pub noting : List Op
 noting = SetOption (codes "last_saved") (Raw (Arg 0) ∷ []) ∷ []
 
+-- the value in braces, with the tag that is its second argument
+abbrev pub marking : List Op
+marking = Set (Lit (codes "{") ∷ (Raw Value ∷ (Lit (codes "|") ∷ (Raw (Arg 1) ∷ (Lit (codes "}") ∷ []))))) ∷ []
+
 -- the callbacks whose closures play their scripts
 abbrev pub letters : Scripts
 letters =
@@ -62,6 +66,7 @@ others =
     ∷ (codes "again", running the_title)
     ∷ (codes "again_save", running (codes "title_save_pre"))
     ∷ (codes "note", noting)
+    ∷ (codes "mark", marking)
     ∷ []
 
 abbrev pub played : Scripts
@@ -88,6 +93,13 @@ letters_plugin = record { name = codes "letters"; load = letters_load }
 abbrev pub loop_plugin : Plugin
 loop_plugin = record { name = codes "loop"; load = on_title 10 (codes "again") ∷ on_hook (codes "title_save_pre") 10 (codes "again_save") ∷ [] }
 
+-- what a shortcode answered, and its tag
+abbrev pub on_shortcode_tag : List ℕ → Load
+on_shortcode_tag callback = Hook (codes "do_shortcode_tag") (pos 10) callback 2
+
+abbrev pub marks_plugin : Plugin
+marks_plugin = record { name = codes "marks"; load = on_shortcode_tag (codes "mark") ∷ [] }
+
 abbrev pub notes_plugin : Plugin
 notes_plugin = record { name = codes "notes"; load = on_hook (codes "save_post") 10 (codes "note") ∷ [] }
 
@@ -95,7 +107,7 @@ abbrev pub tags_plugin : Plugin
 tags_plugin = record { name = codes "tags"; load = Tag (codes "greet") (codes "greet") ∷ Tag (codes "box") (codes "box") ∷ [] }
 
 abbrev pub plugins : List Plugin
-plugins = grow_plugin ∷ letters_plugin ∷ loop_plugin ∷ notes_plugin ∷ tags_plugin ∷ []
+plugins = grow_plugin ∷ letters_plugin ∷ loop_plugin ∷ marks_plugin ∷ notes_plugin ∷ tags_plugin ∷ []
 
 -- names and scripts
 abbrev pub told : List Scripted → Scripts

@@ -9,7 +9,7 @@ use press_callbacks::{Load, Plugin};
 use press_text::{HookName, Items};
 use std::alloc::{AllocError, Global};
 
-/// The plugins `grow`, `letters`, `loop`, `notes` and `tags`.
+/// The plugins `grow`, `letters`, `loop`, `marks`, `notes` and `tags`.
 pub fn plugins(alloc: Global) -> Result<Vec<Plugin>, AllocError>
     ensures { IfOk result (λ v. v.items ≡ spec.plugins) }
 {
@@ -17,6 +17,7 @@ pub fn plugins(alloc: Global) -> Result<Vec<Plugin>, AllocError>
     push_grow(alloc, &mut plugins)?;
     push_letters(alloc, &mut plugins)?;
     push_loop(alloc, &mut plugins)?;
+    push_marks(alloc, &mut plugins)?;
     push_notes(alloc, &mut plugins)?;
     push_tags(alloc, &mut plugins)?;
     Ok(plugins)
@@ -73,6 +74,14 @@ fn push_loop(alloc: Global, plugins: &mut Vec<Plugin>) -> Result<(), AllocError>
     Ok(())
 }
 
+fn push_marks(alloc: Global, plugins: &mut Vec<Plugin>) -> Result<(), AllocError>
+    ensures { OnOk result (plugins.new.items ≡ plugins.old.items ++ spec.marks_plugin ∷ []) }
+{
+    let load = vec![in alloc; on_shortcode_tag(alloc, "mark")?]?;
+    plugins.push(plugin(alloc, "marks", load)?)?;
+    Ok(())
+}
+
 fn push_notes(alloc: Global, plugins: &mut Vec<Plugin>) -> Result<(), AllocError>
     ensures { OnOk result (plugins.new.items ≡ plugins.old.items ++ spec.notes_plugin ∷ []) }
 {
@@ -116,6 +125,19 @@ fn on_hook(alloc: Global, hook: &str, priority: i64, callback: &str) -> Result<L
         priority,
         callback: callback_named(callback),
         accepted: 1,
+    })
+}
+
+// It accepts the answer of a shortcode and its tag.
+fn on_shortcode_tag(alloc: Global, callback: &str) -> Result<Load, AllocError>
+    requires { name_fault 32 callback.now ≡ None }
+    ensures { IfOk result (λ l. l ≡ spec.on_shortcode_tag callback.now) }
+{
+    Ok(Load::Hook {
+        hook: HookName::from_valid(alloc, "do_shortcode_tag")?,
+        priority: 10,
+        callback: callback_named(callback),
+        accepted: 2,
     })
 }
 

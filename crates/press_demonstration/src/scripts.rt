@@ -27,6 +27,7 @@ pub fn played(alloc: Global) -> Result<Vec<Scripted>, AllocError>
     push_again(alloc, &mut scripts, "again", "the_title")?;
     push_again(alloc, &mut scripts, "again_save", "title_save_pre")?;
     push_note(alloc, &mut scripts)?;
+    push_mark(alloc, &mut scripts)?;
     Ok(scripts)
 }
 
@@ -67,6 +68,14 @@ fn push_note(alloc: Global, scripts: &mut Vec<Scripted>) -> Result<(), AllocErro
 {
     let note = note(alloc)?;
     push_scripted(scripts, note)
+}
+
+fn push_mark(alloc: Global, scripts: &mut Vec<Scripted>) -> Result<(), AllocError>
+    ensures { OnOk result (spec.told scripts.new.items ≡ spec.told scripts.old.items
+        ++ (codes "mark", spec.marking) ∷ []) }
+{
+    let mark = mark(alloc)?;
+    push_scripted(scripts, mark)
 }
 
 fn push_letter(
@@ -143,6 +152,38 @@ fn noting(alloc: Global) -> Result<Script, AllocError>
         value: Items::from_vec(vec![in alloc; Part::Raw(Source::Arg(0))]?),
     };
     Ok(Items::from_vec(vec![in alloc; set]?))
+}
+
+fn mark(alloc: Global) -> Result<Scripted, AllocError>
+    ensures id { IfOk result (λ s. s.id ≡ codes "mark") }
+    ensures script { IfOk result (λ s. s.script ≡ spec.marking) }
+{
+    let script = marking(alloc)?;
+    let own = marking(alloc)?;
+    Ok(Scripted {
+        id: callback_named("mark"),
+        script,
+        own,
+    })
+}
+
+// Puts its value into braces, with its second argument.
+fn marking(alloc: Global) -> Result<Script, AllocError>
+    ensures { IfOk result (λ s. s ≡ spec.marking) }
+{
+    let mut text = Vec::new(alloc);
+    text.push(lit(alloc, "{")?)?;
+    text.push(Part::Raw(Source::Value))?;
+    text.push(lit(alloc, "|")?)?;
+    text.push(Part::Raw(Source::Arg(1)))?;
+    text.push(lit(alloc, "}")?)?;
+    Ok(Items::from_vec(vec![in alloc; Op::Set(Items::from_vec(text))]?))
+}
+
+fn lit(alloc: Global, text: &str) -> Result<Part, AllocError>
+    ensures { IfOk result (λ p. p ≡ Part.Lit text.now) }
+{
+    Ok(Part::Lit(Text::from_str(alloc, text)?))
 }
 
 fn greet(alloc: Global) -> Result<Scripted, AllocError>

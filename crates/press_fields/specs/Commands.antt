@@ -1,6 +1,6 @@
 -- Command of fields: the command that a form or an object of a file gives, with its token and its moment (the fields and their names are own).
 -- Fields that nobody names are passed over. What a command may not do to a site is no matter of its fields.
-use Rattle.std.specs.Prelude.{ℕ, List, Result, Ok, codes}
+use Rattle.std.specs.Prelude.{ℕ, List, Result, Ok, Err, codes, nat_lt, if◌then◌else◌}
 use Rattle.press_posts.specs.declared.draft.Draft as post
 use Rattle.press_posts.specs.declared.status.Status.{Status}
 use Rattle.press_posts.specs.declared.status.Status.TheVariants.{Draft}
@@ -13,6 +13,7 @@ use Rattle.press_apply.specs.declared.kind.CommandKind.{CommandKind}
 use Rattle.press_apply.specs.declared.kind.CommandKind.TheVariants as kind
 use Rattle.press_apply.specs.Kinds.{kind_named}
 use Rattle.press_fields.specs.declared.fault.FieldFault.{FieldFault}
+use Rattle.press_fields.specs.declared.fault.FieldFault.TheVariants.{BadField}
 use Rattle.press_fields.specs.Fields.{Fields, ◌>>=◌, made, or_bad, text_at, name_at, number_at, moment_at, moment_in, default}
 
 abbrev pub status_in : List ℕ → Result Status FieldFault
@@ -25,6 +26,13 @@ status_at fields = fields.text (codes "status") >>= default Draft status_in
 -- the command's own moment, where none is given
 abbrev pub date_at : ℕ → Fields → Result ℕ FieldFault
 date_at now fields = fields.number (codes "date") >>= default now moment_in
+
+-- a profile is a number of one byte
+abbrev pub profile_in : ℕ → Result ℕ FieldFault
+profile_in number = if nat_lt number 256 then Ok number else Err BadField
+
+abbrev pub profile_at : Fields → Result ℕ FieldFault
+profile_at fields = number_at (codes "profile") fields >>= profile_in
 
 unfoldable pub draft : ℕ → Fields → Result post.Draft FieldFault
 draft now fields = do
@@ -56,6 +64,7 @@ command_by kind.SetOption now fields = option_set fields
 command_by kind.Activate now fields = made command.Activate (name_at (codes "plugin") fields)
 command_by kind.Deactivate now fields = made command.Deactivate (name_at (codes "plugin") fields)
 command_by kind.Tick now fields = Ok command.Tick
+command_by kind.Profile now fields = made command.Profile (profile_at fields)
 
 abbrev pub kind_in : List ℕ → Result CommandKind FieldFault
 kind_in word = or_bad (kind_named word)

@@ -32,3 +32,4 @@ first_of kind.SetOption fields = name_at (codes "name") fields
 first_of kind.Activate fields = name_at (codes "plugin") fields
 first_of kind.Deactivate fields = name_at (codes "plugin") fields
 first_of kind.Tick fields = Err BadField
+first_of kind.Profile fields = Err BadField

@@ -81,6 +81,7 @@ impl<'f, F: Lookup> Reader<'f, F> {
                 plugin: self.name("plugin")?,
             }),
             CommandKind::Tick => Ok(Command::Tick),
+            CommandKind::Profile => Ok(Command::Profile(self.profile()?)),
         }
     }
 

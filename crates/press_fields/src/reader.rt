@@ -3,7 +3,7 @@
 ghost use Rattle.std.specs.Prelude.{◌≢◌, Ok, Err, codes};
 ghost use Rattle.std.specs.Cow.{cow_str_bytes};
 ghost use Rattle.press_text.specs.Gives.{Gives};
-ghost use Rattle.press_fields.specs.Commands.{date_at, kind_at, status_at};
+ghost use Rattle.press_fields.specs.Commands.{date_at, kind_at, profile_at, status_at};
 ghost use Rattle.press_fields.specs.Fields as spec;
 ghost use Rattle.press_fields.specs.Memory.{GrowsBehind, GrowsPast};
 
@@ -119,6 +119,16 @@ impl<'f, F: Lookup> Reader<'f, F> {
             None => Ok(now),
             Some(seconds) => Moment::new(seconds).ok_or(FieldFault::BadField),
         }
+    }
+
+    /// A profile: a number below 256.
+    pub fn profile(&self) -> Result<u8, FieldFault>
+        ensures gives { Gives spec.Refuses Ok result (profile_at (F.seen self.now.fields.now)) }
+        ensures memory { F.lends self.now.fields.now (codes "profile")
+            → result ≢ Err FieldFault.NoMemory }
+    {
+        let number = self.number("profile")?;
+        u8::try_from(number).ok().ok_or(FieldFault::BadField)
     }
 
     pub fn kind(&self) -> Result<CommandKind, FieldFault>

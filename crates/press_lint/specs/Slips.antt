@@ -45,7 +45,7 @@ engine_hooks =
     ∷ codes "the_title" ∷ codes "the_content" ∷ codes "title_save_pre" ∷ codes "content_save_pre"
     ∷ codes "transition_post_status" ∷ codes "save_post" ∷ codes "wp_trash_post" ∷ codes "trashed_post"
     ∷ codes "untrash_post" ∷ codes "untrashed_post" ∷ codes "before_delete_post" ∷ codes "deleted_post"
-    ∷ codes "publish_future_post" ∷ []
+    ∷ codes "publish_future_post" ∷ codes "do_shortcode_tag" ∷ []
 
 -- the statuses of a post
 abbrev pub statuses : List (List ℕ)

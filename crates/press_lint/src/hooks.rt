@@ -13,7 +13,7 @@ use press_kit::{KitParts, Play, Scripted};
 use press_text::HookName;
 use std::alloc::{AllocError, Global};
 
-const ENGINE: [&str; 18] = [
+const ENGINE: [&str; 19] = [
     "plugins_loaded",
     "init",
     "wp_loaded",
@@ -32,6 +32,7 @@ const ENGINE: [&str; 18] = [
     "before_delete_post",
     "deleted_post",
     "publish_future_post",
+    "do_shortcode_tag",
 ];
 
 const STATUSES: [&str; 6] = ["publish", "future", "draft", "pending", "private", "trash"];

@@ -34,6 +34,7 @@ kind_word kind.SetOption = codes "option"
 kind_word kind.Activate = codes "activate"
 kind_word kind.Deactivate = codes "deactivate"
 kind_word kind.Tick = codes "tick"
+kind_word kind.Profile = codes "profile"
 
 abbrev pub draft_pairs : Draft → List (List ℕ × List ℕ)
 draft_pairs d =
@@ -50,6 +51,7 @@ pairs_of (command.SetOption name value) = (codes "name", name) ∷ (codes "value
 pairs_of (command.Activate plugin) = (codes "plugin", plugin) ∷ []
 pairs_of (command.Deactivate plugin) = (codes "plugin", plugin) ∷ []
 pairs_of command.Tick = []
+pairs_of (command.Profile to) = (codes "profile", decimal to) ∷ []
 
 abbrev pub all_pairs : Stamped → List (List ℕ × List ℕ)
 all_pairs s =

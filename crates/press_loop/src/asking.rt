@@ -36,6 +36,7 @@ fn word(kind: CommandKind) -> &'static str
         CommandKind::Activate => "activate",
         CommandKind::Deactivate => "deactivate",
         CommandKind::Tick => "tick",
+        CommandKind::Profile => "profile",
     }
 }
 
@@ -82,6 +83,7 @@ fn put_fields(form: &mut Serializer, command: &Command) -> Result<(), AllocError
             put(form, "plugin", plugin.as_str())
         }
         Command::Tick => Ok(()),
+        Command::Profile(to) => put_number(form, "profile", *to as u64),
     }
 }
 

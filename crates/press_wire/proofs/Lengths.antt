@@ -5,7 +5,7 @@ use Rattle.std.proofs.lemmas.Bool.Decides.{nat_tests}
 use Rattle.press_text.specs.Names.{IsName}
 use Rattle.press_posts.specs.declared.draft.Draft.{Draft}
 use Rattle.press_apply.specs.declared.command.Command.{Command}
-use Rattle.press_apply.specs.declared.command.Command.TheVariants.{Insert, Update, Trash, Untrash, Delete, SetOption, Activate, Deactivate, Tick}
+use Rattle.press_apply.specs.declared.command.Command.TheVariants.{Insert, Update, Trash, Untrash, Delete, SetOption, Activate, Deactivate, Tick, Profile}
 use Rattle.press_apply.specs.declared.command.Stamped.{Stamped}
 use Rattle.press_apply.specs.declared.value.Value.{Value}
 use Rattle.press_apply.specs.declared.value.Value.TheVariants.{Noop, Cmd}
@@ -52,6 +52,7 @@ fields_len (SetOption option value) = 5 + length option + length value
 fields_len (Activate plugin) = 1 + length plugin
 fields_len (Deactivate plugin) = 1 + length plugin
 fields_len Tick = 0
+fields_len (Profile to) = 1
 
 pub length_fields : (c : Command) → length (fields c) ≡ fields_len c
 unfolding fields
@@ -64,6 +65,7 @@ length_fields (SetOption option value) = omega (arith, length-append (name optio
 length_fields (Activate plugin) = length_name plugin
 length_fields (Deactivate plugin) = length_name plugin
 length_fields Tick = refl
+length_fields (Profile to) = refl
 
 length_stamped : (s : Stamped) → length (stamped s) ≡ 17 + length s.token.editor + length (fields s.command)
 unfolding stamped
@@ -98,6 +100,7 @@ short_texts (SetOption option value) short = let e = length_fields (SetOption op
 short_texts (Activate plugin) short = tt
 short_texts (Deactivate plugin) short = tt
 short_texts Tick short = tt
+short_texts (Profile to) short = tt
 
 -- a value that isn't too long has short texts
 pub is_short : (v : Value) → length (spelled_command v) ≤ longest → IsShort v

@@ -5,7 +5,7 @@ use Rattle.std.proofs.lemmas.Bool.{eqb-true, ltb-false, le-ltb}
 use Rattle.press_text.specs.Names.{IsName}
 use Rattle.press_posts.specs.declared.draft.Draft.{Draft}
 use Rattle.press_apply.specs.declared.command.Command.{Command}
-use Rattle.press_apply.specs.declared.command.Command.TheVariants.{Insert, Update, Trash, Untrash, Delete, SetOption, Activate, Deactivate, Tick}
+use Rattle.press_apply.specs.declared.command.Command.TheVariants.{Insert, Update, Trash, Untrash, Delete, SetOption, Activate, Deactivate, Tick, Profile}
 use Rattle.press_apply.specs.declared.command.Stamped.{Stamped}
 use Rattle.press_apply.specs.declared.value.Value.{Value}
 use Rattle.press_apply.specs.declared.value.Value.TheVariants.{Noop, Cmd}
@@ -73,6 +73,7 @@ FitsCommand (SetOption option text) = IsName 32 option × FitsText text
 FitsCommand (Activate plugin) = IsName 32 plugin
 FitsCommand (Deactivate plugin) = IsName 32 plugin
 FitsCommand Tick = Unit {0}
+FitsCommand (Profile to) = to < 256
 
 -- a command of this kind
 abbrev FitsKind : CommandKind → Command → Type 0
@@ -114,6 +115,10 @@ tick_is : (c : Command) → FitsKind kind.Tick c → c ≡ Tick
 tick_is Tick fits = refl
 tick_is other fits = let e = fits.1 in absurd cc
 
+back_profile : (c : Command) → FitsKind kind.Profile c → (to : ℕ) × (c ≡ Profile to) × (to < 256)
+back_profile (Profile to) fits = (to, refl, fits.0)
+back_profile other fits = let e = fits.1 in absurd cc
+
 no_fields : fields Tick ≡ []
 unfolding fields
 no_fields = refl
@@ -133,6 +138,7 @@ fields_codec kind.Tick = record {
       subst (λ (p : Command × List ℕ). Takes fields (FitsKind kind.Tick) bytes p.0 p.1) (ok_is (Tick, bytes) (v, rest) e) (record { parts = ap (λ (t : List ℕ). t ++ bytes) (sym no_fields); rest_fits = fits; fits = (tt, refl) });
   again = λ v rest fits. rw (tick_is v fits) refl;
 }
+fields_codec kind.Profile = mapped_codec byte_codec Profile fields (FitsKind kind.Profile) (λ to. refl) (λ to fits. (fits, refl)) back_profile
 
 -- ---- stamped commands
 
@@ -182,7 +188,8 @@ command_named : (n : ℕ) (k : CommandKind) → command_kind_of n ≡ Some k →
 command_named n k =
     or_next command_number n 1 kind.Insert k _ refl (or_next command_number n 2 kind.Update k _ refl (or_next command_number n 3 kind.Trash k _ refl
     (or_next command_number n 4 kind.Untrash k _ refl (or_next command_number n 5 kind.Delete k _ refl (or_next command_number n 6 kind.SetOption k _ refl
-    (or_next command_number n 7 kind.Activate k _ refl (or_next command_number n 8 kind.Deactivate k _ refl (or_next command_number n 9 kind.Tick k _ refl (or_none command_number n k)))))))))
+    (or_next command_number n 7 kind.Activate k _ refl (or_next command_number n 8 kind.Deactivate k _ refl (or_next command_number n 9 kind.Tick k _ refl
+    (or_next command_number n 10 kind.Profile k _ refl (or_none command_number n k))))))))))
 
 of_command : (n : ℕ) (o : Option CommandKind) (v : ValueKind) → ((k : CommandKind) → o ≡ Some k → n ≡ command_number k) → option_map value.Cmd o ≡ Some v → n ≡ value_number v
 of_command n None v h e = absurd cc
@@ -202,6 +209,7 @@ value_known (value.Cmd kind.SetOption) = (omega arith, refl)
 value_known (value.Cmd kind.Activate) = (omega arith, refl)
 value_known (value.Cmd kind.Deactivate) = (omega arith, refl)
 value_known (value.Cmd kind.Tick) = (omega arith, refl)
+value_known (value.Cmd kind.Profile) = (omega arith, refl)
 
 value_kind_codec : Codec (checked BadKind value_kind_of byte_at) (λ k. one (value_number k)) (λ k. Unit {0})
 value_kind_codec = recast (checked_codec byte_codec BadKind value_kind_of value_number value_named) (checked BadKind value_kind_of byte_at) (λ k. one (value_number k)) (λ k. Unit {0})
@@ -292,6 +300,7 @@ is_command (SetOption option text) fits = (fits.0, fits.1.1)
 is_command (Activate plugin) fits = fits
 is_command (Deactivate plugin) fits = fits
 is_command Tick fits = tt
+is_command (Profile to) fits = fits
 
 pub is_value : (v : Value) → FitsValue v → IsValue v
 is_value (Noop at) fits = fits
@@ -310,6 +319,7 @@ command_fits (SetOption option text) is short = (is.0, (within _ short, is.1))
 command_fits (Activate plugin) is short = is
 command_fits (Deactivate plugin) is short = is
 command_fits Tick is short = tt
+command_fits (Profile to) is short = is
 
 value_fits : (v : Value) → IsValue v → IsShort v → FitsValue v
 value_fits (Noop at) is short = is

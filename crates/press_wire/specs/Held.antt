@@ -4,7 +4,7 @@ use Rattle.std.specs.Str.{is_utf8}
 use Rattle.press_text.specs.Names.{IsName}
 use Rattle.press_posts.specs.declared.draft.Draft.{Draft}
 use Rattle.press_apply.specs.declared.command.Command.{Command}
-use Rattle.press_apply.specs.declared.command.Command.TheVariants.{Insert, Update, Trash, Untrash, Delete, SetOption, Activate, Deactivate, Tick}
+use Rattle.press_apply.specs.declared.command.Command.TheVariants.{Insert, Update, Trash, Untrash, Delete, SetOption, Activate, Deactivate, Tick, Profile}
 use Rattle.press_apply.specs.declared.command.Stamped.{Stamped}
 use Rattle.press_apply.specs.declared.value.Value.{Value}
 use Rattle.press_apply.specs.declared.value.Value.TheVariants.{Noop, Cmd}
@@ -38,6 +38,7 @@ IsCommand (SetOption name value) = IsName 32 name × IsText value
 IsCommand (Activate plugin) = IsName 32 plugin
 IsCommand (Deactivate plugin) = IsName 32 plugin
 IsCommand Tick = Unit {0}
+IsCommand (Profile to) = to < 256
 
 abbrev pub IsStamped : Stamped → Type 0
 IsStamped s = IsName 32 s.token.editor × (s.token.seq < 2 ^ 64) × IsMoment s.at × IsCommand s.command
@@ -88,6 +89,7 @@ HasShortTexts (SetOption name value) = length value ≤ longest
 HasShortTexts (Activate plugin) = Unit {0}
 HasShortTexts (Deactivate plugin) = Unit {0}
 HasShortTexts Tick = Unit {0}
+HasShortTexts (Profile to) = Unit {0}
 
 abbrev pub IsShort : Value → Type 0
 IsShort (Noop at) = Unit {0}

@@ -30,6 +30,7 @@ first_at kind.SetOption bytes = name_at bytes
 first_at kind.Activate bytes = name_at bytes
 first_at kind.Deactivate bytes = name_at bytes
 first_at kind.Tick bytes = Err BadKind
+first_at kind.Profile bytes = Err BadKind
 
 -- a value without a command has no editor
 unfoldable pub editor_behind : ValueKind → Reading (List ℕ)

@@ -2,7 +2,7 @@
 use Rattle.std.specs.Prelude.{ℕ, List, ◌==◌, length, nat_lt, Bool, true, false, Option, Some, None, Result, Ok, Err, if◌then◌else◌}
 use Rattle.press_posts.specs.declared.draft.Draft.{Draft}
 use Rattle.press_apply.specs.declared.command.Command.{Command}
-use Rattle.press_apply.specs.declared.command.Command.TheVariants.{Insert, Update, Trash, Untrash, Delete, SetOption, Activate, Deactivate, Tick}
+use Rattle.press_apply.specs.declared.command.Command.TheVariants.{Insert, Update, Trash, Untrash, Delete, SetOption, Activate, Deactivate, Tick, Profile}
 use Rattle.press_apply.specs.declared.command.Stamped.{Stamped}
 use Rattle.press_apply.specs.declared.value.Value.{Value}
 use Rattle.press_apply.specs.declared.value.Value.TheVariants.{Noop, Cmd}
@@ -70,6 +70,7 @@ fields_at kind.SetOption bytes = option_at bytes
 fields_at kind.Activate bytes = about_plugin_at Activate bytes
 fields_at kind.Deactivate bytes = about_plugin_at Deactivate bytes
 fields_at kind.Tick bytes = Ok (Tick, bytes)
+fields_at kind.Profile bytes = byte_at bytes >>= λ to. Ok (Profile to.0, to.1)
 
 unfoldable pub stamped_at : CommandKind → Reading Stamped
 stamped_at kind bytes = do

@@ -2,7 +2,7 @@
 use Rattle.std.specs.Prelude.{ℕ, List, [], ◌∷◌, ◌++◌, length, nat_lt, Bool, false, Option, Some, None}
 use Rattle.std.specs.Int.{w32, w64, to_be_bytes}
 use Rattle.press_apply.specs.declared.command.Command.{Command}
-use Rattle.press_apply.specs.declared.command.Command.TheVariants.{Insert, Update, Trash, Untrash, Delete, SetOption, Activate, Deactivate, Tick}
+use Rattle.press_apply.specs.declared.command.Command.TheVariants.{Insert, Update, Trash, Untrash, Delete, SetOption, Activate, Deactivate, Tick, Profile}
 use Rattle.press_apply.specs.declared.command.Stamped.{Stamped}
 use Rattle.press_apply.specs.declared.value.Value.{Value}
 use Rattle.press_apply.specs.declared.value.Value.TheVariants.{Noop, Cmd}
@@ -48,6 +48,7 @@ fields (SetOption option value) = name option ++ text value
 fields (Activate plugin) = name plugin
 fields (Deactivate plugin) = name plugin
 fields Tick = []
+fields (Profile to) = to ∷ []
 
 unfoldable pub stamped : Stamped → List ℕ
 stamped s = name s.token.editor ++ (number8 s.token.seq ++ (number8 s.at ++ fields s.command))

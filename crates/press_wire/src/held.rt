@@ -54,6 +54,9 @@ fn hold_command(command: &Command)
             let _plugin = plugin.as_str();
         }
         Command::Tick => {}
+        Command::Profile(to) => {
+            let _to = *to;
+        }
     }
 }
 

@@ -85,6 +85,7 @@ impl<'a> Reader<'a> {
                 plugin: self.name(alloc)?,
             }),
             CommandKind::Tick => Ok(Command::Tick),
+            CommandKind::Profile => Ok(Command::Profile(self.byte()?)),
         }
     }
 

@@ -50,6 +50,7 @@ impl Writer {
             Command::Activate { plugin } => self.name(plugin),
             Command::Deactivate { plugin } => self.name(plugin),
             Command::Tick => Ok(()),
+            Command::Profile(to) => self.byte(*to),
         }
     }
 
@@ -114,6 +115,7 @@ fn fields_len(command: &Command) -> Option<usize>
         Command::Activate { plugin } => Some(1 + plugin.as_str().len()),
         Command::Deactivate { plugin } => Some(1 + plugin.as_str().len()),
         Command::Tick => Some(0),
+        Command::Profile(_) => Some(1),
     }
 }
 
