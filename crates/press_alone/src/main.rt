@@ -13,7 +13,6 @@
 #![tactic(auto)]
 
 mod cluster;
-mod downs;
 mod failing;
 mod faults;
 mod fuse;

@@ -27,8 +27,8 @@ pub enum Came {
 }
 
 impl Came {
-    /// Whether a closure ran out of memory, and what the run then gave is this.
-    pub fn gives_again(&self, ample: &Answer) -> bool {
+    // Whether a closure ran out of memory, and what the run then gave is this.
+    fn gives_again(&self, ample: &Answer) -> bool {
         match self {
             Came::Wanted(again) => again.is(ample),
             _ => false,
@@ -36,26 +36,21 @@ impl Came {
     }
 }
 
-/// How many calls a run has, and how many of them can run out of memory with nothing else changed.
+// How many calls a run has, and how many of them can run out of memory with nothing else changed.
 #[derive(Clone, Copy)]
-pub struct Calls {
-    pub all: u64,
-    pub refused: u64,
+struct Calls {
+    all: u64,
+    refused: u64,
 }
 
-/// The line of a run.
-pub fn run_line(
-    alloc: Global,
-    what: &str,
-    ample: &Answer,
-    calls: Calls,
-) -> Result<String, AllocError> {
+// The line of a run.
+fn run_line(alloc: Global, what: &str, ample: &Answer, calls: Calls) -> Result<String, AllocError> {
     let (told, Calls { all, refused }) = (ample.told.as_str(), calls);
     format!(in alloc; "{what}: {told}; {refused} of {all} calls refused\n")
 }
 
-/// The line of a run that gave nothing with ample memory.
-pub fn no_answer_line(alloc: Global, what: &str) -> Result<String, AllocError> {
+// The line of a run that gave nothing with ample memory.
+fn no_answer_line(alloc: Global, what: &str) -> Result<String, AllocError> {
     format!(in alloc; "{what}: no answer\n")
 }
 

@@ -11,7 +11,6 @@ use press_apply::Stamped;
 use press_callbacks::Kit;
 use press_http::HttpFault;
 use press_node::{Event, Node, NodeFault, Served, StartFault, serve_one};
-use press_page::{Reply, Target};
 use press_wire::{Message, Node as Member};
 use std::alloc::{AllocError, Global};
 use std::collections::VecDeque;
@@ -21,12 +20,22 @@ use std::io::{Read, Write};
 const FRONT: &[u8] = b"GET / HTTP/1.1\r\nHost: a\r\n\r\n";
 
 /// A node by itself, the messages that it sent to itself, and in what pieces its connections come.
-#[derive(Drop)]
 pub struct Seat {
     node: Node<Failing>,
     waiting: VecDeque<Message>,
     size: usize,
     alloc: Global,
+}
+
+impl Drop for Seat {
+    fn drop(self) {
+        let Seat {
+            node: _,
+            waiting: _,
+            size: _,
+            alloc: _,
+        } = self;
+    }
 }
 
 // The only member.
@@ -198,17 +207,6 @@ impl Seat {
         self.deliver_all(&mut 0)
     }
 
-    /// Whether the node is down, and answers so.
-    pub fn is_down(&mut self) -> bool
-        requires always { Unit {0} }
-    {
-        let got: Result<Reply, NodeFault> = self.node.get(&Target::Front);
-        self.node.is_down()
-            && self.node.applied() == 0
-            && got.err() == Some(NodeFault::Down)
-            && self.on(Event::Wake).err() == Some(NodeFault::Down)
-    }
-
     /// The reply to the bytes of one connection in one piece.
     pub fn reply_to(&mut self, bytes: &[u8]) -> anyhow::Result<Vec<u8>>
         requires always { Unit {0} }
@@ -249,38 +247,18 @@ impl Seat {
         }
     }
 
-    /// Ends the node; its kit and its store.
-    pub fn down(self) -> (Kit, Failing)
-        requires always { Unit {0} }
-    {
-        let Seat { node, .. } = self;
-        node.down()
-    }
-
     /// Ends the node, and starts one over this store; what waited is dropped.
     pub fn start_over(self, store: Failing) -> anyhow::Result<Seat>
         requires always { Unit {0} }
     {
         let Seat {
             node,
+            waiting: _,
             size,
             alloc,
-            ..
         } = self;
         let (kit, _) = node.down();
         Seat::start(alloc, kit, store, size)
-    }
-
-    /// Kit and store of a node that doesn't start.
-    pub fn refused_start(
-        alloc: Global,
-        kit: Kit,
-        store: Failing,
-    ) -> anyhow::Result<(Kit, Failing)> {
-        match Node::start(alloc, member(), 1, kit, store) {
-            Ok(_) => Err(anyhow::anyhow!("a node over a shut store")),
-            Err(StartFault { kit, store, .. }) => Ok((kit, store)),
-        }
     }
 
     /// Serves the bytes of one connection in one piece, and drops its reply.
@@ -297,9 +275,9 @@ impl Seat {
     {
         let Seat {
             node,
+            waiting: _,
             size,
             alloc,
-            ..
         } = self;
         let (kit, store) = node.down();
         let line = store_line(alloc, store.memory())?;

@@ -24,13 +24,25 @@ enum Fate {
 }
 
 /// A store in memory over a device that fails as planned, and is shut from then on.
-#[derive(Debug, Drop)]
+#[derive(Debug)]
 pub struct Failing {
     memory: MemoryStore,
     plan: Plan,
     saves: u32,
     works: bool,
     faults: u64,
+}
+
+impl Drop for Failing {
+    fn drop(self) {
+        let Failing {
+            memory: _,
+            plan: _,
+            saves: _,
+            works: _,
+            faults: _,
+        } = self;
+    }
 }
 
 impl Failing {
@@ -46,24 +58,18 @@ impl Failing {
 
     /// What is kept, over a device that doesn't fail.
     pub fn mended(self) -> Failing {
-        let Failing { memory, .. } = self;
+        let Failing {
+            memory,
+            plan: _,
+            saves: _,
+            works: _,
+            faults: _,
+        } = self;
         Failing {
             memory,
             plan: Plan::Never,
             saves: 0,
             works: true,
-            faults: 0,
-        }
-    }
-
-    /// What is kept, over a device that is shut.
-    pub fn shut(self) -> Failing {
-        let Failing { memory, .. } = self;
-        Failing {
-            memory,
-            plan: Plan::Never,
-            saves: 0,
-            works: false,
             faults: 0,
         }
     }

@@ -6,6 +6,7 @@ mod fuse;
 mod hooks;
 mod learner;
 mod lints;
+mod mendable;
 mod moves;
 mod posts;
 mod proposer;

@@ -38,6 +38,11 @@ impl Fuse {
         last > 0 && last == self.calls.get()
     }
 
+    /// Whether no call runs out of memory from now on.
+    pub fn is_off(&self) -> bool {
+        self.last.get() == 0
+    }
+
     /// The script's turn, or out of memory.
     pub fn turn(&self, alloc: Global, script: &Script, input: &CallIn) -> Result<Turn, AllocError>
         ensures { IfOk result (λ t. t ≡ turn_of script.now input.now) }
