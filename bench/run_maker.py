@@ -42,12 +42,13 @@ class Maker:
         self.manner = chance.choice(MANNERS)
         self.priorities = chance.choice(PRIORITIES)
         self.tags = chance.choice(TAG_SETS)
-        self.hooks = OWN_HOOKS if chance.random() < 0.6 else (*chance.sample(OWN_HOOKS, 2), *chance.sample(("the_title", "the_content", "update_option_a", "add_option_a", "publish_future_post"), 2))
+        self.hooks = OWN_HOOKS if chance.random() < 0.6 else (*chance.sample(OWN_HOOKS, 2), *chance.sample(("the_title", "the_content", "update_option_a", "add_option_a", "publish_future_post", "do_shortcode_tag"), 2))
         self.scripts = {}
         self.loads = []  # of all plugins, before they are dealt out
         self.plays = []
         self.commands = None
         self.pages = []
+        self.profile = 1
 
     def some(self, *of):
         return self.chance.choice(of)
@@ -60,7 +61,10 @@ class Maker:
         ways = {
             self._mixed: 38, self._nested: 22, self._site: 15, self._shortcodes: 12, self._deep: 5, self._long: 4, self._nested_at_many: 2, self._rows: 1, self._many_tags: 1,
         }
-        self.chance.choices(list(ways), list(ways.values()))[0]()
+        way = self.chance.choices(list(ways), list(ways.values()))[0]
+        way()
+        if way in (self._mixed, self._nested, self._site, self._shortcodes) and self.happens(0.4):
+            self._filters()
         told = self._told()
         return self._at_the_last_turn(told) if self.happens(0.02) else told
 
@@ -76,9 +80,11 @@ class Maker:
         active = [name for name in names if self.happens(0.95)] + ["none"] * self.happens(0.02)
         self.chance.shuffle(active)
         told = {"kit": kit, "plays": self.plays}
+        if self.profile == 2 and self.commands is None:
+            self.commands = []
         if self.commands is None:
             return {**told, "active": active, **({"pages": ["front"]} if self.happens(0.03) else {})}
-        ahead = [{"kind": "activate", "plugin": name} for name in active]
+        ahead = [{"kind": "activate", "plugin": name} for name in active] + [{"kind": "profile", "profile": 2}] * (self.profile == 2)
         for number, command in enumerate(ahead + self.commands, 1):
             command.update(editor=self.some("ann", "bob"), seq=number if self.happens(0.97) else self.chance.randint(1, number))
             command.setdefault("at", 100)
@@ -221,6 +227,12 @@ class Maker:
             play["times"] = self.some(1, 2, 3, 7)
         self.plays.append(play)
 
+    def _filters(self):
+        """Callbacks on what shortcodes answer, mostly in the profile that has it filtered."""
+        for _ in range(self.chance.randint(1, 3)):
+            self._load("do_shortcode_tag", self.callback())
+        self.profile = self.some(1, 2, 2, 2)
+
     def _callbacks(self):
         for name in LETTERS:
             self.scripts[name] = []
@@ -341,7 +353,7 @@ class Maker:
         return self.some(
             {"kind": "insert", **draft()}, {"kind": "insert", **draft()}, {"kind": "insert", **draft()}, {"kind": "update", "id": id, **draft()}, {"kind": "update", "id": id, **draft()}, {"kind": "trash", "id": id},
             {"kind": "untrash", "id": id}, {"kind": "delete", "id": id}, {"kind": "option", "name": self.some("a", "log", "blogname"), "value": self.some("", "1", "2", "<&>")}, {"kind": "tick"}, {"kind": "tick"},
-            {"kind": self.some("activate", "deactivate"), "plugin": self.some("P", "p", "q-1", "none")},
+            {"kind": self.some("activate", "deactivate"), "plugin": self.some("P", "p", "q-1", "none")}, {"kind": "profile", "profile": self.some(0, 1, 2, 2, 255)},
         )
 
     # ---- limits

@@ -17,9 +17,10 @@ LAST_MOMENT, LAST_ID = 2**40, 2**64 - 1
 ON_FRONT = 10
 
 TOO_LONG, NO_SUCH_POST, NOT_TRASHED, IS_TRASHED, TOO_MANY_POSTS, TOO_MANY_EVENTS = 2, 10, 11, 12, 13, 14
-NO_SUCH_PLUGIN, ALREADY_ACTIVE, NOT_ACTIVE, TOO_MANY_OPTIONS, LIMIT = 15, 16, 17, 18, 20
+NO_SUCH_PLUGIN, ALREADY_ACTIVE, NOT_ACTIVE, TOO_MANY_OPTIONS, BAD_PROFILE, LIMIT = 15, 16, 17, 18, 19, 20
 
 DO_SHORTCODE, CHECK_AND_PUBLISH = "do_shortcode", "check_and_publish_future_post"
+DO_SHORTCODE_TAG = "do_shortcode_tag"
 PUBLISH_FUTURE = "publish_future_post"
 SECONDS = {"hourly": 3_600, "twicedaily": 43_200, "daily": 86_400}
 
@@ -224,6 +225,7 @@ def number_of(text):
 class Site:
     def __init__(self):
         self.now = 0
+        self.profile = 1
         self.posts = {}
         self.last_id = 0
         self.options = {}
@@ -233,7 +235,7 @@ class Site:
 
     def copy(self):
         other = Site()
-        other.now, other.last_id = self.now, self.last_id
+        other.now, other.profile, other.last_id = self.now, self.profile, self.last_id
         other.posts, other.options, other.outcomes = dict(self.posts), dict(self.options), dict(self.outcomes)
         other.events, other.active = list(self.events), set(self.active)
         return other
@@ -338,7 +340,7 @@ class Reading:
     """A site of which a page is made: nothing changes it."""
 
     def __init__(self, site):
-        self.options, self.now = site.options, site.now
+        self.options, self.now, self.profile = site.options, site.now, site.profile
 
     def set_option(self, name, value):
         return None
@@ -505,6 +507,9 @@ class Machine:
             elif found:
                 self.met["shortcodes"] += 1
                 answer = self.callback(self.tags[found.tag], Call((), attributes(found.atts), found.content, found.tag))
+                if self.site.profile == 2:
+                    self.met["answers by a filter"] += any(self.hooks.rows[DO_SHORTCODE_TAG])
+                    answer = self.apply(DO_SHORTCODE_TAG, (answer, found.tag))
                 pieces.append("[" * found.lead + answer + "]" * found.tail)
             output += pieces
             size += sum(map(size_of, pieces))
@@ -612,6 +617,8 @@ class Work:
         kind = command["kind"]
         if kind in ("activate", "deactivate"):
             return getattr(self, "_" + kind)(command["plugin"])
+        if kind == "profile":
+            return self._profile(command["profile"])
         self.machine.start()
         return getattr(self, "_" + kind)(command)
 
@@ -627,6 +634,12 @@ class Work:
         if plugin not in self.site.active:
             raise Refused(NOT_ACTIVE)
         self.site.active.remove(plugin)
+        return 0
+
+    def _profile(self, to):
+        if (self.site.profile, to) != (1, 2):
+            raise Refused(BAD_PROFILE)
+        self.site.profile = to
         return 0
 
     def _status(self, command):

@@ -166,6 +166,8 @@ def _fields_of(kind, value, at):
         return (_name("plugin", value),)
     if kind == "tick":
         return ()
+    if kind == "profile":
+        return (_number("profile", value, 255),)
     raise BadSchedule
 
 

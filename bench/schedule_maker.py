@@ -260,7 +260,7 @@ class Maker:
         self.clock = min(LAST_MOMENT, self.clock + self.chance.choice((0, 0, 1, 10, 40)))
         self.seq += 1
         command = {"editor": self.chance.choice(EDITORS), "seq": U64 if self._happens(0.003) else self.seq, "at": self._moment()}
-        kind = self.chance.choices(("insert", "update", "trash", "untrash", "delete", "option", "activate", "deactivate", "tick"), (50, 12, 7, 4, 4, 8, 1, 2, 12))[0]
+        kind = self.chance.choices(("insert", "update", "trash", "untrash", "delete", "option", "activate", "deactivate", "tick", "profile"), (50, 12, 7, 4, 4, 8, 1, 2, 12, 2))[0]
         command["kind"] = kind
         if kind in ("update", "trash", "untrash", "delete"):
             command["id"] = self._id()
@@ -272,6 +272,8 @@ class Maker:
             command["plugin"] = "none"
         elif kind == "deactivate":
             command["plugin"] = self.chance.choice(("none", "letters"))
+        elif kind == "profile":
+            command["profile"] = self.chance.choice((0, 1, 2, 2, 2, 255))
         return command
 
     def _write(self, command):

@@ -9,13 +9,13 @@ from typing import NamedTuple
 from schedule_files import Command
 
 NO_SUCH_POST, NOT_TRASHED, IS_TRASHED, TOO_MANY_POSTS, TOO_MANY_EVENTS = 10, 11, 12, 13, 14
-NO_SUCH_PLUGIN, NOT_ACTIVE, TOO_MANY_OPTIONS, TOO_LONG = 15, 17, 18, 2
+NO_SUCH_PLUGIN, NOT_ACTIVE, TOO_MANY_OPTIONS, BAD_PROFILE, TOO_LONG = 15, 17, 18, 19, 2
 
 TITLE_LIMIT, CONTENT_LIMIT, OPTION_LIMIT = 1_024, 65_536, 4_096
 POSTS, OPTIONS, EVENTS = 10_000, 1_024, 4_096
 ON_FRONT = 10
 
-PLUGINS = ("grow", "letters", "loop", "notes", "tags")
+PLUGINS = ("grow", "letters", "loop", "marks", "notes", "tags")
 
 
 class Unsupported(Exception):
@@ -55,12 +55,15 @@ def size_of(command: Command):
         return size + 1 + len(command.fields[0]) + text(command.fields[1])
     if command.kind in ("activate", "deactivate"):
         return size + 1 + len(command.fields[0])
+    if command.kind == "profile":
+        return size + 1
     return size
 
 
 class Site:
     def __init__(self):
         self.now = 0
+        self.profile = 1
         self.posts = []  # by id, from 1 on; the place of a deleted post is None
         self.due = []  # (moment, id) of each post that is to be published, in the order in which they came
         self.options = {}
@@ -157,6 +160,12 @@ class Site:
 
     def _deactivate(self, plugin):
         raise Refused(NOT_ACTIVE)
+
+    def _profile(self, to):
+        if (self.profile, to) != (1, 2):
+            raise Refused(BAD_PROFILE)
+        self.profile = to
+        return 0
 
     def _tick(self):
         for moment, id in sorted(self.due, key=lambda event: event[0]):

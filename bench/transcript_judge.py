@@ -66,7 +66,7 @@ class Life:
 def command_of(step):
     """What a submitted command is, for comparing: two are the same where they are spelled alike."""
     told = {key: step.get(key) for key in ("editor", "seq", "at", "kind")}
-    keys = {"insert": ("title", "content"), "update": ("id", "title", "content"), "option": ("name", "value"), "tick": ()}
+    keys = {"insert": ("title", "content"), "update": ("id", "title", "content"), "option": ("name", "value"), "tick": (), "profile": ("profile",)}
     keys |= dict.fromkeys(("trash", "untrash", "delete"), ("id",)) | dict.fromkeys(("activate", "deactivate"), ("plugin",))
     told |= {key: step[key] for key in keys[step["kind"]]}
     if step["kind"] in ("insert", "update"):
@@ -76,7 +76,7 @@ def command_of(step):
 
 def spelled(command):
     """How many bytes the command takes on the wire."""
-    sizes = {"seq": 8, "at": 8, "kind": 1, "id": 8, "status": 1, "date": 8}
+    sizes = {"seq": 8, "at": 8, "kind": 1, "id": 8, "status": 1, "date": 8, "profile": 1}
     names = ("editor", "plugin", "name")
     return sum(sizes.get(key) or len(value.encode()) + (1 if key in names else 4) for key, value in command)
 
