@@ -135,7 +135,7 @@ pub struct OnNode<'a> {
     pub alloc: Global,
     pub fuse: &'a Fuse,
     pub commands: &'a [Stamped],
-    /// The form by which the second command comes too.
+    /// The form by which the second command comes, where there is one.
     pub form: Option<&'a [u8]>,
 }
 

@@ -314,7 +314,7 @@ struct Counts {
     answers: String,
 }
 
-// The counts of a play file over this kit, on one site and on nodes, one of which has the second command by a form.
+// The counts of a play file over this kit, on one site and on nodes, which get the second command by the form, where there is one.
 fn counts_of(
     alloc: Global,
     kit: KitParts,
