@@ -51,15 +51,15 @@ drafted_back d = λ i. record { title = d.title; content = d.content; status = t
 abbrev of_kind : Option CommandKind → Parts → Command
 of_kind None p = Tick
 of_kind (Some kind.Insert) p = Insert (drafted p)
-of_kind (Some kind.Update) p = Update p.number (drafted p)
-of_kind (Some kind.Trash) p = Trash p.number
-of_kind (Some kind.Untrash) p = Untrash p.number
-of_kind (Some kind.Delete) p = Delete p.number
+of_kind (Some kind.Update) p = Update p.id_or_profile (drafted p)
+of_kind (Some kind.Trash) p = Trash p.id_or_profile
+of_kind (Some kind.Untrash) p = Untrash p.id_or_profile
+of_kind (Some kind.Delete) p = Delete p.id_or_profile
 of_kind (Some kind.SetOption) p = SetOption p.first p.second
 of_kind (Some kind.Activate) p = Activate p.first
 of_kind (Some kind.Deactivate) p = Deactivate p.first
 of_kind (Some kind.Tick) p = Tick
-of_kind (Some kind.Profile) p = Profile p.number
+of_kind (Some kind.Profile) p = Profile p.id_or_profile
 
 abbrev of_parts : Parts → Command
 of_parts p = of_kind (command_kind_of p.kind) p
@@ -78,21 +78,21 @@ back (Profile to) = refl
 
 -- ---- what counts as the same is equal
 
-parts : (p q : Parts) → p.kind ≡ q.kind → p.number ≡ q.number → p.date ≡ q.date → p.status ≡ q.status → p.first ≡ q.first → p.second ≡ q.second → p ≡ q
-parts p q a b c d e f = λ i. record { kind = a i; number = b i; date = c i; status = d i; first = e i; second = f i }
+parts : (p q : Parts) → p.kind ≡ q.kind → p.id_or_profile ≡ q.id_or_profile → p.date ≡ q.date → p.status ≡ q.status → p.first ≡ q.first → p.second ≡ q.second → p ≡ q
+parts p q a b c d e f = λ i. record { kind = a i; id_or_profile = b i; date = c i; status = d i; first = e i; second = f i }
 
 parts_alike : (p q : Parts) → are_same p q ≡ true → p ≡ q
 parts_alike p q h =
     let a = and_parts (p.kind == q.kind) _ h in
-    let b = and_parts (p.number == q.number) _ a.1 in
+    let b = and_parts (p.id_or_profile == q.id_or_profile) _ a.1 in
     let c = and_parts (p.date == q.date) _ b.1 in
     let d = and_parts (bytes_eq p.status q.status) _ c.1 in
     let e = and_parts (bytes_eq p.first q.first) _ d.1 in
-    parts p q (number p.kind q.kind a.0) (number p.number q.number b.0) (number p.date q.date c.0) (text p.status q.status d.0) (text p.first q.first e.0) (text p.second q.second e.1)
+    parts p q (number p.kind q.kind a.0) (number p.id_or_profile q.id_or_profile b.0) (number p.date q.date c.0) (text p.status q.status d.0) (text p.first q.first e.0) (text p.second q.second e.1)
 
 alike_parts : (p : Parts) → are_same p p ≡ true
 alike_parts p =
-    and_from (p.kind == p.kind) _ (itself p.kind) (and_from (p.number == p.number) _ (itself p.number) (and_from (p.date == p.date) _ (itself p.date)
+    and_from (p.kind == p.kind) _ (itself p.kind) (and_from (p.id_or_profile == p.id_or_profile) _ (itself p.id_or_profile) (and_from (p.date == p.date) _ (itself p.date)
     (and_from (bytes_eq p.status p.status) _ (text_itself p.status) (and_from (bytes_eq p.first p.first) _ (text_itself p.first) (text_itself p.second)))))
 
 command : (c d : Command) → is_same_command c d ≡ true → c ≡ d

@@ -8,26 +8,26 @@ use Rattle.press_apply.specs.declared.command.Stamped.{Stamped}
 use Rattle.press_apply.specs.declared.value.Value.{Value}
 use Rattle.press_apply.specs.declared.value.Value.TheVariants.{Noop, Cmd}
 
--- what a command is made of: its number is the id of its post, or its profile; a part that it lacks is 0 or empty
+-- what a command is made of: a part that it lacks is 0 or empty
 pub record Parts : Type 0 where
   pub kind : ℕ
-  pub number : ℕ
+  pub id_or_profile : ℕ
   pub date : ℕ
   pub status : List ℕ
   pub first : List ℕ
   pub second : List ℕ
 
-abbrev pub number_in : Command → ℕ
-number_in (Insert draft) = 0
-number_in (Update id draft) = id
-number_in (Trash id) = id
-number_in (Untrash id) = id
-number_in (Delete id) = id
-number_in (SetOption name value) = 0
-number_in (Activate plugin) = 0
-number_in (Deactivate plugin) = 0
-number_in Tick = 0
-number_in (Profile to) = to
+abbrev pub id_or_profile_in : Command → ℕ
+id_or_profile_in (Insert draft) = 0
+id_or_profile_in (Update id draft) = id
+id_or_profile_in (Trash id) = id
+id_or_profile_in (Untrash id) = id
+id_or_profile_in (Delete id) = id
+id_or_profile_in (SetOption name value) = 0
+id_or_profile_in (Activate plugin) = 0
+id_or_profile_in (Deactivate plugin) = 0
+id_or_profile_in Tick = 0
+id_or_profile_in (Profile to) = to
 
 abbrev pub date_in : Command → ℕ
 date_in (Insert draft) = draft.date
@@ -78,10 +78,10 @@ second_in Tick = []
 second_in (Profile to) = []
 
 abbrev pub parts_of : Command → Parts
-parts_of c = record { kind = command_number (kind_of_command c); number = number_in c; date = date_in c; status = status_in c; first = first_in c; second = second_in c }
+parts_of c = record { kind = command_number (kind_of_command c); id_or_profile = id_or_profile_in c; date = date_in c; status = status_in c; first = first_in c; second = second_in c }
 
 abbrev pub are_same : Parts → Parts → Bool
-are_same p q = (p.kind == q.kind) && ((p.number == q.number) && ((p.date == q.date) && (bytes_eq p.status q.status && (bytes_eq p.first q.first && bytes_eq p.second q.second))))
+are_same p q = (p.kind == q.kind) && ((p.id_or_profile == q.id_or_profile) && ((p.date == q.date) && (bytes_eq p.status q.status && (bytes_eq p.first q.first && bytes_eq p.second q.second))))
 
 abbrev pub is_same_command : Command → Command → Bool
 is_same_command c d = are_same (parts_of c) (parts_of d)

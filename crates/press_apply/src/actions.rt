@@ -17,7 +17,7 @@ pub fn about(alloc: Global, hook: &str, id: u64) -> Result<Items<Fire>, AllocErr
     let id = decimal(alloc, id)?;
     let fire = Fire {
         hook: HookName::from_valid(alloc, hook)?,
-        args: Texts::from_vec(vec![in alloc; id]?)?,
+        args: Texts::one(alloc, id),
     };
     Ok(Items::from_vec(vec![in alloc; fire]?))
 }
@@ -32,7 +32,7 @@ pub fn event_fires(alloc: Global, taken: bool, event: &Event) -> Result<Items<Fi
     let arg = event.arg.copy(alloc)?;
     let fire = Fire {
         hook: event.hook.copy(alloc)?,
-        args: Texts::from_vec(vec![in alloc; arg]?)?,
+        args: Texts::one(alloc, arg),
     };
     Ok(Items::from_vec(vec![in alloc; fire]?))
 }

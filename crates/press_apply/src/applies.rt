@@ -217,7 +217,7 @@ fn work(alloc: Global, kit: &Kit, site: OpenSite, command: &Command) -> Worked
         Command::Activate { plugin } => activate(alloc, kit, site, plugin),
         Command::Deactivate { plugin } => deactivate(alloc, site, plugin),
         Command::Tick => tick(alloc, kit, site),
-        Command::Profile(to) => switch(site, *to),
+        Command::Profile(to) => switch_profile(site, *to),
     }
 }
 
@@ -362,7 +362,7 @@ fn deactivate(alloc: Global, site: OpenSite, plugin: &Name) -> Worked
 }
 
 // Takes no memory.
-fn switch(site: OpenSite, to: u8) -> Worked
+fn switch_profile(site: OpenSite, to: u8) -> Worked
     ensures works { Works (alone (effect_on site.site (Effect.Profile to))) site result }
     ensures limits { TellsItsLimit result }
     ensures memory { result.id ≢ Err ApplyFault.NoMemory }

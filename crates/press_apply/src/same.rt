@@ -1,16 +1,16 @@
 //! Whether two commands are the same.
 
 ghost use Rattle.std.specs.Prelude.{◌≡◌};
-ghost use Rattle.press_apply.specs.Same.{date_in, first_in, is_same_command, is_same_stamped, is_same_value, number_in, second_in, status_in};
+ghost use Rattle.press_apply.specs.Same.{date_in, first_in, id_or_profile_in, is_same_command, is_same_stamped, is_same_value, second_in, status_in};
 
 use crate::command::{Command, Stamped};
 use crate::kind::CommandKind;
 use crate::value::Value;
 
 impl Command {
-    // The id of its post, or its profile.
-    fn number(&self) -> u64
-        ensures { result ≡ number_in self.now }
+    // 0 where it has neither.
+    fn id_or_profile(&self) -> u64
+        ensures { result ≡ id_or_profile_in self.now }
     {
         match self {
             Command::Update { id, .. }
@@ -94,7 +94,7 @@ impl Command {
         ensures { result ≡ is_same_command self.now other.now }
     {
         CommandKind::of(self).number() == CommandKind::of(other).number()
-            && self.number() == other.number()
+            && self.id_or_profile() == other.id_or_profile()
             && self.date() == other.date()
             && self.status() == other.status()
             && self.first() == other.first()

@@ -128,7 +128,7 @@ impl Work {
     {
         let hook = HookName::from_valid(self.alloc, hook)?;
         let text = text.copy(self.alloc)?;
-        let args = Texts::from_vec(vec![in self.alloc; text]?)?;
+        let args = Texts::one(self.alloc, text);
         match self.machine.run(kit, Job::Apply { hook, args }) {
             Ok(given) => Ok(Text::from_string(given)?),
             Err(RunFault::Limit) => Err(ApplyFault::Limit),

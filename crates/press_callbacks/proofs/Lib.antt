@@ -5,6 +5,7 @@ pub mod Lengths
 pub mod Moved
 pub mod Naturals
 pub mod Ordered
+pub mod Others
 pub mod Past
 pub mod Plays
 pub mod Sames

@@ -30,12 +30,23 @@ pub fn check_and_publish_future_post() -> CallbackId
 pub fn is_do_shortcode(name: &[u8]) -> bool
     ensures { result ≡ bytes_eq name.now named_do_shortcode }
 {
-    name == b"do_shortcode".as_slice()
+    is_same(name, b"do_shortcode".as_slice())
 }
 
 /// Whether a name is that of a built-in callback.
 pub fn is_built_in(name: &[u8]) -> bool
     ensures { result ≡ is_built_in name.now }
 {
-    is_do_shortcode(name) || name == b"check_and_publish_future_post".as_slice()
+    is_do_shortcode(name) || is_same(name, b"check_and_publish_future_post".as_slice())
+}
+
+// The lengths are compared first, since nearly every name has another one.
+#[tactic(auto, using(crate::proofs::Others::of_another_length))]
+fn is_same(name: &[u8], own: &[u8]) -> bool
+    ensures { result ≡ bytes_eq name.now own.now }
+{
+    if name.len() != own.len() {
+        return false;
+    }
+    name == own
 }

@@ -125,7 +125,7 @@ pub type Script = Items<Op>;
 
 /// What a callback sees at one turn: at its start `value` is the first argument and `last` is empty.
 /// A callback of a hook has no attributes and empty `content` and `tag`; one of a shortcode has no arguments.
-#[derive(Debug)]
+#[derive(Debug, Drop)]
 pub struct CallIn {
     pub args: Texts,
     pub atts: Atts,
@@ -134,20 +134,6 @@ pub struct CallIn {
     pub value: Text,
     pub last: Text,
     pub turn: usize,
-}
-
-impl Drop for CallIn {
-    fn drop(self) {
-        let CallIn {
-            args: _,
-            atts: _,
-            content: _,
-            tag: _,
-            value: _,
-            last: _,
-            turn: _,
-        } = self;
-    }
 }
 
 /// What a callback asks for at one turn.

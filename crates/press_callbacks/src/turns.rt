@@ -1,10 +1,11 @@
-ghost use Rattle.std.specs.Prelude.{◌≡◌, ◌<◌, ◌∷◌, ◌++◌, map, length, IfOk, OnOk, OnErr};
+ghost use Rattle.std.specs.Prelude.{◌≡◌, ◌<◌, ◌∷◌, ◌++◌, map, length, IfOk, IfSome, OnOk, OnErr};
 ghost use Rattle.press_text.specs.Escapes.{escaped};
 ghost use Rattle.press_callbacks.specs.Turns.{source_text, part_text, skipped, text_of, turn_of_op, turn_of, TakesMemory};
 ghost use Rattle.press_callbacks.specs.declared.script.Turn.TheVariants.{Go, Return};
 
 use crate::pieces::{Pieces, are_same};
 use crate::script::{Ask, CallIn, Op, Part, Parts, Script, Source, Turn};
+use crate::sources::source_text;
 use press_text::{Copied, Items, Text, Texts, esc_html};
 use std::alloc::{AllocError, Global};
 
@@ -168,11 +169,38 @@ fn text_of(alloc: Global, parts: &Parts, call: &CallIn) -> Result<Text, AllocErr
     ensures text { IfOk result (λ t. t ≡ text_of call.now parts.now) }
     ensures memory { OnErr result (0 < length (text_of call.now parts.now)) }
 {
+    if let [first, second] = parts.as_slice() {
+        if let Some((first, second)) = both(first, second, call) {
+            return Text::join(alloc, first, second);
+        }
+    }
     let mut text = Text::new(alloc);
     for part in parts.as_slice() {
         push_part(alloc, &mut text, part, call)?;
     }
     Ok(text)
+}
+
+// The texts of two parts that are neither empty nor escaped.
+fn both<'a>(first: &'a Part, second: &'a Part, call: &'a CallIn) -> Option<(&'a str, &'a str)>
+    ensures { IfSome result (λ p. (p.0.now ≡ part_text call.now first.now)
+        × (p.1.now ≡ part_text call.now second.now)) }
+{
+    let (first, second) = (plain(first, call)?, plain(second, call)?);
+    if first.is_empty() || second.is_empty() {
+        return None;
+    }
+    Some((first, second))
+}
+
+fn plain<'a>(part: &'a Part, call: &'a CallIn) -> Option<&'a str>
+    ensures { IfSome result (λ t. t.now ≡ part_text call.now part.now) }
+{
+    match part {
+        Part::Lit(text) => Some(text.as_str()),
+        Part::Raw(source) => Some(source_text(source, call)),
+        Part::Escaped(_) => None,
+    }
 }
 
 #[tactic(auto, using(crate::proofs::Lengths::escaped_some))]

@@ -25,6 +25,14 @@ same_where a b o e = sym (is_eq-slice_cmp a b) ∙ ap is_eq e
 turned : (a b : List ℕ) (o : Ordering) → slice_cmp nat_cmp a b ≡ o → slice_cmp nat_cmp b a ≡ ordering_reverse o
 turned a b o e = nat_list_cmp_total.antisymm b a ∙ ap ordering_reverse e
 
+tied_by : (o : Ordering) → is_eq o ≡ true → o ≡ Equal
+tied_by Less e = cc
+tied_by Equal e = refl
+tied_by Greater e = cc
+
+tied : (a b : List ℕ) → bytes_eq a b ≡ true → slice_cmp nat_cmp a b ≡ Equal
+tied a b e = tied_by (slice_cmp nat_cmp a b) (is_eq-slice_cmp a b ∙ e)
+
 equal : (a b : List ℕ) → slice_cmp nat_cmp a b ≡ Equal → a ≡ b
 equal a b e = (bytes_eq-Decides a b).0 (same_where a b Equal e)
 
@@ -410,6 +418,12 @@ found_named n (h ∷ hs) (suc i) d o lt at =
     let lt' : i < length hs = omega arith in
     let less : slice_cmp nat_cmp h.name n ≡ Less = before_one n h hs i o.0 lt' (λ g. at g) in
     found_named n hs i d o.1 lt' (λ g. at g) ∙ sym (next_named n h hs (same_where h.name n Less less))
+
+-- where a hook of that name is met, that is where it stands
+pub stands_at : (n : List ℕ) (hs : List Hooked) (i : ℕ) (h : Hooked) → i < length hs → h ≡ get_or hs i h → bytes_eq h.name n ≡ true → HoldsAt (λ (g : Hooked). slice_cmp nat_cmp g.name n ≡ Equal) hs i
+stands_at n [] i h lt is e = absurd (omega (arith, lt))
+stands_at n (x ∷ xs) zero h lt is e = λ d. subst (λ (g : Hooked). slice_cmp nat_cmp g.name n ≡ Equal) is (tied h.name n e)
+stands_at n (x ∷ xs) (suc i) h lt is e = λ d. let lt' : i < length xs = omega (arith, lt) in stands_at n xs i h lt' is e d
 
 unlike_named : (n : List ℕ) (hs : List Hooked) → IsEach (λ (h : Hooked). bytes_eq h.name n ≡ false) hs → groups_named n hs ≡ []
 unlike_named n [] o = refl

@@ -1,4 +1,4 @@
-ghost use Rattle.std.specs.Prelude.{◌≡◌, ◌+◌, ◌<◌, ◌^◌, false, length, map, filter, not, Some, None, IfOk, OnOk, OnErr, [], ◌∷◌};
+ghost use Rattle.std.specs.Prelude.{◌≡◌, ◌+◌, ◌<◌, ◌^◌, false, bytes_eq, length, map, filter, not, Some, None, IfOk, OnOk, OnErr, [], ◌∷◌};
 ghost use Rattle.std.specs.Cmp.Lexicographic.{slice_cmp};
 ghost use Rattle.std.specs.Ordering.{nat_cmp};
 ghost use Rattle.press_hooks.specs.Hooked.{hook_entries, AreGroups, has_entry, is_named, accepted_where, put_entry};
@@ -50,6 +50,13 @@ impl Hook {
         ensures { result ≡ slice_cmp nat_cmp self.now.name name.now }
     {
         self.name.as_str().cmp(name.as_str())
+    }
+
+    /// Whether it is the hook of that name.
+    pub fn is(&self, name: &HookName) -> bool
+        ensures { result ≡ bytes_eq self.now.name name.now }
+    {
+        self.name.is(name)
     }
 
     pub fn groups(&self) -> &[Group]

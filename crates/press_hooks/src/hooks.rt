@@ -1,5 +1,5 @@
-ghost use Rattle.std.specs.Prelude.{◌≡◌, ◌+◌, ◌<◌, ◌≤◌, ◌^◌, ℕ, List, false, length, map, filter, insert, not, Some, None, OnOk, OnErr};
-ghost use Rattle.press_hooks.specs.HookRows.{accepted_as, is_of_hook, put_row};
+ghost use Rattle.std.specs.Prelude.{◌≡◌, ◌+◌, ◌<◌, ◌≤◌, ◌^◌, ℕ, List, false, is_some, length, map, filter, insert, not, Some, None, OnOk, OnErr};
+ghost use Rattle.press_hooks.specs.HookRows.{accepted_as, has_rows, is_of_hook, put_row};
 ghost use Rattle.press_hooks.specs.Hooked.{IsByName, AreGroups, IsPlaceOf, KeepsOthers, entries_of, groups_named, has_entry, row_of, table_rows, is_row_named};
 
 use crate::entry::Entry;
@@ -17,6 +17,31 @@ fn find(hooks: &[Hook], name: &HookName) -> Result<usize, usize>
     hooks.binary_search_by(|h| h.cmp_name(name))
 }
 
+// The same of a hook that stood at a place when it was last looked for, which is looked at before it is believed.
+fn find_near(hooks: &[Hook], name: &HookName, place: usize) -> Result<usize, usize>
+    requires { IsByName hooks.now }
+    ensures { IsPlaceOf name.now hooks.now result }
+{
+    if place < hooks.len() && hooks[place].is(name) {
+        return Ok(place);
+    }
+    find(hooks, name)
+}
+
+/// Where the hook of that name stands, if it has an entry at all.
+pub(crate) fn place_of(hooks: &[Hook], name: &HookName) -> Option<usize>
+    requires { IsByName hooks.now }
+    ensures { is_some result ≡ has_rows name.now (table_rows hooks.now) }
+{
+    let Ok(place) = find(hooks, name) else {
+        return None;
+    };
+    if hooks[place].groups().is_empty() {
+        return None;
+    }
+    Some(place)
+}
+
 /// The groups of the hook of that name, none where there isn't one.
 pub(crate) fn groups_of<'a>(hooks: &'a [Hook], name: &HookName) -> &'a [Group]
     requires { IsByName hooks.now }
@@ -26,6 +51,20 @@ pub(crate) fn groups_of<'a>(hooks: &'a [Hook], name: &HookName) -> &'a [Group]
     ensures order { AreGroups result.now }
 {
     match find(hooks, name) {
+        Ok(place) => hooks[place].groups(),
+        Err(_) => &[],
+    }
+}
+
+/// The same of a hook that stood at a place when it was last looked for.
+pub(crate) fn groups_near<'a>(hooks: &'a [Hook], name: &HookName, place: usize) -> &'a [Group]
+    requires { IsByName hooks.now }
+    ensures groups { result.now ≡ groups_named name.now hooks.now }
+    ensures rows { filter (is_of_hook name.now) (table_rows hooks.now)
+        ≡ map (row_of name.now) (entries_of result.now) }
+    ensures order { AreGroups result.now }
+{
+    match find_near(hooks, name, place) {
         Ok(place) => hooks[place].groups(),
         Err(_) => &[],
     }

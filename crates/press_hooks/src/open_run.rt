@@ -150,22 +150,32 @@ impl Rest {
 pub struct PlacedRun {
     pub run: OpenRun,
     pub cursor: usize,
+    // Where its hook stood when the run began. That is looked at before it is believed, so nothing is said of it.
+    place: usize,
 }
 
 impl Drop for PlacedRun {
     fn drop(self) {
-        let PlacedRun { run: _, cursor: _ } = self;
+        let PlacedRun {
+            run: _,
+            cursor: _,
+            place: _,
+        } = self;
     }
 }
 
 impl PlacedRun {
-    /// A run that has reached no priority yet.
-    pub fn begin(alloc: Global, hook: &HookName) -> Result<PlacedRun, AllocError>
+    /// A run that has reached no priority yet, of a hook that stands at that place or not.
+    pub fn begin(alloc: Global, hook: &HookName, place: usize) -> Result<PlacedRun, AllocError>
         ensures run { IfOk result (λ r. r.run ≡ begun hook.now) }
         ensures cursor { IfOk result (λ r. r.cursor ≡ 0) }
     {
         let run = OpenRun::begin(alloc, hook)?;
-        Ok(PlacedRun { run, cursor: 0 })
+        Ok(PlacedRun {
+            run,
+            cursor: 0,
+            place,
+        })
     }
 
     /// Takes the next entry, from the group at the cursor where the last group is done.
@@ -204,7 +214,7 @@ impl PlacedRun {
         ensures refused { OnErr result (self.new ≡ self.old) }
         ensures memory { OnErr result (IsTrue (moves_on (table_rows rows.now) self.old.run)) }
     {
-        let groups = rows.groups_of(&self.run.hook);
+        let groups = rows.groups_near(&self.run.hook, self.place);
         if self.cursor < groups.len() {
             self.run.reach(&groups[self.cursor])?;
             self.cursor += 1;

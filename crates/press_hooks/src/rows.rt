@@ -1,6 +1,6 @@
-ghost use Rattle.std.specs.Prelude.{◌≡◌, ◌<◌, ◌==◌, [], true, false, ltb, Some, None, IsOk, IfOk, OnOk, OnErr, length, map, filter, not};
+ghost use Rattle.std.specs.Prelude.{◌≡◌, ◌<◌, ◌==◌, [], true, false, ltb, Some, None, is_some, IsOk, IfOk, OnOk, OnErr, length, map, filter, not};
 ghost use Rattle.std.specs.List.{list_any};
-ghost use Rattle.press_hooks.specs.HookRows.{is_row, is_of_hook, accepted_as, most_rows, put_row, add_row, adds_row, remove_row, remove_rows};
+ghost use Rattle.press_hooks.specs.HookRows.{is_row, has_rows, is_of_hook, accepted_as, most_rows, put_row, add_row, adds_row, remove_row, remove_rows};
 ghost use Rattle.press_hooks.specs.Hooked.{AreGroups, KeepsOthers, entries_of, groups_named, has_entry, row_of, table_rows, is_row_named};
 
 use crate::entry::Entry;
@@ -74,6 +74,23 @@ impl Rows {
         ensures order { AreGroups result.now }
     {
         hooks::groups_of(self.hooks.as_slice(), hook)
+    }
+
+    /// The same of a hook that stood at a place when it was last looked for. Nothing is said of the place.
+    pub fn groups_near(&self, hook: &HookName, place: usize) -> &[Group]
+        ensures groups { result.now ≡ groups_named hook.now self.now }
+        ensures rows { filter (is_of_hook hook.now) (table_rows self.now)
+            ≡ map (row_of hook.now) (entries_of result.now) }
+        ensures order { AreGroups result.now }
+    {
+        hooks::groups_near(self.hooks.as_slice(), hook, place)
+    }
+
+    /// Where the hook stands, if it has an entry at all.
+    pub fn place_of(&self, hook: &HookName) -> Option<usize>
+        ensures { is_some result ≡ has_rows hook.now (table_rows self.now) }
+    {
+        hooks::place_of(self.hooks.as_slice(), hook)
     }
 
     pub fn has(&self, hook: &HookName, priority: i64, callback: CallbackId) -> bool

@@ -1,4 +1,4 @@
-ghost use Rattle.std.specs.Prelude.{◌≡◌, ◌<◌, true, false, IsOk, IfOk, OnErr, IsTrue, length};
+ghost use Rattle.std.specs.Prelude.{◌≡◌, ◌<◌, true, false, is_some, IsOk, IfOk, OnErr, IsTrue, length};
 ghost use Rattle.std.specs.List.{list_any};
 ghost use Rattle.press_hooks.specs.HookRows.{is_row, add_row, adds_row, remove_row, remove_rows, has_rows, priority_of};
 ghost use Rattle.press_hooks.specs.NextEntry.{no_rows, with_rows, is_innermost, run_begun, run_ended, entry_next, run_advanced, innermost_moves_on};
@@ -152,13 +152,29 @@ impl HookTable {
         !self.rows.groups_of(hook).is_empty()
     }
 
+    /// Where the hook stands, if it has an entry at all.
+    pub fn place_of(&self, hook: &HookName) -> Option<usize>
+        ensures { is_some result ≡ has_rows hook.now self.now.rows }
+    {
+        self.rows.place_of(hook)
+    }
+
     /// Opens a run of the hook, which is the innermost from now on.
     pub fn begin(&mut self, hook: &HookName) -> Result<RunId, AllocError>
         ensures begun { IfOk result (λ id. self.new ≡ run_begun hook.now self.old) }
         ensures named { IfOk result (λ id. id ≡ length self.old.open_runs) }
         ensures refused { OnErr result (self.new ≡ self.old) }
     {
-        let run = PlacedRun::begin(self.alloc, hook)?;
+        self.begin_near(hook, 0)
+    }
+
+    /// The same of a hook that stands at that place or not: where it does, the run finds its groups there.
+    pub fn begin_near(&mut self, hook: &HookName, place: usize) -> Result<RunId, AllocError>
+        ensures begun { IfOk result (λ id. self.new ≡ run_begun hook.now self.old) }
+        ensures named { IfOk result (λ id. id ≡ length self.old.open_runs) }
+        ensures refused { OnErr result (self.new ≡ self.old) }
+    {
+        let run = PlacedRun::begin(self.alloc, hook, place)?;
         let depth = self.runs.len();
         self.runs.push(run)?;
         Ok(RunId { depth })

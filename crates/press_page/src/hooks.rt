@@ -31,7 +31,7 @@ pub fn content_args(alloc: Global, post: &Post) -> Result<Texts, AllocError>
     ensures { IfOk result (λ ts. ts ≡ post.now.content ∷ []) }
 {
     let content = post.content.copy(alloc)?;
-    Texts::from_vec(vec![in alloc; content]?)
+    Ok(Texts::one(alloc, content))
 }
 
 fn decimal(alloc: Global, n: u64) -> Result<Text, AllocError>

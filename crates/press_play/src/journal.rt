@@ -10,7 +10,7 @@ use press_callbacks::{CallIn, Script, Turn, script_turn};
 use press_kit::Play;
 use press_text::CallbackId;
 use std::alloc::{AllocError, Global};
-use std::cell::RefCell;
+use std::cell::{Cell, RefCell};
 use std::mem;
 use std::rc::Rc;
 
@@ -102,12 +102,18 @@ impl Plays {
 /// Where the closures of a kit note what they ask. What can't be noted for lack of memory is left out.
 pub struct Journal {
     alloc: Global,
+    // Whether a play is watched: a turn that nobody notes looks here alone.
+    watches: Rc<Cell<bool>>,
     plays: Rc<RefCell<Plays>>,
 }
 
 impl Drop for Journal {
     fn drop(self) {
-        let Journal { alloc: _, plays: _ } = self;
+        let Journal {
+            alloc: _,
+            watches: _,
+            plays: _,
+        } = self;
     }
 }
 
@@ -123,6 +129,7 @@ impl Journal {
         };
         Ok(Journal {
             alloc,
+            watches: Rc::new(alloc, Cell::new(false))?,
             plays: Rc::new(alloc, RefCell::new(plays))?,
         })
     }
@@ -135,26 +142,29 @@ impl Journal {
     pub fn copy(&self) -> Result<Journal, AllocError> {
         Ok(Journal {
             alloc: self.alloc,
+            watches: self.watches.clone()?,
             plays: self.plays.clone()?,
         })
     }
 
     /// The turn of a callback's script on a call, which is noted where the play is watched.
-    pub fn turn(&self, id: CallbackId, script: &Script, call: &CallIn) -> Result<Turn, AllocError>
+    pub fn turn(&self, id: &CallbackId, script: &Script, call: &CallIn) -> Result<Turn, AllocError>
         ensures { IfOk result (λ t. t ≡ turn_of script.now call.now) }
     {
         let turned = script_turn(self.alloc, script, call);
-        if let Ok(turn) = &turned {
-            self.note(id, call, turn);
+        if self.watches.get() {
+            if let Ok(turn) = &turned {
+                self.note(id, call, turn);
+            }
         }
         turned
     }
 
     // Out of line: what it needs room for is not cleared in a turn that nobody notes.
     #[inline(never)]
-    fn note(&self, id: CallbackId, call: &CallIn, turn: &Turn) {
+    fn note(&self, id: &CallbackId, call: &CallIn, turn: &Turn) {
         if let Ok(mut plays) = self.plays.try_borrow_mut() {
-            plays.note(id, call, turn);
+            plays.note(*id, call, turn);
         }
     }
 
@@ -170,11 +180,13 @@ impl Journal {
     pub fn begin(&self, play: &Play) {
         if let Ok(mut plays) = self.plays.try_borrow_mut() {
             plays.begin(play);
+            self.watches.set(true);
         }
     }
 
     /// The plays that follow are not watched.
     pub fn rest(&self) {
+        self.watches.set(false);
         if let Ok(mut plays) = self.plays.try_borrow_mut() {
             plays.book = None;
         }
@@ -196,6 +208,7 @@ impl Journal {
 
     /// The play is done: it is traced, if it asks for that.
     pub fn end(&self, play: &Play) {
+        self.watches.set(false);
         if let Ok(mut plays) = self.plays.try_borrow_mut() {
             if play.trace {
                 let _ = plays.trace();

@@ -108,7 +108,7 @@ fn lines(journal: &Journal, file: PlayFile) -> Result<String, PlayFault>
         let own = scripted.script.copied(alloc)?;
         let id = scripted.id;
         let noted = journal.copy()?;
-        let call: BoxedTurns = Box::new(alloc, move |input: &CallIn| noted.turn(id, &own, input))?;
+        let call: BoxedTurns = Box::new(alloc, move |input: &CallIn| noted.turn(&id, &own, input))?;
         callbacks.push(Stored::new(id, scripted.script, call))?;
     }
     let kit = Kit::build(alloc, callbacks, plugins.into_vec())?;

@@ -27,7 +27,7 @@ use Rattle.press_run.specs.Links.{Changes, or_no_change, publishes, schedules}
 use Rattle.press_run.specs.Counts.{Counts}
 use Rattle.press_run.specs.Run.{◌>>=◌, only_if, Answer, answer, State, Meaning, most_turns, first_text, do_fires, run_hook, do_hook, scan, change_site, fire_change, one_if, publish, play, fuel, or_empty, at_depth, built_in, built_in_where, turn_step, answers, fits, or_one_empty}
 use Rattle.press_run.specs.Outcome.{Machine, Around, around, state_of, CountsTurn, Refuses}
-use Rattle.press_run.specs.Frames.{meant, taken, IsFew, turns_left, Goes, Gives, Leaves, Begins, awaited, BeginsAs, Steps, CountsAs, Turns, counted, turned, played, hooked}
+use Rattle.press_run.specs.Frames.{meant, taken, IsFew, turns_left, Goes, Gives, Leaves, Begins, Calls, awaited, opened, BeginsAs, Steps, CountsAs, Turns, counted, turned, played, hooked}
 use Rattle.press_run.proofs.Resumed.{awaits, awaits_none}
 use Rattle.press_run.proofs.Steps.{some_depth, built_in_depth, more_turns, no_fires, more_fires}
 
@@ -49,10 +49,10 @@ same_around w new c = ap (λ x. around (with_counts x w)) c.1
 
 -- ---- what begins as something else
 
-more_goes : (changes : Changes) (scripts : Scripts) (whole : Option Answer) (beside : Around) (n k : ℕ) (f : Frame) (w : Machine) → n ≤ k → Goes changes scripts whole beside n f w → Goes changes scripts whole beside k f w
+pub more_goes : (changes : Changes) (scripts : Scripts) (whole : Option Answer) (beside : Around) (n k : ℕ) (f : Frame) (w : Machine) → n ≤ k → Goes changes scripts whole beside n f w → Goes changes scripts whole beside k f w
 more_goes changes scripts whole beside n k f w le g = record { same = g.same; stands = g.stands; ready = g.ready; less = omega (arith, g.less, le) }
 
-more_gives : (changes : Changes) (scripts : Scripts) (whole : Option Answer) (beside : Around) (n k : ℕ) (text : List ℕ) (w : Machine) → n ≤ k → Gives changes scripts whole beside n w text → Gives changes scripts whole beside k w text
+pub more_gives : (changes : Changes) (scripts : Scripts) (whole : Option Answer) (beside : Around) (n k : ℕ) (text : List ℕ) (w : Machine) → n ≤ k → Gives changes scripts whole beside n w text → Gives changes scripts whole beside k w text
 more_gives changes scripts whole beside n k text w le g = record { same = g.same; stands = g.stands; less = omega (arith, g.less, le) }
 
 more_begins : (changes : Changes) (scripts : Scripts) (whole : Option Answer) (beside : Around) (n k : ℕ) (w : Machine) (result : Result Begun RunFault) → n ≤ k
@@ -130,13 +130,24 @@ module _ (changes : Changes) (scripts : Scripts) where
       ∙ sym (built_in_counted changes m id call (state_of old) b counted.0 is))
       (same_around old counts counted) (omega (arith, pays, le)) h
 
-  pub opens_built_in : (room : ℕ) (id : List ℕ) (call : CallIn) (old new : Machine) (result : Result Begun RunFault) → 0 < room → is_built_in id ≡ true
-      → BeginsAs changes scripts (built_in changes (at_depth changes (room - 1) scripts) id call (state_of old)) 1 old new result
-      → BeginsAs changes scripts (at_depth changes room scripts id call (state_of old)) 1 old new result
-  opens_built_in room id call old new result lt own h =
-      let d : room ≡ suc (room - 1) = omega arith in
-      subst (λ (o : Option Answer). BeginsAs changes scripts o 1 old new result)
-      (sym (ap (λ n. at_depth changes n scripts id call (state_of old)) d ∙ built_in_depth changes (room - 1) scripts id call (state_of old) own)) h
+  is_opened : (whole : Option Answer) (a : Around) (n : ℕ) (callback : OpenCallback) (w : Machine) (b : Begun) → Begins changes scripts whole a n w b → Calls changes scripts whole a n callback w (opened b)
+  is_opened whole a n callback w (begun.Opens f) g = g
+  is_opened whole a n callback w (begun.Gives text) g = g
+
+  module _ (room : ℕ) (id : List ℕ) (call : CallIn) (old new : Machine) (lt : 0 < room) (own : is_built_in id ≡ true) where
+    as_built_in : built_in changes (at_depth changes (room - 1) scripts) id call (state_of old) ≡ at_depth changes room scripts id call (state_of old)
+    as_built_in =
+        let d : room ≡ suc (room - 1) = omega arith in
+        sym (ap (λ n. at_depth changes n scripts id call (state_of old)) d ∙ built_in_depth changes (room - 1) scripts id call (state_of old) own)
+
+    pub opens_built_in : (callback : OpenCallback) (b : Begun) → Begins changes scripts (built_in changes (at_depth changes (room - 1) scripts) id call (state_of old)) (around old) (turns_left old.counts.turns + 1) new b
+        → Calls changes scripts (at_depth changes room scripts id call (state_of old)) (around old) (turns_left old.counts.turns + 1) callback new (opened b)
+    opens_built_in callback b h =
+        subst (λ (o : Option Answer). Calls changes scripts o (around old) (turns_left old.counts.turns + 1) callback new (opened b)) as_built_in
+        (is_opened (built_in changes (at_depth changes (room - 1) scripts) id call (state_of old)) (around old) (turns_left old.counts.turns + 1) callback new b h)
+
+    pub built_in_stops : (fault : RunFault) → Refuses fault (built_in changes (at_depth changes (room - 1) scripts) id call (state_of old)) → Refuses fault (at_depth changes room scripts id call (state_of old))
+    built_in_stops fault h = subst (Refuses fault) as_built_in h
 
   pub opens_callback : (room : ℕ) (id : List ℕ) (place : Option ℕ) (call : CallIn) (w : Machine) → 0 < room → is_built_in id ≡ false → script_at place scripts ≡ script_of id scripts → call.turn ≡ 0
       → Goes changes scripts (at_depth changes room scripts id call (state_of w)) (around w) (turns_left w.counts.turns + 1) (frame.Callback (record { room = room - 1; left = 10001; place = place; call = call })) w
@@ -155,12 +166,6 @@ module _ (changes : Changes) (scripts : Scripts) where
   after_counting : (c : OpenCallback) (turn : Turn) (s : State) (b d : Bool) → ltb s.turns most_turns ≡ b → fits turn ≡ d
       → counted changes scripts c turn s ≡ ((only_if b (record s { turns = s.turns + 1 }) >>= λ s'. only_if d turn >>= λ turn'. turn_step changes (at_depth changes c.room scripts) c.call s' turn') >>= played changes scripts c)
   after_counting c turn s b d l f = rw (l, f) refl
-
-  pub turn_late : (c : OpenCallback) (turn : Turn) (s : State) → ltb s.turns most_turns ≡ false → counted changes scripts c turn s ≡ None
-  turn_late c turn s lt = after_counting c turn s false (fits turn) lt refl
-
-  pub turn_long : (c : OpenCallback) (turn : Turn) (s : State) → ltb s.turns most_turns ≡ true → fits turn ≡ false → counted changes scripts c turn s ≡ None
-  turn_long c turn s lt long = after_counting c turn s true false lt long
 
   -- the rest of a turn that is counted
   pub turn_counts : (c c' : OpenCallback) (turn : Turn) (old new : Machine) (counts : Counts) (result : Result Step RunFault) → CountsTurn old.counts counts true → fits turn ≡ true

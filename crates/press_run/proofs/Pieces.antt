@@ -4,13 +4,15 @@ use Rattle.press_scan.specs.declared.shortcode.Shortcode.{Shortcode}
 use Rattle.press_scan.specs.Shortcodes.{cut}
 use Rattle.press_scan.specs.Scans.{Progress, Calls, TakesText}
 use Rattle.press_scan.specs.Tags.{names_of, callback_of}
+use Rattle.press_callbacks.specs.declared.script.CallIn.{CallIn}
 use Rattle.press_callbacks.specs.Kits.{Scripts}
 use Rattle.press_run.specs.declared.run_fault.RunFault.{RunFault}
 use Rattle.press_run.specs.declared.step.Begun.{Begun}
-use Rattle.press_run.specs.declared.step.Called.{Called}
+use Rattle.press_run.specs.declared.step.Opened.{Opened}
+use Rattle.press_run.specs.declared.frame.OpenCallback.{OpenCallback}
 use Rattle.press_run.specs.declared.frame.OpenScan.{OpenScan}
 use Rattle.press_run.specs.declared.frame.Filtering.{Filtering}
-use Rattle.press_run.specs.declared.frame.Filtering.TheVariants.{Off, Comes, Came}
+use Rattle.press_run.specs.declared.frame.Filtering.TheVariants.{Off, Came}
 use Rattle.press_run.specs.declared.frame.Frame.TheVariants as frame
 use Rattle.press_run.specs.Links.{Changes}
 use Rattle.press_run.specs.Run.{◌>>=◌, Answer, Meaning, at_depth, filtered, filtered_where, filters_answers, is_short, shortcode_call, tag_answer}
@@ -67,7 +69,7 @@ module _ (some : ComputesSome) (none : ComputesNone) (ends : EndsWithin) (change
       let before = weighs (length old.scan.text - old.scan.at) in
       rw given (record { same = scan_ends some none ends callback old.scan (state_of w) short e ∙ sym (scans old.scan); stands = refl; less = omega (arith, before) })
 
-  module _ (new : Progress) (c : Shortcode) (calls : Calls (names_of w.tags) old.scan new c) (text tagged : List ℕ) (is : text ≡ new.text) (of : tagged ≡ new.text) (k : Filtering) (filters : k ≡ filtering_where (cut tagged c.tag) (filters_answers w.site)) where
+  module _ (new : Progress) (c : Shortcode) (calls : Calls (names_of w.tags) old.scan new c) (text : List ℕ) (is : text ≡ new.text) (k : Filtering) (filters : k ≡ filtering_where (cut text c.tag) (filters_answers w.site)) where
     abbrev pub called_on : List ℕ → Option Answer
     called_on t = tag_answer callback (callback_of (cut t c.tag) w.tags) (shortcode_call t c) (state_of w)
 
@@ -82,7 +84,7 @@ module _ (some : ComputesSome) (none : ComputesNone) (ends : EndsWithin) (change
     abbrev pub filtered_then : List ℕ → Progress → Bool → Option Answer → Option Answer
     filtered_then t p b o = (o >>= λ a. filtered_where callback (cut t c.tag) a b) >>= λ a. scanned callback (put p.waiting p a.text) a.state
 
-    both_filter : (b : Bool) (o : Option Answer) → comes_to (filtering_where (cut tagged c.tag) b) o ≡ filtered_then tagged new b o
+    both_filter : (b : Bool) (o : Option Answer) → comes_to (filtering_where (cut text c.tag) b) o ≡ filtered_then text new b o
     both_filter b None = refl
     both_filter false (Some a) = refl
     both_filter true (Some a) = refl
@@ -92,8 +94,8 @@ module _ (some : ComputesSome) (none : ComputesNone) (ends : EndsWithin) (change
         let b = filters_answers w.site in
         ap (λ x. comes_to x (called_on text)) filters
         ∙ both_filter b (called_on text)
-        ∙ ap (λ (p : Progress). filtered_then tagged p b (called_on text)) calls.waits
-        ∙ ap (λ t. filtered_then t (record old.scan { waiting = Some c }) b (called_on text)) (of ∙ ap (λ (p : Progress). p.text) calls.waits)
+        ∙ ap (λ (p : Progress). filtered_then text p b (called_on text)) calls.waits
+        ∙ ap (λ t. filtered_then t (record old.scan { waiting = Some c }) b (called_on text)) (is ∙ ap (λ (p : Progress). p.text) calls.waits)
         ∙ ap (λ t. filtered_then old.scan.text (record old.scan { waiting = Some c }) b (called_on t)) (is ∙ ap (λ (p : Progress). p.text) calls.waits)
         ∙ shortcode_waits some none ends callback old.scan (state_of w) short c calls.stands calls.no_escape
         ∙ sym (scans old.scan)
@@ -101,19 +103,24 @@ module _ (some : ComputesSome) (none : ComputesNone) (ends : EndsWithin) (change
     call_awaits : ScanWaits k new
     call_awaits =
         let w' = ends old.scan.text (names_of w.tags) old.scan.at c calls.stands in
-        subst (λ x. ScanWaits x new) (sym filters) (filtering_waits (cut tagged c.tag) (filters_answers w.site) new (rw calls.waits (record { shortcode = c; waiting = refl; short = ready.1; more = w'.0; inside = w'.1 })))
+        subst (λ x. ScanWaits x new) (sym filters) (filtering_waits (cut text c.tag) (filters_answers w.site) new (rw calls.waits (record { shortcode = c; waiting = refl; short = ready.1; more = w'.0; inside = w'.1 })))
 
-    pub call_begins : (after : Machine) (b : Called) → frames.Calls changes scripts (called_on text) (around w) (turns_left w.counts.turns + 2) after b → Moves changes scripts whole (around w) bound (frame.Scan (waiting k)) after (moved b)
-    call_begins after b g =
+    -- the call's own tag and call
+    abbrev pub called_with : CallIn → Option Answer
+    called_with call = tag_answer callback (callback_of call.tag w.tags) call (state_of w)
+
+    pub call_begins : (call : CallIn) (after : Machine) (opening : OpenCallback) (b : Opened) → call ≡ shortcode_call text c → frames.Calls changes scripts (called_with call) (around w) (turns_left w.counts.turns + 2) opening after b → Moves changes scripts whole (around w) bound (frame.Scan (waiting k)) after (moved opening b)
+    call_begins call after opening b of_it g =
         let n = length new.text - new.at in
         let length_same : length new.text ≡ length old.scan.text = ap (λ (p : Progress). length p.text) calls.waits in
         let at_same : new.at ≡ old.scan.at = ap (λ (p : Progress). p.at) calls.waits in
-        let little : scan_weight_waiting k n ≤ 3 * n + 3 = subst (λ x. scan_weight_waiting x n ≤ 3 * n + 3) (sym filters) (filtering_little (cut tagged c.tag) (filters_answers w.site) n) in
+        let little : scan_weight_waiting k n ≤ 3 * n + 3 = subst (λ x. scan_weight_waiting x n ≤ 3 * n + 3) (sym filters) (filtering_little (cut text c.tag) (filters_answers w.site) n) in
         let before = weighs (length old.scan.text - old.scan.at) in
-        awaits_called changes scripts (called_on text) whole (around w) 2 bound (frame.Scan (waiting k)) w after b call_comes refl call_awaits (omega (arith, length_same, at_same, little, before)) g
+        awaits_called changes scripts (called_on text) whole (around w) 2 bound (frame.Scan (waiting k)) w after opening b call_comes refl call_awaits (omega (arith, length_same, at_same, little, before))
+        (subst (λ (x : CallIn). frames.Calls changes scripts (called_with x) (around w) (turns_left w.counts.turns + 2) opening after b) of_it g)
 
-    pub call_stops : (fault : RunFault) → Refuses fault (called_on text) → Refuses fault whole
-    call_stops fault refused = awaits_none changes scripts (called_on text) whole (frame.Scan (waiting k)) w fault call_comes refused
+    pub call_stops : (call : CallIn) (fault : RunFault) → call ≡ shortcode_call text c → Refuses fault (called_with call) → Refuses fault whole
+    call_stops call fault of_it refused = awaits_none changes scripts (called_on text) whole (frame.Scan (waiting k)) w fault call_comes (subst (λ (x : CallIn). Refuses fault (called_with x)) of_it refused)
 
 -- ---- an answer that came goes through its filter
 

@@ -37,7 +37,7 @@ use Rattle.press_run.specs.declared.step.Kind.{Kind}
 use Rattle.press_run.specs.declared.step.Kind.TheVariants.{Filter, Action}
 use Rattle.press_run.specs.Links.{Changes, or_no_change, publishes, read_only, schedules}
 use Rattle.press_run.specs.Outcome.{job_meaning}
-use Rattle.press_run.specs.Run.{◌>>=◌, Answer, answer, State, Meaning, Stepped, within, only_if, one_turn, fits, fuel, first_text, handed_on, hook_call, or_empty, or_one_empty, tag_answer, shortcode_call, shortcode_answer, filtered_where, is_escape, answers, after_step, call_entry, run_entries, run_where, run_hook, apply_hook, do_hook, do_fires, fire_change, change_site, publish, one_if, most_turns, most_open, shortcode_result, scan_rest, scan_from, scan, turn_step, counted_step, play, built_in_where, built_in, callback_where, at_depth, goes}
+use Rattle.press_run.specs.Run.{◌>>=◌, Answer, answer, State, Meaning, Stepped, within, only_if, one_turn, fits, fuel, first_text, handed_on, hook_call, or_empty, or_one_empty, tag_answer, shortcode_call, shortcode_answer, filtered_where, is_escape, answers, after_step, call_entry, run_entries, run_where, run_hook, apply_hook, do_hook, do_fires, change_site, publish, one_if, most_turns, most_open, shortcode_result, scan_rest, scan_from, scan, turn_step, counted_step, play, built_in_where, built_in, callback_where, at_depth, goes}
 use Rattle.press_run.specs.Run.Stepped.{Goes, Ends}
 use Rattle.press_run.specs.Earlier as earlier
 use Rattle.press_run.specs.Earlier.{IsSwitch, KeepsProfile}

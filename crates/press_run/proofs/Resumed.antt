@@ -4,6 +4,7 @@ use Rattle.press_callbacks.specs.Kits.{Scripts}
 use Rattle.press_run.specs.declared.run_fault.RunFault.{RunFault}
 use Rattle.press_run.specs.declared.run_fault.RunFault.TheVariants.{Limit, NoMemory}
 use Rattle.press_scan.specs.Scans.{Progress}
+use Rattle.press_run.specs.declared.frame.OpenCallback.{OpenCallback}
 use Rattle.press_run.specs.declared.frame.OpenScan.{OpenScan}
 use Rattle.press_run.specs.declared.frame.Filtering.{Filtering}
 use Rattle.press_run.specs.declared.frame.Filtering.TheVariants as filtering
@@ -11,8 +12,8 @@ use Rattle.press_run.specs.declared.frame.Frame.{Frame}
 use Rattle.press_run.specs.declared.frame.Frame.TheVariants as frame
 use Rattle.press_run.specs.declared.step.Begun.{Begun}
 use Rattle.press_run.specs.declared.step.Begun.TheVariants as begun
-use Rattle.press_run.specs.declared.step.Called.{Called}
-use Rattle.press_run.specs.declared.step.Called.TheVariants as called
+use Rattle.press_run.specs.declared.step.Opened.{Opened}
+use Rattle.press_run.specs.declared.step.Opened.TheVariants as called
 use Rattle.press_run.specs.declared.step.Step.{Step}
 use Rattle.press_run.specs.declared.step.Step.TheVariants as step
 use Rattle.press_run.specs.Links.{Changes}
@@ -62,10 +63,11 @@ module _ (changes : Changes) (scripts : Scripts) where
       less = omega (arith, g.less, le);
     }
 
-    pub awaits_called : (c : Called) → Comes → round f (around old) ≡ beside → Waits f (around old) → turns_left old.counts.turns + (weighs + weight_waiting f) ≤ bound
-        → Calls changes scripts o (around old) (turns_left old.counts.turns + weighs) new c → Moves changes scripts whole beside bound f new (moved c)
-    awaits_called (called.Begun b) comes stands waits le g = awaits b comes stands waits le g
-    awaits_called (called.Waits callback inner) comes stands waits le g = nests_awaited callback inner comes stands waits le g
+    pub awaits_called : (callback : OpenCallback) (b : Opened) → Comes → round f (around old) ≡ beside → Waits f (around old) → turns_left old.counts.turns + (weighs + weight_waiting f) ≤ bound
+        → Calls changes scripts o (around old) (turns_left old.counts.turns + weighs) callback new b → Moves changes scripts whole beside bound f new (moved callback b)
+    awaits_called callback (called.Gives text) comes stands waits le g = takes_awaited text comes stands waits le g
+    awaits_called callback (called.Opens inner) comes stands waits le g = opens_awaited inner comes stands waits le g
+    awaits_called callback (called.Waits inner) comes stands waits le g = nests_awaited (frame.Callback callback) inner comes stands waits le g
 
   pub awaits_none : (o whole : Option Answer) (f : Frame) (old : Machine) (fault : RunFault) → (o >>= λ x. meant changes scripts (taken f x.text) (around old) x.state) ≡ whole → Refuses fault o → Refuses fault whole
   awaits_none o whole f old Limit comes none = sym comes ∙ ap (λ p. p >>= λ x. meant changes scripts (taken f x.text) (around old) x.state) none

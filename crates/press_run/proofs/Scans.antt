@@ -6,10 +6,10 @@ use Rattle.std.proofs.lemmas.Bool.{cases_lt}
 use Rattle.std.proofs.lemmas.List.{append-nil}
 use Rattle.press_scan.specs.declared.shortcode.Shortcode.{Shortcode}
 use Rattle.press_scan.specs.Places.{NoneFrom, NoneBetween}
-use Rattle.press_scan.specs.Shortcodes.{IsShortcode, HasShortcode, IsNext, cut}
+use Rattle.press_scan.specs.Shortcodes.{IsShortcode, HasShortcode, IsNext}
 use Rattle.press_scan.specs.FirstShortcode.{shortcode_from}
 use Rattle.press_scan.specs.Scans.{Progress, TakesText, TakesFront, TakesEscape, IsEscape, before as opens, behind}
-use Rattle.press_scan.specs.Tags.{names_of, callback_of}
+use Rattle.press_scan.specs.Tags.{names_of}
 use Rattle.press_run.specs.Run.{◌>>=◌, only_if, within, is_short, State, Answer, answer, Meaning, scan_from, scan_rest, shortcode_result, shortcode_answer, is_escape}
 use Rattle.press_run.specs.Frames.{put, scanned}
 

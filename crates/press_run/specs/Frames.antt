@@ -1,6 +1,6 @@
 -- What is left of a run: its open frames, the innermost first, told by the words of Run.
 use Rattle.std.specs.Prelude.{◌≡◌, ℕ, suc, ◌+◌, ◌-◌, ◌*◌, ◌<◌, ◌≤◌, ◌^◌, ◌++◌, List, [], ◌∷◌, length, drop, Bool, true, false, Option, Some, None, IsSome, IsTrue, Result, MatchResult}
-use Rattle.press_hooks.specs.NextEntry.{is_innermost, without_innermost}
+use Rattle.press_hooks.specs.NextEntry.{is_innermost, run_ended, without_innermost}
 use Rattle.press_scan.specs.declared.shortcode.Shortcode.{Shortcode}
 use Rattle.press_scan.specs.Scans.{Progress, before, behind}
 use Rattle.press_callbacks.specs.declared.script.Turn.{Turn}
@@ -10,6 +10,7 @@ use Rattle.press_run.specs.declared.run_fault.RunFault.{RunFault}
 use Rattle.press_run.specs.declared.step.Kind.{Kind}
 use Rattle.press_run.specs.declared.step.Kind.TheVariants.{Filter, Action}
 use Rattle.press_run.specs.declared.frame.OpenCallback.{OpenCallback}
+use Rattle.press_run.specs.declared.frame.OpenHook.{OpenHook}
 use Rattle.press_run.specs.declared.frame.OpenScan.{OpenScan}
 use Rattle.press_run.specs.declared.frame.Filtering.{Filtering}
 use Rattle.press_run.specs.declared.frame.Filtering.TheVariants.{Off, Comes, Came}
@@ -19,12 +20,12 @@ use Rattle.press_run.specs.declared.step.Begun.{Begun}
 use Rattle.press_run.specs.declared.step.Begun.TheVariants as begun
 use Rattle.press_run.specs.declared.step.Step.{Step}
 use Rattle.press_run.specs.declared.step.Step.TheVariants as step
-use Rattle.press_run.specs.declared.step.Called.{Called}
-use Rattle.press_run.specs.declared.step.Called.TheVariants as called
+use Rattle.press_run.specs.declared.step.Opened.{Opened}
+use Rattle.press_run.specs.declared.step.Opened.TheVariants as called
 use Rattle.press_run.specs.declared.step.Moved.{Moved}
 use Rattle.press_run.specs.declared.step.Moved.TheVariants as moves
 use Rattle.press_run.specs.Links.{Changes}
-use Rattle.press_run.specs.Run.{◌>>=◌, without_last, Answer, answer, State, Meaning, Stepped, within, filtered, scan_from, run_hook, run_entries, do_fires, play, at_depth, or_empty, after_step, counted_step, turn_step, handed_on, next_call, most_turns}
+use Rattle.press_run.specs.Run.{◌>>=◌, without_last, Answer, answer, State, Meaning, Stepped, within, filtered, scan_from, first_text, run_hook, run_entries, do_fires, play, at_depth, or_empty, after_step, counted_step, turn_step, handed_on, next_call, most_turns}
 use Rattle.press_run.specs.Outcome.{Machine, Around, around, state_of, innermost, Refuses}
 
 -- ---- what a frame comes to
@@ -121,6 +122,12 @@ IsCame Off = ⊥
 IsCame (Comes tag) = ⊥
 IsCame (Came text tag) = Unit {0}
 
+-- an answer that comes is put in its place, and not kept for its filter
+abbrev pub PutsAnswer : Filtering → Type 0
+PutsAnswer Off = Unit {0}
+PutsAnswer (Comes tag) = ⊥
+PutsAnswer (Came text tag) = Unit {0}
+
 -- of a scan that goes on, and of one that waits
 abbrev pub ScanReady : Filtering → Progress → Type 0
 ScanReady Off p = GoesOn p
@@ -189,6 +196,22 @@ unfoldable pub all_wait : List Frame → ℕ
 all_wait [] = 0
 all_wait (f ∷ fs) = weight_waiting f + all_wait fs
 
+-- who begins something takes its answer at once, or waits
+abbrev pub awaited : Begun → Step
+awaited (begun.Opens f) = step.Opens f
+awaited (begun.Gives text) = step.Takes text
+
+-- what a built-in callback begins
+abbrev pub opened : Begun → Opened
+opened (begun.Opens f) = called.Opens f
+opened (begun.Gives text) = called.Gives text
+
+-- who calls this callback takes its answer at once, or waits
+abbrev pub moved : OpenCallback → Opened → Moved
+moved callback (called.Gives text) = moves.By (step.Takes text)
+moved callback (called.Opens f) = moves.By (step.Opens f)
+moved callback (called.Waits inner) = moves.Calls (frame.Callback callback) inner
+
 -- ---- what a step leaves, of something that was to come to `whole` where `beside` stood round it, and less to do than the bound
 
 module _ (changes : Changes) (scripts : Scripts) (whole : Option Answer) (beside : Around) (bound : ℕ) where
@@ -240,22 +263,25 @@ module _ (changes : Changes) (scripts : Scripts) (whole : Option Answer) (beside
   Begins w (begun.Opens f) = Goes f w
   Begins w (begun.Gives text) = Gives w text
 
-  abbrev pub Calls : Machine → Called → Type 0
-  Calls w (called.Begun b) = Begins w b
-  Calls w (called.Waits callback inner) = Opens callback w inner
+  abbrev pub Calls : OpenCallback → Machine → Opened → Type 0
+  Calls callback w (called.Gives text) = Gives w text
+  Calls callback w (called.Opens f) = Goes f w
+  Calls callback w (called.Waits inner) = Opens (frame.Callback callback) w inner
 
   abbrev pub Moves : Frame → Machine → Moved → Type 0
   Moves f w (moves.By s) = Leaves f w s
   Moves f w (moves.Calls callback inner) = Nests f w callback inner
 
--- who begins something takes its answer at once, or waits
-abbrev pub awaited : Begun → Step
-awaited (begun.Opens f) = step.Opens f
-awaited (begun.Gives text) = step.Takes text
+  -- a run without a next entry
+  pub record Ends (h : OpenHook) (w : Machine) : Type 0 where
+    pub same : answer (shown h.kind (first_text h.args)) (record (state_of w) { doing = without_last w.counts.doing }) ≡ whole
+    pub stands : round (frame.Hook h) (around w) ≡ beside
+    pub ready : IsTrue (is_innermost h.run w.hooks.open_runs)
+    pub less : turns_left w.counts.turns + 1 < bound
 
-abbrev pub moved : Called → Moved
-moved (called.Begun b) = moves.By (awaited b)
-moved (called.Waits callback inner) = moves.Calls callback inner
+  abbrev pub Enters : OpenHook → OpenCallback → Machine → Option Opened → Type 0
+  Enters h callback w None = Ends h w
+  Enters h callback w (Some o) = Moves (frame.Hook h) w (moved callback o)
 
 -- what began is to come to this
 abbrev pub BeginsAs : Changes → Scripts → Option Answer → ℕ → Machine → Machine → Result Begun RunFault → Type 0
@@ -268,16 +294,34 @@ Steps changes scripts f f' old new result = MatchResult result
     (λ s. Leaves changes scripts (meant changes scripts f (around old) (state_of old)) (round f (around old)) (turns_left old.counts.turns + weight f) f' new s)
     (λ fault. Refuses fault (meant changes scripts f (around old) (state_of old)))
 
--- what a callback began with is to come to this
-abbrev pub CallsAs : Changes → Scripts → Option Answer → ℕ → Machine → Machine → Result Called RunFault → Type 0
-CallsAs changes scripts whole weighs old new result =
-    MatchResult result (λ c. Calls changes scripts whole (around old) (turns_left old.counts.turns + weighs) new c) (λ fault. Refuses fault whole)
+-- what was called is to come to this, where this is the callback afterwards
+abbrev pub CallsAs : Changes → Scripts → Option Answer → ℕ → OpenCallback → Machine → Machine → Result Opened RunFault → Type 0
+CallsAs changes scripts whole weighs callback old new result =
+    MatchResult result (λ o. Calls changes scripts whole (around old) (turns_left old.counts.turns + weighs) callback new o) (λ fault. Refuses fault whole)
 
 -- the innermost frame moves
 abbrev pub MovesTo : Changes → Scripts → Frame → Frame → Machine → Machine → Result Moved RunFault → Type 0
 MovesTo changes scripts f f' old new result = MatchResult result
     (λ m. Moves changes scripts (meant changes scripts f (around old) (state_of old)) (round f (around old)) (turns_left old.counts.turns + weight f) f' new m)
     (λ fault. Refuses fault (meant changes scripts f (around old) (state_of old)))
+
+-- a run of a hook calls its next entry, or has none
+abbrev pub EntersAs : Changes → Scripts → OpenHook → OpenHook → OpenCallback → Machine → Machine → Result (Option Opened) RunFault → Type 0
+EntersAs changes scripts h h' callback old new result = MatchResult result
+    (λ o. Enters changes scripts (meant changes scripts (frame.Hook h) (around old) (state_of old)) (round (frame.Hook h) (around old)) (turns_left old.counts.turns + 2) h' callback new o)
+    (λ fault. Refuses fault (meant changes scripts (frame.Hook h) (around old) (state_of old)))
+
+-- a run at its end is closed
+abbrev pub closed : Machine → Machine
+closed w = record w { hooks = run_ended w.hooks; counts = record (w.counts) { doing = without_last w.counts.doing } }
+
+-- what a callback's turns leave of its call
+abbrev pub KeepsCall : OpenCallback → OpenCallback → Type 0
+KeepsCall c c' = (c'.call.atts ≡ c.call.atts) × (c'.call.content ≡ c.call.content) × (c'.call.tag ≡ c.call.tag)
+
+-- a hook's callback has no attributes, no content and no tag
+abbrev pub IsOfHook : OpenCallback → Type 0
+IsOfHook c = (c.call.atts ≡ []) × (c.call.content ≡ []) × (c.call.tag ≡ [])
 
 -- a callback after what a turn comes to
 abbrev pub played : Changes → Scripts → OpenCallback → Stepped → Option Answer

@@ -1,4 +1,4 @@
-ghost use Rattle.std.specs.Prelude.{◌≡◌, ◌++◌, ◌∷◌, [], None, IfOk, OnOk, ltb};
+ghost use Rattle.std.specs.Prelude.{◌≡◌, ◌++◌, ◌∷◌, [], None, true, IfOk, OnOk, ltb};
 ghost use Rattle.press_run.specs.Counts.{no_counts};
 ghost use Rattle.press_run.specs.Run.{answer_of, most_turns, without_last};
 ghost use Rattle.press_run.specs.Outcome.{CountsTurn, machine, state_of};
@@ -87,6 +87,14 @@ impl Counts {
         }
         self.turns += 1;
         true
+    }
+
+    /// Counts a turn that is within the turns.
+    pub(crate) fn add_turn(&mut self)
+        requires { ltb self.old.turns most_turns ≡ true }
+        ensures { CountsTurn self.old self.new true }
+    {
+        self.turns += 1;
     }
 
     /// Counts the start of an action.

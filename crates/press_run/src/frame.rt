@@ -1,8 +1,8 @@
 //! What a run has open.
 
 ghost use Rattle.std.specs.Prelude.{◌≡◌, ◌+◌, ◌*◌, ◌<◌, ◌≤◌, ◌^◌, [], None, IfOk, OnOk, OnErr, IsSome, length, option_map, slice_get};
-ghost use Rattle.press_run.specs.Run.{handed_on, next_call};
-ghost use Rattle.press_run.specs.Frames.{TakesAnswer, scan_taken, taken};
+ghost use Rattle.press_run.specs.Run.{handed_on, hook_call, next_call};
+ghost use Rattle.press_run.specs.Frames.{IsOfHook, PutsAnswer, TakesAnswer, scan_taken, taken};
 ghost use Rattle.press_run.specs.declared.frame.Filtering.TheVariants.{Came};
 ghost use Rattle.press_run.specs.Waiting.{with_atts};
 
@@ -20,7 +20,8 @@ use std::mem;
 /// More than the turns of any run.
 pub const FUEL: u32 = 10_001;
 
-/// A callback of the kit, before its next turn.
+/// A callback, before it is opened or before its next turn.
+#[derive(Drop)]
 pub struct OpenCallback {
     /// How many more callbacks may be open within it.
     pub room: u32,
@@ -30,18 +31,8 @@ pub struct OpenCallback {
     pub call: CallIn,
 }
 
-impl Drop for OpenCallback {
-    fn drop(self) {
-        let OpenCallback {
-            room: _,
-            left: _,
-            place: _,
-            call: _,
-        } = self;
-    }
-}
-
 /// A run of a hook, before its next entry.
+#[derive(Drop)]
 pub struct OpenHook {
     /// How many more callbacks may be open within it.
     pub room: u32,
@@ -50,18 +41,6 @@ pub struct OpenHook {
     pub kind: Kind,
     pub run: RunId,
     pub args: Texts,
-}
-
-impl Drop for OpenHook {
-    fn drop(self) {
-        let OpenHook {
-            room: _,
-            left: _,
-            kind: _,
-            run: _,
-            args: _,
-        } = self;
-    }
 }
 
 /// Actions, how many of them are done, and the answer when all are.
@@ -123,6 +102,56 @@ pub enum Frame {
 }
 
 impl OpenCallback {
+    /// A callback on this call, before it is opened.
+    pub fn on(call: CallIn) -> OpenCallback
+        ensures { result.call ≡ call }
+    {
+        OpenCallback {
+            room: 0,
+            left: 0,
+            place: None,
+            call,
+        }
+    }
+
+    /// One that is called for entry after entry of a hook. Takes no memory.
+    pub fn of_hook(alloc: Global) -> OpenCallback
+        ensures { IsOfHook result }
+    {
+        OpenCallback::on(CallIn {
+            args: Texts::new(alloc),
+            atts: Atts::from_vec(Vec::new(alloc)),
+            content: Text::new(alloc),
+            tag: Text::new(alloc),
+            value: Text::new(alloc),
+            last: Text::new(alloc),
+            turn: 0,
+        })
+    }
+
+    /// Is on the call of a hook's callback with these arguments.
+    pub fn begin(&mut self, alloc: Global, args: Texts) -> Result<(), AllocError>
+        requires { IsOfHook self.old }
+        ensures call { OnOk result (self.new.call ≡ hook_call args) }
+        ensures hook { IsOfHook self.new }
+    {
+        self.call.value = texts::first_text(alloc, &args)?;
+        self.call.args = args;
+        self.call.last = Text::new(alloc);
+        self.call.turn = 0;
+        Ok(())
+    }
+
+    /// Lets its arguments go, so that who else holds their list may change it in place. Its value and its last answer
+    /// stay until the next callback begins.
+    pub fn end(&mut self, alloc: Global)
+        requires { IsOfHook self.old }
+        ensures hook { IsOfHook self.new }
+        ensures args { self.new.call.args ≡ [] }
+    {
+        self.call.args = Texts::new(alloc);
+    }
+
     /// Goes on to the next turn with its value and its last answer, `skipped` ops further.
     pub fn further(&mut self, skipped: u16) -> Step
         requires { self.old.call.turn < 2 ^ 40 }
@@ -215,7 +244,8 @@ impl OpenScan {
     /// Takes the answer that the scan waits for: that of a shortcode's callback, or the filter's.
     pub fn take(&mut self, text: Text) -> Result<(), AllocError>
         requires { IsSome self.old.scan.waiting }
-        ensures { OnOk result (self.new ≡ scan_taken self.old.filtering self.old text) }
+        ensures taken { OnOk result (self.new ≡ scan_taken self.old.filtering self.old text) }
+        ensures memory { OnErr result (PutsAnswer self.old.filtering) }
     {
         match mem::replace(&mut self.filtering, Filtering::Off) {
             Filtering::Comes(tag) => {

@@ -4,7 +4,7 @@ ghost use Rattle.std.specs.Prelude.{◌≡◌, ◌<◌, ◌^◌, [], true, IfOk,
 ghost use Rattle.press_hooks.specs.NextEntry.{is_innermost};
 ghost use Rattle.press_callbacks.specs.Kits.{Scripts};
 ghost use Rattle.press_run.specs.Run.{handed_on, next_call};
-ghost use Rattle.press_run.specs.Frames.{IsFew, MovesTo, ScanReady, Steps, scan_taken};
+ghost use Rattle.press_run.specs.Frames.{IsFew, MovesTo, PutsAnswer, ScanReady, Steps, scan_taken};
 ghost use Rattle.press_run.specs.Limits.{ShowsLimits};
 ghost use Rattle.press_run.specs.Standing.{standing};
 ghost use Rattle.press_run.specs.Waiting.{with_atts};
@@ -102,8 +102,8 @@ impl Held<OpenCallback> {
 }
 
 impl Held<OpenHook> {
-    /// Its next entry.
-    pub fn entry<L: SiteLink + Drop, K: Callbacks>(
+    /// Its next entries.
+    pub fn entries<L: SiteLink + Drop, K: Callbacks>(
         &mut self,
         machine: &mut Machine<L>,
         kit: &K,
@@ -115,7 +115,7 @@ impl Held<OpenHook> {
         ensures fixed { L.fixed machine.new.site ≡ L.fixed machine.old.site }
         ensures limits { ShowsLimits result machine.old machine.new }
     {
-        machine.entry(kit, &mut self.inside)
+        machine.entries(kit, &mut self.inside)
     }
 
     /// The arguments of the next callback, after one has answered.
@@ -161,7 +161,8 @@ impl Held<OpenScan> {
     /// Takes the answer that the scan waits for.
     pub fn take(&mut self, text: Text) -> Result<(), AllocError>
         requires { IsSome self.old.scan.waiting }
-        ensures { OnOk result (self.new ≡ scan_taken self.old.filtering self.old text) }
+        ensures taken { OnOk result (self.new ≡ scan_taken self.old.filtering self.old text) }
+        ensures memory { OnErr result (PutsAnswer self.old.filtering) }
     {
         self.inside.take(text)
     }

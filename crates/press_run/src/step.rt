@@ -1,8 +1,10 @@
-ghost use Rattle.std.specs.Prelude.{◌≡◌};
-ghost use Rattle.press_run.specs.Frames.{awaited, moved};
+ghost use Rattle.std.specs.Prelude.{◌≡◌, IfOk};
+ghost use Rattle.press_run.specs.Frames.{awaited, moved, opened};
 
-use crate::frame::Frame;
+use crate::frame::{Frame, OpenCallback};
+use crate::held::Held;
 use press_text::Text;
+use std::alloc::{AllocError, Global};
 
 /// How a hook treats its callbacks' answers.
 #[derive(Clone, Copy, Debug, PartialEq, Eq)]
@@ -20,11 +22,15 @@ pub enum Begun {
     Gives(Text),
 }
 
-/// What a callback comes to where it is called: its answer, a built-in one's frame, or its own frame, which waits for the other one.
+/// What a callback comes to where it is called.
 #[derive(Drop)]
-pub enum Called {
-    Begun(Begun),
-    Waits(Frame, Frame),
+pub enum Opened {
+    /// It has answered.
+    Gives(Text),
+    /// It is built in, and this is its frame.
+    Opens(Frame),
+    /// It waits for this frame.
+    Waits(Frame),
 }
 
 /// What a step of a frame leaves.
@@ -58,16 +64,30 @@ impl Begun {
             Begun::Gives(text) => Step::Takes(text),
         }
     }
-}
 
-impl Called {
-    /// What the frame comes to that waits for it.
-    pub fn awaited(self) -> Moved
-        ensures { result ≡ moved self }
+    /// What a built-in callback comes to that begins with it.
+    pub fn opened(self) -> Opened
+        ensures { result ≡ opened self }
     {
         match self {
-            Called::Begun(begun) => Moved::By(begun.awaited()),
-            Called::Waits(callback, inner) => Moved::Calls(callback, inner),
+            Begun::Opens(frame) => Opened::Opens(frame),
+            Begun::Gives(text) => Opened::Gives(text),
+        }
+    }
+}
+
+impl Opened {
+    /// What the frame comes to that waits for the callback. Takes memory where the callback waits.
+    pub fn awaited(self, alloc: Global, callback: OpenCallback) -> Result<Moved, AllocError>
+        ensures { IfOk result (λ m. m ≡ moved callback self) }
+    {
+        match self {
+            Opened::Gives(text) => Ok(Moved::By(Step::Takes(text))),
+            Opened::Opens(inner) => Ok(Moved::By(Step::Opens(inner))),
+            Opened::Waits(inner) => {
+                let held = Held::new(alloc, callback)?;
+                Ok(Moved::Calls(Frame::Callback(held), inner))
+            }
         }
     }
 }

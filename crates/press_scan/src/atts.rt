@@ -17,17 +17,11 @@ use std::marker::Model;
 const FEW_ATTS: usize = 64;
 
 /// Attributes in order: those of a text, each name once, or a list as it was given.
-#[derive(Debug)]
+#[derive(Debug, Drop)]
 pub struct Atts {
     kept: Kept,
     // The text that they are of, where they are many. In a box, since few have it, and every call has room for it.
     text: Option<Box<Text>>,
-}
-
-impl Drop for Atts {
-    fn drop(self) {
-        let Atts { kept: _, text: _ } = self;
-    }
 }
 
 impl Model for Atts {

@@ -241,7 +241,7 @@ impl Site {
             Effect::Take(event) => self.take(&event, wants),
             Effect::Activate { plugin } => self.activate(plugin),
             Effect::Deactivate { plugin } => self.deactivate(&plugin),
-            Effect::Profile(to) => self.switch(to),
+            Effect::Profile(to) => self.switch_profile(to),
         }
     }
 
@@ -382,7 +382,7 @@ impl Site {
     }
 
     // Takes no memory.
-    fn switch(&mut self, to: u8) -> Result<Done, SiteFault>
+    fn switch_profile(&mut self, to: u8) -> Result<Done, SiteFault>
         ensures does { Does result (effect_on self.old (Effect.Profile to)) self.old self.new }
         ensures back { (wants : Bool) → IfOk result
             (λ d. GoesBack wants d.undone self.new self.old) }

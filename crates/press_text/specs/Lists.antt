@@ -1,10 +1,12 @@
--- Lists that may be shared.
-use Rattle.std.specs.Prelude.{List, [], ◌∷◌, Option, None, Some}
+-- Lists of texts, in place or shared.
+use Rattle.std.specs.Prelude.{ℕ, List, [], ◌∷◌}
+use Rattle.press_text.specs.declared.texts.Inside.{Inside}
+use Rattle.press_text.specs.declared.texts.Inside.TheVariants.{None, One, Shared}
 
--- the list of what is there, and the empty list of nothing
-abbrev pub or_nil : {X Y : Type 0} → (X → List Y) → Option X → List Y
-or_nil f None = []
-or_nil f (Some x) = f x
+abbrev pub texts_in : Inside → List (List ℕ)
+texts_in None = []
+texts_in (One t) = t ∷ []
+texts_in (Shared rc) = rc.value.items
 
 -- the list with another first value
 abbrev pub with_first : {X : Type 0} → X → List X → List X

@@ -1,8 +1,23 @@
--- What a text holds, in place or shared.
-use Rattle.std.specs.Prelude.{ℕ, List, string_bytes}
+-- What a text holds, in place or shared, and what comes of an append to it.
+use Rattle.std.specs.Prelude.{◌≡◌, ℕ, List, ◌++◌, Bool, true, false, Result, MatchResult, string_bytes}
 use Rattle.press_text.specs.declared.text.Held.{Held}
 use Rattle.press_text.specs.declared.text.Held.TheVariants.{Inline, Shared}
+use Rattle.press_text.specs.declared.text.Long.{Long}
+use Rattle.press_text.specs.declared.text.Long.TheVariants.{Here, Apart}
+
+abbrev pub bytes_in : Long → List ℕ
+bytes_in (Here s) = s
+bytes_in (Apart s) = string_bytes s
 
 abbrev pub bytes_of : Held → List ℕ
 bytes_of (Inline s) = s
-bytes_of (Shared rc) = string_bytes rc.value
+bytes_of (Shared rc) = bytes_in rc.value
+
+-- the bytes with more behind them, where that was done
+abbrev pub appended : Bool → List ℕ → List ℕ → List ℕ
+appended true old more = old ++ more
+appended false old more = old
+
+-- an append that is done where there is room says whether it was, and a fault leaves the bytes as they were
+abbrev pub Appended : {E : Type 0} → Result Bool E → List ℕ → List ℕ → List ℕ → Type 0
+Appended result old new more = MatchResult result (λ done. new ≡ appended done old more) (λ fault. new ≡ old)

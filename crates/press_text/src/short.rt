@@ -1,4 +1,4 @@
-ghost use Rattle.std.specs.Prelude.{◌≡◌, ◌≤◌, ◌+◌, ◌++◌, [], length};
+ghost use Rattle.std.specs.Prelude.{◌≡◌, ◌<◌, ◌≤◌, ◌+◌, ◌++◌, [], length};
 
 use std::marker::Model;
 use std::str;
@@ -6,38 +6,42 @@ use std::str;
 /// The most bytes of a text that lies in the value itself.
 pub const MOST: usize = 22;
 
-/// A text of at most 22 bytes, in place.
+/// The most bytes of a text that lies in the block of its holders' count.
+pub const MOST_HERE: usize = 111;
+
+/// A text of at most N bytes, in place. N is below 256.
 #[derive(Drop)]
-pub struct Short {
-    cells: [u8; 22],
+pub struct Short<const N: usize> {
+    cells: [u8; N],
     len: u8,
 }
 
-impl Model for Short {
+impl<const N: usize> Model for Short<N> {
     ghost use Rattle.std.specs.Prelude.{ℕ, List, ◌≤◌, take, IsUtf8};
 
     ghost Value = { List ℕ };
 
     ghost view = { λ s. take s.len s.cells };
 
-    ghost invariant = { λ s. (s.len ≤ 22) × IsUtf8 (take s.len s.cells) };
+    ghost invariant = { λ s. (s.len ≤ N) × IsUtf8 (take s.len s.cells) };
 }
 
-impl Short {
-    pub fn empty() -> Short
+impl<const N: usize> Short<N> {
+    pub fn empty() -> Short<N>
         ensures { result ≡ [] }
     {
         Short {
-            cells: [0; 22],
+            cells: [0; N],
             len: 0,
         }
     }
 
-    pub fn from_str(text: &str) -> Short
-        requires { length text.now ≤ 22 }
+    pub fn from_str(text: &str) -> Short<N>
+        requires short { length text.now ≤ N }
+        requires small { N < 256 }
         ensures { result ≡ text.now }
     {
-        let mut cells = [0; 22];
+        let mut cells = [0; N];
         let len = text.len();
         cells[..len].copy_from_slice(text.as_bytes());
         Short {
@@ -48,17 +52,19 @@ impl Short {
 
     /// Appends.
     pub fn push(&mut self, more: &str)
-        requires { length self.old + length more.now ≤ 22 }
+        requires short { length self.old + length more.now ≤ N }
+        requires small { N < 256 }
         ensures { self.new ≡ self.old ++ more.now }
     {
         let len = self.len as usize;
         let end = len + more.len();
-        self.cells[len..end].copy_from_slice(more.as_bytes());
+        let cells = &mut self.cells[..];
+        cells[len..end].copy_from_slice(more.as_bytes());
         self.len = end as u8;
     }
 
     /// A copy of the text.
-    pub fn copy(&self) -> Short
+    pub fn copy(&self) -> Short<N>
         ensures { result ≡ self.now }
     {
         Short {
@@ -69,7 +75,7 @@ impl Short {
 
     pub fn as_str(&self) -> &str
         ensures value { result.now ≡ self.now }
-        ensures fits { length result.now ≤ 22 }
+        ensures fits { length result.now ≤ N }
     {
         unsafe { str::from_utf8_unchecked(&self.cells[..self.len as usize]) }
     }

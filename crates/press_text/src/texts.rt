@@ -1,4 +1,4 @@
-ghost use Rattle.std.specs.Prelude.{◌≡◌, [], IfOk, OnOk};
+ghost use Rattle.std.specs.Prelude.{◌≡◌, ◌≢◌, [], ◌∷◌, length, IfOk, OnOk, OnErr};
 ghost use Rattle.press_text.specs.Lists.{with_first};
 
 use crate::copied::copied_all;
@@ -6,13 +6,21 @@ use crate::text::Text;
 use std::alloc::{AllocError, Global};
 use std::marker::Model;
 use std::rc::Rc;
+use std::slice;
+
+#[derive(Debug, Drop)]
+enum Inside {
+    None,
+    One(Text),
+    Shared(Rc<Vec<Text>>),
+}
 
 /// A list of texts, which contracts see as that list.
 ///
-/// Its copies share it, so that a copy takes no memory at any length.
+/// One text lies in the value itself; a longer list is shared by its copies, so that a copy takes no memory at any length.
 #[derive(Debug)]
 pub struct Texts {
-    inside: Option<Rc<Vec<Text>>>,
+    inside: Inside,
     alloc: Global,
 }
 
@@ -27,11 +35,11 @@ impl Drop for Texts {
 
 impl Model for Texts {
     ghost use Rattle.std.specs.Prelude.{ℕ, List};
-    ghost use Rattle.press_text.specs.Lists.{or_nil};
+    ghost use Rattle.press_text.specs.Lists.{texts_in};
 
     ghost Value = { List (List ℕ) };
 
-    ghost view = { λ t. or_nil (λ rc. rc.value.items) t.inside };
+    ghost view = { λ t. texts_in t.inside };
 }
 
 impl Texts {
@@ -40,29 +48,43 @@ impl Texts {
         ensures { result ≡ [] }
     {
         Texts {
-            inside: None,
+            inside: Inside::None,
             alloc,
         }
     }
 
-    /// Takes memory for the counts of holders alone.
-    pub fn from_vec(texts: Vec<Text>) -> Result<Texts, AllocError>
-        ensures { IfOk result (λ t. t ≡ texts.items) }
+    /// The list of one text, which takes no memory.
+    pub fn one(alloc: Global, text: Text) -> Texts
+        ensures { result ≡ text ∷ [] }
+    {
+        Texts {
+            inside: Inside::One(text),
+            alloc,
+        }
+    }
+
+    /// Takes memory for the counts of holders alone, and for a list of one text none.
+    pub fn from_vec(mut texts: Vec<Text>) -> Result<Texts, AllocError>
+        ensures value { IfOk result (λ t. t ≡ texts.items) }
+        ensures memory { OnErr result (length texts.items ≢ 1) }
     {
         let alloc = *texts.allocator();
-        let inside = Rc::new(alloc, texts)?;
-        Ok(Texts {
-            inside: Some(inside),
-            alloc,
-        })
+        if texts.len() == 1 {
+            if let Some(text) = texts.pop() {
+                return Ok(Texts::one(alloc, text));
+            }
+        }
+        let inside = Inside::Shared(Rc::new(alloc, texts)?);
+        Ok(Texts { inside, alloc })
     }
 
     pub fn as_slice(&self) -> &[Text]
         ensures { result.now ≡ self.now }
     {
         match &self.inside {
-            None => &[],
-            Some(rc) => rc.as_ref().as_slice(),
+            Inside::None => &[],
+            Inside::One(text) => slice::from_ref(text),
+            Inside::Shared(rc) => rc.as_ref().as_slice(),
         }
     }
 
@@ -71,8 +93,9 @@ impl Texts {
         ensures { IfOk result (λ t. t ≡ self.now) }
     {
         let inside = match &self.inside {
-            None => None,
-            Some(rc) => Some(rc.clone()?),
+            Inside::None => Inside::None,
+            Inside::One(text) => Inside::One(text.copy(self.alloc)?),
+            Inside::Shared(rc) => Inside::Shared(rc.clone()?),
         };
         Ok(Texts {
             inside,
@@ -84,7 +107,25 @@ impl Texts {
     pub fn set_first(&mut self, first: Text) -> Result<(), AllocError>
         ensures { OnOk result (self.new ≡ with_first first self.old) }
     {
-        if let Some(rc) = &mut self.inside {
+        match &mut self.inside {
+            Inside::None => {
+                self.inside = Inside::One(first);
+                Ok(())
+            }
+            Inside::One(text) => {
+                *text = first;
+                Ok(())
+            }
+            Inside::Shared(_) => self.set_first_shared(first),
+        }
+    }
+
+    // The same of a list that may be shared. Out of line, since most lists have one text.
+    #[inline(never)]
+    fn set_first_shared(&mut self, first: Text) -> Result<(), AllocError>
+        ensures { OnOk result (self.new ≡ with_first first self.old) }
+    {
+        if let Inside::Shared(rc) = &mut self.inside {
             if let Some(own) = Rc::get_mut(rc) {
                 return put_first(own, first);
             }

@@ -1,12 +1,12 @@
 //! A callback is opened, built in or of the kit, and takes its turns.
 
-ghost use Rattle.std.specs.Prelude.{◌≡◌, ◌++◌, ℕ, List, None, false, IsErrOf};
+ghost use Rattle.std.specs.Prelude.{◌≡◌, ◌++◌, ℕ, List, None, false, true, ltb, IsErrOf};
 ghost use Rattle.press_callbacks.specs.Kits.{Scripts, script_at};
 ghost use Rattle.press_callbacks.specs.Turns.{turn_of};
 ghost use Rattle.press_callbacks.specs.declared.script.Turn.TheVariants as turn;
 ghost use Rattle.press_callbacks.specs.declared.script.Turn.TheVariants.{Echo};
-ghost use Rattle.press_run.specs.Frames.{BeginsAs, CallsAs, CountsAs, IsFew, Steps, Turns, meant};
-ghost use Rattle.press_run.specs.Run.{at_depth, built_in, fits, is_short, one_turn, or_empty, within};
+ghost use Rattle.press_run.specs.Frames.{BeginsAs, CallsAs, CountsAs, IsFew, KeepsCall, Steps, Turns, meant};
+ghost use Rattle.press_run.specs.Run.{at_depth, built_in, fits, most_turns, one_turn, or_empty, within};
 ghost use Rattle.press_run.specs.Outcome.{around, is_limit, state_of};
 ghost use Rattle.press_run.specs.Limits.{ShowsLimits};
 ghost use Rattle.press_run.specs.Standing.{standing};
@@ -14,49 +14,45 @@ ghost use Rattle.press_run.specs.declared.frame.Frame.TheVariants as frame;
 
 use super::{Machine, StepAt};
 use crate::callbacks::Callbacks;
-use crate::frame::{FUEL, Frame, OpenCallback};
-use crate::held::Held;
+use crate::frame::{FUEL, OpenCallback};
 use crate::link::SiteLink;
 use crate::run_fault::RunFault;
-use crate::step::{Begun, Called, Step};
+use crate::step::{Begun, Opened, Step};
 use crate::texts;
 use press_callbacks::{CallIn, Turn, is_built_in, is_do_shortcode};
 use press_text::{CallbackId, Text};
 
 impl<L: SiteLink + Drop> Machine<L> {
-    /// A callback on its call, where a number may be open from it on.
+    /// A callback on its call, where a number may be open from it on. One of the kit gets its room, its turns and its place here.
     pub(super) fn open<K: Callbacks>(
         &mut self,
         kit: &K,
         room: u32,
         id: CallbackId,
-        call: CallIn,
-    ) -> Result<Called, RunFault>
-        requires { call.turn ≡ 0 }
+        callback: &mut OpenCallback,
+    ) -> Result<Opened, RunFault>
+        requires { callback.old.call.turn ≡ 0 }
         ensures shut { room ≡ 0 → IsErrOf result RunFault.Limit }
         ensures begins { CallsAs L.changes (K.scripts kit.now)
-            (at_depth L.changes room (K.scripts kit.now) id call
+            (at_depth L.changes room (K.scripts kit.now) id callback.old.call
             (state_of (standing L.view L.fixed self.old)))
-            1 (standing L.view L.fixed self.old) (standing L.view L.fixed self.new) result }
+            1 callback.new
+            (standing L.view L.fixed self.old) (standing L.view L.fixed self.new) result }
+        ensures called { KeepsCall callback.old callback.new }
         ensures fixed { L.fixed self.new.site ≡ L.fixed self.old.site }
         ensures limits { ShowsLimits result self.old self.new }
     {
         if room == 0 {
-            drop(call);
             self.met_limit = true;
             return Err(RunFault::Limit);
         }
         if is_built_in(id.as_bytes()) {
-            let begun = self.open_built_in(room - 1, id, &call)?;
-            return Ok(Called::Begun(begun));
+            let begun = self.open_built_in(room - 1, id, &callback.call)?;
+            return Ok(begun.opened());
         }
-        let place = kit.place(id);
-        let callback = OpenCallback {
-            room: room - 1,
-            left: FUEL,
-            place,
-            call,
-        };
+        callback.room = room - 1;
+        callback.left = FUEL;
+        callback.place = kit.place(id);
         self.turns(kit, callback)
     }
 
@@ -64,28 +60,27 @@ impl<L: SiteLink + Drop> Machine<L> {
     fn turns<K: Callbacks>(
         &mut self,
         kit: &K,
-        mut callback: OpenCallback,
-    ) -> Result<Called, RunFault>
-        requires { IsFew 0 callback }
+        callback: &mut OpenCallback,
+    ) -> Result<Opened, RunFault>
+        requires { IsFew 0 callback.old }
         ensures begins { CallsAs L.changes (K.scripts kit.now)
-            (meant L.changes (K.scripts kit.now) (frame.Callback callback)
+            (meant L.changes (K.scripts kit.now) (frame.Callback callback.old)
             (around (standing L.view L.fixed self.old))
             (state_of (standing L.view L.fixed self.old)))
-            1 (standing L.view L.fixed self.old) (standing L.view L.fixed self.new) result }
+            1 callback.new
+            (standing L.view L.fixed self.old) (standing L.view L.fixed self.new) result }
+        ensures called { KeepsCall callback.old callback.new }
         ensures fixed { L.fixed self.new.site ≡ L.fixed self.old.site }
         ensures limits { ShowsLimits result self.old self.new }
     {
         loop {
-            match self.turn(kit, &mut callback)? {
+            match self.turn(kit, callback)? {
                 Step::Goes => {}
                 Step::Takes(text) => {
                     callback.with_last(text);
                 }
-                Step::Gives(text) => return Ok(Called::Begun(Begun::Gives(text))),
-                Step::Opens(inner) => {
-                    let held = Held::new(self.counts.allocator(), callback)?;
-                    return Ok(Called::Waits(Frame::Callback(held), inner));
-                }
+                Step::Gives(text) => return Ok(Opened::Gives(text)),
+                Step::Opens(inner) => return Ok(Opened::Waits(inner)),
             }
         }
     }
@@ -129,6 +124,7 @@ impl<L: SiteLink + Drop> Machine<L> {
             → IsErrOf result RunFault.Limit }
         ensures long { fits (turn_of (or_empty (script_at callback.old.place (K.scripts kit.now)))
             callback.old.call) ≡ false → IsErrOf result RunFault.Limit }
+        ensures called { KeepsCall callback.old callback.new }
         ensures fixed { L.fixed self.new.site ≡ L.fixed self.old.site }
         ensures limits { ShowsLimits result self.old self.new }
     {
@@ -154,23 +150,19 @@ impl<L: SiteLink + Drop> Machine<L> {
         }
     }
 
-    // The turn Go, counted. It and Return are the commonest, so that what is moved is their text alone.
+    // The turn Go, within the turns and the bytes, is counted. It and Return are the commonest, so that what is moved is their text alone.
     fn goes(&mut self, callback: &mut OpenCallback, value: Text) -> Result<Step, RunFault>
-        requires { IsFew 1 callback.old }
-        ensures late { one_turn (state_of (standing L.view L.fixed self.old)) ≡ None
-            → IsErrOf result RunFault.Limit }
-        ensures long { is_short value ≡ false → IsErrOf result RunFault.Limit }
+        requires few { IsFew 1 callback.old }
+        requires turns { ltb self.old.counts.turns most_turns ≡ true }
+        requires short { fits (turn.Go value) ≡ true }
         ensures steps { (scripts : Scripts) → CountsAs L.changes scripts
             callback.old (turn.Go value) callback.new
             (standing L.view L.fixed self.old) (standing L.view L.fixed self.new) result }
+        ensures called { KeepsCall callback.old callback.new }
         ensures fixed { L.fixed self.new.site ≡ L.fixed self.old.site }
         ensures limits { ShowsLimits result self.old self.new }
     {
-        if !self.counts.take_turn() || !texts::is_short(&value) {
-            drop(value);
-            self.met_limit = true;
-            return Err(RunFault::Limit);
-        }
+        self.counts.add_turn();
         self.gone(callback, value)
     }
 
@@ -180,51 +172,43 @@ impl<L: SiteLink + Drop> Machine<L> {
         ensures steps { (scripts : Scripts) → Turns L.changes scripts
             callback.old (turn.Go value) callback.new
             (standing L.view L.fixed self.now) (standing L.view L.fixed self.now) result }
+        ensures called { KeepsCall callback.old callback.new }
         ensures limits { is_limit result ≡ false }
     {
         Ok(callback.with_value(value))
     }
 
-    // The turn Return, counted.
+    // The turn Return, within the turns and the bytes, is counted.
     fn gives(&mut self, callback: &OpenCallback, text: Text) -> Result<Step, RunFault>
-        requires { IsFew 1 callback.now }
-        ensures late { one_turn (state_of (standing L.view L.fixed self.old)) ≡ None
-            → IsErrOf result RunFault.Limit }
-        ensures long { is_short text ≡ false → IsErrOf result RunFault.Limit }
+        requires few { IsFew 1 callback.now }
+        requires turns { ltb self.old.counts.turns most_turns ≡ true }
+        requires short { fits (turn.Return text) ≡ true }
         ensures steps { (scripts : Scripts) → CountsAs L.changes scripts
             callback.now (turn.Return text) callback.now
             (standing L.view L.fixed self.old) (standing L.view L.fixed self.new) result }
         ensures fixed { L.fixed self.new.site ≡ L.fixed self.old.site }
         ensures limits { ShowsLimits result self.old self.new }
     {
-        if !self.counts.take_turn() || !texts::is_short(&text) {
-            drop(text);
-            self.met_limit = true;
-            return Err(RunFault::Limit);
-        }
+        self.counts.add_turn();
         Ok(Step::Gives(text))
     }
 
-    // A turn, counted, with texts that are within the bytes.
+    // A turn, within the turns and with texts that are within the bytes, is counted.
     #[inline(never)]
     fn counted(&mut self, callback: &mut OpenCallback, turn: Turn) -> Result<Step, RunFault>
-        requires { IsFew 1 callback.old }
-        ensures late { one_turn (state_of (standing L.view L.fixed self.old)) ≡ None
-            → IsErrOf result RunFault.Limit }
-        ensures long { fits turn ≡ false → IsErrOf result RunFault.Limit }
+        requires few { IsFew 1 callback.old }
+        requires turns { ltb self.old.counts.turns most_turns ≡ true }
+        requires short { fits turn ≡ true }
         ensures full { (text : List ℕ) → turn ≡ Echo text → within (self.old.out ++ text) ≡ None
             → IsErrOf result RunFault.Limit }
         ensures steps { (scripts : Scripts) → CountsAs L.changes scripts
             callback.old turn callback.new
             (standing L.view L.fixed self.old) (standing L.view L.fixed self.new) result }
+        ensures called { KeepsCall callback.old callback.new }
         ensures fixed { L.fixed self.new.site ≡ L.fixed self.old.site }
         ensures limits { ShowsLimits result self.old self.new }
     {
-        if !self.counts.take_turn() || !texts::fits(&turn) {
-            drop(turn);
-            self.met_limit = true;
-            return Err(RunFault::Limit);
-        }
+        self.counts.add_turn();
         self.asked(callback, turn)
     }
 }

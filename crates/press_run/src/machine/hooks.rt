@@ -1,10 +1,10 @@
 //! The callbacks of a hook, one after the other.
 
-ghost use Rattle.std.specs.Prelude.{◌≡◌, IsErrOf, IsTrue};
+ghost use Rattle.std.specs.Prelude.{◌≡◌, IfOk, IsErrOf, IsTrue, OnOk};
 ghost use Rattle.press_hooks.specs.NextEntry.{is_innermost};
 ghost use Rattle.press_callbacks.specs.Kits.{Scripts};
-ghost use Rattle.press_run.specs.Frames.{BeginsAs, MovesTo, hooked};
-ghost use Rattle.press_run.specs.Run.{at_depth, do_hook};
+ghost use Rattle.press_run.specs.Frames.{BeginsAs, EntersAs, IsOfHook, MovesTo, closed, hooked, shown};
+ghost use Rattle.press_run.specs.Run.{at_depth, do_hook, first_text};
 ghost use Rattle.press_run.specs.Outcome.{state_of};
 ghost use Rattle.press_run.specs.Limits.{ShowsLimits};
 ghost use Rattle.press_run.specs.Standing.{standing};
@@ -12,13 +12,14 @@ ghost use Rattle.press_run.specs.declared.frame.Frame.TheVariants as frame;
 
 use super::Machine;
 use crate::callbacks::Callbacks;
-use crate::frame::{FUEL, Frame, OpenHook};
+use crate::frame::{FUEL, Frame, OpenCallback, OpenHook};
 use crate::held::Held;
 use crate::link::SiteLink;
 use crate::run_fault::RunFault;
-use crate::step::{Begun, Kind, Moved, Step};
+use crate::step::{Begun, Kind, Moved, Opened, Step};
 use crate::texts;
-use press_text::{HookName, Texts};
+use press_text::{HookName, Text, Texts};
+use std::alloc::AllocError;
 
 impl<L: SiteLink + Drop> Machine<L> {
     /// The callbacks of a hook, where `room` may be open; without one the hook returns at once.
@@ -37,12 +38,12 @@ impl<L: SiteLink + Drop> Machine<L> {
         ensures fixed { L.fixed self.new.site ≡ L.fixed self.old.site }
         ensures limits { ShowsLimits result self.old self.new }
     {
-        if !self.tables.hooks.has_any(hook) {
+        let Some(place) = self.tables.hooks.place_of(hook) else {
             let text = texts::shown(self.counts.allocator(), kind, &args)?;
             return Ok(Begun::Gives(text));
-        }
+        };
         self.counts.enter(hook)?;
-        let run = self.tables.hooks.begin(hook)?;
+        let run = self.tables.hooks.begin_near(hook, place)?;
         let open = OpenHook {
             room,
             left: FUEL,
@@ -70,12 +71,13 @@ impl<L: SiteLink + Drop> Machine<L> {
         ensures limits { ShowsLimits result self.old self.new }
     {
         self.counts.start(hook)?;
-        let args = texts::or_one_empty(self.counts.allocator(), args)?;
+        let args = texts::or_one_empty(self.counts.allocator(), args);
         self.begin(room, Kind::Action, hook, args)
     }
 
-    /// The next entry is called; without one the run ends.
-    pub(crate) fn entry<K: Callbacks>(
+    /// The entries up to one that the run waits for, or to its end.
+    #[tactic(auto, using(crate::proofs::Entries::entry_on, crate::proofs::Entries::entry_refused, crate::proofs::Entries::entry_taken, crate::proofs::Entries::run_ends))]
+    pub(crate) fn entries<K: Callbacks>(
         &mut self,
         kit: &K,
         run: &mut OpenHook,
@@ -88,6 +90,42 @@ impl<L: SiteLink + Drop> Machine<L> {
         ensures fixed { L.fixed self.new.site ≡ L.fixed self.old.site }
         ensures limits { ShowsLimits result self.old self.new }
     {
+        let alloc = self.counts.allocator();
+        let mut callback = OpenCallback::of_hook(alloc);
+        loop {
+            match self.entry(kit, run, &mut callback)? {
+                None => {
+                    let text = self.end_run(run)?;
+                    return Ok(Moved::By(Step::Gives(text)));
+                }
+                Some(Opened::Gives(text)) => {
+                    callback.end(alloc);
+                    run.take(text)?;
+                }
+                Some(opened) => {
+                    let moved = opened.awaited(alloc, callback)?;
+                    return Ok(moved);
+                }
+            }
+        }
+    }
+
+    // The next entry, if there is one, is called.
+    fn entry<K: Callbacks>(
+        &mut self,
+        kit: &K,
+        run: &mut OpenHook,
+        callback: &mut OpenCallback,
+    ) -> Result<Option<Opened>, RunFault>
+        requires innermost { IsTrue (is_innermost run.old.run self.old.tables.hooks.open_runs) }
+        requires hook { IsOfHook callback.old }
+        ensures spent { run.old.left ≡ 0 → IsErrOf result RunFault.Limit }
+        ensures steps { EntersAs L.changes (K.scripts kit.now) run.old run.new callback.new
+            (standing L.view L.fixed self.old) (standing L.view L.fixed self.new) result }
+        ensures hook { IsOfHook callback.new }
+        ensures fixed { L.fixed self.new.site ≡ L.fixed self.old.site }
+        ensures limits { ShowsLimits result self.old self.new }
+    {
         if run.left == 0 {
             self.met_limit = true;
             return Err(RunFault::Limit);
@@ -95,13 +133,26 @@ impl<L: SiteLink + Drop> Machine<L> {
         run.left -= 1;
         let alloc = self.counts.allocator();
         let Some(entry) = self.tables.hooks.next(run.run)? else {
-            let text = texts::shown(alloc, run.kind, &run.args)?;
-            self.tables.hooks.end(run.run);
-            self.counts.leave();
-            return Ok(Moved::By(Step::Gives(text)));
+            return Ok(None);
         };
-        let call = texts::hook_call(alloc, &run.args, entry.accepted)?;
-        let called = self.open(kit, run.room, entry.callback, call)?;
-        Ok(called.awaited())
+        let args = texts::accepted_args(alloc, &run.args, entry.accepted)?;
+        callback.begin(alloc, args)?;
+        let opened = self.open(kit, run.room, entry.callback, callback)?;
+        Ok(Some(opened))
+    }
+
+    // Closes a run, and gives its answer.
+    fn end_run(&mut self, run: &OpenHook) -> Result<Text, AllocError>
+        requires { IsTrue (is_innermost run.now.run self.old.tables.hooks.open_runs) }
+        ensures text { IfOk result (λ t. t ≡ shown run.now.kind (first_text run.now.args)) }
+        ensures closed { OnOk result (standing L.view L.fixed self.new
+            ≡ closed (standing L.view L.fixed self.old)) }
+        ensures fixed { L.fixed self.new.site ≡ L.fixed self.old.site }
+        ensures limits { self.new.met_limit ≡ self.old.met_limit }
+    {
+        let text = texts::shown(self.counts.allocator(), run.kind, &run.args)?;
+        self.tables.hooks.end(run.run);
+        self.counts.leave();
+        Ok(text)
     }
 }

@@ -91,7 +91,7 @@ impl<L: SiteLink + Drop> Machine<L> {
         }
     }
 
-    // The innermost frame goes on by one turn, entry, action or piece.
+    // The innermost frame goes on by one turn, action or piece, or by entries up to one that it waits for.
     fn step<K: Callbacks>(&mut self, kit: &K, top: &mut Frame) -> Result<Moved, RunFault>
         requires { Ready top.old (around (standing L.view L.fixed self.old)) }
         ensures steps { MovesTo L.changes (K.scripts kit.now) top.old top.new
@@ -101,7 +101,7 @@ impl<L: SiteLink + Drop> Machine<L> {
     {
         match top {
             Frame::Callback(callback) => Ok(Moved::By(callback.turn(self, kit)?)),
-            Frame::Hook(run) => run.entry(self, kit),
+            Frame::Hook(run) => run.entries(self, kit),
             Frame::Fires(fires) => Ok(Moved::By(fires.fire(self)?)),
             Frame::Scan(scan) => scan.piece(self, kit),
         }

@@ -1,11 +1,11 @@
 //! Texts with shortcodes, piece by piece.
 
-ghost use Rattle.std.specs.Prelude.{◌≡◌, ◌≤◌, ◌^◌, false, length, IfOk, IsErrOf};
+ghost use Rattle.std.specs.Prelude.{◌≡◌, ◌^◌, false, IfOk, IsErrOf, IsTrue, OnErr};
 ghost use Rattle.press_scan.specs.Shortcodes.{IsShortcode, cut};
 ghost use Rattle.press_scan.specs.Tags.{callback_of, names_of};
 ghost use Rattle.press_callbacks.specs.Kits.{Scripts};
 ghost use Rattle.press_run.specs.Frames.{Awaits, BeginsAs, CallsAs, GoesOn, IsCame, MovesTo, ScanReady, filtering_where};
-ghost use Rattle.press_run.specs.Run.{at_depth, filtered, filters_answers, is_short, scan, shortcode_call, tag_answer};
+ghost use Rattle.press_run.specs.Run.{at_depth, filtered, filters_answers, is_short, scan, tag_answer};
 ghost use Rattle.press_run.specs.Outcome.{state_of};
 ghost use Rattle.press_run.specs.Limits.{ShowsLimits};
 ghost use Rattle.press_run.specs.Standing.{standing};
@@ -14,11 +14,11 @@ ghost use Rattle.press_run.specs.declared.frame.Filtering.TheVariants.{Off};
 
 use super::Machine;
 use crate::callbacks::Callbacks;
-use crate::frame::{Filtering, Frame, OpenScan};
+use crate::frame::{Filtering, Frame, OpenCallback, OpenScan};
 use crate::held::Held;
 use crate::link::SiteLink;
 use crate::run_fault::RunFault;
-use crate::step::{Begun, Called, Kind, Moved, Step};
+use crate::step::{Begun, Kind, Moved, Opened, Step};
 use crate::{shortcodes, texts};
 use press_scan::{Scan, ScanStep, Shortcode, computes_first, ends_within};
 use press_text::{Text, Texts};
@@ -55,8 +55,8 @@ impl<L: SiteLink + Drop> Machine<L> {
         Ok(Begun::Opens(Frame::Scan(held)))
     }
 
-    /// The next piece: text up to a shortcode, an escape, or a shortcode, whose callback is called. Where a callback's
-    /// answer came that is filtered, its filter.
+    /// One step: the text before a shortcode, an escape, or a shortcode, whose callback is opened by the tags that then
+    /// stand. Where an answer came that is filtered, the step is its filter, and no text is taken.
     pub(crate) fn piece<K: Callbacks>(
         &mut self,
         kit: &K,
@@ -98,10 +98,13 @@ impl<L: SiteLink + Drop> Machine<L> {
         match scan.scan.step(&self.tables.tags)? {
             ScanStep::Text => Ok(Moved::By(Step::Goes)),
             ScanStep::Call(shortcode) => {
-                let filtering = self.filtering(scan.scan.text(), shortcode)?;
-                let called = self.begin_shortcode(kit, scan.room, scan.scan.text(), shortcode)?;
+                let (alloc, text) = (self.counts.allocator(), scan.scan.text());
+                let filtering = self.filtering(text, shortcode)?;
+                let call = shortcodes::shortcode_call(alloc, text, &self.tables.tags, shortcode)?;
+                let mut callback = OpenCallback::on(call);
+                let opened = self.begin_shortcode(kit, scan.room, &mut callback)?;
                 scan.filtering = filtering;
-                Ok(called.awaited())
+                Ok(opened.awaited(alloc, callback)?)
             }
             ScanStep::End => {
                 let text = scan.finish(self.counts.allocator())?;
@@ -129,7 +132,8 @@ impl<L: SiteLink + Drop> Machine<L> {
         Ok(Moved::By(begun.awaited()))
     }
 
-    // The filter, with an answer and the tag that it is of.
+    // The filter: its callbacks see the answer as their value and the tag as their second argument; where the hook has
+    // none, the answer stays as it is.
     fn begin_filter(&mut self, room: u32, answer: Text, tag: Text) -> Result<Begun, RunFault>
         ensures begins { (scripts : Scripts) → BeginsAs L.changes scripts
             (filtered (at_depth L.changes room scripts) tag answer
@@ -150,8 +154,9 @@ impl<L: SiteLink + Drop> Machine<L> {
     fn filtering(&self, text: &str, shortcode: Shortcode) -> Result<Filtering, AllocError>
         requires stands { IsShortcode text.now (names_of self.now.tables.tags)
             shortcode.start shortcode }
-        ensures { IfOk result (λ f. f ≡ filtering_where (cut text.now shortcode.tag)
+        ensures filtering { IfOk result (λ f. f ≡ filtering_where (cut text.now shortcode.tag)
             (filters_answers (L.view self.now.site))) }
+        ensures memory { OnErr result (IsTrue (filters_answers (L.view self.now.site))) }
     {
         if self.site.site().profile() != FILTERS_ANSWERS {
             return Ok(Filtering::Off);
@@ -161,30 +166,26 @@ impl<L: SiteLink + Drop> Machine<L> {
         Ok(Filtering::Comes(tag))
     }
 
-    // The callback of a shortcode's tag; a tag without one answers the empty text.
+    // The callback of a call's tag; a tag without one answers the empty text.
     fn begin_shortcode<K: Callbacks>(
         &mut self,
         kit: &K,
         room: u32,
-        text: &str,
-        shortcode: Shortcode,
-    ) -> Result<Called, RunFault>
-        requires stands { IsShortcode text.now (names_of self.old.tables.tags)
-            shortcode.start shortcode }
-        requires short { length text.now ≤ 1048576 }
+        callback: &mut OpenCallback,
+    ) -> Result<Opened, RunFault>
+        requires { callback.old.call.turn ≡ 0 }
         ensures begins { CallsAs L.changes (K.scripts kit.now)
             (tag_answer (at_depth L.changes room (K.scripts kit.now))
-            (callback_of (cut text.now shortcode.tag) self.old.tables.tags)
-            (shortcode_call text.now shortcode) (state_of (standing L.view L.fixed self.old)))
-            2 (standing L.view L.fixed self.old) (standing L.view L.fixed self.new) result }
+            (callback_of callback.old.call.tag self.old.tables.tags)
+            callback.old.call (state_of (standing L.view L.fixed self.old)))
+            2 callback.new
+            (standing L.view L.fixed self.old) (standing L.view L.fixed self.new) result }
         ensures fixed { L.fixed self.new.site ≡ L.fixed self.old.site }
         ensures limits { ShowsLimits result self.old self.new }
     {
-        let alloc = self.counts.allocator();
-        let call = shortcodes::shortcode_call(alloc, text, &self.tables.tags, shortcode)?;
-        match self.tables.tags.get(call.tag.as_str()) {
-            None => Ok(Called::Begun(Begun::Gives(Text::new(alloc)))),
-            Some(id) => self.open(kit, room, id, call),
+        match self.tables.tags.get(callback.call.tag.as_str()) {
+            None => Ok(Opened::Gives(Text::new(self.counts.allocator()))),
+            Some(id) => self.open(kit, room, id, callback),
         }
     }
 }

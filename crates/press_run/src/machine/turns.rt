@@ -3,7 +3,7 @@
 ghost use Rattle.std.specs.Prelude.{◌≡◌, ◌≤◌, ◌++◌, ℕ, List, None, IsErrOf};
 ghost use Rattle.press_callbacks.specs.Kits.{Scripts};
 ghost use Rattle.press_callbacks.specs.declared.script.Turn.TheVariants.{Echo};
-ghost use Rattle.press_run.specs.Frames.{IsFew, Turns, group};
+ghost use Rattle.press_run.specs.Frames.{IsFew, KeepsCall, Turns, group};
 ghost use Rattle.press_run.specs.Run.{within};
 ghost use Rattle.press_run.specs.Limits.{ShowsLimits};
 ghost use Rattle.press_run.specs.Standing.{standing};
@@ -31,6 +31,7 @@ impl<L: SiteLink + Drop> Machine<L> {
             → IsErrOf result RunFault.Limit }
         ensures steps { (scripts : Scripts) → Turns L.changes scripts callback.old turn callback.new
             (standing L.view L.fixed self.old) (standing L.view L.fixed self.new) result }
+        ensures called { KeepsCall callback.old callback.new }
         ensures fixed { L.fixed self.new.site ≡ L.fixed self.old.site }
         ensures limits { ShowsLimits result self.old self.new }
     {
@@ -58,6 +59,7 @@ impl<L: SiteLink + Drop> Machine<L> {
         requires begins { 1 ≤ group turn }
         ensures steps { (scripts : Scripts) → Turns L.changes scripts callback.old turn callback.new
             (standing L.view L.fixed self.old) (standing L.view L.fixed self.new) result }
+        ensures called { KeepsCall callback.old callback.new }
         ensures fixed { L.fixed self.new.site ≡ L.fixed self.old.site }
         ensures limits { ShowsLimits result self.old self.new }
     {
@@ -109,6 +111,7 @@ impl<L: SiteLink + Drop> Machine<L> {
         requires edits { 2 ≤ group turn }
         ensures steps { (scripts : Scripts) → Turns L.changes scripts callback.old turn callback.new
             (standing L.view L.fixed self.old) (standing L.view L.fixed self.new) result }
+        ensures called { KeepsCall callback.old callback.new }
         ensures fixed { L.fixed self.new.site ≡ L.fixed self.old.site }
         ensures limits { ShowsLimits result self.old self.new }
     {
@@ -149,6 +152,7 @@ impl<L: SiteLink + Drop> Machine<L> {
         requires tells { 3 ≤ group turn }
         ensures steps { (scripts : Scripts) → Turns L.changes scripts callback.old turn callback.new
             (standing L.view L.fixed self.old) (standing L.view L.fixed self.new) result }
+        ensures called { KeepsCall callback.old callback.new }
         ensures fixed { L.fixed self.new.site ≡ L.fixed self.old.site }
         ensures limits { ShowsLimits result self.old self.new }
     {

@@ -13,4 +13,4 @@ returns-clause-begins g c = λ scripts.
     let w = standing g.L.SiteLink.view g.L.SiteLink.fixed c.args.self.now in
     let s = state_of w in
     begins_as g.L.SiteLink.changes scripts (filtered m c.args.tag c.args.answer s) (hooked m Filter c.in_ok-hook.hook c.in_ok-args.args s) 3 3 w w (standing g.L.SiteLink.view g.L.SiteLink.fixed c.begin-begun.new.self) c.begin-begun.result
-    (answer_again (apply_hook m c.in_ok-hook.hook c.in_ok-args.args s) ∙ ap₂ (λ (h : List ℕ) (ts : List (List ℕ)). apply_hook m h ts s) c.in_ok-hook.ensures (c.in_ok-args.ensures ∙ c.in_ok-vec.ensures.items)) refl (omega arith) (c.begin-begun.ensures.begins scripts)
+    (answer_again (apply_hook m c.in_ok-hook.hook c.in_ok-args.args s) ∙ ap₂ (λ (h : List ℕ) (ts : List (List ℕ)). apply_hook m h ts s) c.in_ok-hook.ensures (c.in_ok-args.ensures.value ∙ c.in_ok-vec.ensures.items)) refl (omega arith) (c.begin-begun.ensures.begins scripts)

@@ -1,4 +1,4 @@
-use Rattle.std.proofs.Common.{sym, ap, ◌∙◌, ◌&&◌, true, refl, Ok, arith}
+use Rattle.std.proofs.Common.{refl, Ok, arith}
 use Rattle.press_callbacks.specs.declared.script.Turn.TheVariants as turns
 use Rattle.press_run.specs.Standing.{standing}
 use Rattle.press_run.specs.declared.step.Step.TheVariants as step
@@ -8,6 +8,6 @@ use Rattle.press_run.proofs.machine.Machine.gives.Goals as goal
 pub returns-clause-steps : goal.returns-clause-steps
 returns-clause-steps g c = λ scripts.
     let old = standing g.L.SiteLink.view g.L.SiteLink.fixed c.args.self.now in
-    let counted = with_counts c.take_turn.new.self old in
-    turn_counts g.L.SiteLink.changes scripts c.args.callback.now c.args.callback.now (turns.Return c.args.text) old counted c.take_turn.new.self (Ok (step.Gives c.args.text))
-    c.if-not-take_turn.ensures (ap (λ b. b && true) (sym c.is_short.ensures ∙ c.if-not-is_short.false)) (record { same = refl; stands = refl; less = omega arith })
+    let counted = with_counts c.add_turn.new.self old in
+    turn_counts g.L.SiteLink.changes scripts c.args.callback.now c.args.callback.now (turns.Return c.args.text) old counted c.add_turn.new.self (Ok (step.Gives c.args.text))
+    c.add_turn.ensures c.requires.short (record { same = refl; stands = refl; less = omega arith })

@@ -1,4 +1,3 @@
-use Rattle.std.proofs.Common.{sym, ap, ◌∙◌, ◌&&◌, true}
 use Rattle.press_callbacks.specs.declared.script.Turn.TheVariants as turns
 use Rattle.press_run.specs.Standing.{standing}
 use Rattle.press_run.proofs.Begins.{turn_counts, with_counts}
@@ -7,6 +6,6 @@ use Rattle.press_run.proofs.machine.Machine.goes.Goals as goal
 pub returns-clause-steps : goal.returns-clause-steps
 returns-clause-steps g c = λ scripts.
     let old = standing g.L.SiteLink.view g.L.SiteLink.fixed c.args.self.now in
-    let counted = with_counts c.take_turn.new.self old in
-    turn_counts g.L.SiteLink.changes scripts c.args.callback.now c.gone.new.callback (turns.Go c.args.value) old counted c.take_turn.new.self c.gone.result
-    c.if-not-take_turn.ensures (ap (λ b. b && true) (sym c.is_short.ensures ∙ c.if-not-is_short.false)) (c.gone.ensures.steps scripts)
+    let counted = with_counts c.add_turn.new.self old in
+    turn_counts g.L.SiteLink.changes scripts c.args.callback.now c.gone.new.callback (turns.Go c.args.value) old counted c.add_turn.new.self c.gone.result
+    c.add_turn.ensures c.requires.short (c.gone.ensures.steps scripts)

@@ -6,12 +6,12 @@ use Rattle.std.proofs.lemmas.Str.{IsUtf8-append}
 use Rattle.press_text.proofs.short.Short.push.Goals as goal
 
 pub invariant_of-self : goal.invariant_of-self
-invariant_of-self c =
+invariant_of-self g c =
     let end = c.self.inside.len + length c.args.more.now in
     let put : c.copy_from_slice.new.self ≡ c.args.more.now = cc in
     let long : end ≡ c.self.inside.len + length c.copy_from_slice.new.self = ap (λ xs. c.self.inside.len + length xs) (sym put) in
     let room : c.self.inside.len ≤ length c.self.inside.cells = omega arith in
-    let few : length (take c.self.inside.len c.self.inside.cells) + length c.args.more.now ≤ 22 = rw (← c.self.view_is) at c.requires in
+    let few : length (take c.self.inside.len c.self.inside.cells) + length c.args.more.now ≤ g.row.N = rw (← c.self.view_is) at c.requires.short in
     let all : length (take c.self.inside.len c.self.inside.cells) ≡ c.self.inside.len = length-take-le c.self.inside.len c.self.inside.cells room in (
       omega arith,
       subst IsUtf8

@@ -1,5 +1,5 @@
 use Rattle.std.proofs.Common.{refl}
-use Rattle.press_apply.proofs.applies.switch.Goals as goal
+use Rattle.press_apply.proofs.applies.switch_profile.Goals as goal
 
 pub returns-clause-memory : goal.returns-clause-memory
 returns-clause-memory c = c.alone.ensures.profile c.args.to refl

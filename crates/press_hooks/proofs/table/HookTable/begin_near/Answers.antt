@@ -3,7 +3,7 @@ use Rattle.press_hooks.specs.Hooked.{IsEach}
 use Rattle.press_hooks.specs.Placed.{IsInPlace}
 use Rattle.press_hooks.proofs.Cuts.{each_joined}
 use Rattle.press_hooks.proofs.Runs.{begun_placed}
-use Rattle.press_hooks.proofs.table.HookTable.begin.Goals as goal
+use Rattle.press_hooks.proofs.table.HookTable.begin_near.Goals as goal
 
 pub invariant_of-self-2 : goal.invariant_of-self-2
 invariant_of-self-2 c =
