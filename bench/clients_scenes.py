@@ -217,7 +217,7 @@ STRANGERS = (("two addresses", NINE, None), ("eight, none of them beyond its qua
 
 
 def message(sender, receiver):
-    """A member asks another for a promise for slot 1 in round 1."""
+    """A member asks another for a promise for the first block in round 1."""
     body = bytes([1, sender, receiver]) + (1).to_bytes(4, "big") + (1).to_bytes(8, "big")
     return b"POST /peer HTTP/1.1\r\nContent-Length: %d\r\n\r\n%s" % (len(body), body)
 

@@ -9,7 +9,7 @@ activated the model says so and ends with status 3.
 
 import pathlib
 import sys
-from typing import NamedTuple, Optional, Union
+from typing import NamedTuple, Union
 
 from schedule_files import BEFORE, SAVE, BadSchedule, Command, read_schedule
 from site_model import Noop, Site, Unsupported, size_of
@@ -19,7 +19,7 @@ NO_SUCH_MESSAGE, NO_SUCH_NODE = 70, 71
 
 COMMAND_LIMIT = 16_384
 QUEUE, WINDOW = 256, 64
-LAST_SLOT, LAST_ROUND = 1_000_000, 2**40
+BLOCK, LAST_SLOT, LAST_ROUND = 16, 1_000_000, 2**40
 
 Value = Union[Noop, Command]
 
@@ -36,7 +36,13 @@ class Vote(NamedTuple):
     value: Value
 
 
-# ---- messages: what they say
+def block_of(slot):
+    """The slots that are promised together with this one."""
+    first = (slot - 1) // BLOCK * BLOCK + 1
+    return range(first, first + BLOCK)
+
+
+# ---- messages: what they say; one that names a block has its first slot
 
 
 class Prepare(NamedTuple):
@@ -45,7 +51,7 @@ class Prepare(NamedTuple):
 
 class Promise(NamedTuple):
     ballot: Ballot
-    vote: Optional[Vote]
+    votes: tuple  # (slot, vote) for each slot of the block that has one, slots rising
 
 
 class Nack(NamedTuple):
@@ -80,20 +86,27 @@ class Fault(Exception):
 # ---- what a node stores
 
 
-class Row(NamedTuple):
-    promised: Optional[Ballot] = None
-    vote: Optional[Vote] = None
-
-
 class Store:
-    """What a stop leaves: the last round that the node used, and by slot the promise and the vote."""
+    """What a stop leaves: the last round that the node used, the promise of each block by its first slot, and the vote of each slot."""
 
     def __init__(self):
         self.last_round = 0
-        self.rows = {}
+        self.promises = {}
+        self.votes = {}
 
-    def row(self, slot):
-        return self.rows.get(slot, Row())
+    def promised(self, slot):
+        return self.promises.get(block_of(slot)[0])
+
+    def save_promise(self, slot, ballot):
+        self.promises[block_of(slot)[0]] = ballot
+
+    def save_vote(self, slot, vote):
+        """The vote, and its ballot as the promise of the slot's block."""
+        self.save_promise(slot, vote.ballot)
+        self.votes[slot] = vote
+
+    def votes_in(self, slots):
+        return tuple((slot, self.votes[slot]) for slot in slots if slot in self.votes)
 
 
 # ---- the parts of a node
@@ -104,65 +117,74 @@ class Acceptor:
         self.store = store
 
     def on_prepare(self, slot, ballot):
-        """Promises a ballot greater than the promise, and tells the vote so far."""
-        row = self.store.row(slot)
-        if row.promised is not None and ballot <= row.promised:
-            return Nack(ballot, row.promised)
-        self.store.rows[slot] = Row(ballot, row.vote)
-        return Promise(ballot, row.vote)
+        """Promises a ballot greater than the block's promise, and tells all votes in the block so far."""
+        promised = self.store.promised(slot)
+        if promised is not None and ballot <= promised:
+            return Nack(ballot, promised)
+        self.store.save_promise(slot, ballot)
+        return Promise(ballot, self.store.votes_in(block_of(slot)))
 
     def on_accept(self, slot, vote):
-        """Votes in a ballot that is at least the promise, which it raises. A vote of this ballot is told again."""
-        row = self.store.row(slot)
-        if row.vote is not None and row.vote.ballot == vote.ballot:
-            return Accepted(row.vote)
-        if row.promised is not None and vote.ballot < row.promised:
-            return Nack(vote.ballot, row.promised)
-        self.store.rows[slot] = Row(vote.ballot, vote)
+        """Votes in a ballot that is at least the block's promise, which it raises. A vote of this ballot for the slot is told again."""
+        told, promised = self.store.votes.get(slot), self.store.promised(slot)
+        if told is not None and told.ballot == vote.ballot:
+            return Accepted(told)
+        if promised is not None and vote.ballot < promised:
+            return Nack(vote.ballot, promised)
+        self.store.save_vote(slot, vote)
         return Accepted(vote)
 
     def on_query(self, slot):
-        vote = self.store.row(slot).vote
+        vote = self.store.votes.get(slot)
         return None if vote is None else Accepted(vote)
 
 
-IDLE, PREPARING, ASKING = "idle", "preparing", "asking"
+IDLE, PREPARING, LEADING = "idle", "preparing", "leading"
 
 
 class Proposer:
     def __init__(self, id, members, store):
         self.id, self.members, self.store = id, members, store
         self.queue = []
-        self.phase, self.slot, self.ballot = IDLE, None, None
-        self.promises = []  # (member, vote), in the order in which they came
+        self.phase, self.block, self.ballot = IDLE, None, None
+        self.promises = []  # (member, the votes that it reported by slot), in the order in which they came
+        self.asked = set()  # the slots for which accept went out in this ballot
         self.greatest_nack = 0
 
-    def wake(self, applied, gap):
-        """What to ask of all members about the next slot: with nothing to propose what they voted for, else their promise in a new round."""
+    def wake(self, slot, gap):
+        """The next slot, and what to ask of all members about it: with nothing to propose what they voted for; as the leader of its block their votes, once;
+        else, about the block, their promise in a new round."""
         if not self.queue and not gap:
-            return Query()
+            return slot, Query()
+        if self.phase == LEADING and slot in self.block and slot not in self.asked:
+            return slot, self._ask(slot)
         round = 1 + max(self.store.last_round, self.greatest_nack)
         if round > LAST_ROUND:
             raise Fault(ROUNDS_USED_UP)
         self.store.last_round = round
-        self.phase, self.slot, self.ballot, self.promises = PREPARING, applied + 1, Ballot(round, self.id), []
-        return Prepare(self.ballot)
+        self.phase, self.block, self.ballot, self.promises, self.asked = PREPARING, block_of(slot), Ballot(round, self.id), [], set()
+        return self.block[0], Prepare(self.ballot)
 
-    def on_promise(self, sender, slot, promise):
-        """With more than half of the members, asks for votes. The first promise of each member counts."""
-        if self.phase != PREPARING or (slot, promise.ballot) != (self.slot, self.ballot):
+    def on_promise(self, sender, slot, promise, next_slot):
+        """With the promises of more than half of the members it leads the block, and asks for votes for the next slot. The first promise of each member counts."""
+        if self.phase != PREPARING or slot not in self.block or promise.ballot != self.ballot:
             return None
         if any(member == sender for member, _ in self.promises):
             return None
-        self.promises.append((sender, promise.vote))
+        self.promises.append((sender, dict(promise.votes)))
         if 2 * len(self.promises) <= self.members:
             return None
-        self.phase = ASKING
-        return Accept(Vote(self.ballot, self._value()))
+        self.phase = LEADING
+        return self._ask(next_slot)
 
-    def _value(self):
+    def _ask(self, slot):
+        self.asked.add(slot)
+        return Accept(Vote(self.ballot, self._value(slot)))
+
+    def _value(self, slot):
         best = None
-        for _, vote in self.promises:
+        for _, votes in self.promises:
+            vote = votes.get(slot)
             if vote is not None and (best is None or vote.ballot > best.ballot):
                 best = vote
         if best is not None:
@@ -171,11 +193,12 @@ class Proposer:
 
     def on_nack(self, slot, nack):
         self.greatest_nack = max(self.greatest_nack, nack.promised.round)
-        if self.phase != IDLE and (slot, nack.refused) == (self.slot, self.ballot):
+        if self.phase != IDLE and slot in self.block and nack.refused == self.ballot:
             self.phase = IDLE
 
-    def on_applied(self, value):
-        self.phase = IDLE
+    def on_applied(self, slot, value):
+        if slot == block_of(slot)[-1]:
+            self.phase = IDLE
         if value in self.queue:
             self.queue.remove(value)
 
@@ -235,7 +258,7 @@ class Node:
     def on_wake(self):
         if self.applied >= LAST_SLOT:
             raise Fault(SLOTS_USED_UP)
-        return self._to_all(self.applied + 1, self.proposer.wake(self.applied, self.learner.has_gap()))
+        return self._to_all(*self.proposer.wake(self.applied + 1, self.learner.has_gap()))
 
     def on_message(self, message):
         sender, slot, body = message.sender, message.slot, message.body
@@ -247,7 +270,7 @@ class Node:
         if isinstance(body, Query):
             return self._to_one(sender, slot, self.acceptor.on_query(slot))
         if isinstance(body, Promise):
-            return self._to_all(slot, self.proposer.on_promise(sender, slot, body))
+            return self._on_promise(sender, slot, body)
         if isinstance(body, Nack):
             self.proposer.on_nack(slot, body)
         if isinstance(body, Accepted):
@@ -255,11 +278,16 @@ class Node:
             self._apply_chosen()
         return []
 
+    def _on_promise(self, sender, slot, promise):
+        if self.applied >= LAST_SLOT:
+            return []
+        return self._to_all(self.applied + 1, self.proposer.on_promise(sender, slot, promise, self.applied + 1))
+
     def _apply_chosen(self):
         while (value := self.learner.next_chosen()) is not None:
             self.site.apply(value)
             self.learner.advance()
-            self.proposer.on_applied(value)
+            self.proposer.on_applied(self.applied, value)
 
     def _to_one(self, member, slot, body):
         return [] if body is None else [Message(self.id, member, slot, body)]

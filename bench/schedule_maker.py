@@ -5,7 +5,7 @@ import json
 import random
 from typing import NamedTuple
 
-from cluster_model import Accept, Accepted, Cluster, Prepare, Promise
+from cluster_model import PREPARING, Accept, Accepted, Cluster, Prepare, Promise, block_of
 from schedule_files import LAST_MOMENT, STATUSES, U32, U64, read_schedule
 from site_model import size_of
 
@@ -63,6 +63,8 @@ class Maker:
         self.manner = _manner(chance, cuts)
         self.members = chance.choice((1, 2, 3, 3, 3, 4, 5, 5, 6, 7))
         self.length = chance.randint(50, 400) if self.members < 4 else chance.randint(200, 400)
+        if chance.random() < 0.1:
+            self.length *= 3  # (so that some go on into further blocks)
         self.cluster = Cluster(self.members)
         self.lines = []
         self.steps = []
@@ -152,7 +154,7 @@ class Maker:
                 self.plans.append(self._submit(node))
             self.plans.append(self._cut({"do": "wake", "node": node}))
 
-    # ---- votes of many ballots for one slot
+    # ---- votes of many ballots in one block
 
     def _split(self):
         """One member votes in a ballot; another one in a greater ballot, whose promises don't tell of the first vote; and then a proposer hears of both."""
@@ -170,18 +172,22 @@ class Maker:
         self._attempt(self._present(), promisers, members if self._happens(0.5) else promisers[:1])
 
     def _attempt(self, node, promisers, voters):
-        """A node prepares a ballot with these, in this order, and these are asked for votes. A refusal makes it try once more. Other messages are lost, mostly."""
+        """A node prepares a ballot with these, in this order, unless it leads already, and these are asked for votes. A refusal makes it try once more. Other messages are lost, mostly."""
         waiting = list(self.waiting)
         if self.cluster.nodes[node] and not self.cluster.nodes[node].proposer.queue:
             self._play(self._submit(node))
         for _ in range(2):
-            asked = self._deliver_to(promisers, self._play({"do": "wake", "node": node}))
-            accepts = self._deliver_to([node], asked)
+            accepts = self._play({"do": "wake", "node": node})
+            if not self._are_accepts(accepts):
+                accepts = self._deliver_to([node], self._deliver_to(promisers, accepts))
             if accepts:
                 self._deliver_to(voters, accepts)
                 break
         if self._happens(0.7):
             self.waiting = waiting
+
+    def _are_accepts(self, numbers):
+        return any(isinstance(self.cluster.message(number).body, Accept) for number in numbers)
 
     def _deliver_to(self, members, numbers):
         """Delivers those that are for these members, in their order; what was sent in answer."""
@@ -211,8 +217,10 @@ class Maker:
         if isinstance(message.body, Accepted):
             return message.slot <= node.applied
         if isinstance(message.body, Promise):
-            return node.proposer.phase != "preparing" or node.proposer.ballot != message.body.ballot
-        if isinstance(message.body, (Prepare, Accept)):
+            return node.proposer.phase != PREPARING or node.proposer.ballot != message.body.ballot
+        if isinstance(message.body, Prepare):
+            return sender is not None and block_of(message.slot)[-1] <= sender.applied
+        if isinstance(message.body, Accept):
             return sender is not None and message.slot <= sender.applied
         return False
 

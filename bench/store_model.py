@@ -2,10 +2,15 @@
 import collections, contextlib, copy, re, sqlite3
 
 PREPARE, PROMISE, NACK, ACCEPT, ACCEPTED, QUERY = range(1, 7)
-MEMBERS, NODES, SLOTS, ROUNDS, MOMENTS, VALUE, WINDOW = 3, 7, 1_000_000, 2**40, 2**40, 16_384, 64
+MEMBERS, NODES, SLOTS, BLOCK, ROUNDS, MOMENTS, VALUE, WINDOW = 3, 7, 1_000_000, 16, 2**40, 2**40, 16_384, 64
 # The fields of each kind of command: name, number, moment, text, status.
 FIELDS = ["m"] + ["n#m" + own for own in ("ttsm", "#ttsm", "#", "#", "#", "nt", "n", "n", "")]
 NOOP = bytes(9)
+
+
+def first_of(slot):
+    """The first slot of its block."""
+    return slot - (slot - 1) % BLOCK
 
 
 # ---- bytes
@@ -45,6 +50,17 @@ class Reader:
     def value(self):
         return value_of(self.take(self.number(4, 0, VALUE)))
 
+    def vote(self):
+        return self.ballot(), self.value()
+
+    def votes(self, first):
+        """Those of the block with this first slot, slots rising."""
+        found, least = (), first
+        for _ in range(self.number(1, 0, BLOCK)):
+            slot = self.number(4, least, first + BLOCK - 1)
+            found, least = found + ((slot, self.vote()),), slot + 1
+        return found
+
     def end(self):
         if self.at != len(self.data):
             raise Bad
@@ -65,18 +81,20 @@ def value_of(data):
 
 
 def read_message(data):
-    """Kind, sender, receiver, slot, and the kind's own fields; a ballot is (round, node), a vote (ballot, value)."""
+    """Kind, sender, receiver, slot, and the kind's own fields; a ballot is (round, node), a vote (ballot, value), and a promise has its votes behind their slots."""
     read = Reader(data)
     kind, sender, to, slot = read.number(1, 1, 6), read.number(1, 1, NODES), read.number(1, 1, NODES), read.number(4, 1, SLOTS)
     rest = ()
+    if kind in (PREPARE, PROMISE) and slot != first_of(slot):
+        raise Bad
     if kind in (PREPARE, ACCEPT):
         rest = ((read.number(8, 1, ROUNDS), sender), *([read.value()] if kind == ACCEPT else []))
     elif kind == PROMISE:
-        rest = read.ballot(), (read.ballot(), read.value()) if read.number(1, 0, 1) else None
+        rest = read.ballot(), read.votes(slot)
     elif kind == NACK:
         rest = read.ballot(), read.ballot()
     elif kind == ACCEPTED:
-        rest = ((read.ballot(), read.value()),)
+        rest = (read.vote(),)
     read.end()
     return (kind, sender, to, slot, *rest)
 
@@ -99,7 +117,7 @@ def spell(message):
     value = lambda it: number(len(it), 4) + it
     vote = lambda it: ballot(it[0]) + value(it[1])
     own = {PREPARE: lambda it: number(it[0]),
-           PROMISE: lambda it, last: ballot(it) + (b"\1" + vote(last) if last else b"\0"),
+           PROMISE: lambda it, votes: ballot(it) + number(len(votes), 1) + b"".join(number(at, 4) + vote(last) for at, last in votes),
            NACK: lambda it, other: ballot(it) + ballot(other),
            ACCEPT: lambda it, what: number(it[0]) + value(what),
            ACCEPTED: vote,
@@ -111,10 +129,10 @@ def spell(message):
 
 
 class Model:
-    """What a member holds and answers by the rules; here no slot is ever applied."""
+    """What a member holds and answers by the rules; here no slot is ever applied. A promise is one for each block, a vote one for each slot."""
 
     def __init__(self, me):
-        self.me, self.rows, self.last_round, self.begun = me, {}, 0, frozenset()
+        self.me, self.promised, self.votes, self.last_round, self.begun = me, {}, {}, 0, frozenset()
         self.forget()
 
     def forget(self):
@@ -123,8 +141,12 @@ class Model:
 
     def copy(self):
         it = copy.copy(self)
-        it.rows = dict(self.rows)
+        it.promised, it.votes = dict(self.promised), dict(self.votes)
         return it
+
+    def stored(self):
+        """As `store_map` tells it, but for the round."""
+        return self.promised, self.votes
 
     def settle(self):
         owed, self.owed = self.owed, None
@@ -133,7 +155,7 @@ class Model:
 
     def may_wake(self):
         """Something is queued or there may be a gap, and a round is left."""
-        gap = any(1 < slot <= WINDOW and vote for slot, (_, vote) in self.rows.items())
+        gap = any(1 < slot <= WINDOW for slot in self.votes)
         return (self.queued or gap) and max(self.last_round, self.nacked) < ROUNDS
 
     def wake(self):
@@ -153,32 +175,34 @@ class Model:
         return sent
 
     def answer(self, kind, sender, to, slot, ballot=None, more=None):
-        promised, vote = self.rows.get(slot, (None, None))
+        first = first_of(slot)
+        promised, vote = self.promised.get(first), self.votes.get(slot)
         if to != self.me or sender > MEMBERS or kind == ACCEPTED:
             return []
         if kind == NACK:
             self.nacked = max(self.nacked, more[0])
-            self.promises = None if (slot, ballot) == (1, self.ballot) else self.promises
+            self.promises = None if (first, ballot) == (1, self.ballot) else self.promises
             return []
         if kind == PROMISE:
-            return self.propose(sender, more) if (slot, ballot) == (1, self.ballot) else []
+            return self.propose(sender, dict(more)) if (slot, ballot) == (1, self.ballot) else []
         if kind == QUERY:
             return [(ACCEPTED, to, sender, slot, vote)] if vote else []
         if kind == PREPARE and (promised is None or ballot > promised):
-            self.rows[slot] = ballot, vote
-            return [(PROMISE, to, sender, slot, ballot, vote)]
+            self.promised[first] = ballot
+            return [(PROMISE, to, sender, slot, ballot, tuple((it, self.votes[it]) for it in range(first, first + BLOCK) if it in self.votes))]
         if kind == ACCEPT and not (vote and vote[0] == ballot) and (promised is None or ballot >= promised):
             vote = ballot, more
-            self.rows[slot] = ballot, vote
+            self.promised[first], self.votes[slot] = ballot, vote
         if kind == ACCEPT and vote and vote[0] == ballot:
             return [(ACCEPTED, to, it, slot, vote) for it in range(1, MEMBERS + 1)]
         return [(NACK, to, sender, slot, ballot, promised)]
 
-    def propose(self, sender, vote):
-        """One more promise for the ballot that it prepares; with a majority the accepts, to all."""
-        if self.promises is None or sender in dict(self.promises):
+    def propose(self, sender, votes):
+        """One more promise for the ballot that it prepares; with a majority it leads the block, and the accepts for its next slot, the first one, go to all. Since that isn't
+        applied, a wake behind it begins another round."""
+        if self.promises is None or sender in [it for it, _ in self.promises]:
             return []
-        self.promises += ((sender, vote),)
+        self.promises += ((sender, votes.get(1)),)
         if 2 * len(self.promises) <= MEMBERS:
             return []
         votes, self.promises = [it for _, it in self.promises if it], None
@@ -209,35 +233,45 @@ def futures(model, messages, last_round, wakes=40):
 
 
 def ballot_of(round_, node):
-    """Of two columns; None where both are NULL."""
-    if round_ is None and node is None:
-        return None
-    if round_ is None or node is None or not (1 <= round_ <= ROUNDS and 1 <= node <= NODES):
+    if not (1 <= round_ <= ROUNDS and 1 <= node <= NODES):
         raise Bad
     return round_, node
 
 
-def row_of(slot, round_, node, vround, vnode, value):
-    """A promise and a vote; None where the row is damaged."""
+def promise_of(first, *columns):
+    """A promise; None where its row is damaged."""
     try:
-        promised, ballot = ballot_of(round_, node), ballot_of(vround, vnode)
-        if not 1 <= slot <= SLOTS or (ballot is None) != (value is None):
+        if not 1 <= first <= SLOTS or first != first_of(first):
             raise Bad
-        return promised, ballot and (ballot, value_of(value))
+        return ballot_of(*columns)
+    except Bad:
+        return None
+
+
+def vote_of(slot, round_, node, value):
+    """A vote; None where its row is damaged."""
+    try:
+        if not 1 <= slot <= SLOTS:
+            raise Bad
+        return ballot_of(round_, node), value_of(value)
     except Bad:
         return None
 
 
 def store_map(file):
-    """The rows by their slots, and the last round; None for a row or a round that is damaged, and in the place of both where the tables are no store's."""
+    """The promises of blocks by their first slots, the votes by their slots, and the last round; None for a row or a round that is damaged, and in the place of all where the
+    tables are no store's."""
     try:
         with contextlib.closing(sqlite3.connect(file)) as conn:
-            if not {"promise", "meta"} & {name for name, in conn.execute("SELECT name FROM sqlite_schema WHERE type = 'table'")}:
-                return {}, 0
+            if not {"block", "vote", "promise", "meta"} & {name for name, in conn.execute("SELECT name FROM sqlite_schema WHERE type = 'table'")}:
+                return {}, {}, 0
             meta = dict(conn.execute("SELECT name, n FROM meta"))
-            if meta.get("version") != 1 or "last_round" not in meta:
+            if meta.get("version") != 2 or "last_round" not in meta:
                 return None
-            rows = {row[0]: row_of(*row) for row in conn.execute("SELECT slot, round, node, vround, vnode, value FROM promise")}
+            promised = {row[0]: promise_of(*row) for row in conn.execute("SELECT first, round, node FROM block")}
+            votes = {row[0]: vote_of(*row) for row in conn.execute("SELECT slot, round, node, value FROM vote")}
     except sqlite3.DatabaseError:
         return None
-    return rows, meta["last_round"] if 0 <= meta["last_round"] <= ROUNDS else None
+    # (a vote without a promise of its block is no store's)
+    votes = {slot: vote if first_of(slot) in promised else None for slot, vote in votes.items()}
+    return promised, votes, meta["last_round"] if 0 <= meta["last_round"] <= ROUNDS else None

@@ -1,8 +1,8 @@
 """A second reading of transcripts: from a schedule and what was printed for it, apart from the program and from cluster_model.
 
-What a message says isn't printed, but it follows from who sent it and when. The judge keeps the facts: which ballots were prepared, who promised and who voted in
-which, and what each node has heard since its start. Where a line shows what was done (a vote is told to all, a refusal to one) the judge goes by the line, and asks
-whether it was allowed. The first thing that isn't is a breach.
+What a message says isn't printed, but it follows from who sent it and when. The judge keeps the facts: which ballots were prepared for which block of 16 slots, who
+promised and who voted in which, and what each node has heard since its start. Where a line shows what was done (a vote is told to all, a refusal to one) the judge goes
+by the line, and asks whether it was allowed. The first thing that isn't is a breach.
 """
 
 import collections
@@ -15,6 +15,16 @@ NO_PAGE = b"<!DOCTYPE html>\n<html>\n<body>\n<h1>404 Not Found</h1>\n</body>\n</
 NO_DATA = b'{"code":404}'
 NOTHING = ("noop", 0)
 NONE_YET = (0, 0)  # below every ballot
+
+
+def block_of(slot):
+    """Which block the slot is in, from 0 on."""
+    return (slot - 1) >> 4
+
+
+def opening(block):
+    """Its first slot, by which messages name it."""
+    return 16 * block + 1
 
 
 class Breach(Exception):
@@ -30,6 +40,7 @@ class Told(NamedTuple):
     slot: int
     ballot: tuple = NONE_YET
     vote: Optional[tuple] = None
+    votes: tuple = ()  # those of a promise, each behind its slot
     promised: tuple = NONE_YET
 
 
@@ -51,16 +62,16 @@ class Life:
         self.k = 0
         self.waiting = []
         self.heard = {}  # by slot, by member: the vote of the greatest ballot
-        self.attempt = None  # the slot and the ballot that it prepares, until it asks for votes or gives up
-        self.asked = None  # those for which it asks for votes
-        self.promises = {}  # by member, in the order in which they came: the vote that was reported
+        self.attempt = None  # the block and the ballot that it prepares, until it leads or gives up
+        self.lead = None  # those that it leads, until it gives up
+        self.promises = {}  # by member, in the order in which they came: the votes that were reported, by slot
         self.refused_by = 0  # the greatest round of a promise for which it was refused
 
     def has_gap(self):
         return any(slot > self.k + 1 for slot in self.heard)
 
     def give_up(self):
-        self.attempt = self.asked = None
+        self.attempt = self.lead = None
 
 
 def command_of(step):
@@ -94,11 +105,11 @@ class Reading:
         self.sent = []
         # facts
         self.last_round = collections.Counter()
-        self.prepared = set()
-        self.promised = {}  # by (member, slot): the greatest ballot
+        self.prepared = {}  # by ballot: the block
+        self.bounds = collections.defaultdict(set)  # by (member, block): the ballots in which it promised the block or voted for a slot of it
         self.votes = {}  # by (member, slot): the last vote
         self.voters = collections.defaultdict(set)  # by (slot, ballot, value)
-        self.proposed = {}  # by ballot: the value
+        self.proposed = {}  # by (ballot, slot): the value
         self.chosen = {}  # by slot
         # pages
         self.pages = {}  # by (k, target)
@@ -209,14 +220,35 @@ class Reading:
         slot = life.k + 1
         if not life.waiting and not life.has_gap():
             return self._to_all("query", node, slot)
+        if life.lead and life.lead[0] == block_of(slot) and (life.lead[1], slot) not in self.proposed:
+            return self._propose(node, life, slot)
         round = 1 + max(self.last_round[node], life.refused_by)
         self.last_round[node] = round
         ballot = (round, node)
         self._need(ballot not in self.prepared, f"ballot {ballot} was prepared before")
-        self.prepared.add(ballot)
+        self.prepared[ballot] = block_of(slot)
         life.give_up()
-        life.attempt, life.promises = (slot, ballot), {}
-        return self._to_all("prepare", node, slot, ballot=ballot)
+        life.attempt, life.promises = (block_of(slot), ballot), {}
+        return self._to_all("prepare", node, opening(block_of(slot)), ballot=ballot)
+
+    def _propose(self, node, life, slot):
+        """As the leader of its block it asks for votes for the value of the greatest vote that was reported for this very slot, else for what it likes."""
+        block, ballot = life.lead
+        self._need(self.prepared.get(ballot) == block == block_of(slot), f"ballot {ballot} wasn't prepared for the block of slot {slot}")
+        self._need((ballot, slot) not in self.proposed, f"a ballot asks for votes twice for slot {slot}")
+        reported = [votes[slot] for votes in life.promises.values() if slot in votes]
+        value = life.waiting[0] if life.waiting else NOTHING
+        if reported:
+            value = max(reported, key=lambda vote: vote[0])[1]
+            self.counts["reported values proposed"] += 1
+        self.counts["proposals without a prepare"] += any((ballot, other) in self.proposed for other in range(opening(block), slot))
+        self.counts["nothings proposed"] += value == NOTHING
+        self.proposed[ballot, slot] = value
+        return self._to_all("accept", node, slot, ballot=ballot, vote=(ballot, value))
+
+    def _bound(self, member, slot):
+        """The greatest ballot in which the member promised the slot's block, or voted for a slot of it."""
+        return max(self.bounds[member, block_of(slot)], default=NONE_YET)
 
     # ---- messages; `seen` is how many messages the line shows, or none where a cut hides it
 
@@ -228,49 +260,46 @@ class Reading:
         return [] if vote is None else [Told("accepted", node, message.sender, message.slot, vote=vote)]
 
     def _hear_prepare(self, node, life, message, seen):
-        place = (node, message.slot)
-        promised = self.promised.get(place, NONE_YET)
-        answer = Told("nack", node, message.sender, message.slot, message.ballot, promised=promised)
-        if message.ballot > promised:
-            self.promised[place] = message.ballot
-            answer = answer._replace(kind="promise", vote=self.votes.get(place), promised=NONE_YET)
-        return [answer]
+        block, bound = block_of(message.slot), self._bound(node, message.slot)
+        self._need(message.slot == opening(block), "a prepare names a block by its first slot")
+        if message.ballot <= bound:
+            return [Told("nack", node, message.sender, message.slot, message.ballot, promised=bound)]
+        self.bounds[node, block].add(message.ballot)
+        slots = range(opening(block), opening(block + 1))
+        votes = tuple((slot, self.votes[node, slot]) for slot in slots if (node, slot) in self.votes)
+        self.counts["promises with several votes"] += len(votes) > 1
+        return [Told("promise", node, message.sender, message.slot, message.ballot, votes=votes)]
 
     def _hear_promise(self, node, life, message, seen):
-        if life.attempt == (message.slot, message.ballot):
-            life.promises.setdefault(message.sender, message.vote)
-        is_time = life.attempt == (message.slot, message.ballot) and self.is_majority(life.promises)
+        place = (block_of(message.slot), message.ballot)
+        if life.attempt == place:
+            life.promises.setdefault(message.sender, dict(message.votes))
+        is_time = life.attempt == place and self.is_majority(life.promises)
         if seen:
-            self._need(life.attempt == (message.slot, message.ballot), "it asks for votes in a ballot that it doesn't prepare")
+            self._need(life.attempt == place, "it asks for votes in a ballot that it doesn't prepare")
             self._need(is_time, "it asks for votes without a majority of promises")
         if not is_time:
             return []
-        reported = [vote for vote in life.promises.values() if vote is not None]
-        value = life.waiting[0] if life.waiting else NOTHING
-        if reported:
-            value = max(reported, key=lambda vote: vote[0])[1]
-        self._need(message.ballot not in self.proposed, "a ballot asks for votes twice")
-        self.proposed[message.ballot] = value
-        life.attempt, life.asked = None, (message.slot, message.ballot)
-        return self._to_all("accept", node, message.slot, ballot=message.ballot, vote=(message.ballot, value))
+        life.attempt, life.lead = None, place
+        return self._propose(node, life, life.k + 1)
 
     def _hear_accept(self, node, life, message, seen):
-        place, ballot = (node, message.slot), message.ballot
-        told = self.votes.get(place)
-        votes = ballot >= self.promised.get(place, NONE_YET) or (told is not None and told[0] == ballot)
+        ballot, bound, told = message.ballot, self._bound(node, message.slot), self.votes.get((node, message.slot))
+        votes = ballot >= bound or (told is not None and told[0] == ballot)
         if seen is not None and self.members > 1:
             self._need(seen in (1, self.members), "a vote goes to all, a refusal to one")
-            self._need(seen == 1 or votes, f"it votes in {ballot}, below its promise of {self.promised.get(place)}")
+            self._need(seen == 1 or votes, f"it votes in {ballot}, below its promise of {bound}")
             self._need(seen > 1 or not votes, f"it refuses {ballot}, though it promised nothing greater")
         if not votes:
-            return [Told("nack", node, message.sender, message.slot, ballot, promised=self.promised[place])]
+            return [Told("nack", node, message.sender, message.slot, ballot, promised=bound)]
         if told is None or told[0] != ballot:
             self._vote(node, message.slot, message.vote)
-        return self._to_all("accepted", node, message.slot, vote=self.votes[place])
+        return self._to_all("accepted", node, message.slot, vote=self.votes[node, message.slot])
 
     def _vote(self, member, slot, vote):
         ballot, value = vote
-        self.promised[member, slot] = ballot
+        self._need(self.proposed.get((ballot, slot)) == value, f"it votes in {ballot} for what wasn't proposed for slot {slot}")
+        self.bounds[member, block_of(slot)].add(ballot)
         self.votes[member, slot] = vote
         voters = self.voters[slot, ballot, value]
         voters.add(member)
@@ -280,7 +309,7 @@ class Reading:
 
     def _hear_nack(self, node, life, message, seen):
         life.refused_by = max(life.refused_by, message.promised[0])
-        if (message.slot, message.ballot) in (life.attempt, life.asked):
+        if (block_of(message.slot), message.ballot) in (life.attempt, life.lead):
             life.give_up()
         return []
 
@@ -304,7 +333,8 @@ class Reading:
                 del life.heard[life.k]
                 if values[0] in life.waiting:
                     life.waiting.remove(values[0])
-                life.give_up()
+                if block_of(life.k + 1) != block_of(life.k):
+                    life.give_up()
                 return True
         return False
 

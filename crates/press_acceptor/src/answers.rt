@@ -27,6 +27,18 @@ struct Asked {
 }
 
 impl Asked {
+    fn about(self, slot: Slot) -> Asked
+        ensures { result
+            ≡ record { members = self.members; id = self.id; slot = slot; asker = self.asker } }
+    {
+        Asked {
+            members: self.members,
+            id: self.id,
+            slot,
+            asker: self.asker,
+        }
+    }
+
     // What is answered to who asked.
     fn reply(self, body: Body) -> Message
         ensures { result ≡ model.message_to self.id self.slot body self.asker }
@@ -71,8 +83,9 @@ impl Acceptor {
                     round: *round,
                     node: asker,
                 };
-                let said = Acceptor::on_prepare(store, slot, ballot)?;
-                Ok(request_messages(alloc, asked, ballot, said)?)
+                let first = slot.first();
+                let said = Acceptor::on_prepare(store, first, ballot)?;
+                Ok(request_messages(alloc, asked.about(first), ballot, said)?)
             }
             Body::Accept { round, value } => {
                 let ballot = Ballot {
@@ -103,7 +116,7 @@ fn request_messages(
         ≡ said_out asked.members asked.id asked.slot ballot asked.asker said) }
 {
     match said {
-        Said::Promise(vote) => to_one(alloc, asked.reply(Body::Promise { ballot, vote })),
+        Said::Promise(votes) => to_one(alloc, asked.reply(Body::Promise { ballot, votes })),
         Said::Nack(promised) => {
             let refused = ballot;
             to_one(alloc, asked.reply(Body::Nack { refused, promised }))

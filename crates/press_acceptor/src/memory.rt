@@ -1,90 +1,104 @@
 //! A store in memory.
 
-ghost use Rattle.std.specs.Prelude.{◌≡◌, ◌≢◌, IfErr, IsSome, MatchBool, OnOk, OnErr, Some, false, option_copied, option_map, true};
-ghost use Rattle.std.specs.FinMap.{from_entries, get, insert};
-ghost use Rattle.press_acceptor.specs.InMemory.{HasOtherValue, IsNewIn, value_of};
-ghost use Rattle.press_acceptor.specs.StoreMap.{new_store, row_at, with_row};
-ghost use Rattle.press_acceptor.specs.declared.fault.StoreFault.TheVariants.{NoMemory};
+ghost use Rattle.std.specs.Prelude.{◌≡◌, ◌≢◌, true, false, None, Some, MatchBool, IfNone, IfSome, IsSome, OnOk, OnErr, IfOk};
+ghost use Rattle.press_wire.specs.Blocks.{is_first, block_of};
+ghost use Rattle.press_wire.specs.Copies.{HasVotes};
+ghost use Rattle.press_wire.specs.Votes.{cast_again, put, vote_in};
+ghost use Rattle.press_acceptor.specs.InMemory.{IsNewBlock, IsNewValue, value_of};
+ghost use Rattle.press_acceptor.specs.StoreMap.{block_at, block_votes, new_block, new_store, with_promise, with_vote};
 
+use crate::block::Block;
 use crate::fault::StoreFault;
-use crate::row::Row;
 use crate::store::PromiseStore;
 use press_apply::{Value, same_values_are_equal};
 use press_wire::{Ballot, Round, Slot, Vote};
-use std::alloc::Global;
+use std::alloc::{AllocError, Global};
 use std::collections::BTreeMap;
 use std::marker::Model;
 
-// A row in a store.
+// A block in a store.
 #[derive(Debug)]
 struct Kept {
-    row: Row,
+    block: Block,
 }
 
 impl Drop for Kept {
     fn drop(self) {
-        let Kept { row: _ } = self;
+        let Kept { block: _ } = self;
     }
 }
 
 impl Model for Kept {
-    ghost use Rattle.press_acceptor.specs.declared.row.Row.{Row};
+    ghost use Rattle.press_acceptor.specs.declared.block.Block.{Block};
 
-    ghost Value = { Row };
+    ghost Value = { Block };
 
-    ghost view = { λ k. k.row };
-}
-
-// The vote in another ballot.
-fn cast_again(vote: Option<Vote>, ballot: Ballot) -> Option<Vote>
-    ensures { result ≡ option_map (λ v. record { ballot = ballot; value = v.value }) vote }
-{
-    let mut vote = vote?;
-    vote.ballot = ballot;
-    Some(vote)
+    ghost view = { λ k. k.block };
 }
 
 impl Kept {
-    fn as_row(&self) -> &Row
+    fn as_block(&self) -> &Block
         ensures { result.now ≡ self.now }
     {
-        &self.row
+        &self.block
     }
 
-    fn has_value(&self, value: &Value) -> bool
-        ensures { MatchBool result (value_of self.now.vote ≡ Some value.now)
-            (value_of self.now.vote ≢ Some value.now) }
+    fn has_value(&self, slot: Slot, value: &Value) -> bool
+        ensures { MatchBool result (value_of (vote_in self.now.votes slot) ≡ Some value.now)
+            (value_of (vote_in self.now.votes slot) ≢ Some value.now) }
     {
         same_values_are_equal();
-        match &self.row.vote {
+        match self.block.votes.get(slot) {
             Some(vote) => vote.value.is(value),
             None => false,
         }
     }
 
-    // Takes the ballots of a row whose vote is for the same value; says whether it is. It takes no memory.
-    fn copy_ballots(&mut self, row: &Row) -> bool
-        ensures same { result ≡ true → self.new ≡ row.now }
-        ensures left { result ≡ false → self.new ≡ self.old }
-        ensures other { result ≡ false → IsSome row.now.vote → HasOtherValue self.old row.now }
+    fn promise(&mut self, ballot: Ballot)
+        ensures { self.new ≡ record { promised = Some ballot; votes = self.old.votes } }
     {
-        let Some(vote) = &row.vote else {
-            return false;
-        };
-        if !self.has_value(&vote.value) {
+        self.block.promised = Some(ballot);
+    }
+
+    // Casts the vote for the slot again, where it is for the same value; says whether it is. It takes no memory.
+    fn cast_again(&mut self, slot: Slot, vote: &Vote) -> bool
+        ensures same { result ≡ true → self.new ≡ record {
+          promised = Some vote.now.ballot;
+          votes = cast_again slot vote.now.ballot self.old.votes;
+        } }
+        ensures left { result ≡ false → self.new ≡ self.old }
+        ensures value { MatchBool result
+            (value_of (vote_in self.old.votes slot) ≡ Some vote.now.value)
+            (value_of (vote_in self.old.votes slot) ≢ Some vote.now.value) }
+    {
+        if !self.has_value(slot, &vote.value) {
             return false;
         }
-        self.row.promised = row.promised;
-        self.row.vote = cast_again(self.row.vote.take(), vote.ballot);
+        self.block.votes.cast_again(slot, vote.ballot);
+        self.block.promised = Some(vote.ballot);
         true
+    }
+
+    // Puts in a vote, which is a promise too.
+    fn put(&mut self, slot: Slot, vote: Vote) -> Result<(), AllocError>
+        ensures put { OnOk result (self.new ≡ record {
+          promised = Some vote.ballot;
+          votes = put slot vote self.old.votes;
+        }) }
+        ensures unchanged { OnErr result (self.new ≡ self.old) }
+    {
+        let ballot = vote.ballot;
+        self.block.votes.put(slot, vote)?;
+        self.block.promised = Some(ballot);
+        Ok(())
     }
 }
 
-/// A store in memory. Its device never fails, and nothing is lost but by dropping it. A save is one growth at most: to save another promise,
-/// or the same value in another ballot, takes no memory, and nor does a round.
+/// A store in memory. Its device never fails, and nothing is lost but by dropping it. To save another promise for a block, the same value in
+/// another ballot, or a round takes no memory.
 #[derive(Debug)]
 pub struct MemoryStore {
-    rows: BTreeMap<u32, Kept>,
+    blocks: BTreeMap<u32, Kept>,
     last_round: u64,
     alloc: Global,
 }
@@ -92,7 +106,7 @@ pub struct MemoryStore {
 impl Drop for MemoryStore {
     fn drop(self) {
         let MemoryStore {
-            rows: _,
+            blocks: _,
             last_round: _,
             alloc: _,
         } = self;
@@ -101,15 +115,17 @@ impl Drop for MemoryStore {
 
 impl Model for MemoryStore {
     ghost use Rattle.std.specs.Coded.{codes};
-    ghost use Rattle.std.specs.FinMap.{from_entries};
     ghost use Rattle.press_acceptor.specs.Codes.{store_code};
+    ghost use Rattle.press_acceptor.specs.InMemory.{AreBlocks, store_of};
     ghost use Rattle.press_acceptor.specs.StoreMap.{StoreMap};
 
     ghost Value = { StoreMap };
 
-    ghost coded = { store_code (Prim.hlevel codes) };
+    ghost coded = { store_code (Prim.hlevel codes) (Prim.hlevel codes) };
 
-    ghost view = { λ s. record { rows = from_entries s.rows.entries; last_round = s.last_round } };
+    ghost view = { λ s. store_of s.blocks.entries s.last_round };
+
+    ghost invariant = { λ s. AreBlocks s.blocks.entries };
 }
 
 impl MemoryStore {
@@ -118,33 +134,23 @@ impl MemoryStore {
         ensures { result ≡ new_store }
     {
         MemoryStore {
-            rows: BTreeMap::new(alloc),
+            blocks: BTreeMap::new(alloc),
             last_round: 0,
             alloc,
         }
     }
 
-    /// The row of a slot, if one was saved.
-    pub fn row(&self, slot: Slot) -> Option<&Row>
-        ensures { option_copied result ≡ get self.now.rows slot }
+    /// What is kept of the block with this first slot, if anything was saved.
+    pub fn block(&self, first: Slot) -> Option<&Block>
+        requires { is_first first ≡ true }
+        ensures is { IfSome result (λ block. block.now ≡ block_at self.now first) }
+        ensures saved { IfSome result (λ block. IsSome block.now.promised) }
+        ensures none { IfNone result (block_at self.now first ≡ new_block) }
     {
-        match self.rows.get(&slot.number()) {
-            Some(kept) => Some(kept.as_row()),
+        match self.blocks.get(&first.number()) {
+            Some(kept) => Some(kept.as_block()),
             None => None,
         }
-    }
-
-    // Puts a row in the place of one with the same value; says whether there is one. It takes no memory.
-    fn replace(&mut self, slot: Slot, row: &Row) -> bool
-        ensures same { result ≡ true → self.new ≡ with_row self.old slot row.now }
-        ensures left { result ≡ false → self.new ≡ self.old }
-        ensures other { result ≡ false → IsSome row.now.vote →
-            HasOtherValue (row_at self.old slot) row.now }
-    {
-        let Some(kept) = self.rows.get_mut(&slot.number()) else {
-            return false;
-        };
-        kept.copy_ballots(row)
     }
 
     /// The round that was saved last, or 0.
@@ -153,12 +159,79 @@ impl MemoryStore {
     {
         self.last_round
     }
+
+    // A copy of what is kept of the block.
+    fn copy_of(&self, first: Slot) -> Result<Block, AllocError>
+        requires { is_first first ≡ true }
+        ensures block { IfOk result (λ block. block ≡ block_at self.now first) }
+        ensures memory { OnErr result (HasVotes (block_votes self.now first)) }
+    {
+        match self.block(first) {
+            Some(block) => block.copy(self.alloc),
+            None => Ok(Block::new(self.alloc)),
+        }
+    }
+
+    // Puts a promise in the place of another for the block; says whether there is one. It takes no memory.
+    fn promise_again(&mut self, first: Slot, ballot: &Ballot) -> bool
+        requires { is_first first ≡ true }
+        ensures same { result ≡ true → self.new ≡ with_promise self.old first ballot.now }
+        ensures left { result ≡ false → self.new ≡ self.old }
+        ensures none { result ≡ false → block_at self.old first ≡ new_block }
+    {
+        let Some(kept) = self.blocks.get_mut(&first.number()) else {
+            return false;
+        };
+        kept.promise(*ballot);
+        true
+    }
+
+    // Casts the vote for the slot again, where it is for the same value; says whether it is. It takes no memory.
+    fn cast_again(&mut self, slot: Slot, vote: &Vote) -> bool
+        ensures same { result ≡ true → self.new ≡ with_vote self.old slot vote.now }
+        ensures left { result ≡ false → self.new ≡ self.old }
+        ensures other { result ≡ false → IsNewValue self.old slot vote.now.value }
+    {
+        let first = slot.first();
+        let Some(kept) = self.blocks.get_mut(&first.number()) else {
+            return false;
+        };
+        kept.cast_again(slot, vote)
+    }
+
+    // Puts a vote among those of its block.
+    fn put(&mut self, slot: Slot, vote: Vote) -> Result<(), AllocError>
+        ensures put { OnOk result (self.new ≡ with_vote self.old slot vote) }
+        ensures unchanged { OnErr result (self.new ≡ self.old) }
+    {
+        let first = slot.first();
+        let Some(kept) = self.blocks.get_mut(&first.number()) else {
+            return self.begin(slot, vote);
+        };
+        kept.put(slot, vote)?;
+        Ok(())
+    }
+
+    // Puts in a vote for a slot of a block of which nothing is kept.
+    fn begin(&mut self, slot: Slot, vote: Vote) -> Result<(), AllocError>
+        requires { block_at self.old (block_of slot) ≡ new_block }
+        ensures put { OnOk result (self.new ≡ with_vote self.old slot vote) }
+        ensures unchanged { OnErr result (self.new ≡ self.old) }
+    {
+        let first = slot.first();
+        let mut kept = Kept {
+            block: Block::new(self.alloc),
+        };
+        kept.put(slot, vote)?;
+        self.blocks.insert(first.number(), kept)?;
+        Ok(())
+    }
 }
 
 impl PromiseStore for MemoryStore {
     ghost use Rattle.press_acceptor.specs.InMemory.{seen_of};
     ghost use Rattle.press_acceptor.specs.Seen.{Calls, Saves, fault_in};
-    ghost use Rattle.press_acceptor.specs.Seen.Call.{SavesRow};
+    ghost use Rattle.press_acceptor.specs.Seen.Call.{SavesPromise, SavesVote};
 
     ghost seen = { seen_of };
 
@@ -166,26 +239,43 @@ impl PromiseStore for MemoryStore {
         0
     }
 
-    fn load(&mut self, slot: Slot) -> Result<Row, StoreFault> {
-        match self.row(slot) {
-            Some(row) => Ok(row.copy(self.alloc)?),
-            None => Ok(Row::new()),
-        }
+    fn load(&mut self, first: Slot) -> Result<Block, StoreFault> {
+        Ok(self.copy_of(first)?)
     }
 
-    fn save(&mut self, slot: Slot, row: &Row) -> Result<(), StoreFault>
-        ensures calls { Calls (SavesRow slot) (seen_of self.old) (seen_of self.new)
+    fn save_promise(&mut self, first: Slot, ballot: Ballot) -> Result<(), StoreFault>
+        requires { is_first first ≡ true }
+        ensures calls { Calls (SavesPromise first) (seen_of self.old) (seen_of self.new)
             (fault_in result) }
         ensures saves { (seen_of self.new).is_honest →
             Saves (seen_of self.old) (seen_of self.new)
-            (with_row (seen_of self.old).kept slot row.now) (fault_in result) }
-        ensures memory { OnErr result (IsNewIn self.old slot row.now) }
+            (with_promise (seen_of self.old).kept first ballot) (fault_in result) }
+        ensures memory { OnErr result (IsNewBlock self.old first) }
     {
-        if self.replace(slot, row) {
+        if self.promise_again(first, &ballot) {
             return Ok(());
         }
-        let row = row.copy(self.alloc)?;
-        self.rows.insert(slot.number(), Kept { row })?;
+        let mut kept = Kept {
+            block: Block::new(self.alloc),
+        };
+        kept.promise(ballot);
+        self.blocks.insert(first.number(), kept)?;
+        Ok(())
+    }
+
+    fn save_vote(&mut self, slot: Slot, vote: &Vote) -> Result<(), StoreFault>
+        ensures calls { Calls (SavesVote slot) (seen_of self.old) (seen_of self.new)
+            (fault_in result) }
+        ensures saves { (seen_of self.new).is_honest →
+            Saves (seen_of self.old) (seen_of self.new)
+            (with_vote (seen_of self.old).kept slot vote.now) (fault_in result) }
+        ensures memory { OnErr result (IsNewValue self.old slot vote.now.value) }
+    {
+        if self.cast_again(slot, vote) {
+            return Ok(());
+        }
+        let vote = vote.copy(self.alloc)?;
+        self.put(slot, vote)?;
         Ok(())
     }
 

@@ -1,6 +1,6 @@
-use press_acceptor::{MemoryStore, Row};
+use press_acceptor::{Block, MemoryStore};
 use press_node::NodeFault;
-use press_wire::{Ballot, Body, Slot};
+use press_wire::{Ballot, Body, Slot, SlotVote};
 use std::alloc::{AllocError, Global};
 
 /// The name of a message.
@@ -47,27 +47,51 @@ pub fn done_line(
     }
 }
 
-// What a store keeps of a row.
-fn row_line(alloc: Global, row: Option<&Row>) -> Result<String, AllocError> {
-    let Some(row) = row else {
-        return format!(in alloc; "slot 1 promised nothing, voted no");
-    };
-    let voted = if row.vote.is_some() { "yes" } else { "no" };
-    match row.promised {
-        None => format!(in alloc; "slot 1 promised nothing, voted {voted}"),
-        Some(Ballot { round, node }) => {
-            let (round, node) = (round.number(), node.number());
-            format!(in alloc; "slot 1 promised ({round}, {node}), voted {voted}")
-        }
+fn ballot_text(alloc: Global, ballot: Ballot) -> Result<String, AllocError> {
+    let (round, node) = (ballot.round.number(), ballot.node.number());
+    format!(in alloc; "({round}, {node})")
+}
+
+fn promise_text(alloc: Global, promised: Option<Ballot>) -> Result<String, AllocError> {
+    match promised {
+        Some(ballot) => ballot_text(alloc, ballot),
+        None => String::from_str(alloc, "nothing"),
     }
 }
 
-/// What a store keeps: its last round, and the row of the first slot.
+fn votes_text(alloc: Global, votes: &[SlotVote]) -> Result<String, AllocError> {
+    let mut text = String::new(alloc);
+    for SlotVote { slot, vote } in votes {
+        if !text.is_empty() {
+            text.push_str(", ")?;
+        }
+        let (slot, ballot) = (slot.number(), ballot_text(alloc, vote.ballot)?);
+        let one = format!(in alloc; "{slot} in {ballot}")?;
+        text.push_str(one.as_str())?;
+    }
+    if text.is_empty() {
+        text.push_str("nowhere")?;
+    }
+    Ok(text)
+}
+
+// What a store keeps of the block of the first slot.
+fn block_text(alloc: Global, block: &Block) -> Result<String, AllocError> {
+    let promised = promise_text(alloc, block.promised)?;
+    let voted = votes_text(alloc, block.votes.as_slice())?;
+    format!(in alloc; "block 1 promised {promised}, voted {voted}")
+}
+
+fn first_block(store: &MemoryStore) -> Option<&Block> {
+    store.block(Slot::new(1)?.first())
+}
+
+/// What a store keeps: its last round, and of the block of the first slot its promise and its votes.
 pub fn store_line(alloc: Global, store: &MemoryStore) -> Result<String, AllocError> {
     let round = store.round();
-    let row = match Slot::new(1) {
-        Some(slot) => row_line(alloc, store.row(slot))?,
-        None => row_line(alloc, None)?,
+    let block = match first_block(store) {
+        Some(block) => block_text(alloc, block)?,
+        None => block_text(alloc, &Block::new(alloc))?,
     };
-    format!(in alloc; "stop: last round {round}, {row}\n")
+    format!(in alloc; "stop: last round {round}, {block}\n")
 }

@@ -1,10 +1,11 @@
 //! A store in memory whose device fails once, if that is planned.
 
 ghost use Rattle.std.specs.Prelude.{◌≡◌, ◌⊎◌, ◌<◌, ◌≤◌, true, false};
+ghost use Rattle.press_wire.specs.Blocks.{is_first};
 ghost use Rattle.press_acceptor.specs.declared.fault.StoreFault.TheVariants.{Damaged, Disk};
 
-use press_acceptor::{MemoryStore, PromiseStore, Row, StoreFault};
-use press_wire::{Round, Slot};
+use press_acceptor::{Block, MemoryStore, PromiseStore, StoreFault};
+use press_wire::{Ballot, Round, Slot, Vote, is_first};
 use std::alloc::Global;
 
 /// When the device fails: at the save of that number, counted from 1, before or after it took.
@@ -45,6 +46,22 @@ impl Drop for Failing {
     }
 }
 
+// Saves in one store what another keeps of the block with this first slot.
+fn copy_block(to: &mut MemoryStore, from: &MemoryStore, first: Slot) -> Result<(), StoreFault>
+    requires { is_first first ≡ true }
+{
+    let Some(block) = from.block(first) else {
+        return Ok(());
+    };
+    for vote in block.votes.as_slice() {
+        to.save_vote(vote.slot, &vote.vote)?;
+    }
+    match block.promised {
+        Some(ballot) => to.save_promise(first, ballot),
+        None => Ok(()),
+    }
+}
+
 impl Failing {
     pub fn new(alloc: Global, plan: Plan) -> Failing {
         Failing {
@@ -78,16 +95,16 @@ impl Failing {
         &self.memory
     }
 
-    /// A store that keeps what this one does, up to this slot, over a device that doesn't fail.
+    /// A store that keeps what this one does, up to the block of this slot, over a device that doesn't fail.
     pub fn copy(&self, alloc: Global, last: u32) -> Result<Failing, StoreFault> {
         let mut memory = MemoryStore::new(alloc);
         if let Some(round) = Round::new(self.memory.round()) {
             memory.save_round(round)?;
         }
         for number in 1..=last {
-            let slot = Slot::new(number);
-            if let Some((slot, row)) = slot.and_then(|slot| Some((slot, self.memory.row(slot)?))) {
-                memory.save(slot, row)?;
+            match Slot::new(number) {
+                Some(first) if is_first(first) => copy_block(&mut memory, &self.memory, first)?,
+                _ => {}
             }
         }
         Ok(Failing {
@@ -149,22 +166,36 @@ impl PromiseStore for Failing {
         self.faults
     }
 
-    fn load(&mut self, slot: Slot) -> Result<Row, StoreFault> {
+    fn load(&mut self, first: Slot) -> Result<Block, StoreFault> {
         if !self.works {
             return Err(self.fails());
         }
-        self.memory.load(slot)
+        self.memory.load(first)
     }
 
-    fn save(&mut self, slot: Slot, row: &Row) -> Result<(), StoreFault> {
+    fn save_promise(&mut self, first: Slot, ballot: Ballot) -> Result<(), StoreFault> {
         if !self.works {
             return Err(self.fails());
         }
         match self.begins() {
-            Fate::Takes => self.memory.save(slot, row),
+            Fate::Takes => self.memory.save_promise(first, ballot),
             Fate::FailsBefore => Err(self.fails()),
             Fate::FailsAfter => {
-                self.memory.save(slot, row)?;
+                self.memory.save_promise(first, ballot)?;
+                Err(self.fails())
+            }
+        }
+    }
+
+    fn save_vote(&mut self, slot: Slot, vote: &Vote) -> Result<(), StoreFault> {
+        if !self.works {
+            return Err(self.fails());
+        }
+        match self.begins() {
+            Fate::Takes => self.memory.save_vote(slot, vote),
+            Fate::FailsBefore => Err(self.fails()),
+            Fate::FailsAfter => {
+                self.memory.save_vote(slot, vote)?;
                 Err(self.fails())
             }
         }

@@ -9,12 +9,14 @@ use std::alloc::{AllocError, Global};
 // Before a length in a head.
 const LENGTH: &[u8] = b"Content-Length: ";
 
-// Lengths at the limit of a body and past it, at the greatest numbers of 32 and of 64 bits, past them, and one of 100
-// digits.
-const LENGTHS: [&str; 7] = [
+// Lengths at the two limits of a body and past them, at the greatest numbers of 32 and of 64 bits, past them, and one of
+// 100 digits.
+const LENGTHS: [&str; 9] = [
     "65535",
     "65536",
     "65537",
+    "524288",
+    "524289",
     "4294967295",
     "18446744073709551615",
     "18446744073709551616",

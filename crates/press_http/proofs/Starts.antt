@@ -1,7 +1,9 @@
 -- What a head says, by its spans, and what its fields tell.
 use Rattle.std.proofs.Common.{◌≡◌, ℕ, ◌<◌, ◌≤◌, Bool, true, false, cond, nat_le, ◌==◌, List, [], ◌∷◌, length, take, drop, map, Ok, Err, refl, sym, ap, ◌∙◌, arith, length-take, inl, inr}
 use Rattle.std.specs.Prelude.{Option, Result, IsUtf8, bytes_eq, codes}
+use Rattle.std.specs.List.{before_first}
 use Rattle.std.specs.Str.Parse.{digits_value}
+use Rattle.std.proofs.lemmas.Bool.{le-leb, leb-true}
 use Rattle.std.proofs.lemmas.List.{length-map}
 use borrow.Author.Tests.{leb-true}
 use Rattle.httparse.specs.declared.spans.HeaderSpan.{HeaderSpan}
@@ -13,7 +15,7 @@ use Rattle.press_http.specs.declared.fault.HttpFault.TheVariants as fault
 use Rattle.press_http.specs.declared.start.Start.{Start}
 use Rattle.press_http.specs.Heads.{IsHead, ReadsHead, RefusesHead, longest_head, most_fields}
 use Rattle.press_http.proofs.LineEnds.{head_has, line_ends}
-use Rattle.press_http.specs.Bodies.{are_digits, body_length, is_empty, length_by, length_for, length_in, length_of, longest_body, starts_with_slash, values_of}
+use Rattle.press_http.specs.Bodies.{are_digits, body_length, is_empty, length_by, length_for, length_in, length_of, longest_body, longest_form, most_body, starts_with_slash, values_of}
 use Rattle.press_http.specs.Requests.{EndsBy, IsJudged, IsStart, Refuses}
 
 -- ---- which faults a length has
@@ -41,22 +43,22 @@ of_if : (b : Bool) (x y : Result ℕ HttpFault) → is_fine x ≡ true → is_fi
 of_if true x y p q = p
 of_if false x y p q = q
 
-in_fine : (value : List ℕ) → is_fine (length_in value) ≡ true
-in_fine value =
-    of_if (are_digits value) (cond (nat_le (digits_value 10 value) longest_body) (Ok (digits_value 10 value)) (Err fault.TooBig)) (Err fault.BadHead)
-    (of_if (nat_le (digits_value 10 value) longest_body) (Ok (digits_value 10 value)) (Err fault.TooBig) refl refl) refl
+in_fine : (most : ℕ) (value : List ℕ) → is_fine (length_in most value) ≡ true
+in_fine most value =
+    of_if (are_digits value) (cond (nat_le (digits_value 10 value) most) (Ok (digits_value 10 value)) (Err fault.TooBig)) (Err fault.BadHead)
+    (of_if (nat_le (digits_value 10 value) most) (Ok (digits_value 10 value)) (Err fault.TooBig) refl refl) refl
 
-by_fine : (values : List (List ℕ)) → is_fine (length_by values) ≡ true
-by_fine [] = refl
-by_fine (value ∷ []) = in_fine value
-by_fine (value ∷ other ∷ more) = refl
+by_fine : (most : ℕ) (values : List (List ℕ)) → is_fine (length_by most values) ≡ true
+by_fine most [] = refl
+by_fine most (value ∷ []) = in_fine most value
+by_fine most (value ∷ other ∷ more) = refl
 
 fine : (method target : List ℕ) (fields : List (List ℕ × List ℕ)) → is_fine (body_length method target fields) ≡ true
 unfolding body_length
 fine method target fields =
-    of_if (starts_with_slash target) (cond (is_empty (values_of (codes "Transfer-Encoding") fields)) (length_for method fields) (Err fault.NotDone)) (Err fault.BadHead)
-    (of_if (is_empty (values_of (codes "Transfer-Encoding") fields)) (length_for method fields) (Err fault.NotDone)
-    (of_if (bytes_eq method (codes "POST")) (length_by (values_of (codes "Content-Length") fields)) (Ok 0) (by_fine (values_of (codes "Content-Length") fields)) refl) refl) refl
+    of_if (starts_with_slash target) (cond (is_empty (values_of (codes "Transfer-Encoding") fields)) (length_for (most_body target) method fields) (Err fault.NotDone)) (Err fault.BadHead)
+    (of_if (is_empty (values_of (codes "Transfer-Encoding") fields)) (length_for (most_body target) method fields) (Err fault.NotDone)
+    (of_if (bytes_eq method (codes "POST")) (length_by (most_body target) (values_of (codes "Content-Length") fields)) (Ok 0) (by_fine (most_body target) (values_of (codes "Content-Length") fields)) refl) refl) refl
 
 tells : (h : RequestHead) (e : HttpFault) → length_of h ≡ Err e → may_tell e ≡ true
 tells h e p = sym (ap is_fine p) ∙ fine h.method h.target (map name_and_value h.fields)
@@ -116,23 +118,31 @@ small_if : (b : Bool) (x y : Result ℕ HttpFault) → is_small x ≡ true → i
 small_if true x y p q = p
 small_if false x y p q = q
 
-small_where : (b : Bool) (n : ℕ) → b ≡ nat_le n longest_body → is_small (cond b (Ok n) (Err fault.TooBig)) ≡ true
-small_where true n e = sym e
-small_where false n e = refl
+small_where : (most : ℕ) → most ≤ longest_body → (b : Bool) (n : ℕ) → b ≡ nat_le n most → is_small (cond b (Ok n) (Err fault.TooBig)) ≡ true
+small_where most few true n e = le-leb n longest_body (omega (arith, leb-true n most (sym e), few))
+small_where most few false n e = refl
 
-by_small : (values : List (List ℕ)) → is_small (length_by values) ≡ true
-by_small [] = refl
-by_small (value ∷ []) =
-    small_if (are_digits value) (cond (nat_le (digits_value 10 value) longest_body) (Ok (digits_value 10 value)) (Err fault.TooBig)) (Err fault.BadHead)
-    (small_where (nat_le (digits_value 10 value) longest_body) (digits_value 10 value) refl) refl
-by_small (value ∷ other ∷ more) = refl
+by_small : (most : ℕ) → most ≤ longest_body → (values : List (List ℕ)) → is_small (length_by most values) ≡ true
+by_small most few [] = refl
+by_small most few (value ∷ []) =
+    small_if (are_digits value) (cond (nat_le (digits_value 10 value) most) (Ok (digits_value 10 value)) (Err fault.TooBig)) (Err fault.BadHead)
+    (small_where most few (nat_le (digits_value 10 value) most) (digits_value 10 value) refl) refl
+by_small most few (value ∷ other ∷ more) = refl
+
+most_where : (b : Bool) → cond b longest_body longest_form ≤ longest_body
+most_where true = omega arith
+most_where false = omega arith
+
+most_small : (target : List ℕ) → most_body target ≤ longest_body
+unfolding most_body
+most_small target = most_where (bytes_eq (before_first (λ b. b == 63) target) (codes "/peer"))
 
 small : (method target : List ℕ) (fields : List (List ℕ × List ℕ)) → is_small (body_length method target fields) ≡ true
 unfolding body_length
 small method target fields =
-    small_if (starts_with_slash target) (cond (is_empty (values_of (codes "Transfer-Encoding") fields)) (length_for method fields) (Err fault.NotDone)) (Err fault.BadHead)
-    (small_if (is_empty (values_of (codes "Transfer-Encoding") fields)) (length_for method fields) (Err fault.NotDone)
-    (small_if (bytes_eq method (codes "POST")) (length_by (values_of (codes "Content-Length") fields)) (Ok 0) (by_small (values_of (codes "Content-Length") fields)) refl) refl) refl
+    small_if (starts_with_slash target) (cond (is_empty (values_of (codes "Transfer-Encoding") fields)) (length_for (most_body target) method fields) (Err fault.NotDone)) (Err fault.BadHead)
+    (small_if (is_empty (values_of (codes "Transfer-Encoding") fields)) (length_for (most_body target) method fields) (Err fault.NotDone)
+    (small_if (bytes_eq method (codes "POST")) (length_by (most_body target) (values_of (codes "Content-Length") fields)) (Ok 0) (by_small (most_body target) (most_small target) (values_of (codes "Content-Length") fields)) refl) refl) refl
 
 pub few_bytes : (h : RequestHead) (n : ℕ) → length_of h ≡ Ok n → n ≤ longest_body
 few_bytes h n p = leb-true _ _ (sym (ap is_small p) ∙ small h.method h.target (map name_and_value h.fields))

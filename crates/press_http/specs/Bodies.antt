@@ -2,7 +2,7 @@
 -- a target of another form than a path (RFC 9112, 3.2), a transfer coding, and for POST alone the length. The most bytes are own.
 use Rattle.std.specs.Prelude.{◌≡◌, ℕ, ◌+◌, ◌<◌, ◌==◌, ◌&&◌, Bool, true, false, List, [], ◌∷◌, length, map, nat_lt, nat_le, bytes_eq, Option, Result, Ok, Err, codes, if◌then◌else◌}
 use Rattle.std.specs.Io.KnownBytes.{IsAtEnd}
-use Rattle.std.specs.List.{list_all}
+use Rattle.std.specs.List.{list_all, before_first}
 use Rattle.std.specs.Char.{is_ascii_digit, to_ascii_lowercase}
 use Rattle.std.specs.Str.Parse.{digits_value}
 use Rattle.httparse.specs.Grammar.{RequestHead}
@@ -13,8 +13,17 @@ use Rattle.press_http.specs.declared.fault.HttpFault.TheVariants.{BadHead, NoLen
 use Rattle.press_http.specs.declared.fields.Values.{Values}
 use Rattle.press_http.specs.declared.fields.Values.TheVariants as values
 
+-- of a form, and of all else but a message from another node
+abbrev pub longest_form : ℕ
+longest_form = 65536
+
+-- of a message from another node, which may have 16 votes
 abbrev pub longest_body : ℕ
-longest_body = 65536
+longest_body = 524288
+
+-- the most bytes of a body, by the path of the target
+unfoldable pub most_body : List ℕ → ℕ
+most_body target = if bytes_eq (before_first (λ b. b == 63) target) (codes "/peer") then longest_body else longest_form
 
 -- the names of fields are the same in either case
 abbrev pub is_named : List ℕ → List ℕ → Bool
@@ -29,14 +38,14 @@ values_of name (field ∷ fields) = if is_named name field.0 then field.1 ∷ va
 abbrev pub are_digits : List ℕ → Bool
 are_digits value = nat_lt 0 (length value) && list_all is_ascii_digit value
 
-abbrev pub length_in : List ℕ → Result ℕ HttpFault
-length_in value =
-    if are_digits value then (if nat_le (digits_value 10 value) longest_body then Ok (digits_value 10 value) else Err TooBig) else Err BadHead
+abbrev pub length_in : ℕ → List ℕ → Result ℕ HttpFault
+length_in most value =
+    if are_digits value then (if nat_le (digits_value 10 value) most then Ok (digits_value 10 value) else Err TooBig) else Err BadHead
 
-abbrev pub length_by : List (List ℕ) → Result ℕ HttpFault
-length_by [] = Err NoLength
-length_by (value ∷ []) = length_in value
-length_by (value ∷ other ∷ more) = Err BadHead
+abbrev pub length_by : ℕ → List (List ℕ) → Result ℕ HttpFault
+length_by most [] = Err NoLength
+length_by most (value ∷ []) = length_in most value
+length_by most (value ∷ other ∷ more) = Err BadHead
 
 abbrev pub starts_with_slash : List ℕ → Bool
 starts_with_slash [] = false
@@ -46,13 +55,13 @@ abbrev pub is_empty : {A : Type 0} → List A → Bool
 is_empty [] = true
 is_empty (x ∷ xs) = false
 
-abbrev pub length_for : List ℕ → List (List ℕ × List ℕ) → Result ℕ HttpFault
-length_for method fields = if bytes_eq method (codes "POST") then length_by (values_of (codes "Content-Length") fields) else Ok 0
+abbrev pub length_for : ℕ → List ℕ → List (List ℕ × List ℕ) → Result ℕ HttpFault
+length_for most method fields = if bytes_eq method (codes "POST") then length_by most (values_of (codes "Content-Length") fields) else Ok 0
 
 unfoldable pub body_length : List ℕ → List ℕ → List (List ℕ × List ℕ) → Result ℕ HttpFault
 body_length method target fields =
     if starts_with_slash target
-    then (if is_empty (values_of (codes "Transfer-Encoding") fields) then length_for method fields else Err NotDone)
+    then (if is_empty (values_of (codes "Transfer-Encoding") fields) then length_for (most_body target) method fields else Err NotDone)
     else Err BadHead
 
 -- that of a head

@@ -1,18 +1,51 @@
 //! The fields of a head, and what they say of the body.
 
-ghost use Rattle.std.specs.Prelude.{◌≡◌, ◌≤◌, ◌^◌, List, ℕ, All, true, not, length, map, codes, MatchOption};
-ghost use Rattle.std.specs.List.{list_all};
+ghost use Rattle.std.specs.Prelude.{IfSome, position, ◌≡◌, ◌==◌, ◌<◌, ◌≤◌, ◌^◌, List, ℕ, All, true, not, length, map, codes, MatchOption};
+ghost use Rattle.std.specs.List.{list_all, before_first};
 ghost use Rattle.std.specs.Char.{is_ascii_digit};
 ghost use Rattle.std.specs.Str.Parse.{digits_value};
 ghost use Rattle.httparse.specs.Spans.{IsHeaderWithin, header_bytes};
-ghost use Rattle.press_http.specs.Bodies.{AreValues, are_digits, body_length, is_empty, is_named, length_by, length_in, starts_with_slash, values_of};
+ghost use Rattle.press_http.specs.Bodies.{AreValues, are_digits, body_length, is_empty, is_named, length_by, length_in, most_body, starts_with_slash, values_of};
 
 use crate::fault::HttpFault;
 use httparse::spans::HeaderSpan;
 use std::str::from_utf8;
 
 // How long a body may be.
-const LONGEST_BODY: u64 = 65_536;
+const LONGEST_FORM: u64 = 65_536;
+
+// How long that of a message from another node may be, which may have 16 votes.
+const LONGEST_PEER: u64 = 524_288;
+
+// What stands before the query.
+#[tactic(auto, using(crate::proofs::Paths::cut_at, crate::proofs::Paths::uncut))]
+fn path_of(target: &[u8]) -> &[u8]
+    ensures { result.now ≡ before_first (λ b. b == 63) target.now }
+{
+    match query_at(target) {
+        Some(end) => &target[..end],
+        None => target,
+    }
+}
+
+// Where the query begins.
+fn query_at(target: &[u8]) -> Option<usize>
+    ensures place { result ≡ position (λ b. b == 63) target.now }
+    ensures within { IfSome result (λ end. end < length target.now) }
+{
+    target.iter().position(|b| *b == b'?')
+}
+
+#[tactic(auto, unfolding(crate::specs::Bodies::most_body))]
+fn most_body(target: &[u8]) -> u64
+    ensures { result ≡ most_body target.now }
+{
+    if path_of(target) == b"/peer".as_slice() {
+        LONGEST_PEER
+    } else {
+        LONGEST_FORM
+    }
+}
 
 /// The values of the fields of one name.
 #[derive(Clone, Copy, Debug)]
@@ -78,24 +111,24 @@ fn number_of(digits: &str) -> Option<u64>
 }
 
 // The length in a field: digits alone, however many.
-fn length_in(value: &[u8]) -> Result<usize, HttpFault>
-    ensures { result ≡ length_in value.now }
+fn length_in(value: &[u8], most: u64) -> Result<usize, HttpFault>
+    ensures { result ≡ length_in most value.now }
 {
     if !are_digits(value) {
         return Err(HttpFault::BadHead);
     }
     match number_of(text_of(value)) {
-        Some(n) if n <= LONGEST_BODY => Ok(n as usize),
+        Some(n) if n <= most => Ok(n as usize),
         _ => Err(HttpFault::TooBig),
     }
 }
 
-fn length_by(values: Values<'_>) -> Result<usize, HttpFault>
-    ensures { (vs : List (List ℕ)) → AreValues values.entry vs → result ≡ length_by vs }
+fn length_by(values: Values<'_>, most: u64) -> Result<usize, HttpFault>
+    ensures { (vs : List (List ℕ)) → AreValues values.entry vs → result ≡ length_by most vs }
 {
     match values {
         Values::Nothing => Err(HttpFault::NoLength),
-        Values::One(value) => length_in(value),
+        Values::One(value) => length_in(value, most),
         Values::More => Err(HttpFault::BadHead),
     }
 }
@@ -111,12 +144,12 @@ fn has_coding(buf: &[u8], fields: &[HeaderSpan]) -> bool
     }
 }
 
-fn told_length(buf: &[u8], fields: &[HeaderSpan]) -> Result<usize, HttpFault>
+fn told_length(buf: &[u8], fields: &[HeaderSpan], most: u64) -> Result<usize, HttpFault>
     requires { All (IsHeaderWithin (length buf.now)) fields.now }
-    ensures { result ≡ length_by (values_of (codes "Content-Length")
+    ensures { result ≡ length_by most (values_of (codes "Content-Length")
         (map (header_bytes buf.now) fields.now)) }
 {
-    length_by(values_of(buf, fields, "Content-Length"))
+    length_by(values_of(buf, fields, "Content-Length"), most)
 }
 
 fn starts_with_slash(target: &[u8]) -> bool
@@ -146,7 +179,7 @@ pub fn body_length(
         return Err(HttpFault::NotDone);
     }
     if method == b"POST".as_slice() {
-        told_length(buf, fields)
+        told_length(buf, fields, most_body(target))
     } else {
         Ok(0)
     }

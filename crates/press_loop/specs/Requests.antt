@@ -10,7 +10,7 @@ use Rattle.press_apply.specs.declared.command.Command.TheVariants as command
 use Rattle.press_apply.specs.declared.command.Stamped.{Stamped}
 use Rattle.press_apply.specs.declared.kind.CommandKind.{CommandKind}
 use Rattle.press_apply.specs.declared.kind.CommandKind.TheVariants as kind
-use Rattle.press_http.specs.Bodies.{longest_body}
+use Rattle.press_http.specs.Bodies.{longest_form}
 use Rattle.press_page.specs.declared.reply.Target.{Target}
 use Rattle.press_page.specs.declared.reply.Target.TheVariants as target
 use Rattle.press_posts.specs.Transitions.{status_word}
@@ -96,7 +96,7 @@ path_of (target.Result token) = codes "/result/" ++ (token.editor ++ (codes "/" 
 -- a form that is longer than a body may be isn't sent
 abbrev pub command_bytes : List ℕ → Option (List ℕ)
 command_bytes form =
-    if nat_le (length form) longest_body then Some (post_bytes (codes "/command") (codes "application/x-www-form-urlencoded") form) else None
+    if nat_le (length form) longest_form then Some (post_bytes (codes "/command") (codes "application/x-www-form-urlencoded") form) else None
 
 abbrev pub message_bytes : Message → Option (List ℕ)
 message_bytes message =

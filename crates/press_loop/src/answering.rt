@@ -1,9 +1,10 @@
 //! What the receiving end of a connection makes of a request, and its answer.
 
-ghost use Rattle.std.specs.Prelude.{◌≡◌, ◌≢◌, true, Some, IfErr, IfOk, IfSome};
+ghost use Rattle.std.specs.Prelude.{◌≡◌, ◌≢◌, true, Some, IfErr, IfOk, IfSome, option_map};
 ghost use Rattle.std.specs.Io.KnownBytes.{Appends};
 ghost use Rattle.press_http.specs.Replies.{fixed_reply, reply_bytes};
 ghost use Rattle.press_node.specs.Serving.{queued, status_of_node, taken};
+ghost use Rattle.press_wire.specs.Spelling.{spelled_message};
 ghost use Rattle.press_world.specs.Models.{model};
 ghost use Rattle.press_world.specs.Refusing.{message_numbered};
 ghost use Rattle.press_loop.specs.Responses.{bytes_of, reply_for, reply_to, status_to, without_page};
@@ -35,10 +36,11 @@ fn asked<R: Read>(alloc: Global, reader: &mut R) -> Result<Asked, HttpFault> {
     route(alloc, &request)
 }
 
-// Whether the message is the one of that number.
+// Whether the message has the bytes of the one of that number.
 fn is_sent(alloc: Global, world: &World, number: u64, message: &Message) -> Result<bool, AllocError>
-    ensures { IfOk result
-        (λ is. is ≡ true → message_numbered (model world.now) number ≡ Some message.now) }
+    ensures { IfOk result (λ is. is ≡ true
+        → option_map spelled_message (message_numbered (model world.now) number)
+        ≡ Some (spelled_message message.now)) }
 {
     let Some(sent) = world.sent(number) else {
         return Ok(false);

@@ -14,8 +14,8 @@ use press_wire::{Message, WireFault, encode_msg};
 use press_world::{Step, World};
 use std::alloc::{AllocError, Global};
 
-// The most bytes that a body may have.
-const LONGEST_BODY: usize = 65_536;
+// The most bytes that a form may have.
+const LONGEST_FORM: usize = 65_536;
 
 const FORM: &str = "application/x-www-form-urlencoded";
 
@@ -153,7 +153,7 @@ fn command_request(alloc: Global, stamped: &Stamped) -> Result<Option<Vec<u8>>, 
         ≡ command_bytes (form_of stamped.now)) }
 {
     let form = form_of(alloc, stamped)?;
-    if form.len() > LONGEST_BODY {
+    if form.len() > LONGEST_FORM {
         return Ok(None);
     }
     Ok(Some(post(alloc, "/command", FORM, form.as_bytes())?))

@@ -1,6 +1,7 @@
 -- Which calls of its store each event makes, where it may take memory of its own, and what it saves (own): a message that is ignored takes no memory, nor does a
 -- refusal, a promise that doesn't count, a vote that isn't the first of all that are kept, where nothing is chosen, or a query for a slot without a vote.
-use Rattle.std.specs.Prelude.{ℕ, ◌≡◌, ◌⊎◌, IsTrue, IsSome, Bool, true, false, List, []}
+use Rattle.std.specs.Prelude.{ℕ, ◌+◌, ◌≡◌, ◌⊎◌, IsTrue, IsSome, Bool, true, false, List, []}
+use Rattle.press_wire.specs.declared.ballot.Ballot.{Ballot}
 use Rattle.press_wire.specs.declared.message.Body.{Body}
 use Rattle.press_wire.specs.declared.message.Body.TheVariants.{Prepare, Promise, Nack, Accept, Accepted, Query}
 use Rattle.press_wire.specs.declared.message.Message.{Message}
@@ -11,22 +12,26 @@ use Rattle.press_acceptor.specs.StoreMap.{StoreMap}
 use Rattle.press_acceptor.specs.Turned.{Plan}
 use Rattle.press_learner.specs.Chosen.{chosen_next, has_gap}
 use Rattle.press_learner.specs.Kept.{Kept, KeepsNone, is_in_window, with_vote}
-use Rattle.press_proposer.specs.Phases.{awaits}
+use Rattle.press_proposer.specs.Phases.{awaits, can_ask}
 use Rattle.press_proposer.specs.Turns.{is_content}
 use Rattle.press_proposer.specs.Wakes.{wake_calls}
 use Rattle.press_node.specs.declared.event.Event.{Event}
 use Rattle.press_node.specs.declared.event.Event.TheVariants.{Submit, Wake, Deliver}
-use Rattle.press_node.specs.NodeEvent.{Running, is_for, on_body, on_event}
+use Rattle.press_node.specs.NodeEvent.{Running, is_at_end, is_for, on_body, on_event}
 
 -- the vote is for a slot of the window, and the first of all that are kept; or with it a value is chosen, which is applied
 abbrev pub TakesForVote : Kept → ℕ → ℕ → Vote → Type 0
 TakesForVote learner from slot vote = (IsTrue (is_in_window learner.applied slot) × KeepsNone learner) ⊎ IsSome (chosen_next (with_vote learner from slot vote))
 
+-- a promise that counts, where a slot is left
+abbrev pub TakesForPromise : Running → ℕ → ℕ → Ballot → Type 0
+TakesForPromise node from block ballot = (is_at_end node ≡ false) × IsTrue (awaits node.proposer.phase from block ballot)
+
 abbrev pub TakesForBody : Running → Message → Body → StoreMap → Type 0
 TakesForBody node message (Prepare round) kept = TakesForAnswer message.slot (Prepare round) kept
 TakesForBody node message (Accept round value) kept = TakesForAnswer message.slot (Accept round value) kept
 TakesForBody node message Query kept = TakesForAnswer message.slot Query kept
-TakesForBody node message (Promise ballot vote) kept = IsTrue (awaits node.proposer.phase message.from message.slot ballot)
+TakesForBody node message (Promise ballot votes) kept = TakesForPromise node message.from message.slot ballot
 TakesForBody node message (Nack refused promised) kept = ⊥
 TakesForBody node message (Accepted vote) kept = TakesForVote node.learner message.from message.slot vote
 
@@ -49,7 +54,7 @@ calls_where false calls = []
 
 abbrev pub event_calls : ℕ → ℕ → Running → Event → List Call
 event_calls members id node (Submit command) = []
-event_calls members id node Wake = wake_calls node.proposer (has_gap node.learner)
+event_calls members id node Wake = wake_calls node.proposer node.learner.applied (has_gap node.learner)
 event_calls members id node (Deliver message) = calls_where (is_for members id message) (answer_calls message.slot message.body)
 
 abbrev pub TakesMemory : ℕ → ℕ → Running → Event → StoreMap → Type 0
@@ -67,5 +72,5 @@ event_plan members id node event = record {
 -- a wake with something to propose
 abbrev pub WantsRound : Running → Event → Type 0
 WantsRound node (Submit command) = ⊥
-WantsRound node Wake = is_content node.proposer (has_gap node.learner) ≡ false
+WantsRound node Wake = (is_content node.proposer (has_gap node.learner) ≡ false) × (can_ask node.proposer.phase (node.learner.applied + 1) ≡ false)
 WantsRound node (Deliver message) = ⊥

@@ -17,7 +17,7 @@ pub use earlier::shows_as_before;
 pub use event::Event;
 pub use fault::NodeFault;
 pub use kept::Node;
-pub use laws::{few_messages_go_out, what_is_said_is_stored};
+pub use laws::{few_messages_go_out, what_is_said_is_stored, what_is_sent_is_in_form};
 pub use serve::{Served, serve_one};
 pub use start_fault::StartFault;
 pub use state::State;

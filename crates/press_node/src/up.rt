@@ -9,12 +9,11 @@ ghost use Rattle.press_acceptor.specs.Turned.{Says, Turned, moved};
 ghost use Rattle.press_acceptor.specs.declared.fault.StoreFault.{StoreFault};
 ghost use Rattle.press_learner.specs.Chosen.{chosen_next, has_gap};
 ghost use Rattle.press_learner.specs.Kept.{with_vote};
-ghost use Rattle.press_proposer.specs.Phases.{awaits};
-ghost use Rattle.press_proposer.specs.Turns.{queued_by, promise_turn, nacked_by};
+ghost use Rattle.press_proposer.specs.Turns.{queued_by, nacked_by};
 ghost use Rattle.press_site.specs.Effects.{no_site};
-ghost use Rattle.press_node.specs.EventPlans.{TakesForVote, body_plan};
+ghost use Rattle.press_node.specs.EventPlans.{TakesForPromise, TakesForVote, body_plan};
 ghost use Rattle.press_node.specs.Faults.{of_store, stops};
-ghost use Rattle.press_node.specs.NodeEvent.{fresh, is_for, on_body, settled, with_learner};
+ghost use Rattle.press_node.specs.NodeEvent.{fresh, is_for, on_body, promise_answer, settled, with_learner};
 ghost use Rattle.press_node.specs.Plays.{Plays, PlaysBy, PlaysUp, sent};
 ghost use Rattle.press_node.specs.Refusals.{is_at_end, refusal, refusal_up};
 ghost use Rattle.press_node.specs.Views.{Applies, IsBeside, IsUpAt, IsUpFolded, running_of, up_moved};
@@ -26,7 +25,7 @@ use press_acceptor::{Acceptor, PromiseStore};
 use press_apply::{Stamped, Value, apply};
 use press_callbacks::Kit;
 use press_learner::{Learner, none_is_chosen_after_64};
-use press_proposer::Proposer;
+use press_proposer::{Promise, Proposer};
 use press_site::Site;
 use press_wire::{Ballot, Body, Message, Node as Member, Slot, Vote, is_command_too_long};
 use std::alloc::Global;
@@ -258,7 +257,8 @@ impl Up {
         if self.is_at_end() {
             return Some(NodeFault::SlotsUsedUp);
         }
-        if self.proposer.is_used_up(last_round, self.learner.has_gap()) {
+        let (applied, gap) = (self.learner.applied() as u32, self.learner.has_gap());
+        if self.proposer.is_used_up(last_round, applied, gap) {
             return Some(NodeFault::RoundsUsedUp);
         }
         None
@@ -286,23 +286,28 @@ impl Up {
 
     fn promise(
         &mut self,
-        from: Member,
-        slot: Slot,
+        alloc: Global,
+        promise: Promise,
+        first: Slot,
         ballot: Ballot,
-        vote: Option<Vote>,
     ) -> Result<Vec<Message>, NodeFault>
-        requires { from ≤ self.old.proposer.members }
+        requires { promise.from ≤ self.old.proposer.members }
         ensures rest { IsBeside self.old self.new }
-        ensures out { IfOk result
-            (λ out. out.items ≡ (promise_turn self.old.proposer from slot ballot vote).out) }
-        ensures after { OnOk result
-            (self.new.proposer ≡ (promise_turn self.old.proposer from slot ballot vote).after) }
+        ensures out { IfOk result (λ out. out.items
+            ≡ (promise_answer (running_of self.old) promise.from first ballot promise.votes).out) }
+        ensures after { OnOk result (running_of self.new ≡
+            (promise_answer (running_of self.old) promise.from first ballot promise.votes).after) }
         ensures stops { IfErr result (λ fault. stops fault ≡ true) }
         ensures memory { IfErr result
             (λ fault. (fault ≡ NodeFault.NoMemory) ×
-            IsTrue (awaits self.old.proposer.phase from slot ballot)) }
+            TakesForPromise (running_of self.old) promise.from first ballot) }
     {
-        match self.proposer.on_promise(from, slot, ballot, vote) {
+        if self.is_at_end() {
+            drop(promise);
+            return Ok(Vec::new(alloc));
+        }
+        let applied = self.learner.applied() as u32;
+        match self.proposer.on_promise(promise, first, ballot, applied) {
             Ok(out) => Ok(out),
             Err(_) => Err(NodeFault::NoMemory),
         }
@@ -343,7 +348,9 @@ impl Up {
             body,
         } = message;
         match body {
-            Body::Promise { ballot, vote } => self.promise(from, slot, ballot, vote),
+            Body::Promise { ballot, votes } => {
+                self.promise(fixed.alloc, Promise { from, votes }, slot, ballot)
+            }
             Body::Nack { refused, promised } => {
                 self.nack(slot, refused, promised);
                 Ok(Vec::new(fixed.alloc))

@@ -1,12 +1,13 @@
 -- One promise more.
 use Rattle.std.proofs.Common.{ℕ, ◌≡◌, ◌++◌, Option, None, List, [], ◌∷◌, refl}
+use Rattle.press_wire.specs.Votes.{vote_in}
 use Rattle.press_wire.specs.declared.vote.Vote.{Vote}
 use Rattle.press_proposer.specs.Promises.{better, best_after, best_of}
 use Rattle.press_proposer.specs.declared.promises.Promise.{Promise}
 
-best_after_push : (best : Option Vote) (promises : List Promise) (from : ℕ) (vote : Option Vote) → best_after best (promises ++ record { from = from; vote = vote } ∷ []) ≡ better (best_after best promises) vote
-best_after_push best [] from vote = refl
-best_after_push best (promise ∷ later) from vote = best_after_push (better best promise.vote) later from vote
+best_after_push : (slot : ℕ) (best : Option Vote) (promises : List Promise) (last : Promise) → best_after slot best (promises ++ last ∷ []) ≡ better (best_after slot best promises) (vote_in last.votes slot)
+best_after_push slot best [] last = refl
+best_after_push slot best (promise ∷ later) last = best_after_push slot (better best (vote_in promise.votes slot)) later last
 
-pub best_of_push : (promises : List Promise) (from : ℕ) (vote : Option Vote) → best_of (promises ++ record { from = from; vote = vote } ∷ []) ≡ better (best_of promises) vote
-best_of_push promises from vote = best_after_push None promises from vote
+pub best_of_push : (slot : ℕ) (promises : List Promise) (last : Promise) → best_of slot (promises ++ last ∷ []) ≡ better (best_of slot promises) (vote_in last.votes slot)
+best_of_push slot promises last = best_after_push slot None promises last

@@ -10,4 +10,5 @@ mod queue;
 
 pub use fault::ProposerFault;
 pub use laws::best_is_the_greatest_reported;
+pub use promises::Promise;
 pub use proposer::Proposer;

@@ -1,25 +1,25 @@
 //! The promises that came for a ballot.
 
-ghost use Rattle.std.specs.Prelude.{◌≡◌, ◌++◌, ◌∷◌, [], ℕ, IfOk, OnOk, OnErr, option_copied};
+ghost use Rattle.std.specs.Prelude.{◌≡◌, ◌++◌, ◌∷◌, [], IfOk, OnOk, OnErr, option_copied};
 ghost use Rattle.press_proposer.specs.declared.promises.Promise.{Promise};
 ghost use Rattle.press_proposer.specs.Promises as model;
 
 use crate::queue::Queue;
 use press_apply::Value;
-use press_wire::{Node, Vote};
+use press_wire::{Node, Slot, Vote, Votes};
 use std::alloc::{AllocError, Global};
 use std::marker::Model;
 
-/// A member's promise, and the vote that it reports.
+/// A member's promise, and the votes that it reports.
 #[derive(Debug)]
 pub struct Promise {
     pub from: Node,
-    pub vote: Option<Vote>,
+    pub votes: Votes,
 }
 
 impl Drop for Promise {
     fn drop(self) {
-        let Promise { from: _, vote: _ } = self;
+        let Promise { from: _, votes: _ } = self;
     }
 }
 
@@ -83,32 +83,52 @@ pub fn lacks_one(promises: &[Promise], members: u8) -> bool
     usize::from(members) / 2 <= promises.len()
 }
 
-/// What to propose once one more promise came, which reports this: the value of the best vote, or the first that waits.
+/// What to propose for the slot once one more promise came.
 #[tactic(auto, using(crate::proofs::Best::best_of_push))]
 pub fn value_with(
     alloc: Global,
     promises: &[Promise],
-    vote: &Option<Vote>,
+    last: &Promise,
+    slot: Slot,
+    queue: &Queue,
+) -> Result<Value, AllocError>
+    ensures { IfOk result (λ value. value
+        ≡ model.choice (model.best_of slot (promises.now ++ last.now ∷ [])) queue.now) }
+{
+    let best = better(best_of(promises, slot), last.votes.get(slot));
+    chosen(alloc, best, queue)
+}
+
+/// What to propose for the slot.
+pub fn value_of(
+    alloc: Global,
+    promises: &Promises,
+    slot: Slot,
     queue: &Queue,
 ) -> Result<Value, AllocError>
     ensures { IfOk result
-        (λ value. (from : ℕ) →
-        value ≡ model.choice
-        (model.best_of (promises.now ++ record { from = from; vote = vote.now } ∷ [])) queue.now) }
+        (λ value. value ≡ model.choice (model.best_of slot promises.now) queue.now) }
 {
-    match better(best_of(promises), vote.as_ref()) {
+    chosen(alloc, best_of(promises.as_slice(), slot), queue)
+}
+
+// The value of the best vote, or the first that waits.
+fn chosen(alloc: Global, best: Option<&Vote>, queue: &Queue) -> Result<Value, AllocError>
+    ensures { IfOk result (λ value. value ≡ model.choice (option_copied best.entry) queue.now) }
+{
+    match best {
         Some(best) => best.value.copy(alloc),
         None => queue.first_value(alloc),
     }
 }
 
-// The reported vote of the greatest ballot.
-fn best_of(promises: &[Promise]) -> Option<&Vote>
-    ensures { option_copied result ≡ model.best_of promises.now }
+// The reported vote for the slot of the greatest ballot.
+fn best_of(promises: &[Promise], slot: Slot) -> Option<&Vote>
+    ensures { option_copied result ≡ model.best_of slot promises.now }
 {
     let mut best = None;
     for promise in promises {
-        best = better(best, promise.vote.as_ref());
+        best = better(best, promise.votes.get(slot));
     }
     best
 }

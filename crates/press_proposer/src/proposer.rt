@@ -13,20 +13,21 @@ ghost use Rattle.press_proposer.specs.Faults.{store_fault};
 ghost use Rattle.press_proposer.specs.Phases.{awaits};
 ghost use Rattle.press_proposer.specs.Proposing.{started, in_phase};
 ghost use Rattle.press_proposer.specs.Queues.{is_full};
-ghost use Rattle.press_proposer.specs.Turns.{queued_by, is_content, is_used_up, next_round, wake_turn, promise_turn, nacked_by, applied_by};
+ghost use Rattle.press_proposer.specs.Turns.{queued_by, is_content, is_used_up, next_round, wake_turn, promise_turn, nacked_by, applied_by, accepts_in};
 ghost use Rattle.press_proposer.specs.Wakes.{Wakes, wake_calls};
 
 use crate::fault::ProposerFault;
 use crate::phase::Phase;
-use crate::promises::{Promise, Promises, lacks_one, value_with};
+use crate::promises::{Promise, Promises, lacks_one, value_of, value_with};
 use crate::queue::Queue;
 use press_acceptor::{Heading, PromiseStore, StoreFault, to_all};
 use press_apply::{Stamped, Value};
-use press_wire::{Ballot, Body, Message, Node, Round, Slot, Vote};
+use press_wire::{Ballot, Body, Message, Node, Round, Slot};
 use std::alloc::{AllocError, Global};
 use std::marker::Model;
 
-/// The proposer of Paxos Made Simple (2.2 to 2.5): it prepares a ballot for the next slot, and at a majority of promises asks for votes.
+/// The proposer of Paxos Made Simple (2.2 to 2.5): it prepares a ballot for the block of the next slot, and with a majority of promises it leads
+/// the block, and asks for votes slot by slot.
 #[derive(Debug)]
 pub struct Proposer {
     id: Node,
@@ -92,12 +93,14 @@ impl Proposer {
         self.queue.is_full()
     }
 
-    /// Whether a wake would want a round, and none is left, where this is the last round of the store.
-    pub fn is_used_up(&self, last_round: u64, gap: bool) -> bool
+    /// Whether a wake would want a round, and none is left, where this is the last round of the store and so many slots have values.
+    pub fn is_used_up(&self, last_round: u64, applied: u32, gap: bool) -> bool
         ensures { (store : StoreMap) → store.last_round ≡ last_round →
-            result ≡ is_used_up store self.now gap }
+            result ≡ is_used_up store self.now applied gap }
     {
-        !self.is_content(gap) && round_after(last_round.max(self.nacked)).is_none()
+        !self.is_content(gap)
+            && !self.phase.can_ask(applied)
+            && round_after(last_round.max(self.nacked)).is_none()
     }
 
     /// Puts a command at the end of the queue. Full where 256 wait, which is checked before any memory is taken.
@@ -116,8 +119,9 @@ impl Proposer {
         Ok(())
     }
 
-    /// With a queue or a gap it begins a round: the round is saved, and Prepare for the next slot goes to all members. Otherwise it asks
-    /// them for their votes. `applied` slots have values; a gap is a vote for a slot beyond the next one.
+    /// With a queue or a gap it asks for votes for the next slot, where it leads the block and hasn't yet; else it begins a round: the round is saved, and
+    /// Prepare for the block goes to all members. With neither it asks them for their votes. `applied` slots have values; a gap is a vote for a slot beyond the
+    /// next one.
     ///
     /// RoundsUsedUp where the round would pass 2^40. A fault leaves the store as it was before or after the save.
     pub fn wake<S: PromiseStore>(
@@ -128,10 +132,10 @@ impl Proposer {
     ) -> Result<Vec<Message>, ProposerFault>
         requires { applied < 1000000 }
         ensures kept { self.new ≡ in_phase self.old self.new.phase }
-        ensures after { Says (wake_calls self.old gap) (λ _. self.new)
+        ensures after { Says (wake_calls self.old applied gap) (λ _. self.new)
             (λ kept. (wake_turn kept self.old applied gap).after)
             (moved S.seen store.old store.new) result }
-        ensures out { Says (wake_calls self.old gap) (λ out. out.items)
+        ensures out { Says (wake_calls self.old applied gap) (λ out. out.items)
             (λ kept. (wake_turn kept self.old applied gap).out)
             (moved S.seen store.old store.new) result }
         ensures unchanged { OnErr result (self.new ≡ self.old) }
@@ -143,48 +147,58 @@ impl Proposer {
             let out = self.to_all(slot, Body::Query)?;
             return Ok(out);
         }
+        if self.phase.can_ask(applied) {
+            let out = self.ask_as_leader(slot)?;
+            self.phase.lead(slot);
+            return Ok(out);
+        }
+        let first = slot.first();
         let round = self.next_round(store)?;
-        let out = self.to_all(slot, Body::Prepare { round })?;
+        let out = self.to_all(first, Body::Prepare { round })?;
         store.save_round(round)?;
         let ballot = Ballot {
             round,
             node: self.id,
         };
         self.phase = Phase::Preparing {
-            slot,
+            first,
             ballot,
             promises: Promises::new(self.alloc),
         };
         Ok(out)
     }
 
-    /// Takes a member's promise, with its vote. At a majority Accept goes to all members.
+    /// Takes a member's promise for the block with this first slot. At a majority it leads the block, and Accept for the next slot goes to all members.
     pub fn on_promise(
         &mut self,
-        from: Node,
-        slot: Slot,
+        promise: Promise,
+        first: Slot,
         ballot: Ballot,
-        vote: Option<Vote>,
+        applied: u32,
     ) -> Result<Vec<Message>, AllocError>
-        requires { from ≤ self.old.members }
+        requires member { promise.from ≤ self.old.members }
+        requires left { applied < 1000000 }
         ensures kept { self.new ≡ in_phase self.old self.new.phase }
         ensures after { OnOk result (self.new
-            ≡ (promise_turn self.old from slot ballot vote).after) }
-        ensures out { IfOk result
-            (λ out. out.items ≡ (promise_turn self.old from slot ballot vote).out) }
+            ≡ (promise_turn self.old promise.from first ballot promise.votes applied).after) }
+        ensures out { IfOk result (λ out. out.items
+            ≡ (promise_turn self.old promise.from first ballot promise.votes applied).out) }
         ensures unchanged { OnErr result (self.new ≡ self.old) }
-        ensures memory { OnErr result (IsTrue (awaits self.old.phase from slot ballot)) }
+        ensures memory { OnErr result (IsTrue (awaits self.old.phase promise.from first ballot)) }
     {
-        if !self.phase.awaits(from, slot, &ballot) {
+        if !self.phase.awaits(promise.from, first, &ballot) {
             return Ok(Vec::new(self.alloc));
         }
         if lacks_one(self.phase.promises(), self.members) {
-            let value = value_with(self.alloc, self.phase.promises(), &vote, &self.queue)?;
+            let slot = slot_after(applied);
+            let promises = self.phase.promises();
+            let value = value_with(self.alloc, promises, &promise, slot, &self.queue)?;
             let out = self.ask(slot, &ballot, value)?;
-            self.phase = Phase::Asking { slot, ballot };
+            self.phase.push(promise)?;
+            self.phase.lead(slot);
             return Ok(out);
         }
-        self.phase.push(Promise { from, vote })?;
+        self.phase.push(promise)?;
         Ok(Vec::new(self.alloc))
     }
 
@@ -198,11 +212,13 @@ impl Proposer {
         self.nacked = self.nacked.max(promised.round.number());
     }
 
-    /// The slot's value was applied: the proposer is idle, and the first command that is the value leaves the queue.
-    pub fn on_applied(&mut self, _slot: Slot, value: &Value)
-        ensures { self.new ≡ applied_by self.old value.now }
+    /// The slot's value was applied: with the last of a block the proposer is idle, and the first command that is the value leaves the queue.
+    pub fn on_applied(&mut self, slot: Slot, value: &Value)
+        ensures { self.new ≡ applied_by self.old slot value.now }
     {
-        self.phase = Phase::Idle;
+        if slot.is_last() {
+            self.phase = Phase::Idle;
+        }
         self.queue.remove(value);
     }
 
@@ -232,6 +248,24 @@ impl Proposer {
             return Err(ProposerFault::RoundsUsedUp);
         };
         Ok(round)
+    }
+
+    // Asks each member for a vote for the slot, in the ballot of the block that it leads.
+    fn ask_as_leader(&self, slot: Slot) -> Result<Vec<Message>, AllocError>
+        ensures { IfOk result
+            (λ out. out.items ≡ accepts_in self.now self.now.phase slot) }
+    {
+        match &self.phase {
+            Phase::Leading {
+                ballot,
+                promises,
+                ..
+            } => {
+                let value = value_of(self.alloc, promises, slot, &self.queue)?;
+                self.ask(slot, ballot, value)
+            }
+            Phase::Idle | Phase::Preparing { .. } => Ok(Vec::new(self.alloc)),
+        }
     }
 
     // Asks each member for a vote.

@@ -102,7 +102,7 @@ fn is_message(request: &[u8]) -> bool {
 }
 
 fn is_proposal(message: &Message) -> bool {
-    matches!(message.body, Body::Prepare { .. })
+    matches!(message.body, Body::Prepare { .. } | Body::Accept { .. })
 }
 
 fn is_question(message: &Message) -> bool {

@@ -1,9 +1,9 @@
 //! What is asked of a store, and the lines of the answers.
 
-use crate::lines::{fault_line, row_line};
-use crate::rows::row_of;
+use crate::lines::{block_line, fault_line};
+use crate::numbered::{promise_of, vote_of};
 use crate::words::number_behind;
-use press_acceptor::{PromiseStore, Row, StoreFault};
+use press_acceptor::{PromiseStore, StoreFault};
 use press_store::SqlStore;
 use press_wire::{Round, Slot};
 use sqlite::Alter;
@@ -16,10 +16,18 @@ enum Ask {
     // The last slot with a vote.
     LastVote,
     SaveRound(u64),
-    // The row of a slot.
+    // The block of a slot.
     Load(u32),
-    // A promise and a vote of that round are saved for the slot.
+    // A promise of that round is saved for the block of the slot.
+    Promise(u32, u64),
+    // A vote of that round is saved for the slot.
     Save(u32, u64),
+}
+
+// The numbers of a slot and a round.
+fn numbers_in(word: &str) -> Option<(u32, u64)> {
+    let (slot, round) = word.split_once(':')?;
+    Some((slot.parse().ok()?, round.parse().ok()?))
 }
 
 impl Ask {
@@ -36,14 +44,25 @@ impl Ask {
         if let Some(number) = number_behind("load=", word) {
             return Some(Ask::Load(number));
         }
-        let (slot, round) = word.strip_prefix("save=")?.split_once(':')?;
-        Some(Ask::Save(slot.parse().ok()?, round.parse().ok()?))
+        if let Some(rest) = word.strip_prefix("promise=") {
+            let (slot, round) = numbers_in(rest)?;
+            return Some(Ask::Promise(slot, round));
+        }
+        let (slot, round) = numbers_in(word.strip_prefix("save=")?)?;
+        Some(Ask::Save(slot, round))
     }
 }
 
 fn save<S: PromiseStore>(store: &mut S, slot: u32, round: u64) -> Result<(), StoreFault> {
-    match (Slot::new(slot), row_of(round)) {
-        (Some(slot), Some(row)) => store.save(slot, &row),
+    match (Slot::new(slot), vote_of(round)) {
+        (Some(slot), Some(vote)) => store.save_vote(slot, &vote),
+        _ => Ok(()),
+    }
+}
+
+fn promise<S: PromiseStore>(store: &mut S, slot: u32, round: u64) -> Result<(), StoreFault> {
+    match (Slot::new(slot), promise_of(round)) {
+        (Some(slot), Some(ballot)) => store.save_promise(slot.first(), ballot),
         _ => Ok(()),
     }
 }
@@ -55,10 +74,15 @@ fn save_round<S: PromiseStore>(store: &mut S, round: u64) -> Result<(), StoreFau
     }
 }
 
-fn load<S: PromiseStore>(store: &mut S, slot: u32) -> Result<Row, StoreFault> {
-    match Slot::new(slot) {
-        Some(slot) => store.load(slot),
-        None => Ok(Row::new()),
+// The line of what is kept of the block of a slot.
+fn loaded<S: PromiseStore>(alloc: Global, store: &mut S, slot: u32) -> Result<String, AllocError> {
+    let Some(slot) = Slot::new(slot) else {
+        return format!(in alloc; "no slot {slot}\n");
+    };
+    let first = slot.first();
+    match store.load(first) {
+        Ok(block) => block_line(alloc, first, &block),
+        Err(fault) => fault_line(alloc, fault),
     }
 }
 
@@ -87,8 +111,9 @@ fn asked<D: Alter>(alloc: Global, store: &mut SqlStore<D>, ask: Ask) -> Result<S
             Ok(()) => format!(in alloc; "round {round} is saved\n"),
             Err(fault) => fault_line(alloc, fault),
         },
-        Ask::Load(slot) => match load(store, slot) {
-            Ok(row) => row_line(alloc, slot, &row),
+        Ask::Load(slot) => loaded(alloc, store, slot),
+        Ask::Promise(slot, round) => match promise(store, slot, round) {
+            Ok(()) => format!(in alloc; "the block of slot {slot} is promised\n"),
             Err(fault) => fault_line(alloc, fault),
         },
         Ask::Save(slot, round) => match save(store, slot, round) {
@@ -98,7 +123,7 @@ fn asked<D: Alter>(alloc: Global, store: &mut SqlStore<D>, ask: Ask) -> Result<S
     }
 }
 
-/// Asks by each word in turn: `last`, `vote`, `round=N`, `load=SLOT`, `save=SLOT:ROUND`.
+/// Asks by each word in turn: `last`, `vote`, `round=N`, `load=SLOT`, `promise=SLOT:ROUND`, `save=SLOT:ROUND`.
 pub fn ask_all<D: Alter>(
     rt: &HostRuntime,
     store: &mut SqlStore<D>,
@@ -114,7 +139,7 @@ pub fn ask_all<D: Alter>(
     Ok(())
 }
 
-/// Saves this many times a round, and a row of one of a thousand slots.
+/// Saves this many times a round, and a vote for one of a thousand slots.
 pub fn save_often<S: PromiseStore>(store: &mut S, count: u32) -> Result<(), StoreFault> {
     for number in 0..count {
         let round = u64::from(number) + 1;

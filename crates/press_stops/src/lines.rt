@@ -1,17 +1,41 @@
-use press_acceptor::{Row, StoreFault};
-use press_wire::Ballot;
+use press_acceptor::{Block, StoreFault};
+use press_wire::{Ballot, Slot, SlotVote};
 use std::alloc::{AllocError, Global};
 
-/// What a store keeps of the row of a slot.
-pub fn row_line(alloc: Global, slot: u32, row: &Row) -> Result<String, AllocError> {
-    let voted = if row.vote.is_some() { "yes" } else { "no" };
-    match row.promised {
-        None => format!(in alloc; "slot {slot} promised nothing, voted {voted}\n"),
-        Some(Ballot { round, node }) => {
-            let (round, node) = (round.number(), node.number());
-            format!(in alloc; "slot {slot} promised ({round}, {node}), voted {voted}\n")
-        }
+fn ballot_text(alloc: Global, ballot: Ballot) -> Result<String, AllocError> {
+    let (round, node) = (ballot.round.number(), ballot.node.number());
+    format!(in alloc; "({round}, {node})")
+}
+
+fn promise_text(alloc: Global, promised: Option<Ballot>) -> Result<String, AllocError> {
+    match promised {
+        Some(ballot) => ballot_text(alloc, ballot),
+        None => String::from_str(alloc, "nothing"),
     }
+}
+
+fn votes_text(alloc: Global, votes: &[SlotVote]) -> Result<String, AllocError> {
+    let mut text = String::new(alloc);
+    for SlotVote { slot, vote } in votes {
+        if !text.is_empty() {
+            text.push_str(", ")?;
+        }
+        let (slot, ballot) = (slot.number(), ballot_text(alloc, vote.ballot)?);
+        let one = format!(in alloc; "{slot} in {ballot}")?;
+        text.push_str(one.as_str())?;
+    }
+    if text.is_empty() {
+        text.push_str("nowhere")?;
+    }
+    Ok(text)
+}
+
+/// What a store keeps of the block with this first slot.
+pub fn block_line(alloc: Global, first: Slot, block: &Block) -> Result<String, AllocError> {
+    let first = first.number();
+    let promised = promise_text(alloc, block.promised)?;
+    let voted = votes_text(alloc, block.votes.as_slice())?;
+    format!(in alloc; "block {first} promised {promised}, voted {voted}\n")
 }
 
 /// A fault of a store.

@@ -1,6 +1,6 @@
 //! Plays stores on a SQL database: `press_stops WORD ..`. `store`, `store-over-files` and `store-loose` begin with a
-//! new one, and the arguments after them ask it; `store-later`, `store-half`, `store-half-file` and `store-beside-file`
-//! say whether one is made, or why none; `stops-of-log`, `stops-of-file`, `command-stops-of-log` and
+//! new one, and the arguments after them ask it; `store-later`, `store-earlier`, `store-half`, `store-half-file` and
+//! `store-beside-file` say whether one is made, or why none; `stops-of-log`, `stops-of-file`, `command-stops-of-log` and
 //! `command-stops-of-file` stop one on two files in memory at each call of one of them; `saves=N` and `wary-saves=N`
 //! save in a file, for whoever measures it.
 //!
@@ -11,8 +11,8 @@
 mod asks;
 mod command;
 mod lines;
+mod numbered;
 mod posts;
-mod rows;
 mod stops;
 mod stores;
 mod words;

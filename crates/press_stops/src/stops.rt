@@ -1,8 +1,8 @@
 //! Stops of a store on two files in memory, at each call that one of them gets; after each the files crash, and the store is opened again.
 
 use crate::command::{command_over, goes_on_over};
-use crate::rows::{is_row_of, row_of};
-use press_acceptor::{PromiseStore, Row, StoreFault};
+use crate::numbered::{numbers_in, promise_of, vote_of};
+use press_acceptor::{Block, PromiseStore, StoreFault};
 use press_store::SqlStore;
 use press_wire::{Round, Slot};
 use sqlite::{Alter, Connection, Files, Options};
@@ -26,10 +26,20 @@ pub enum Stops {
 /// What is stopped.
 #[derive(Clone, Copy, PartialEq, Eq)]
 pub enum Work {
-    /// A round and two rows of one slot are saved.
+    /// A round, a vote, a promise for its block, and another vote for its slot are saved.
     Saves,
     /// A node by itself takes a command, and applies it.
     Command,
+}
+
+impl Work {
+    // How many saves there are.
+    fn saves(self) -> u32 {
+        match self {
+            Work::Saves => 4,
+            Work::Command => 3,
+        }
+    }
 }
 
 fn fused(alloc: Global, stops: Stops, calls: u64) -> Files<Stopped> {
@@ -44,29 +54,33 @@ fn fused(alloc: Global, stops: Stops, calls: u64) -> Files<Stopped> {
 }
 
 fn save_all<S: PromiseStore>(store: &mut S, told: &mut u32) -> Result<(), StoreFault> {
-    if let (Some(slot), Some(round), Some(first), Some(second)) = (
+    if let (Some(slot), Some(round), Some(first), Some(ballot), Some(second)) = (
         Slot::new(1),
         Round::new(7),
-        row_of(9),
-        row_of(11),
+        vote_of(9),
+        promise_of(10),
+        vote_of(11),
     ) {
         store.save_round(round)?;
         *told = 1;
-        store.save(slot, &first)?;
+        store.save_vote(slot, &first)?;
         *told = 2;
-        store.save(slot, &second)?;
+        store.save_promise(slot.first(), ballot)?;
         *told = 3;
+        store.save_vote(slot, &second)?;
+        *told = 4;
     }
     Ok(())
 }
 
-// How many of these saves are kept, where it is the first ones that are.
-fn saves_in(round: u64, row: &Row) -> Option<u32> {
-    match (round, is_row_of(row, 9), is_row_of(row, 11)) {
-        (0, false, false) if row.promised.is_none() => Some(0),
-        (7, false, false) if row.promised.is_none() => Some(1),
-        (7, true, false) => Some(2),
-        (7, false, true) => Some(3),
+// How many of these saves are kept, where it is the first ones that are. A vote is a promise in its ballot too.
+fn saves_in(round: u64, block: &Block, slot: Slot) -> Option<u32> {
+    match (round, numbers_in(block, slot)?) {
+        (0, (0, 0, 0)) => Some(0),
+        (7, (0, 0, 0)) => Some(1),
+        (7, (9, 1, 9)) => Some(2),
+        (7, (10, 3, 9)) => Some(3),
+        (7, (11, 1, 11)) => Some(4),
         _ => None,
     }
 }
@@ -82,8 +96,12 @@ fn saves_before(events: u32) -> u32 {
 }
 
 // How many of these saves are kept, where it is the first ones that are.
-fn saves_of_command_in(round: u64, row: &Row) -> Option<u32> {
-    match (round, row.promised.is_some(), row.vote.is_some()) {
+fn saves_of_command_in(round: u64, block: &Block, slot: Slot) -> Option<u32> {
+    match (
+        round,
+        block.promised.is_some(),
+        block.votes.get(slot).is_some(),
+    ) {
         (0, false, false) => Some(0),
         (1, false, false) => Some(1),
         (1, true, false) => Some(2),
@@ -129,10 +147,10 @@ fn worked_on_files<D: Disk + Drop>(alloc: Global, work: Work, files: Files<D>) -
 fn kept_of<S: PromiseStore>(work: Work, store: &mut S) -> Option<u32> {
     let slot = Slot::new(1)?;
     let round = store.last_round().ok()?;
-    let row = store.load(slot).ok()?;
+    let block = store.load(slot.first()).ok()?;
     match work {
-        Work::Saves => saves_in(round, &row),
-        Work::Command => saves_of_command_in(round, &row),
+        Work::Saves => saves_in(round, &block, slot),
+        Work::Command => saves_of_command_in(round, &block, slot),
     }
 }
 
@@ -146,10 +164,14 @@ enum Came {
     Lost,
 }
 
-fn came_of(told: u32, kept: Option<u32>, goes_on: bool) -> Came {
+fn came_of(work: Work, told: u32, kept: Option<u32>, goes_on: bool) -> Came {
     match kept {
         Some(kept) if goes_on && told <= kept && kept <= told.saturating_add(1) => {
-            if told == 3 { Came::Whole } else { Came::Kept }
+            if told == work.saves() {
+                Came::Whole
+            } else {
+                Came::Kept
+            }
         }
         _ => Came::Lost,
     }
@@ -171,7 +193,7 @@ fn seen_in<D: Alter>(
         Work::Saves => (store, true),
         Work::Command => goes_on_over(alloc, store, kept == Some(3)),
     };
-    (store.into_connection(), came_of(told, kept, goes_on))
+    (store.into_connection(), came_of(work, told, kept, goes_on))
 }
 
 // What comes of the work over files of which one stops, which then crash and are opened again.

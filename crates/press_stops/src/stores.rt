@@ -14,11 +14,13 @@ use std::alloc::Global;
 pub enum Base {
     Memory,
     Files,
-    /// In memory, over tables that another has made, which take any value, with a text for the round of slot 1.
+    /// In memory, over tables that another has made, which take any value, with a text for the round of the first block.
     Loose,
     /// In memory, over the tables of a store of another version.
     Later,
-    /// In memory, over one table of the two.
+    /// In memory, over the tables of a store of the version before.
+    Earlier,
+    /// In memory, over one table of the three.
     Half,
     /// The same in a file, which a store opens by its name.
     HalfFile,
@@ -26,19 +28,24 @@ pub enum Base {
     BesideFile,
 }
 
-const LOOSE: &str =
-    "CREATE TABLE promise (slot INTEGER PRIMARY KEY, round INTEGER, node INTEGER, vround INTEGER, vnode INTEGER, value BLOB);
+const LOOSE: &str = "CREATE TABLE block (first INTEGER PRIMARY KEY, round INTEGER, node INTEGER);
+    CREATE TABLE vote (slot INTEGER PRIMARY KEY, round INTEGER, node INTEGER, value BLOB);
     CREATE TABLE meta (name TEXT PRIMARY KEY, n INTEGER NOT NULL) STRICT;
-    INSERT INTO meta VALUES ('version', 1), ('last_round', 4);
-    INSERT INTO promise (slot, round, node) VALUES (1, 'x', 1)";
+    INSERT INTO meta VALUES ('version', 2), ('last_round', 4);
+    INSERT INTO block (first, round, node) VALUES (1, 'x', 1)";
 
-const LATER: &str =
+const LATER: &str = "CREATE TABLE block (first INTEGER PRIMARY KEY, round INTEGER, node INTEGER);
+    CREATE TABLE vote (slot INTEGER PRIMARY KEY, round INTEGER, node INTEGER, value BLOB);
+    CREATE TABLE meta (name TEXT PRIMARY KEY, n INTEGER NOT NULL) STRICT;
+    INSERT INTO meta VALUES ('version', 3), ('last_round', 4)";
+
+const EARLIER: &str =
     "CREATE TABLE promise (slot INTEGER PRIMARY KEY, round INTEGER, node INTEGER, vround INTEGER, vnode INTEGER, value BLOB);
     CREATE TABLE meta (name TEXT PRIMARY KEY, n INTEGER NOT NULL) STRICT;
-    INSERT INTO meta VALUES ('version', 2), ('last_round', 4)";
+    INSERT INTO meta VALUES ('version', 1), ('last_round', 4)";
 
 const HALF: &str = "CREATE TABLE meta (name TEXT PRIMARY KEY, n INTEGER NOT NULL) STRICT;
-    INSERT INTO meta VALUES ('version', 1), ('last_round', 4)";
+    INSERT INTO meta VALUES ('version', 2), ('last_round', 4)";
 
 const BESIDE: &str = "CREATE TABLE notes (text TEXT)";
 
@@ -86,6 +93,7 @@ fn prepared(conn: &mut Connection<MemStore>, base: Base) -> anyhow::Result<()> {
         Base::Memory | Base::Files | Base::HalfFile | Base::BesideFile => {}
         Base::Loose => conn.execute_batch(LOOSE)?,
         Base::Later => conn.execute_batch(LATER)?,
+        Base::Earlier => conn.execute_batch(EARLIER)?,
         Base::Half => conn.execute_batch(HALF)?,
     }
     Ok(())
@@ -168,7 +176,7 @@ pub fn play_store(rt: &HostRuntime, base: Base, all: &[Session<'_>]) -> anyhow::
     match base {
         Base::Memory | Base::Loose => play_in_memory(rt, base, all),
         Base::Files => play_over_files(rt, all),
-        Base::Later | Base::Half => show_refusal(rt, play_in_memory(rt, base, all)),
+        Base::Later | Base::Earlier | Base::Half => show_refusal(rt, play_in_memory(rt, base, all)),
         Base::HalfFile => show_refusal(rt, play_in_file(rt, "half.db", HALF)),
         Base::BesideFile => show_refusal(rt, play_in_file(rt, "beside.db", BESIDE)),
     }
@@ -197,11 +205,11 @@ fn saved_in_file(rt: &HostRuntime, name: &str, count: u32, syncs: Syncs) -> Resu
     }
 }
 
-/// Saves this many rounds and rows in the file of that name.
+/// Saves this many rounds and votes in the file of that name.
 pub fn save_in_file(rt: &HostRuntime, name: &str, count: u32, syncs: Syncs) -> anyhow::Result<()> {
     match saved_in_file(rt, name, count, syncs) {
         Ok(()) => {
-            println!(rt; "{count} rounds and {count} rows are saved")?;
+            println!(rt; "{count} rounds and {count} votes are saved")?;
             Ok(())
         }
         Err(fault) => Err(refused(fault)),

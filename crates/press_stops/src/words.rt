@@ -25,6 +25,7 @@ impl Start {
             "store-over-files" => Some(Start::Store(Base::Files)),
             "store-loose" => Some(Start::Store(Base::Loose)),
             "store-later" => Some(Start::Store(Base::Later)),
+            "store-earlier" => Some(Start::Store(Base::Earlier)),
             "store-half" => Some(Start::Store(Base::Half)),
             "store-half-file" => Some(Start::Store(Base::HalfFile)),
             "store-beside-file" => Some(Start::Store(Base::BesideFile)),

@@ -1,54 +1,75 @@
 -- What the calls of an adoption leave.
-use Rattle.std.proofs.Common.{◌≡◌, [], ◌∷◌, codes, length, false, None, Ok, Err, Result, Vec, sym, ap, subst, ◌∙◌, inl, inr, arith}
+use Rattle.std.proofs.Common.{◌≡◌, codes, [], ◌∷◌, length, false, true, None, Ok, Err, Result, Vec, sym, ap, subst, ◌∙◌, inl, inr, arith}
 use Rattle.std.specs.Prelude.{◌⊎◌, IsTrue, OnErr, IfErr}
 use Rattle.std.specs.declared.alloc.Global.{Global}
 use Rattle.sqlite.specs.declared.error.Error.{Error}
 use Rattle.sqlite.specs.Store.{Ghosts}
 use Rattle.sqlite.specs.Schema.{Schema}
-use Rattle.sqlite.specs.Order.{Row}
+use Rattle.sqlite_schema.specs.Names.{same_name}
 use Rattle.sqlite.specs.Tree.{Trees}
-use Rattle.sqlite.specs.Command.TheVariants.{Select}
-use Rattle.sqlite.specs.Effect.{Database}
-use Rattle.sqlite.specs.State.{State, HasCleanDisk, IsUnchanged, IsRolledBack, KeepsCommit}
+use Rattle.sqlite.specs.Effect.{Database, IsDatabase}
+use Rattle.sqlite.specs.State.{State, HasCleanDisk, IsUnchanged, IsRolledBack, IsLive, KeepsCommit}
 use Rattle.sqlite.specs.Held.{Held, state}
 use Rattle.sqlite.specs.Steps.{FailsToCommit}
+use Rattle.sqlite_trees.specs.Objects.{catalog_tree}
+use Rattle.sqlite_catalog.specs.Listing.{Lists}
+use Rattle.sqlite.specs.Order.{Row}
 use Rattle.press_acceptor.specs.StoreMap.{new_store}
-use Rattle.press_store.specs.Tables.{store_schema, no_schema}
-use Rattle.press_store.specs.Shown.{IsKept, IsOurVersion, store_in}
+use Rattle.press_store.specs.Tables.{Layout, Fresh, Moved, schema_of, no_schema, check_text, version_query_text, left_text}
+use Rattle.press_store.specs.Shown.{IsKept, IsOurVersion, IsEmptied, store_in}
 use Rattle.press_store.specs.Kept.{kept_by}
-use Rattle.press_store.specs.Attempt.{Ready, IsSettled, Queries, Stays}
+use Rattle.press_store.specs.Attempt.{AreTables, Ready, IsSettled, Queries, Stays}
 use Rattle.press_store.specs.Making.{IsFresh}
-use Rattle.press_store.specs.Adopted.{Adopts, HandsBack}
-use Rattle.press_store.specs.Adopting.{IsOneNumber, IsOne, OnlyLooks}
-use Rattle.press_store.proofs.Texts.{check_text, check_query, c5, p5, version_query_text, version_query, c6, p6}
+use Rattle.press_store.specs.Adopted.{Adopts, HandsBack, IsOurs, has_table}
+use Rattle.press_store.specs.Adopting.{IsOneNumber, IsOneTwo, IsMoved, OnlyLooks}
+use Rattle.press_store.proofs.Checked.{checked_kept, checked_version}
+use Rattle.press_store.proofs.Emptied.{emptied}
 use Rattle.press_store.proofs.Looked.{sees, looks_only}
 use Rattle.press_store.proofs.Saved.{after_same}
-use Rattle.press_store.proofs.Made.{checked_kept, checked_version}
+use Rattle.press_store.proofs.Standing.{stand}
+use Rattle.press_store.proofs.Texts.{select, check_select, check_means, version_select, version_query_means, left_query, left_means}
 
 -- ---- one query
 
-module _ {S : Type 0} (g : Ghosts S) (old new : Held S) (has : (state g old).now.schema ≡ store_schema) where
-  pub round_looks : (result : Result (Vec Row Global) Error) → HasCleanDisk (state g new) → Queries g old new check_text [] result → OnlyLooks (state g old) (state g new)
-  round_looks result clean asked = looks_only g check_text [] (Select (record { lets = []; body = check_query }) (codes "rowid" ∷ codes "n" ∷ [])) c5 p5.0 p5.1 old new result clean has asked
+-- an open connection lists its tables
+pub lists : (l : Layout) (s : State) → s.now.schema ≡ schema_of l → IsLive s → IsTrue s.is_open → Lists (s.now.trees catalog_tree) (schema_of l)
+lists l s has live up = subst (λ (t : Schema). Lists (s.now.trees catalog_tree) t) has (live up).0.lists
 
-  pub round_same : (rows : Vec Row Global) → Queries g old new check_text [] (Ok rows) → IsUnchanged (state g old) (state g new)
-  round_same rows asked = (sees g check_text [] (Select (record { lets = []; body = check_query }) (codes "rowid" ∷ codes "n" ∷ [])) c5 p5.0 p5.1 old new rows has asked).0
+module _ {S : Type 0} (g : Ghosts S) (old new : Held S) where
+  pub round_looks : IsOurs (state g old).now.schema → (result : Result (Vec Row Global) Error) → HasCleanDisk (state g new) → Queries g old new check_text [] result → OnlyLooks (state g old) (state g new)
+  round_looks (l, has) result clean asked = looks_only g check_text [] (schema_of l) (check_select l) (check_means l) old new result clean has asked
 
-  pub round_kept : (rows : Vec Row Global) → Queries g old new check_text [] (Ok rows) → IsOneNumber rows.items → IsKept (state g old).now.trees
-  round_kept rows asked one =
-      checked_kept (state g old).now rows.items one (sees g check_text [] (Select (record { lets = []; body = check_query }) (codes "rowid" ∷ codes "n" ∷ [])) c5 p5.0 p5.1 old new rows has asked).1
+  pub round_same : IsOurs (state g old).now.schema → (rows : Vec Row Global) → Queries g old new check_text [] (Ok rows) → IsUnchanged (state g old) (state g new)
+  round_same (l, has) rows asked = (sees g check_text [] (schema_of l) (check_select l) (check_means l) old new rows has asked).0
 
-  pub version_looks : (result : Result (Vec Row Global) Error) → HasCleanDisk (state g new) → Queries g old new version_query_text [] result → OnlyLooks (state g old) (state g new)
-  version_looks result clean asked = looks_only g version_query_text [] (Select (record { lets = []; body = version_query }) (codes "n" ∷ [])) c6 p6.0 p6.1 old new result clean has asked
+  pub round_kept : IsOurs (state g old).now.schema → IsLive (state g old) → (rows : Vec Row Global) → Queries g old new check_text [] (Ok rows) → IsOneNumber rows.items → IsKept (state g old).now.trees
+  round_kept (l, has) live rows asked one =
+      let seen = sees g check_text [] (schema_of l) (check_select l) (check_means l) old new rows has asked in
+      checked_kept l (state g old).now (lists l (state g old) has live seen.0.0.was_open) rows.items one seen.1
 
-  pub version_same : (rows : Vec Row Global) → Queries g old new version_query_text [] (Ok rows) → IsUnchanged (state g old) (state g new)
-  version_same rows asked = (sees g version_query_text [] (Select (record { lets = []; body = version_query }) (codes "n" ∷ [])) c6 p6.0 p6.1 old new rows has asked).0
+  pub version_looks : IsOurs (state g old).now.schema → (result : Result (Vec Row Global) Error) → HasCleanDisk (state g new) → Queries g old new version_query_text [] result → OnlyLooks (state g old) (state g new)
+  version_looks (l, has) result clean asked = looks_only g version_query_text [] (schema_of l) (version_select l) (version_query_means l) old new result clean has asked
 
-  pub version_kept : (rows : Vec Row Global) → Queries g old new version_query_text [] (Ok rows) → IsOne rows.items → IsOurVersion (state g old).now.trees
-  version_kept rows asked one =
-      checked_version (state g old).now rows.items one (sees g version_query_text [] (Select (record { lets = []; body = version_query }) (codes "n" ∷ [])) c6 p6.0 p6.1 old new rows has asked).1
+  pub version_same : IsOurs (state g old).now.schema → (rows : Vec Row Global) → Queries g old new version_query_text [] (Ok rows) → IsUnchanged (state g old) (state g new)
+  version_same (l, has) rows asked = (sees g version_query_text [] (schema_of l) (version_select l) (version_query_means l) old new rows has asked).0
 
--- ---- both queries
+  pub version_kept : IsOurs (state g old).now.schema → IsLive (state g old) → (rows : Vec Row Global) → Queries g old new version_query_text [] (Ok rows) → IsOneTwo rows.items → IsOurVersion (state g old).now.trees
+  version_kept (l, has) live rows asked one =
+      let seen = sees g version_query_text [] (schema_of l) (version_select l) (version_query_means l) old new rows has asked in
+      checked_version l (state g old).now (lists l (state g old) has live seen.0.0.was_open) rows.items one seen.1
+
+  pub left_looks : IsMoved (state g old).now.schema → (result : Result (Vec Row Global) Error) → HasCleanDisk (state g new) → Queries g old new left_text [] result → OnlyLooks (state g old) (state g new)
+  left_looks has result clean asked = looks_only g left_text [] (schema_of Moved) (select left_query (codes "slot" ∷ [])) left_means old new result clean has asked
+
+  pub left_same : IsMoved (state g old).now.schema → (rows : Vec Row Global) → Queries g old new left_text [] (Ok rows) → IsUnchanged (state g old) (state g new)
+  left_same has rows asked = (sees g left_text [] (schema_of Moved) (select left_query (codes "slot" ∷ [])) left_means old new rows has asked).0
+
+  pub left_none : IsMoved (state g old).now.schema → IsLive (state g old) → (rows : Vec Row Global) → Queries g old new left_text [] (Ok rows) → rows.items ≡ [] → IsEmptied (state g old).now.trees
+  left_none has live rows asked none =
+      let seen = sees g left_text [] (schema_of Moved) (select left_query (codes "slot" ∷ [])) left_means old new rows has asked in
+      emptied (state g old).now rows.items (lists Moved (state g old) has live seen.0.0.was_open) seen.1 none
+
+-- ---- queries after one another
 
 -- a connection that waited for no commit is as it was
 pub handed_back : (old new : State) → IsSettled old → OnlyLooks old new → HandsBack old new
@@ -65,15 +86,41 @@ looks_then old mid new same one two = record {
   crash = λ db may. one.crash db (two.crash db may);
 }
 
-pub differs : {A : Type 0} → no_schema ≡ store_schema → A
-differs same =
-    let none : 0 ≡ 2 = ap (λ (s : Schema). length s.tables) same in
+-- what is so of the schema and the trees of an unchanged connection was so before
+pub schema_still : (Has : Schema → Type 0) (old mid : State) → IsUnchanged old mid → Has old.now.schema → Has mid.now.schema
+schema_still Has old mid same has = subst (λ (d : Database). Has d.schema) (sym same.0.now_is) has
+
+pub trees_still : (Is : Trees → Type 0) (old mid : State) → IsUnchanged old mid → Is mid.now.trees → Is old.now.trees
+trees_still Is old mid same is = subst (λ (d : Database). Is d.trees) same.0.now_is is
+
+pub live_still : (old mid : State) → IsUnchanged old mid → IsLive old → IsLive mid
+live_still old mid same live _ =
+    let was = live same.0.was_open in
+    (subst (λ (d : Database). IsDatabase d) (sym same.0.now_is) was.0, subst (λ (d : Database). IsDatabase d) (sym same.0.committed_is) was.1)
+
+-- where the table of version 1 is there, the tables stand behind it
+pub has_old_moved : (schema : Schema) → IsOurs schema → has_table schema (codes "promise") ≡ true → IsMoved schema
+unfolding same_name
+has_old_moved schema (Fresh, has) old = absurd (let none : false ≡ true = ap (λ s. has_table s (codes "promise")) (sym has) ∙ old in cc)
+has_old_moved schema (Moved, has) old = has
+
+pub no_old_emptied : (s : State) → IsOurs s.now.schema → has_table s.now.schema (codes "promise") ≡ false → IsLive s → IsTrue s.is_open → IsEmptied s.now.trees
+unfolding same_name
+no_old_emptied s (Fresh, has) old live up = (stand Fresh s.now.trees (lists Fresh s has live up)).old
+no_old_emptied s (Moved, has) old live up = absurd (let none : true ≡ false = ap (λ t. has_table t (codes "promise")) (sym has) ∙ old in cc)
+
+pub differs : {A : Type 0} (l : Layout) → no_schema ≡ schema_of l → A
+differs Fresh same =
+    let none : 0 ≡ 3 = ap (λ (s : Schema). length s.tables) same in
+    absurd (omega (arith, none))
+differs Moved same =
+    let none : 0 ≡ 4 = ap (λ (s : Schema). length s.tables) same in
     absurd (omega (arith, none))
 
 module _ {S : Type 0} (g : Ghosts S) (law : (s : S) (db : Trees) → IsTrue (g.view s).is_open → g.recovers s db → db ≡ (g.view s).committed) where
   adopts : (old new : Held S) → IsTrue (state g new).is_open
-      → (((state g old).now.schema ≡ no_schema) × (kept_by (state g new) ≡ new_store)) ⊎ (((state g old).now.schema ≡ store_schema) × (kept_by (state g new) ≡ kept_by (state g old)))
-      → ((state g old).now.schema ≡ store_schema → IsOurVersion (state g old).now.trees) → IsOurVersion (state g new).now.trees → (state g new).now ≡ (state g new).committed
+      → (((state g old).now.schema ≡ no_schema) × (kept_by (state g new) ≡ new_store)) ⊎ (IsOurs (state g old).now.schema × (kept_by (state g new) ≡ kept_by (state g old)))
+      → (IsOurs (state g old).now.schema → IsOurVersion (state g old).now.trees) → IsOurVersion (state g new).now.trees → (state g new).now ≡ (state g new).committed
       → Adopts (state g old) (state g new)
   adopts old new up kept version shown settled = record {
     is_open = up;
@@ -84,19 +131,19 @@ module _ {S : Type 0} (g : Ghosts S) (law : (s : S) (db : Trees) → IsTrue (g.v
     version_left = λ db may. subst IsOurVersion (ap (λ (d : Database). d.trees) settled ∙ sym (law new.store db up may)) shown;
   }
 
-  pub both_seen : (old new : Held S) → (state g old).in_transaction ≡ false → (state g old).step_limit ≡ None → IsSettled (state g old) → (state g old).now.schema ≡ store_schema → IsKept (state g old).now.trees
-      → IsOurVersion (state g old).now.trees → IsUnchanged (state g old) (state g new) → OnlyLooks (state g old) (state g new) → Ready (state g new) × Adopts (state g old) (state g new)
-  both_seen old new quiet unlimited settled has kept version same looks =
+  pub whole_seen : (old new : Held S) → (state g old).in_transaction ≡ false → (state g old).step_limit ≡ None → IsSettled (state g old) → IsLive (state g old) → IsOurs (state g old).now.schema → IsKept (state g old).now.trees
+      → IsOurVersion (state g old).now.trees → IsEmptied (state g old).now.trees → IsUnchanged (state g old) (state g new) → OnlyLooks (state g old) (state g new) → Ready (state g new) × Adopts (state g old) (state g new)
+  whole_seen old new quiet unlimited settled live (l, has) kept version none same looks =
       let now = same.0.now_is in
-      let still = now ∙ settled same.0.was_open ∙ sym same.0.committed_is in (
+      let still = now ∙ settled same.0.was_open ∙ sym same.0.committed_is in
+      let tables : AreTables l (state g old).now = record { schema = has; listed = lists l (state g old) has live same.0.was_open; emptied = none; kept = kept } in (
         record {
           autocommit = same.0.mode ∙ quiet;
           unlimited = looks.limit ∙ unlimited;
-          schema = λ _. ap (λ (d : Database). d.schema) now ∙ has;
-          kept = λ _. subst (λ (d : Database). IsKept d.trees) (sym now) kept;
+          tables = λ _. (l, subst (AreTables l) (sym now) tables);
           settled = λ _. still;
         },
-        adopts old new same.0.is_open (inr (has, ap (λ (d : Database). store_in d.trees) same.0.committed_is)) (λ _. version) (subst (λ (d : Database). IsOurVersion d.trees) (sym now) version) still,
+        adopts old new same.0.is_open (inr ((l, has), ap (λ (d : Database). store_in d.trees) same.0.committed_is)) (λ _. version) (subst (λ (d : Database). IsOurVersion d.trees) (sym now) version) still,
       )
 
   pub new_made : (old new : Held S) → (state g old).step_limit ≡ None → (state g new).step_limit ≡ (state g old).step_limit → (state g new).in_transaction ≡ false → (state g old).now.schema ≡ no_schema
@@ -105,11 +152,10 @@ module _ {S : Type 0} (g : Ghosts S) (law : (s : S) (db : Trees) → IsTrue (g.v
     record {
       autocommit = quiet;
       unlimited = limit ∙ unlimited;
-      schema = λ _. h.1.schema;
-      kept = λ _. h.1.kept;
+      tables = λ _. (Fresh, h.1.tables);
       settled = λ _. h.2;
     },
-    adopts old new h.0 (inl (has, ap (λ (d : Database). store_in d.trees) (sym h.2) ∙ h.1.new)) (λ ours. differs (sym has ∙ ours)) h.1.version h.2,
+    adopts old new h.0 (inl (has, ap (λ (d : Database). store_in d.trees) (sym h.2) ∙ h.1.new)) (λ ours. differs ours.0 (sym has ∙ ours.1)) h.1.version h.2,
   )
 
 -- ---- the making of the tables, taken back
@@ -129,3 +175,10 @@ commit_unmade old last new (Err e) settled kept inside (inr late) is = absurd (l
 pub on_err : {X E : Type 0} (result : Result X E) {P : Type 0} → P → OnErr result P
 on_err (Ok x) p = tt
 on_err (Err e) p = p
+
+-- ---- a limit on steps doesn't tell
+
+pub back_unlimited : {S : Type 0} (g : Ghosts S) (old mid new : Held S) → mid ≡ record old { step_limit = None } → HandsBack (state g mid) (state g new) → HandsBack (state g old) (state g new)
+back_unlimited g old mid new is h =
+    let b = subst (λ (m : Held _). HandsBack (state g m) (state g new)) is h in
+    record { same = b.same; crash = b.crash }

@@ -1,94 +1,171 @@
--- The rows of the tables as a finite map.
-use Rattle.std.proofs.Common.{◌≡◌, ◌≤◌, ℕ, zero, suc, Option, Some, None, refl, sym, ap, ◌∙◌, inl, inr, arith}
-use Rattle.std.specs.Prelude.{◌⊎◌, ◌==◌, if◌then◌else◌, unwrap_or}
-use Rattle.std.proofs.lemmas.Bool.{cases_eq, ne_eqb, eq-eqb}
-use Rattle.std.proofs.lemmas.Bool.Decides.{leb_tells}
-use Rattle.std.specs.Cmp.{nat_cmp_total}
-use Rattle.std.specs.FinMap.{FinMap, empty, get, insert, get-empty, same_map, nat_cmp-IsAntisymmetric}
+-- The rows of the tables as finite maps.
+use Rattle.std.proofs.Common.{◌≡◌, ◌≢◌, ◌⊎◌, ◌+◌, ◌<◌, ◌≤◌, ℕ, zero, suc, pos, true, List, [], ◌∷◌, filter, Option, Some, None, refl, sym, ap, ap₂, subst, ◌∙◌, inl, inr, arith}
+use Rattle.std.specs.Prelude.{IsSome, if◌then◌else◌}
+use Rattle.std.proofs.lemmas.Bool.{cases_Bool, cases_eq, eqb-true, ne_eqb, cond-false}
+use Rattle.std.specs.BTreeMap.{is_at}
+use Rattle.std.specs.Cmp.{unsigned_tied}
+use Rattle.std.specs.FinMap.{empty, get}
+use Rattle.std.specs.List.{range_with_len}
 use Rattle.std.specs.Ordering.{nat_cmp}
-use Rattle.press_acceptor.specs.declared.row.Row.{Row as SlotRow}
-use Rattle.press_acceptor.specs.StoreMap.{new_store, with_row, with_round}
-use Rattle.press_acceptor.proofs.Maps.{get_here, get_there}
-use Rattle.press_store.specs.Shown.{Contents, damaged_round, with_perhaps, rows_to, store_of}
+use Rattle.sqlite.specs.Order.{Row}
+use Rattle.sqlite.specs.Tree.{has_rowid}
+use Rattle.press_wire.specs.declared.ballot.Ballot.{Ballot}
+use Rattle.press_wire.specs.declared.vote.Vote.{Vote}
+use Rattle.press_wire.specs.declared.votes.SlotVote.{SlotVote}
+use Rattle.press_wire.specs.Blocks.{block_of, is_first, slots_of}
+use Rattle.press_wire.specs.Votes.{vote_in, votes_at}
+use Rattle.press_wire.proofs.Blocks.{in_block, of_block, last_block}
+use Rattle.press_wire.proofs.Collected.{block_same, block_none, vote_in_block}
+use Rattle.press_acceptor.specs.InMemory.{at, with_entry, entries_at, all_slots, map_of}
+use Rattle.press_acceptor.specs.StoreMap.{new_store, promise_of, vote_of, block_votes, with_promise, with_round}
+use Rattle.press_acceptor.proofs.Maps.{IsSlot, get_at, map_get, map_same, map_set, map_none}
+use Rattle.press_store.specs.Saving.{AddsVote}
+use Rattle.press_store.specs.Shown.{promise_in, voted_in, promise_over, vote_at, promise_at, round_at, store_of}
 
-there : (m : FinMap nat_cmp SlotRow) (k : ℕ) (o : Option SlotRow) (q : ℕ) → (q ≡ k → ⊥) → get (with_perhaps m k o) q ≡ get m q
-there m k None q apart = refl
-there m k (Some r) q apart = get_there m k r q apart
+-- ---- a number that is no slot has nothing
 
-here : (m : FinMap nat_cmp SlotRow) (k : ℕ) (o : Option SlotRow) → get m k ≡ None → get (with_perhaps m k o) k ≡ o
-here m k None none = none
-here m k (Some r) none = get_here m k r k refl
+listed_none : {X : Type 0} (f : ℕ → Option X) (a n q : ℕ) → (q < a) ⊎ (a + n ≤ q) → at (entries_at f (range_with_len a n)) q ≡ None
+listed_none f a zero q out = refl
+listed_none {X} f a (suc n) q out = go (f a) (listed_none f (a + 1) n q (further out))
+  where
+    further : (q < a) ⊎ (a + suc n ≤ q) → (q < a + 1) ⊎ (a + 1 + n ≤ q)
+    further (inl low) = inl (omega (arith, low))
+    further (inr high) = inr (omega (arith, high))
 
-outside : (n : ℕ) (row : ℕ → Option SlotRow) (q : ℕ) → (q ≤ n → q ≡ 0) → get (rows_to n row) q ≡ None
-unfolding rows_to
-outside zero row q out = get-empty nat_cmp q
-outside (suc n) row q out =
-    there (rows_to n row) (suc n) (row (suc n)) q (λ same. let none = out (omega (arith, same)) in absurd (omega (arith, same, none)))
-    ∙ outside n row q (λ low. out (omega (arith, low)))
+    apart : (q < a) ⊎ (a + suc n ≤ q) → q ≢ a
+    apart (inl low) e = omega (arith, low, e)
+    apart (inr high) e = omega (arith, high, e)
 
-last_or : (q n : ℕ) → q ≤ suc n → (q ≡ suc n) ⊎ (q ≤ n)
-last_or q n h = elim (cases_eq q (suc n)) [ inl same ↦ inl same | inr other ↦ inr (omega (arith, h, other)) ]
+    go : (o : Option X) → at (entries_at f (range_with_len (a + 1) n)) q ≡ None → at (with_entry a o (entries_at f (range_with_len (a + 1) n))) q ≡ None
+    go None rest = rest
+    go (Some x) rest = cond-false (is_at (nat_cmp q) a) (Some x) _ (unsigned_tied q a ∙ ne_eqb q a (apart out)) ∙ rest
 
-pub inside : (n : ℕ) (row : ℕ → Option SlotRow) (q : ℕ) → 1 ≤ q → q ≤ n → get (rows_to n row) q ≡ row q
-unfolding rows_to
-inside zero row q low high = absurd (omega (arith, low, high))
-inside (suc n) row q low high = elim (last_or q n high) [
-  | inl same ↦ rw same (here (rows_to n row) (suc n) (row (suc n)) (outside n row (suc n) (λ less. absurd (omega (arith, less)))))
-  | inr less ↦ there (rows_to n row) (suc n) (row (suc n)) q (λ same. absurd (omega (arith, less, same))) ∙ inside n row q low less
-]
+map_outside : {X : Type 0} (f : ℕ → Option X) (q : ℕ) → (q < 1) ⊎ (1000001 ≤ q) → get (map_of f) q ≡ None
+unfolding map_of all_slots
+map_outside f q out = get_at (entries_at f (range_with_len 1 1000000)) q ∙ listed_none f 1 1000000 q out
 
-pub within : (n q : ℕ) → ((1 ≤ q) × (q ≤ n)) ⊎ (q ≤ n → q ≡ 0)
-within n zero = inr (λ _. refl)
-within n (suc q) = elim (leb_tells (suc q) n) [ inl low ↦ inl (omega arith, low.1) | inr more ↦ inr (λ low. absurd (omega (arith, low, more.1))) ]
+-- ---- blocks
 
-abbrev pub row_set : Contents → ℕ → SlotRow → Contents
-row_set c slot row = record c { row = λ s. if s == slot then Some row else c.row s }
+pub first_is : (first : ℕ) → is_first first ≡ true → block_of first ≡ first
+first_is first h = eqb-true (block_of first) first h
 
--- a row that is set in the tables is set in the map
-set_here : (c : Contents) (slot : ℕ) (row : SlotRow) (q : ℕ) → q ≡ slot → (row_set c slot row).row q ≡ Some row
-set_here c slot row q same = rw (same, eq-eqb slot slot refl)
+pub slots_inside : (first slot : ℕ) → IsSlot first → is_first first ≡ true → first ≤ slot → slot < first + 16 → IsSlot slot
+slots_inside first slot i e low high =
+    let last = last_block first (first_is first e) i.0 i.1 in
+    (omega (arith, i.0, low), omega (arith, last, high))
 
-set_there : (c : Contents) (slot : ℕ) (row : SlotRow) (q : ℕ) → (q ≡ slot → ⊥) → (row_set c slot row).row q ≡ c.row q
-set_there c slot row q other = rw (ne_eqb q slot other)
+pub block_is_slot : (slot : ℕ) → IsSlot slot → IsSlot (block_of slot)
+unfolding block_of
+block_is_slot slot i = (omega (arith, i.0), omega (arith, i.1))
 
-same_at : (n : ℕ) (c : Contents) (slot : ℕ) (row : SlotRow) (q : ℕ) → 1 ≤ slot → slot ≤ n → get (rows_to n (row_set c slot row).row) q ≡ get (insert (rows_to n c.row) slot row) q
-same_at n c slot row q low high = elim (cases_eq q slot) [
-  | inl same ↦
-      let low_q : 1 ≤ q = omega (arith, same, low) in
-      let high_q : q ≤ n = omega (arith, same, high) in
-      inside n (row_set c slot row).row q low_q high_q ∙ set_here c slot row q same ∙ sym (get_here (rows_to n c.row) slot row q same)
-  | inr other ↦ elim (within n q) [
-    | inl is ↦ inside n (row_set c slot row).row q is.0 is.1 ∙ set_there c slot row q other ∙ sym (get_there (rows_to n c.row) slot row q other ∙ inside n c.row q is.0 is.1)
-    | inr out ↦ outside n (row_set c slot row).row q out ∙ sym (get_there (rows_to n c.row) slot row q other ∙ outside n c.row q out)
+-- ---- what is read of the maps
+
+module _ (blocks votes meta : List Row) where
+  pub vote_got : (slot : ℕ) → IsSlot slot → vote_of (store_of blocks votes meta) slot ≡ vote_at votes slot
+  unfolding store_of
+  vote_got slot i = map_get (vote_at votes) slot i
+
+  pub vote_outside : (slot : ℕ) → (slot < 1) ⊎ (1000001 ≤ slot) → vote_of (store_of blocks votes meta) slot ≡ None
+  unfolding store_of
+  vote_outside slot out = map_outside (vote_at votes) slot out
+
+  promise_got : (slot : ℕ) → IsSlot slot → promise_of (store_of blocks votes meta) slot ≡ promise_at blocks votes slot
+  unfolding store_of
+  promise_got slot i = map_get (promise_at blocks votes) slot i
+
+  module _ (first : ℕ) (i : IsSlot first) (e : is_first first ≡ true) where
+    pub votes_got : block_votes (store_of blocks votes meta) first ≡ votes_at (vote_at votes) (slots_of first)
+    votes_got = block_same (vote_of (store_of blocks votes meta)) (vote_at votes) first (λ slot low high. vote_got slot (slots_inside first slot i e low high))
+
+    at_first : promise_at blocks votes first ≡ promise_over (promise_in (filter (has_rowid (pos first)) blocks)) (votes_at (vote_at votes) (slots_of first))
+    unfolding promise_at
+    at_first = rw e refl
+
+    pub block_promised : promise_of (store_of blocks votes meta) first ≡ promise_over (promise_in (filter (has_rowid (pos first)) blocks)) (block_votes (store_of blocks votes meta) first)
+    block_promised = promise_got first i ∙ at_first ∙ ap (promise_over (promise_in (filter (has_rowid (pos first)) blocks))) (sym votes_got)
+
+-- ---- a promise is saved
+
+-- the row is the one with its number, and the rows of other numbers are as they were
+pub record IsReplaced (n : ℕ) (row : Row) (old new : List Row) : Type 0 where
+  pub here : filter (has_rowid (pos n)) new ≡ row ∷ []
+  pub there : (s : ℕ) → (s ≡ n → ⊥) → (s ≡ 0 → ⊥) → filter (has_rowid (pos s)) new ≡ filter (has_rowid (pos s)) old
+
+pub promise_saved : (blocks new votes meta : List Row) (first : ℕ) (row : Row) (ballot : Ballot) → IsSlot first → is_first first ≡ true → promise_in (row ∷ []) ≡ Some ballot → IsReplaced first row blocks new
+    → store_of new votes meta ≡ with_promise (store_of blocks votes meta) first ballot
+unfolding store_of promise_at
+promise_saved blocks new votes meta first row ballot i e shows h =
+    let here : promise_at new votes first ≡ Some ballot = at_first new votes meta first i e ∙ ap (λ rows. promise_over (promise_in rows) (votes_at (vote_at votes) (slots_of first))) h.here ∙ ap (λ p. promise_over p (votes_at (vote_at votes) (slots_of first))) shows in
+    let there : (q : ℕ) → IsSlot q → q ≢ first → promise_at new votes q ≡ promise_at blocks votes q = λ q s apart.
+    ap (λ rows. if is_first q then promise_over (promise_in rows) (votes_at (vote_at votes) (slots_of q)) else None) (h.there q apart (λ zero_is. omega (arith, s.0, zero_is))) in
+    ap (λ m. record { promises = m; votes = map_of (vote_at votes); last_round = round_at meta }) (map_set (promise_at blocks votes) (promise_at new votes) first ballot i here there)
+
+-- ---- a vote is saved, in a block that has promised
+
+promises_on : (p : Option Ballot) (was is : List SlotVote) → IsSome (promise_over p was) → (is ≡ [] → ⊥) → promise_over p is ≡ promise_over p was
+promises_on (Some b) was is h some = refl
+promises_on None [] is h some = absurd (let e = h in cc)
+promises_on None (v ∷ was) [] h some = absurd (some refl)
+promises_on None (v ∷ was) (w ∷ is) h some = refl
+
+module _ (blocks votes new meta : List Row) (slot : ℕ) (row : Row) (vote : Vote) (i : IsSlot slot) (shows : voted_in (row ∷ []) ≡ Some vote) (h : IsReplaced slot row votes new) where
+  here : vote_at new slot ≡ Some vote
+  unfolding vote_at
+  here = ap voted_in h.here ∙ shows
+
+  there : (q : ℕ) → IsSlot q → q ≢ slot → vote_at new q ≡ vote_at votes q
+  unfolding vote_at
+  there q s apart = ap voted_in (h.there q apart (λ zero_is. omega (arith, s.0, zero_is)))
+
+  has_vote : (block : ℕ) → block ≤ slot → slot < block + 16 → votes_at (vote_at new) (slots_of block) ≡ [] → ⊥
+  has_vote block low high none =
+      let found : vote_in (votes_at (vote_at new) (slots_of block)) slot ≡ Some vote = vote_in_block (vote_at new) block slot low high ∙ here in
+      let bad : None ≡ Some vote = sym (ap (λ vs. vote_in vs slot) none) ∙ found in
+      cc
+
+  block_stays : IsSome (promise_at blocks votes (block_of slot)) → (q : ℕ) → IsSlot q → promise_at blocks new q ≡ promise_at blocks votes q
+  unfolding promise_at
+  block_stays promised q s = elim (cases_Bool (is_first q)) [
+    | inr other ↦ rw other refl
+    | inl first ↦ elim (cases_eq (block_of slot) q) [
+      | inl same ↦
+          let inside = in_block slot q same in
+          let p = promise_in (filter (has_rowid (pos q)) blocks) in
+          let old : IsSome (promise_over p (votes_at (vote_at votes) (slots_of q))) = subst IsSome (rw first refl) (subst (λ b. IsSome (promise_at blocks votes b)) same promised) in
+          rw first (promises_on p (votes_at (vote_at votes) (slots_of q)) (votes_at (vote_at new) (slots_of q)) old (has_vote q inside.0 inside.1))
+      | inr apart ↦
+          let alike : votes_at (vote_at new) (slots_of q) ≡ votes_at (vote_at votes) (slots_of q) = block_same (vote_at new) (vote_at votes) q (λ t low high.
+          there t (slots_inside q t s first low high) (λ e. apart (ap block_of (sym e) ∙ of_block q t (first_is q first) s.0 low high))) in
+          ap (λ vs. if is_first q then promise_over (promise_in (filter (has_rowid (pos q)) blocks)) vs else None) alike
+    ]
   ]
+
+  pub vote_saved : AddsVote slot vote (store_of blocks votes meta) (store_of blocks new meta)
+  unfolding store_of
+  vote_saved promised =
+      let some : IsSome (promise_at blocks votes (block_of slot)) = subst IsSome (map_get (promise_at blocks votes) (block_of slot) (block_is_slot slot i)) promised in
+      ap₂ (λ p v. record { promises = p; votes = v; last_round = round_at meta }) (map_same (promise_at blocks votes) (promise_at blocks new) (block_stays some)) (map_set (vote_at votes) (vote_at new) slot vote i here there)
+
+-- ---- a round is saved, and nothing is
+
+pub round_saved : (blocks votes meta new : List Row) (round : ℕ) → round_at new ≡ round → store_of blocks votes new ≡ with_round (store_of blocks votes meta) round
+unfolding store_of
+round_saved blocks votes meta new round is = ap (λ n. record { promises = map_of (promise_at blocks votes); votes = map_of (vote_at votes); last_round = n }) is
+
+no_vote_at : (q : ℕ) → vote_at [] q ≡ None
+unfolding vote_at
+no_vote_at q = refl
+
+none_promised : (q : ℕ) → promise_at [] [] q ≡ None
+unfolding promise_at
+none_promised q = elim (cases_Bool (is_first q)) [
+  | inr other ↦ rw other refl
+  | inl first ↦ rw first (ap (promise_over None) (block_none (vote_at []) q (λ slot low high. no_vote_at slot)))
 ]
 
--- a row that is set in the tables is set in the map
-pub rows_turned : (n : ℕ) (c : Contents) (slot : ℕ) (row : SlotRow) → 1 ≤ slot → slot ≤ n → rows_to n (row_set c slot row).row ≡ insert (rows_to n c.row) slot row
-rows_turned n c slot row low high = same_map nat_cmp_total nat_cmp-IsAntisymmetric _ _ (λ q. same_at n c slot row q low high)
-
-pub store_turned : (c : Contents) (slot : ℕ) (row : SlotRow) → 1 ≤ slot → slot ≤ 1000000 → store_of (row_set c slot row) ≡ with_row (store_of c) slot row
+pub nothing_saved : (meta : List Row) → round_at meta ≡ 0 → store_of [] [] meta ≡ new_store
 unfolding store_of
-store_turned c slot row low high = ap (λ (m : FinMap nat_cmp SlotRow). record { rows = m; last_round = unwrap_or c.round damaged_round }) (rows_turned 1000000 c slot row low high)
-
-pub store_rounded : (c : Contents) (round : ℕ) → store_of (record c { round = Some round }) ≡ with_round (store_of c) round
-unfolding store_of
-store_rounded c round = refl
-
-pub store_rows : (c : Contents) (slot : ℕ) → 1 ≤ slot → slot ≤ 1000000 → get (store_of c).rows slot ≡ c.row slot
-unfolding store_of
-store_rows c slot low high = inside 1000000 c.row slot low high
-
-pub store_outside : (c : Contents) (slot : ℕ) → (slot ≤ 1000000 → slot ≡ 0) → get (store_of c).rows slot ≡ None
-unfolding store_of
-store_outside c slot out = outside 1000000 c.row slot out
-
-none_to : (n : ℕ) (row : ℕ → Option SlotRow) → ((s : ℕ) → row s ≡ None) → rows_to n row ≡ empty
-none_to n row none = same_map nat_cmp_total nat_cmp-IsAntisymmetric _ _ (λ q. elim (within n q) [
-  | inl is ↦ inside n row q is.0 is.1 ∙ none q ∙ sym (get-empty nat_cmp q)
-  | inr out ↦ outside n row q out ∙ sym (get-empty nat_cmp q)
-])
-
-pub store_new : (c : Contents) → ((s : ℕ) → c.row s ≡ None) → c.round ≡ Some 0 → store_of c ≡ new_store
-unfolding store_of
-store_new c none round = rw (none_to 1000000 c.row none, round)
+nothing_saved meta none =
+    let promises : map_of (promise_at [] []) ≡ empty = map_same (λ _. None) (promise_at [] []) (λ q s. none_promised q) ∙ map_none in
+    let votes : map_of (vote_at []) ≡ empty = map_same (λ _. None) (vote_at []) (λ q s. no_vote_at q) ∙ map_none in
+    ap₂ (λ p v. record { promises = p; votes = v; last_round = round_at meta }) promises votes ∙ ap (λ n. record { promises = empty; votes = empty; last_round = n }) none

@@ -1,16 +1,20 @@
 -- What the queries find.
-use Rattle.std.proofs.Common.{◌≡◌, ℕ, ℤ, List, [], ◌∷◌, map, flat_map, filter, true, false, Bool, Some, refl, sym, ap, subst, ◌∙◌, inl, inr}
+use Rattle.std.proofs.Common.{◌≡◌, ℕ, ℤ, List, [], ◌∷◌, map, flat_map, filter, true, false, Bool, Some, None, refl, sym, ap, subst, ◌∙◌, inl, inr, arith}
 use Rattle.std.proofs.lemmas.Bool.{cases_Bool}
+use Rattle.std.specs.List.{list_all}
+use Rattle.std.specs.Prelude.{◌&&◌}
 use Rattle.std.specs.List.Sorted.{IsPermutation}
-use Rattle.std.proofs.lemmas.List.Sorted.{IsPermutation-map}
+use mathlib.Core.Path.{fun_ext}
+use Rattle.sqlite_value.specs.declared.keys.Key.{Key}
+use Rattle.std.proofs.lemmas.List.Sorted.{IsPermutation-map, length_permutation}
 use Rattle.std.specs.Ordering.{is_eq}
 use Rattle.sqlite.specs.declared.types.Value.{Value}
 use Rattle.sqlite.specs.declared.types.Value.TheVariants.{Null, Int, Text, Real, Blob}
 use Rattle.sqlite.specs.Order.{Row, value_cmp}
 use Rattle.sqlite.specs.Tree.{Trees}
-use Rattle.sqlite.specs.Term.{Term, Env, holds, eval_all}
+use Rattle.sqlite.specs.Term.{Term, holds, eval_all}
 use Rattle.sqlite.specs.Ops.{binary, is_true, from_truth}
-use Rattle.sqlite.specs.Query.{end, matches_as, IsAnswer, output, Output}
+use Rattle.sqlite.specs.Query.{Query, inner, end, matches_as, IsAnswer, output, Output}
 use Rattle.sqlite.specs.Program.{overlay}
 use Rattle.sqlite.specs.Effect.{Database, Answers}
 use Rattle.sqlite_sql.specs.declared.ops.BinaryOp.TheVariants as by
@@ -18,9 +22,10 @@ use Rattle.sqlite_sql.specs.declared.ops.CompareOp.TheVariants.{Eq}
 use Rattle.sqlite.specs.Collation.TheVariants.{Binary}
 use Rattle.sqlite_value.proofs.OrderLemmas.{value_cmp-Null}
 use Rattle.sqlite_trees.proofs.ListLemmas.{map-map}
+use Rattle.press_store.specs.Tables.{Layout, Fresh, Moved, block_tree, vote_tree, meta_tree}
 use Rattle.press_store.proofs.Texts.{picks}
 
-back : (b : Bool) → is_true (from_truth (Some b)) ≡ b
+pub back : (b : Bool) → is_true (from_truth (Some b)) ≡ b
 back true = refl
 back false = refl
 
@@ -41,21 +46,69 @@ equals_int (Real x) t = back _
 equals_int (Text s) t = back _
 equals_int (Blob b) t = back _
 
-pub found : (lost : Value) (db : Trees) (t : Term) (params : Row) (rows : List Row)
-    → flat_map (λ r. matches_as lost db (t ∷ []) end (params ∷ r ∷ [])) rows ≡ map (λ r. params ∷ r ∷ []) (filter (λ r. holds (params ∷ r ∷ []) t) rows)
-found lost db t params [] = refl
-found lost db t params (r ∷ rows) = elim (cases_Bool (holds (params ∷ r ∷ []) t)) [
-  | inl t1 ↦ rw (t1, found lost db t params rows)
-  | inr t2 ↦ rw (t2, found lost db t params rows)
+pub plain_block : (l : Layout) (db : Trees) → overlay db [] (block_tree l) ≡ db (block_tree l)
+plain_block Fresh db = refl
+plain_block Moved db = refl
+
+pub plain_vote : (l : Layout) (db : Trees) → overlay db [] (vote_tree l) ≡ db (vote_tree l)
+plain_vote Fresh db = refl
+plain_vote Moved db = refl
+
+pub plain_meta : (l : Layout) (db : Trees) → overlay db [] (meta_tree l) ≡ db (meta_tree l)
+plain_meta Fresh db = refl
+plain_meta Moved db = refl
+
+-- ---- the rows that pass
+
+abbrev pub passes : List Term → Row → Row → Bool
+passes terms params r = list_all (holds (params ∷ r ∷ [])) terms
+
+found : (lost : Value) (db : Trees) (terms : List Term) (params : Row) (rows : List Row)
+    → flat_map (λ r. matches_as lost db terms end (params ∷ r ∷ [])) rows ≡ map (λ r. params ∷ r ∷ []) (filter (passes terms params) rows)
+found lost db terms params [] = refl
+found lost db terms params (r ∷ rows) = elim (cases_Bool (passes terms params r)) [
+  | inl on ↦ rw (on, found lost db terms params rows)
+  | inr off ↦ rw (off, found lost db terms params rows)
 ]
 
+-- an answer to a query over one table has an output for each row that passes, in some order
+pub outputs : (q : Query) (db : Trees) (tree : ℕ) (params : Row) (rows : List Row) → q.from ≡ inner tree end → q.group ≡ None → q.distinct ≡ false → (a : IsAnswer q db params rows)
+    → IsPermutation (map (λ r. output q (params ∷ r ∷ [])) (filter (passes q.filter params) (db tree))) a.ordered
+outputs q db tree params rows over alone whole a =
+    let staged = rw (over, alone) at a.grouped ∙ found Null db q.filter params (db tree) in
+    let kept = rw whole at a.distinct ∙ ap (map (output q)) staged ∙ map-map (output q) (λ r. params ∷ r ∷ []) _ in
+    subst (λ xs. IsPermutation xs a.ordered) kept a.same
+
+-- the rows that are shown are those that pass, in some order
+pub shown_rows : (tree : ℕ) (terms project : List Term) (order : List (Term × Key)) (db : Database) (params : Row) (rows : List Row) → overlay db.trees [] tree ≡ db.trees tree
+    → Answers db (record { lets = []; body = record (picks tree terms project) { order = order } }) params rows
+    → IsPermutation (map (λ r. eval_all project (params ∷ r ∷ [])) (filter (passes terms params) (db.trees tree))) rows
+shown_rows tree terms project order db params rows plain h =
+    let q = record (picks tree terms project) { order = order } in
+    let a : IsAnswer q (overlay db.trees []) params rows = h.answer Null in
+    let out = outputs q (overlay db.trees []) tree params rows refl refl refl a in
+    let shown = IsPermutation-map (λ (o : Output). o.1) _ a.ordered out in
+    subst (λ xs. IsPermutation xs rows) (map-map (λ (o : Output). o.1) (λ r. output q (params ∷ r ∷ [])) _ ∙ ap (λ xs. map (λ r. eval_all project (params ∷ r ∷ [])) (filter (passes terms params) xs)) plain)
+    (subst (IsPermutation (map (λ (o : Output). o.1) (map (λ r. output q (params ∷ r ∷ [])) (filter (passes terms params) (overlay db.trees [] tree))))) (sym a.shown) shown)
+
+and_true : (b : Bool) → (b && true) ≡ b
+and_true true = refl
+and_true false = refl
+
+-- the same of one condition
 pub picked : (tree : ℕ) (t : Term) (project : List Term) (db : Database) (params : Row) (rows : List Row) → overlay db.trees [] tree ≡ db.trees tree
     → Answers db (record { lets = []; body = picks tree (t ∷ []) project }) params rows
     → IsPermutation (map (λ r. eval_all project (params ∷ r ∷ [])) (filter (λ r. holds (params ∷ r ∷ []) t) (db.trees tree))) rows
 picked tree t project db params rows plain h =
-    let q = picks tree (t ∷ []) project in
-    let a : IsAnswer q (overlay db.trees []) params rows = h.answer Null in
-    let staged = a.grouped ∙ found Null (overlay db.trees []) t params (overlay db.trees [] tree) in
-    let kept = a.distinct ∙ ap (map (output q)) staged in
-    let shown = IsPermutation-map (λ (o : Output). o.1) a.kept a.ordered a.same in
-    subst (λ xs. IsPermutation xs rows) (ap (map (λ (o : Output). o.1)) kept ∙ map-map (λ (o : Output). o.1) (output q) _ ∙ map-map (λ (e : Env). (output q e).1) (λ r. params ∷ r ∷ []) _ ∙ ap (λ xs. map (λ r. eval_all project (params ∷ r ∷ [])) (filter (λ r. holds (params ∷ r ∷ []) t) xs)) plain) (subst (IsPermutation (map (λ (o : Output). o.1) a.kept)) (sym a.shown) shown)
+    let same : passes (t ∷ []) params ≡ (λ r. holds (params ∷ r ∷ []) t) = fun_ext (λ r. and_true (holds (params ∷ r ∷ []) t)) in
+    subst (λ p. IsPermutation (map (λ r. eval_all project (params ∷ r ∷ [])) (filter p (db.trees tree))) rows) same (shown_rows tree (t ∷ []) project [] db params rows plain h)
+
+-- without a condition each row passes
+pub all_pass : (params : Row) (rows : List Row) → filter (passes [] params) rows ≡ rows
+all_pass params [] = refl
+all_pass params (r ∷ rows) = ap (λ more. r ∷ more) (all_pass params rows)
+
+-- what shows nothing has nothing
+pub none_of : {X Y : Type 0} (f : X → Y) (xs : List X) → IsPermutation (map f xs) [] → xs ≡ []
+none_of f [] h = refl
+none_of f (x ∷ xs) h = absurd (omega (arith, length_permutation _ _ h))

@@ -7,6 +7,7 @@ use Rattle.sqlite.specs.declared.run.Mode.{Mode}
 use Rattle.sqlite.specs.Store.{Ghosts}
 use Rattle.sqlite.specs.Order.{Row}
 use Rattle.sqlite.specs.Tree.{Trees}
+use Rattle.sqlite.specs.Schema.{Schema}
 use Rattle.sqlite.specs.Command.{Command}
 use Rattle.sqlite.specs.Command.TheVariants.{Commit, Release}
 use Rattle.sqlite.specs.Effect.{Database}
@@ -18,16 +19,17 @@ use Rattle.sqlite.specs.Held.{Held, state}
 use Rattle.sqlite.specs.Clock.{timed}
 use Rattle.sqlite.proofs.Callers.{IsPlain, command_of, statement_of, runs_as, unchanged_then}
 use Rattle.press_acceptor.specs.StoreMap.{StoreMap, Only, OldOr}
-use Rattle.press_store.specs.Tables.{store_schema}
-use Rattle.press_store.specs.Shown.{IsKept, store_in}
+use Rattle.press_store.specs.Tables.{Layout, schema_of}
+use Rattle.press_store.specs.Shown.{store_in}
 use Rattle.press_store.specs.Kept.{kept_by, MayLeave}
-use Rattle.press_store.specs.Attempt.{Attempts, Ready, IsReady, Saved, Stays}
+use Rattle.press_store.specs.Attempt.{Attempts, AreTables, Ready, IsReady, Saved, Stays}
+use Rattle.press_store.proofs.Texts.{IsWrite}
 
 -- what a statement may commit, by the meaning of its text
-pub commits_as : (sql : List ℕ) (params : Row) (s : State) (command : Command) → command_of (understood store_schema sql) ≡ command → IsPlain (understood store_schema sql) → s.now.schema ≡ store_schema
-    → (db : Trees) → CommitsBy sql params s db → MayCommit s None command (statement_of sql (understood store_schema sql)) params db
+pub commits_as : (schema : Schema) (sql : List ℕ) (params : Row) (s : State) (command : Command) → command_of (understood schema sql) ≡ command → IsPlain (understood schema sql) → s.now.schema ≡ schema
+    → (db : Trees) → CommitsBy sql params s db → MayCommit s None command (statement_of sql (understood schema sql)) params db
 unfolding CommitsBy
-commits_as sql params s command is plain has db h =
+commits_as schema sql params s command is plain has db h =
     let known = sym h.1.is ∙ ap (λ t. understood t sql) has in
     let bare = subst IsPlain (sym known) plain in
     subst₂ (λ k t. MayCommit s None k t params db) (ap command_of known ∙ is) (ap (statement_of sql) known) (rw (bare.0, bare.1, append-nil params) at h.2)
@@ -66,15 +68,13 @@ pub same_ready : (a b : State) → Ready a → b.step_limit ≡ a.step_limit →
 same_ready a b r limit (inl h) = record {
   autocommit = h.0.mode ∙ r.autocommit;
   unlimited = limit ∙ r.unlimited;
-  schema = λ is. ap (λ (d : Database). d.schema) h.0.now_is ∙ r.schema h.0.was_open;
-  kept = λ is. subst (λ (d : Database). IsKept d.trees) (sym h.0.now_is) (r.kept h.0.was_open);
+  tables = λ is. let t = r.tables h.0.was_open in (t.0, subst (AreTables t.0) (sym h.0.now_is) t.1);
   settled = λ is. h.0.now_is ∙ r.settled h.0.was_open ∙ sym h.0.committed_is;
 }
 same_ready a b r limit (inr h) = record {
   autocommit = h.autocommit;
   unlimited = limit ∙ r.unlimited;
-  schema = λ is. ap (λ (d : Database). d.schema) ((same_now a b r (inr h) is).1) ∙ r.schema (h.was_open is);
-  kept = λ is. subst (λ (d : Database). IsKept d.trees) (sym (same_now a b r (inr h) is).1) (r.kept (h.was_open is));
+  tables = λ is. let t = r.tables (h.was_open is) in (t.0, subst (AreTables t.0) (sym (same_now a b r (inr h) is).1) t.1);
   settled = λ is. (h.undone is).0 ∙ sym (h.undone is).1;
 }
 
@@ -88,25 +88,26 @@ after_same a b c same (inr h) = inr (record {
   counts = record { changes = h.counts.changes ∙ same.1.changes; last_rowid = h.counts.last_rowid ∙ same.1.last_rowid };
 })
 
-abbrev pub Turns : Row → Command → (StoreMap → StoreMap) → Type 0
-Turns params command turn =
-    (limit : Option ℕ) (mode : Mode) (now after : Database) (tally : Tally) (text : List ℕ) → now.schema ≡ store_schema → IsKept now.trees → Does limit mode params now text None command (Ok (tally, after))
-    → (after.schema ≡ store_schema) × IsKept after.trees × (store_in after.trees ≡ turn (store_in now.trees))
+-- the command makes this of the tables, over either layout
+abbrev pub Makes : Row → (Layout → Command) → (StoreMap → StoreMap) → Type 0
+Makes params command turn =
+    (l : Layout) (limit : Option ℕ) (mode : Mode) (now after : Database) (tally : Tally) (text : List ℕ) → AreTables l now → Does limit mode params now text None (command l) (Ok (tally, after))
+    → AreTables l after × (store_in after.trees ≡ turn (store_in now.trees))
 
 module _ {S : Type 0} (g : Ghosts S) (law : (s : S) (db : Trees) → IsTrue (g.view s).is_open → g.recovers s db → db ≡ (g.view s).committed)
-    (sql : List ℕ) (params : Row) (command : Command) (is : command_of (understood store_schema sql) ≡ command) (plain : IsPlain (understood store_schema sql))
-    (writes : (a b : State) (text : List ℕ) (count : ℕ) → Runs a b None command text params count → Writes a b None command text params count)
-    (no_commit : command ≡ Commit → ⊥) (no_release : (name : List ℕ) → command ≡ Release name → ⊥)
-    (turn : StoreMap → StoreMap) (turns : Turns params command turn) where
+    (sql : List ℕ) (params : Row) (command : Layout → Command) (means : IsWrite sql command)
+    (writes : (l : Layout) (a b : State) (text : List ℕ) (count : ℕ) → Runs a b None (command l) text params count → Writes a b None (command l) text params count)
+    (no_commit : (l : Layout) → command l ≡ Commit → ⊥) (no_release : (l : Layout) (name : List ℕ) → command l ≡ Release name → ⊥)
+    (turn : StoreMap → StoreMap) (makes : Makes params command turn) where
   -- while it is open a crash leaves what it keeps
   only : (h : Held S) → IsTrue (state g h).is_open → Only (kept_by (state g h)) (MayLeave (state g h))
   only h is left may = may.2 ∙ ap store_in (law h.store may.0 is may.1)
 
-  committed : (s : State) (db : Trees) → s.now.schema ≡ store_schema → IsKept s.now.trees → CommitsBy sql params s db → store_in db ≡ turn (store_in s.now.trees)
-  committed s db has kept h = elim (commits_as sql params s command is plain has db h) [
-    | inl (inl c, same) ↦ absurd (no_commit c)
-    | inl (inr c, same) ↦ absurd (no_release c.0 c.2)
-    | inr w ↦ ap store_in w.5 ∙ (turns s.step_limit (mode_of s) s.now w.2 w.1 (statement_of sql (understood store_schema sql)) has kept w.3).2
+  committed : (l : Layout) (s : State) (db : Trees) → AreTables l s.now → CommitsBy sql params s db → store_in db ≡ turn (store_in s.now.trees)
+  committed l s db has h = elim (commits_as (schema_of l) sql params s (command l) (means l).0 (means l).1 has.schema db h) [
+    | inl (inl c, same) ↦ absurd (no_commit l c)
+    | inl (inr c, same) ↦ absurd (no_release l c.0 c.2)
+    | inr w ↦ ap store_in w.5 ∙ (makes l s.step_limit (mode_of s) s.now w.2 w.1 (statement_of sql (understood (schema_of l) sql)) has w.3).1
   ]
 
   abbrev Crashes : Held S → Held S → Type 0
@@ -118,7 +119,8 @@ module _ {S : Type 0} (g : Ghosts S) (law : (s : S) (db : Trees) → IsTrue (g.v
     | inl before ↦ elim (quiet.crash was db before) [ inl first ↦ inl first | inr none ↦ absurd none ]
     | inr by ↦
         let up = same.0.was_open in
-        let now = committed (state g mid) db (m.schema same.0.is_open) (m.kept same.0.is_open) by in
+        let t = m.tables same.0.is_open in
+        let now = committed t.0 (state g mid) db t.1 by in
         inr (up, now ∙ ap (λ (d : Database). turn (store_in d.trees)) same.0.now_is ∙ ap turn (as_kept (state g old) r up))
   ]
 
@@ -126,7 +128,7 @@ module _ {S : Type 0} (g : Ghosts S) (law : (s : S) (db : Trees) → IsTrue (g.v
   left_of old new crash left may = elim (crash may.0 may.1) [ inl was ↦ inl (may.0, was, may.2) | inr by ↦ inr (by.0, may.2 ∙ by.1) ]
 
   -- what a call that failed leaves
-  stayed : (old new : Held S) (e : Error) → Ready (state g old) → (state g new).step_limit ≡ (state g old).step_limit → Stays (state g old) (state g new) → Crashes old new → Saved turn (state g old) (state g new) (Err e)
+  stayed : (old new : Held S) (e : Error) → Ready (state g old) → (state g new).step_limit ≡ (state g old).step_limit → Stays (state g old) (state g new) → Crashes old new → Saved {A = ℕ} turn (state g old) (state g new) (Err e)
   stayed old new e r limit stays crash = record {
     ready = same_ready (state g old) (state g new) r limit stays;
     saved = tt;
@@ -151,18 +153,18 @@ module _ {S : Type 0} (g : Ghosts S) (law : (s : S) (db : Trees) → IsTrue (g.v
       let was : HasCleanDisk (state g h.mid) = omega (arith, h.left.clean, clean) in
       let r = ready (omega (arith, h.quiet.clean, was)) in
       let m = same_ready (state g old) (state g h.mid) r h.quiet.limit (inl h.same) in
-      let text = statement_of sql (understood store_schema sql) in
       let up = h.same.0.is_open in
-      let w = writes (state g h.mid) (state g new) text count (runs_as sql params (state g h.mid) (state g new) store_schema (m.schema up) command is plain count h.ran) in
-      let t = turns (state g h.mid).step_limit (mode_of (state g h.mid)) (state g h.mid).now (state g new).now w.tally text (m.schema up) (m.kept up) w.changed in
+      let (l, has) = m.tables up in
+      let text = statement_of sql (understood (schema_of l) sql) in
+      let w = writes l (state g h.mid) (state g new) text count (runs_as sql params (state g h.mid) (state g new) (schema_of l) has.schema (command l) (means l).0 (means l).1 count h.ran) in
+      let t = makes l (state g h.mid).step_limit (mode_of (state g h.mid)) (state g h.mid).now (state g new).now w.tally text has w.changed in
       let now : Ready (state g new) = record {
         autocommit = w.shown.mode ∙ m.autocommit;
         unlimited = h.left.limit ∙ m.unlimited;
-        schema = λ _. t.0;
-        kept = λ _. t.1;
+        tables = λ _. (l, t.0);
         settled = λ _. sym (w.shown.committed_is ∙ rw m.autocommit);
       } in
-      let seen : store_in (state g new).now.trees ≡ turn (kept_by (state g old)) = t.2 ∙ ap (λ (d : Database). turn (store_in d.trees)) h.same.0.now_is ∙ ap turn (as_kept (state g old) r h.same.0.was_open) in
+      let seen : store_in (state g new).now.trees ≡ turn (kept_by (state g old)) = t.1 ∙ ap (λ (d : Database). turn (store_in d.trees)) h.same.0.now_is ∙ ap turn (as_kept (state g old) r h.same.0.was_open) in
       record {
         ready = now;
         saved = (w.shown.is_open, h.same.0.was_open, sym (as_kept (state g new) now w.shown.is_open) ∙ seen);

@@ -1,6 +1,7 @@
 -- A list of objects is that of one schema, where it is that of a store; files that hold nothing list none.
-use Rattle.std.proofs.Common.{◌≡◌, ◌+◌, ℕ, zero, suc, pos, List, [], ◌∷◌, filter, length, codes, Some, refl, sym, ap, ap₂, subst, ◌∙◌, inl, inr, arith}
-use Rattle.std.specs.List.{AllZip}
+use Rattle.std.proofs.Common.{true, false, map, ◌≡◌, ◌+◌, ℕ, zero, suc, pos, List, [], ◌∷◌, filter, Some, refl, sym, ap, ap₂, subst, ◌∙◌, inl, inr, arith}
+use Rattle.std.specs.List.{AllZip, AllByRecursion}
+use Rattle.sqlite.specs.Tree.{IsAscending}
 use Rattle.std.specs.Prelude.{slice_get}
 use Rattle.sqlite.specs.declared.types.Value.{Value}
 use Rattle.sqlite.specs.declared.types.Value.TheVariants.{Null, Int, Real, Text, Blob}
@@ -13,7 +14,12 @@ use Rattle.sqlite_schema.specs.declared.schema.View.{View as Stored}
 use Rattle.sqlite_trees.specs.Objects.{catalog_tree}
 use Rattle.sqlite_rules.specs.Lists.{Has}
 use Rattle.sqlite_catalog.specs.Listing.{IsSound, IsTableRow, IsIndexRow, IsViewRow, IsDefined, automatic, is_table_row, is_index_row, is_view_row}
-use Rattle.press_store.specs.Tables.{promise, meta, store_schema, no_schema}
+use Rattle.sqlite_schema.specs.Names.{same_name}
+use Rattle.std.specs.Ordering.{is_eq}
+use Rattle.std.specs.Char.{to_ascii_lowercase}
+use Rattle.std.proofs.lemmas.Cmp.{tied_itself}
+use Rattle.sqlite_value.proofs.OrderLemmas.{value_cmp-Text, value_cmp_total}
+use Rattle.press_store.specs.Tables.{Layout, Fresh, Moved, schema_of, no_schema}
 
 -- ---- lists, item by item
 
@@ -49,58 +55,83 @@ one_table row s t a b =
     let tree : s.tree ≡ t.tree = one_tree row s.tree t.tree a.described.id b.described.id in
     is ∙ ap₂ (λ (m : Table) (k : ℕ). record m { tree = k }) same tree ∙ sym was
 
--- each of the two tables has one UNIQUE at most
-first_alone : (t : Table) → Has store_schema.tables t → (at : ℕ) (key : List ℕ) → slice_get t.uniques at ≡ Some key → at ≡ 0
-first_alone t (inl is) at key got = absurd (let none : slice_get promise.uniques at ≡ Some key = subst (λ (u : Table). slice_get u.uniques at ≡ Some key) is got in cc)
-first_alone t (inr (inl is)) zero key got = refl
-first_alone t (inr (inl is)) (suc at) key got = absurd (let none : slice_get meta.uniques (suc at) ≡ Some key = subst (λ (u : Table). slice_get u.uniques (suc at) ≡ Some key) is got in cc)
-first_alone t (inr (inr past)) at key got = absurd past
+-- a table has one UNIQUE at most
+abbrev pub IsSimple : Table → Type 0
+IsSimple t = (at : ℕ) (key : List ℕ) → slice_get t.uniques at ≡ Some key → at ≡ 0
 
-promise_is_not_meta : codes "promise" ≡ codes "meta" → ⊥
-promise_is_not_meta same = let len : 7 ≡ 4 = ap length same in omega (arith, len)
+first_alone : (ts : List Table) → AllByRecursion IsSimple ts → (t : Table) → Has ts t → (at : ℕ) (key : List ℕ) → slice_get t.uniques at ≡ Some key → at ≡ 0
+first_alone [] simple t has at key got = absurd has
+first_alone (u ∷ ts) simple t (inl is) at key got = simple.0 at key (subst (λ (v : Table). slice_get v.uniques at ≡ Some key) is got)
+first_alone (u ∷ ts) simple t (inr has) at key got = first_alone ts simple.1 t has at key got
 
-one_owner : (s t : Table) → Has store_schema.tables s → Has store_schema.tables t → s.name ≡ t.name → s ≡ t
-one_owner s t (inl a) (inl b) same = a ∙ sym b
-one_owner s t (inl a) (inr (inl b)) same = absurd (promise_is_not_meta (sym (ap (λ (u : Table). u.name) a) ∙ same ∙ ap (λ (u : Table). u.name) b))
-one_owner s t (inr (inl a)) (inl b) same = absurd (promise_is_not_meta (sym (ap (λ (u : Table). u.name) b) ∙ sym same ∙ ap (λ (u : Table). u.name) a))
-one_owner s t (inr (inl a)) (inr (inl b)) same = a ∙ sym b
-one_owner s t (inr (inr past)) b same = absurd past
-one_owner s t a (inr (inr past)) same = absurd past
+-- no two tables have one name
+abbrev Apart : Table → Table → Type 0
+Apart s t = same_name s.name t.name ≡ false
 
-one_defined : (t : Table) → Has store_schema.tables t → (v : Value) (i j : Index) → IsDefined t i v → IsDefined t j v → i.tree ≡ j.tree → i ≡ j
-one_defined t has Null i j (at, key, got, is, _) (other, with, found, was, _) tree =
-    let first : at ≡ other = first_alone t has at key got ∙ sym (first_alone t has other with found) in
+itself_named : (name : List ℕ) → same_name name name ≡ true
+unfolding same_name
+itself_named name = ap is_eq (sym (value_cmp-Text _ _) ∙ tied_itself value_cmp_total (Text (map to_ascii_lowercase name)))
+
+apart_from : (s t : Table) (ts : List Table) → AllByRecursion (Apart s) ts → Has ts t → s.name ≡ t.name → ⊥
+apart_from s t [] apart has same = has
+apart_from s t (u ∷ ts) apart (inl is) same =
+    let other : same_name s.name t.name ≡ false = subst (λ (v : Table). same_name s.name v.name ≡ false) (sym is) apart.0 in
+    let e = rw (sym same) at other in let own = itself_named s.name in absurd (let bad = sym own ∙ e in cc)
+apart_from s t (u ∷ ts) apart (inr has) same = apart_from s t ts apart.1 has same
+
+one_owner : (ts : List Table) → IsAscending Apart ts → (s t : Table) → Has ts s → Has ts t → s.name ≡ t.name → s ≡ t
+one_owner [] named s t a b same = absurd a
+one_owner (u ∷ ts) named s t (inl a) (inl b) same = a ∙ sym b
+one_owner (u ∷ ts) named s t (inl a) (inr b) same = absurd (apart_from u t ts named.0 b (sym (ap (λ (v : Table). v.name) a) ∙ same))
+one_owner (u ∷ ts) named s t (inr a) (inl b) same = absurd (apart_from u s ts named.0 a (sym (ap (λ (v : Table). v.name) b) ∙ sym same))
+one_owner (u ∷ ts) named s t (inr a) (inr b) same = one_owner ts named.1 s t a b same
+
+one_defined : (ts : List Table) → AllByRecursion IsSimple ts → (t : Table) → Has ts t → (v : Value) (i j : Index) → IsDefined t i v → IsDefined t j v → i.tree ≡ j.tree → i ≡ j
+one_defined ts simple t has Null i j (at, key, got, is, _) (other, with, found, was, _) tree =
+    let first : at ≡ other = first_alone ts simple t has at key got ∙ sym (first_alone ts simple t has other with found) in
     let same : key ≡ with = cc in
     is ∙ ap₂ (λ (n : ℕ) (k : List ℕ). automatic t n k i.tree) first same ∙ ap (automatic t other with) tree ∙ sym was
-one_defined t has (Int n) i j a b tree = absurd a
-one_defined t has (Real x) i j a b tree = absurd a
-one_defined t has (Text sql) i j (made, defined, is) (other, defines, was) tree =
+one_defined ts simple t has (Int n) i j a b tree = absurd a
+one_defined ts simple t has (Real x) i j a b tree = absurd a
+one_defined ts simple t has (Text sql) i j (made, defined, is) (other, defines, was) tree =
     let same : made ≡ other = cc in
     is ∙ ap₂ (λ (m : Index) (k : ℕ). record m { tree = k; table = t.tree }) same tree ∙ sym was
-one_defined t has (Blob b) i j a c tree = absurd a
+one_defined ts simple t has (Blob b) i j a c tree = absurd a
 
-one_index : (row : Row) (i j : Index) → IsIndexRow store_schema.tables row i → IsIndexRow store_schema.tables row j → i ≡ j
-one_index row i j a b =
+one_index : (ts : List Table) → AllByRecursion IsSimple ts → IsAscending Apart ts → (row : Row) (i j : Index) → IsIndexRow ts row i → IsIndexRow ts row j → i ≡ j
+one_index ts simple named row i j a b =
     let name : a.table.name ≡ b.table.name = one_text (column row 3) a.table.name b.table.name a.described.owner_is b.described.owner_is in
-    let table : a.table ≡ b.table = one_owner a.table b.table a.listed b.listed name in
+    let table : a.table ≡ b.table = one_owner ts named a.table b.table a.listed b.listed name in
     let tree : i.tree ≡ j.tree = one_tree row i.tree j.tree a.described.id b.described.id in
-    one_defined b.table b.listed (column row 4) i j (subst (λ (t : Table). IsDefined t i (column row 4)) table a.defined) b.defined tree
+    one_defined ts simple b.table b.listed (column row 4) i j (subst (λ (t : Table). IsDefined t i (column row 4)) table a.defined) b.defined tree
 
 -- ---- what the trees list
 
-abbrev schema_of : List Table → List Index → List Stored → Schema
-schema_of tables indexes views = record { tables = tables; indexes = indexes; views = views }
+abbrev schema_of_parts : List Table → List Index → List Stored → Schema
+schema_of_parts tables indexes views = record { tables = tables; indexes = indexes; views = views }
 
-pub one_schema : (schema : Schema) (db : Trees) → IsSound schema db → IsSound store_schema db → schema ≡ store_schema
-one_schema schema db own store =
+pub one_schema : (whole : Schema) → AllByRecursion IsSimple whole.tables → whole.views ≡ [] → (schema : Schema) (db : Trees) → IsSound schema db → IsSound whole db → schema ≡ whole
+one_schema whole simple bare schema db own store =
     let rows = db catalog_tree in
     let listed = own.lists.listed in
     let known = store.lists.listed in
-    let tables : schema.tables ≡ store_schema.tables = one_list IsTableRow one_table (filter is_table_row rows) schema.tables store_schema.tables listed.tables known.tables in
+    let tables : schema.tables ≡ whole.tables = one_list IsTableRow one_table (filter is_table_row rows) schema.tables whole.tables listed.tables known.tables in
     let rest = subst (λ (ts : List Table). AllZip (IsIndexRow ts) (filter is_index_row rows) schema.indexes) tables listed.indexes in
-    let indexes : schema.indexes ≡ store_schema.indexes = one_list (IsIndexRow store_schema.tables) one_index (filter is_index_row rows) schema.indexes store_schema.indexes rest known.indexes in
-    let views : schema.views ≡ [] = none_with IsViewRow (filter is_view_row rows) schema.views known.views listed.views in
-    ap₂ (λ (a : List Table) (b : List Index). schema_of a b schema.views) tables indexes ∙ ap (schema_of store_schema.tables store_schema.indexes) views
+    let indexes : schema.indexes ≡ whole.indexes = one_list (IsIndexRow whole.tables) (one_index whole.tables simple known.named) (filter is_index_row rows) schema.indexes whole.indexes rest known.indexes in
+    let views : schema.views ≡ [] = none_with IsViewRow (filter is_view_row rows) schema.views (subst (λ vs. AllZip IsViewRow (filter is_view_row rows) vs) bare known.views) listed.views in
+    ap₂ (λ (a : List Table) (b : List Index). schema_of_parts a b schema.views) tables indexes ∙ ap (schema_of_parts whole.tables whole.indexes) (views ∙ sym bare)
+
+only_first : {X : Type 0} (x : X) (at : ℕ) (key : X) → slice_get (x ∷ []) at ≡ Some key → at ≡ 0
+only_first x zero key got = refl
+only_first x (suc at) key got = absurd (let none : slice_get [] at ≡ Some key = got in cc)
+
+never : {X : Type 0} (at : ℕ) (key : X) → slice_get [] at ≡ Some key → at ≡ 0
+never at key got = absurd (cc)
+
+-- the schema of a store, in either layout
+pub layout_alone : (l : Layout) (schema : Schema) (db : Trees) → IsSound schema db → IsSound (schema_of l) db → schema ≡ schema_of l
+layout_alone Fresh = one_schema (schema_of Fresh) (never, (never, (only_first (1 ∷ []), tt))) refl
+layout_alone Moved = one_schema (schema_of Moved) (never, (only_first (1 ∷ []), (never, (never, tt)))) refl
 
 pub lists_nothing : (schema : Schema) (db : Trees) → IsSound schema db → db catalog_tree ≡ [] → schema ≡ no_schema
 lists_nothing schema db own none =
@@ -109,4 +140,4 @@ lists_nothing schema db own none =
     let indexes : schema.indexes ≡ [] =
     none_with (IsIndexRow schema.tables) [] schema.indexes tt (subst (λ (rows : List Row). AllZip (IsIndexRow schema.tables) (filter is_index_row rows) schema.indexes) none listed.indexes) in
     let views : schema.views ≡ [] = none_with IsViewRow [] schema.views tt (subst (λ (rows : List Row). AllZip IsViewRow (filter is_view_row rows) schema.views) none listed.views) in
-    ap₂ (λ (a : List Table) (b : List Index). schema_of a b schema.views) tables indexes ∙ ap (schema_of [] []) views
+    ap₂ (λ (a : List Table) (b : List Index). schema_of_parts a b schema.views) tables indexes ∙ ap (schema_of_parts [] []) views

@@ -1,33 +1,32 @@
--- What the texts of the store mean.
+-- What the texts of the store mean, in both layouts.
 use Rattle.std.proofs.Common.{◌≡◌, ℕ, pos, negsuc, List, [], ◌∷◌, codes, true, false, None, Ok, refl}
 use Rattle.sqlite.specs.Compile.{table_defined_by}
+use Rattle.sqlite.specs.Command.{Command}
 use Rattle.sqlite.specs.Command.TheVariants.{Select, Update, InsertOr}
 use Rattle.sqlite.specs.Source.TheVariants.{Values}
 use Rattle.sqlite_schema.specs.declared.command.Conflict.TheVariants.{Replace}
-use Rattle.sqlite_sql.specs.declared.ops.UnaryOp.TheVariants.{Not}
 use Rattle.sqlite_sql.specs.declared.ops.BinaryOp.TheVariants as by
-use Rattle.sqlite_sql.specs.declared.ops.CompareOp.TheVariants.{Eq}
+use Rattle.sqlite_sql.specs.declared.ops.CompareOp.TheVariants.{Eq, Ge, Le}
 use Rattle.sqlite.specs.Collation.TheVariants.{Binary}
 use Rattle.sqlite.specs.declared.types.Value.TheVariants.{Null, Int, Text}
-use Rattle.sqlite.specs.Term.{Term, lit, col, op1, op2}
+use Rattle.sqlite.specs.Term.{Term, lit, col, op2}
 use Rattle.sqlite.specs.Query.{Query, inner, end}
 use Rattle.sqlite_tied.specs.Compute.{everything}
 use Rattle.sqlite.specs.Listing.{understood, reads_listing}
 use Rattle.sqlite.proofs.Callers.{IsPlain, command_of}
 use Rattle.sqlite.specs.Change.{created}
-use Rattle.press_store.specs.Tables.{make_promise, make_meta, load_text, save_text, round_text, save_round_text, last_vote_text, promise, meta, store_schema, no_schema}
+use Rattle.press_store.specs.Tables.{Layout, Fresh, Moved, schema_of, no_schema, block_tree, vote_tree, meta_tree, block_place, vote_place, meta_place, block_on, vote_on, meta_on}
+use Rattle.press_store.specs.Tables.{make_block, make_vote, make_meta, promise_text, save_promise_text, votes_text, save_vote_text, last_vote_text, round_text, save_round_text, check_text, version_query_text, left_text}
 
-pub t1 : table_defined_by make_promise ≡ Ok promise
+pub tables_defined : (table_defined_by make_block ≡ Ok (block_on 0)) × (table_defined_by make_vote ≡ Ok (vote_on 0)) × (table_defined_by make_meta ≡ Ok (meta_on 0))
 unfolding understood everything
-t1 = refl
+tables_defined = (refl, refl, refl)
 
-pub t2 : table_defined_by make_meta ≡ Ok (record meta { tree = 0 })
+pub whole_schema : created (created (created no_schema (block_on 0)) (vote_on 0)) (meta_on 0) ≡ schema_of Fresh
 unfolding understood everything
-t2 = refl
+whole_schema = refl
 
-pub t3 : created (created no_schema promise) (record meta { tree = 0 }) ≡ store_schema
-unfolding understood everything
-t3 = refl
+-- ---- queries
 
 abbrev pub picks : ℕ → List Term → List Term → Query
 picks tree filter project = record {
@@ -42,82 +41,21 @@ picks tree filter project = record {
   offset = lit (Int (pos 0));
 }
 
-abbrev pub load_query : Query
-load_query = picks 0 (op2 (by.Compare Eq Binary) (col 1 0) (col 0 0) ∷ []) (col 1 2 ∷ col 1 3 ∷ col 1 4 ∷ col 1 5 ∷ col 1 6 ∷ [])
+abbrev pub is_equal_to : Term → Term → Term
+is_equal_to = op2 (by.Compare Eq Binary)
 
-abbrev pub round_query : Query
-round_query = picks 1 (op2 (by.Compare Eq Binary) (col 1 1) (lit (Text (codes "last_round"))) ∷ []) (col 1 2 ∷ [])
+abbrev pub promise_query : Layout → Query
+promise_query l = picks (block_tree l) (is_equal_to (col 1 0) (col 0 0) ∷ []) (col 1 2 ∷ col 1 3 ∷ [])
 
-abbrev pub update_query : Query
-update_query = picks 1 (op2 (by.Compare Eq Binary) (col 1 1) (lit (Text (codes "last_round"))) ∷ []) (col 1 0 ∷ col 1 0 ∷ col 1 1 ∷ col 0 0 ∷ [])
+abbrev pub votes_query : Layout → Query
+votes_query l = record (picks (vote_tree l) (op2 (by.Compare Ge Binary) (col 1 0) (col 0 0) ∷ op2 (by.Compare Le Binary) (col 1 0) (col 0 1) ∷ []) (col 1 0 ∷ col 1 2 ∷ col 1 3 ∷ col 1 4 ∷ [])) {
+  order = (col 1 0, record { collation = Binary; descending = false }) ∷ [];
+}
 
-pub c1 : command_of (understood store_schema load_text) ≡ Select (record { lets = []; body = load_query }) (codes "round" ∷ codes "node" ∷ codes "vround" ∷ codes "vnode" ∷ codes "value" ∷ [])
-unfolding understood everything
-c1 = refl
-
-pub c2 : command_of (understood store_schema save_text) ≡ InsertOr 0 Replace (Values (col 0 0 ∷ lit Null ∷ col 0 1 ∷ col 0 2 ∷ col 0 3 ∷ col 0 4 ∷ col 0 5 ∷ []) 7) []
-unfolding understood everything
-c2 = refl
-
-pub c3 : command_of (understood store_schema round_text) ≡ Select (record { lets = []; body = round_query }) (codes "n" ∷ [])
-unfolding understood everything
-c3 = refl
-
-pub c4 : command_of (understood store_schema save_round_text) ≡ Update 1 (record { lets = []; body = update_query })
-unfolding understood everything
-c4 = refl
-
-pub p4 : IsPlain (understood store_schema save_round_text)
-unfolding understood everything
-p4 = (refl, refl)
-
-pub p1 : IsPlain (understood store_schema load_text) × (reads_listing store_schema load_text ≡ false)
-unfolding understood everything
-p1 = ((refl, refl), refl)
-
-pub p2 : IsPlain (understood store_schema save_text)
-unfolding understood everything
-p2 = (refl, refl)
-
-pub p3 : IsPlain (understood store_schema round_text) × (reads_listing store_schema round_text ≡ false)
-unfolding understood everything
-p3 = ((refl, refl), refl)
-
-abbrev pub check_text : List ℕ
-check_text = codes "SELECT rowid, n FROM meta WHERE name = 'last_round'"
-
-abbrev pub version_query_text : List ℕ
-version_query_text = codes "SELECT n FROM meta WHERE name = 'version'"
-
-abbrev pub check_query : Query
-check_query = picks 1 (op2 (by.Compare Eq Binary) (col 1 1) (lit (Text (codes "last_round"))) ∷ []) (col 1 0 ∷ col 1 2 ∷ [])
-
-abbrev pub version_query : Query
-version_query = picks 1 (op2 (by.Compare Eq Binary) (col 1 1) (lit (Text (codes "version"))) ∷ []) (col 1 2 ∷ [])
-
-pub c5 : command_of (understood store_schema check_text) ≡ Select (record { lets = []; body = check_query }) (codes "rowid" ∷ codes "n" ∷ [])
-unfolding understood everything
-c5 = refl
-
-pub p5 : IsPlain (understood store_schema check_text) × (reads_listing store_schema check_text ≡ false)
-unfolding understood everything
-p5 = ((refl, refl), refl)
-
-pub c6 : command_of (understood store_schema version_query_text) ≡ Select (record { lets = []; body = version_query }) (codes "n" ∷ [])
-unfolding understood everything
-c6 = refl
-
-pub p6 : IsPlain (understood store_schema version_query_text) × (reads_listing store_schema version_query_text ≡ false)
-unfolding understood everything
-p6 = ((refl, refl), refl)
-
-abbrev pub has_vote : Term
-has_vote = op1 Not (op2 (by.Is Binary) (col 1 4) (lit Null))
-
-abbrev pub last_vote_query : Query
-last_vote_query = record {
-  from = inner 0 end;
-  filter = has_vote ∷ [];
+abbrev pub last_vote_query : ℕ → Query
+last_vote_query tree = record {
+  from = inner tree end;
+  filter = [];
   group = None;
   project = col 1 0 ∷ [];
   distinct = false;
@@ -127,10 +65,115 @@ last_vote_query = record {
   offset = lit (Int (pos 0));
 }
 
-pub c7 : command_of (understood store_schema last_vote_text) ≡ Select (record { lets = []; body = last_vote_query }) (codes "slot" ∷ [])
-unfolding understood everything
-c7 = refl
+abbrev pub named_query : List ℕ → List Term → ℕ → Query
+named_query name project tree = picks tree (is_equal_to (col 1 1) (lit (Text name)) ∷ []) project
 
-pub p7 : IsPlain (understood store_schema last_vote_text) × (reads_listing store_schema last_vote_text ≡ false)
+abbrev pub round_query : Layout → Query
+round_query l = named_query (codes "last_round") (col 1 2 ∷ []) (meta_tree l)
+
+abbrev pub update_query : ℕ → Query
+update_query = named_query (codes "last_round") (col 1 0 ∷ col 1 0 ∷ col 1 1 ∷ col 0 0 ∷ [])
+
+abbrev pub check_query : Layout → Query
+check_query l = named_query (codes "last_round") (col 1 0 ∷ col 1 2 ∷ []) (meta_tree l)
+
+abbrev pub version_query : Layout → Query
+version_query l = named_query (codes "version") (col 1 2 ∷ []) (meta_tree l)
+
+abbrev pub left_query : Query
+left_query = record (picks 0 [] (col 1 0 ∷ [])) { limit = lit (Int (pos 1)) }
+
+-- ---- commands
+
+abbrev pub select : Query → List (List ℕ) → Command
+select query names = Select (record { lets = []; body = query }) names
+
+abbrev pub promise_terms : List Term
+promise_terms = col 0 0 ∷ lit Null ∷ col 0 1 ∷ col 0 2 ∷ []
+
+abbrev pub vote_terms : List Term
+vote_terms = col 0 0 ∷ lit Null ∷ col 0 1 ∷ col 0 2 ∷ col 0 3 ∷ []
+
+abbrev pub promise_select : Layout → Command
+promise_select l = select (promise_query l) (codes "round" ∷ codes "node" ∷ [])
+
+abbrev pub votes_select : Layout → Command
+votes_select l = select (votes_query l) (codes "slot" ∷ codes "round" ∷ codes "node" ∷ codes "value" ∷ [])
+
+abbrev pub last_vote_select : Layout → Command
+last_vote_select l = select (last_vote_query (vote_tree l)) (codes "slot" ∷ [])
+
+abbrev pub round_select : Layout → Command
+round_select l = select (round_query l) (codes "n" ∷ [])
+
+abbrev pub check_select : Layout → Command
+check_select l = select (check_query l) (codes "rowid" ∷ codes "n" ∷ [])
+
+abbrev pub version_select : Layout → Command
+version_select l = select (version_query l) (codes "n" ∷ [])
+
+abbrev pub promise_insert : Layout → Command
+promise_insert l = InsertOr (block_place l) Replace (Values promise_terms 4) []
+
+abbrev pub vote_insert : Layout → Command
+vote_insert l = InsertOr (vote_place l) Replace (Values vote_terms 5) []
+
+abbrev pub round_update : Layout → Command
+round_update l = Update (meta_place l) (record { lets = []; body = update_query (meta_tree l) })
+
+-- the text is a plain query, over a layout, with this meaning
+abbrev pub IsQuery : List ℕ → (Layout → Command) → Type 0
+IsQuery text command = (l : Layout) → (command_of (understood (schema_of l) text) ≡ command l) × IsPlain (understood (schema_of l) text) × (reads_listing (schema_of l) text ≡ false)
+
+-- the text is a plain write, over a layout, with this meaning
+abbrev pub IsWrite : List ℕ → (Layout → Command) → Type 0
+IsWrite text command = (l : Layout) → (command_of (understood (schema_of l) text) ≡ command l) × IsPlain (understood (schema_of l) text)
+
+pub promise_means : IsQuery promise_text promise_select
 unfolding understood everything
-p7 = ((refl, refl), refl)
+promise_means Fresh = (refl, (refl, refl), refl)
+promise_means Moved = (refl, (refl, refl), refl)
+
+pub votes_means : IsQuery votes_text votes_select
+unfolding understood everything
+votes_means Fresh = (refl, (refl, refl), refl)
+votes_means Moved = (refl, (refl, refl), refl)
+
+pub last_vote_means : IsQuery last_vote_text last_vote_select
+unfolding understood everything
+last_vote_means Fresh = (refl, (refl, refl), refl)
+last_vote_means Moved = (refl, (refl, refl), refl)
+
+pub round_means : IsQuery round_text round_select
+unfolding understood everything
+round_means Fresh = (refl, (refl, refl), refl)
+round_means Moved = (refl, (refl, refl), refl)
+
+pub check_means : IsQuery check_text check_select
+unfolding understood everything
+check_means Fresh = (refl, (refl, refl), refl)
+check_means Moved = (refl, (refl, refl), refl)
+
+pub version_query_means : IsQuery version_query_text version_select
+unfolding understood everything
+version_query_means Fresh = (refl, (refl, refl), refl)
+version_query_means Moved = (refl, (refl, refl), refl)
+
+pub save_promise_means : IsWrite save_promise_text promise_insert
+unfolding understood everything
+save_promise_means Fresh = (refl, (refl, refl))
+save_promise_means Moved = (refl, (refl, refl))
+
+pub save_vote_means : IsWrite save_vote_text vote_insert
+unfolding understood everything
+save_vote_means Fresh = (refl, (refl, refl))
+save_vote_means Moved = (refl, (refl, refl))
+
+pub save_round_means : IsWrite save_round_text round_update
+unfolding understood everything
+save_round_means Fresh = (refl, (refl, refl))
+save_round_means Moved = (refl, (refl, refl))
+
+pub left_means : (command_of (understood (schema_of Moved) left_text) ≡ select left_query (codes "slot" ∷ [])) × IsPlain (understood (schema_of Moved) left_text) × (reads_listing (schema_of Moved) left_text ≡ false)
+unfolding understood everything
+left_means = (refl, (refl, refl), refl)

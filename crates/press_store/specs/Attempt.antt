@@ -8,8 +8,11 @@ use Rattle.sqlite.specs.View.{doubt}
 use Rattle.sqlite.specs.State.{State, HasCleanDisk, IsUnchanged, IsRolledBack, IsNotRun, Survives, Executes, CommitsBy, Shown, FailsToQuery, CommitsShowing}
 use Rattle.sqlite.specs.Held.{Held, state}
 use Rattle.press_acceptor.specs.StoreMap.{StoreMap, Only, OldOr, NoMore}
-use Rattle.press_store.specs.Tables.{store_schema}
-use Rattle.press_store.specs.Shown.{IsKept}
+use Rattle.sqlite.specs.Effect.{Database}
+use Rattle.sqlite_trees.specs.Objects.{catalog_tree}
+use Rattle.sqlite_catalog.specs.Listing.{Lists}
+use Rattle.press_store.specs.Tables.{Layout, schema_of}
+use Rattle.press_store.specs.Shown.{IsKept, IsEmptied}
 use Rattle.press_store.specs.Kept.{kept_by, MayLeave}
 
 module _ {S : Type 0} (g : Ghosts S) (old new : Held S) (sql : List ℕ) (params : Row) (result : Result ℕ Error) where
@@ -62,19 +65,25 @@ module _ {S : Type 0} (g : Ghosts S) (old new : Held S) (sql : List ℕ) (params
 abbrev pub IsSettled : State → Type 0
 IsSettled s = IsTrue s.is_open → s.now ≡ s.committed
 
--- no transaction is open, and while the connection is open it has the two tables and the last round
+-- the tables in this layout with the last round, and no row of version 1
+pub record AreTables (l : Layout) (db : Database) : Type 0 where
+  pub schema : db.schema ≡ schema_of l
+  pub listed : Lists (db.trees catalog_tree) (schema_of l)
+  pub emptied : IsEmptied db.trees
+  pub kept : IsKept db.trees
+
+-- no transaction is open, and while the connection is open it has the tables
 pub record Ready (s : State) : Type 0 where
   pub autocommit : s.in_transaction ≡ false
   pub unlimited : s.step_limit ≡ None
-  pub schema : IsTrue s.is_open → s.now.schema ≡ store_schema
-  pub kept : IsTrue s.is_open → IsKept s.now.trees
+  pub tables : IsTrue s.is_open → (l : Layout) × AreTables l s.now
   pub settled : IsSettled s
 
 abbrev pub IsReady : {S : Type 0} → Ghosts S → Held S → Type 0
 IsReady g h = HasCleanDisk (state g h) → Ready (state g h)
 
 -- One turn of the map is made, or none is. A crash leaves what could stand before or what the turn gives, and while the connection is open only what it keeps.
-pub record Saved (turn : StoreMap → StoreMap) (old new : State) (result : Result ℕ Error) : Type 0 where
+pub record Saved {A : Type 0} (turn : StoreMap → StoreMap) (old new : State) (result : Result A Error) : Type 0 where
   pub ready : Ready new
   pub saved : OnOk result (IsTrue new.is_open × IsTrue old.is_open × (kept_by new ≡ turn (kept_by old)))
   pub failed : OnErr result (IsTrue new.is_open → IsTrue old.is_open × (kept_by new ≡ kept_by old))
@@ -97,7 +106,7 @@ module _ {S : Type 0} (g : Ghosts S) (old new : Held S) where
   abbrev pub StaysReady : Type 0
   StaysReady = IsReady g old → IsReady g new
 
-  abbrev pub Saves : (StoreMap → StoreMap) → Result ℕ Error → Type 0
+  abbrev pub Saves : {A : Type 0} → (StoreMap → StoreMap) → Result A Error → Type 0
   Saves turn result = HasCleanDisk (state g new) → IsReady g old → Saved turn (state g old) (state g new) result
 
   abbrev pub Looks : Type 0

@@ -2,10 +2,12 @@ pub mod Adopted
 pub mod Adopting
 pub mod Attempt
 pub mod Faults
-pub mod Held
 pub mod Kept
 pub mod Making
+pub mod Named
 pub mod Opened
+pub mod Saving
 pub mod Shown
+pub mod Steps
 pub mod Tables
 pub mod Voted

@@ -6,7 +6,7 @@ use Rattle.sqlite.specs.State.{State}
 use Rattle.sqlite.specs.Files.{HoldsDatabase, IsNothing}
 use Rattle.sqlite_catalog.specs.Listing.{IsSound}
 use Rattle.press_acceptor.specs.StoreMap.{Only, new_store}
-use Rattle.press_store.specs.Tables.{store_schema}
+use Rattle.press_store.specs.Tables.{Layout, schema_of}
 use Rattle.press_store.specs.Shown.{IsKept, IsOurVersion, store_in}
 use Rattle.press_store.specs.Kept.{kept_by, MayLeave}
 
@@ -17,9 +17,10 @@ pub record IsUp (s : State) : Type 0 where
   pub version_shown : IsOurVersion s.now.trees
   pub version_left : (db : Trees) → s.may_leave db → IsOurVersion db
 
--- the trees are those of a store's two tables
+-- the trees are those of a store's tables
 pub record IsStore (db : Trees) : Type 0 where
-  pub sound : IsSound store_schema db
+  pub layout : Layout
+  pub sound : IsSound (schema_of layout) db
   pub kept : IsKept db
 
 -- What was saved is found again: where the files hold the trees of a store, it keeps what they stand for.
@@ -30,6 +31,6 @@ Finds image s = (db : Trees) → HoldsDatabase image db → IsStore db → kept_
 abbrev pub Begins : Image → State → Type 0
 Begins image s = IsNothing image → kept_by s ≡ new_store
 
--- the files hold no database yet, or one that has the two tables of a store and nothing else
+-- the files hold no database yet, or one that has the tables of a store and nothing else
 abbrev pub HoldsServed : Image → Type 0
-HoldsServed image = IsNothing image ⊎ ((db : Trees) × HoldsDatabase image db × IsSound store_schema db)
+HoldsServed image = IsNothing image ⊎ ((db : Trees) × HoldsDatabase image db × (l : Layout) × IsSound (schema_of l) db)

@@ -1,19 +1,20 @@
 //! The tables of a database that is to be a store.
 
-ghost use Rattle.std.specs.Prelude.{◌≡◌, pos, true, false, None, Err, IsTrue, IfOk, OnErr};
+ghost use Rattle.std.specs.Prelude.{◌≡◌, pos, [], true, false, None, Err, IsTrue, IfOk, OnErr};
 ghost use Rattle.sqlite.specs.declared.types.Value.TheVariants.{Int};
 ghost use Rattle.sqlite.specs.Order.{column};
 ghost use Rattle.sqlite.specs.Held.{state};
 ghost use Rattle.press_acceptor.specs.declared.fault.StoreFault.TheVariants.{Damaged};
 ghost use Rattle.press_store.specs.Attempt.{Doubts, IsSettled};
-ghost use Rattle.press_store.specs.Tables.{no_schema, store_schema};
-ghost use Rattle.press_store.specs.Adopted.{IsServed, IsAdopted, IsHandedBack, is_half};
-ghost use Rattle.press_store.specs.Adopting.{AdoptsFrom, HandsBackFrom, HasBoth, IsOne, IsOneNumber};
-ghost use Rattle.press_store.specs.Adopting.{KeepsRound, KeepsVersion, LooksAt, OnlyReads, Shows};
+ghost use Rattle.sqlite.specs.State.{IsLive};
+ghost use Rattle.press_store.specs.Shown.{IsKept, IsOurVersion, IsEmptied};
+ghost use Rattle.press_store.specs.Adopted.{IsOurs, IsServed, IsAdopted, IsHandedBack, is_half};
+ghost use Rattle.press_store.specs.Adopting.{AdoptsFrom, HandsBackFrom, IsNothing, IsMoved, IsPassed};
+ghost use Rattle.press_store.specs.Adopting.{IsOneNumber, IsOneTwo, LooksAt, OnlyReads, Shows, Tells};
 
 use crate::fault::fault_of;
 use crate::make::make;
-use crate::ours::{is_empty, is_half, is_ours};
+use crate::ours::{has_block, has_old, is_empty, is_half, is_ours};
 use crate::statement::read;
 use press_acceptor::StoreFault;
 use sqlite::types::ValueRef;
@@ -34,26 +35,32 @@ fn is_one_number(rows: &[Shown]) -> bool
     }
 }
 
-fn begins_with_one(row: &Shown) -> bool
-    ensures { IsTrue result → column row.now 0 ≡ Int (pos 1) }
+fn begins_with_two(row: &Shown) -> bool
+    ensures { IsTrue result → column row.now 0 ≡ Int (pos 2) }
 {
-    matches!(row.get_ref(0), Ok(ValueRef::Int(1)))
+    matches!(row.get_ref(0), Ok(ValueRef::Int(2)))
 }
 
-fn is_one(rows: &[Shown]) -> bool
-    ensures { IsTrue result → IsOne rows.now }
+fn is_one_two(rows: &[Shown]) -> bool
+    ensures { IsTrue result → IsOneTwo rows.now }
 {
     match rows {
-        [row] => begins_with_one(row),
+        [row] => begins_with_two(row),
         _ => false,
     }
 }
 
+fn is_none(rows: &[Shown]) -> bool
+    ensures { IsTrue result → rows.now ≡ [] }
+{
+    rows.is_empty()
+}
+
 // Whether `meta` has a last round.
 fn has_round<D: Alter>(conn: &mut Connection<D>) -> Result<bool, Error>
-    ensures looks { LooksAt D.Store conn.old conn.new }
-    ensures shows { Shows D.Store conn.old conn.new result }
-    ensures kept { KeepsRound D.Store conn.old conn.new result }
+    ensures looks { LooksAt D.Store IsOurs conn.old conn.new }
+    ensures shows { Shows D.Store IsOurs conn.old conn.new result }
+    ensures tells { Tells D.Store IsOurs conn.old conn.new IsKept result }
     ensures clean { Doubts D.Store conn.old conn.new }
 {
     let rows = read(
@@ -66,22 +73,32 @@ fn has_round<D: Alter>(conn: &mut Connection<D>) -> Result<bool, Error>
 
 // Whether `meta` has the version of these tables.
 fn has_version<D: Alter>(conn: &mut Connection<D>) -> Result<bool, Error>
-    ensures looks { LooksAt D.Store conn.old conn.new }
-    ensures shows { Shows D.Store conn.old conn.new result }
-    ensures kept { KeepsVersion D.Store conn.old conn.new result }
+    ensures looks { LooksAt D.Store IsOurs conn.old conn.new }
+    ensures shows { Shows D.Store IsOurs conn.old conn.new result }
+    ensures tells { Tells D.Store IsOurs conn.old conn.new IsOurVersion result }
     ensures clean { Doubts D.Store conn.old conn.new }
 {
     let rows = read(conn, "SELECT n FROM meta WHERE name = 'version'", &[])?;
-    Ok(is_one(&rows))
+    Ok(is_one_two(&rows))
+}
+
+// Whether the table of version 1 has no row.
+fn is_emptied<D: Alter>(conn: &mut Connection<D>) -> Result<bool, Error>
+    ensures looks { LooksAt D.Store IsMoved conn.old conn.new }
+    ensures shows { Shows D.Store IsMoved conn.old conn.new result }
+    ensures tells { Tells D.Store IsMoved conn.old conn.new IsEmptied result }
+    ensures clean { Doubts D.Store conn.old conn.new }
+{
+    let rows = read(conn, "SELECT slot FROM promise LIMIT 1", &[])?;
+    Ok(is_none(&rows))
 }
 
 // Whether `meta` has its two rows.
 fn has_both<D: Alter>(conn: &mut Connection<D>) -> Result<bool, Error>
-    requires quiet { conn.old.in_transaction ≡ false }
-    requires unlimited { conn.old.step_limit ≡ None }
-    requires settled { IsSettled (state D.Store conn.old) }
-    ensures both { HasBoth D.Store conn.old conn.new result }
-    ensures back { OnlyReads D.Store conn.old conn.new }
+    ensures looks { LooksAt D.Store IsOurs conn.old conn.new }
+    ensures shows { Shows D.Store IsOurs conn.old conn.new result }
+    ensures tells { Tells D.Store IsOurs conn.old conn.new
+        (λ db. IsKept db × IsOurVersion db) result }
     ensures clean { Doubts D.Store conn.old conn.new }
 {
     if !has_round(conn)? {
@@ -90,16 +107,36 @@ fn has_both<D: Alter>(conn: &mut Connection<D>) -> Result<bool, Error>
     has_version(conn)
 }
 
-// Refused unless `meta` has its two rows.
+// Whether `meta` has its two rows, and no row of version 1 is left.
+fn is_whole<D: Alter>(conn: &mut Connection<D>) -> Result<bool, Error>
+    requires quiet { conn.old.in_transaction ≡ false }
+    requires unlimited { conn.old.step_limit ≡ None }
+    requires settled { IsSettled (state D.Store conn.old) }
+    requires live { IsLive (state D.Store conn.old) }
+    ensures passed { IsPassed D.Store IsOurs conn.old conn.new result }
+    ensures back { OnlyReads D.Store IsOurs conn.old conn.new }
+    ensures clean { Doubts D.Store conn.old conn.new }
+{
+    if !has_both(conn)? {
+        return Ok(false);
+    }
+    if !has_old(conn.schema()) {
+        return Ok(true);
+    }
+    is_emptied(conn)
+}
+
+// Refused unless the tables are whole.
 fn prepare_ours<D: Alter>(conn: &mut Connection<D>) -> Result<(), StoreFault>
     requires quiet { conn.old.in_transaction ≡ false }
     requires unlimited { conn.old.step_limit ≡ None }
     requires settled { IsSettled (state D.Store conn.old) }
-    ensures adopts { AdoptsFrom D.Store store_schema conn.old conn.new result }
-    ensures back { HandsBackFrom D.Store store_schema conn.old conn.new result }
+    requires live { IsLive (state D.Store conn.old) }
+    ensures adopts { AdoptsFrom D.Store IsOurs conn.old conn.new result }
+    ensures back { HandsBackFrom D.Store IsOurs conn.old conn.new result }
     ensures clean { Doubts D.Store conn.old conn.new }
 {
-    match has_both(conn) {
+    match is_whole(conn) {
         Ok(true) => Ok(()),
         Ok(false) => Err(StoreFault::Damaged),
         Err(error) => Err(fault_of(error)),
@@ -111,21 +148,22 @@ fn prepare_empty<D: Alter>(conn: &mut Connection<D>) -> Result<(), StoreFault>
     requires quiet { conn.old.in_transaction ≡ false }
     requires unlimited { conn.old.step_limit ≡ None }
     requires settled { IsSettled (state D.Store conn.old) }
-    ensures adopts { AdoptsFrom D.Store no_schema conn.old conn.new result }
-    ensures back { HandsBackFrom D.Store no_schema conn.old conn.new result }
+    ensures adopts { AdoptsFrom D.Store IsNothing conn.old conn.new result }
+    ensures back { HandsBackFrom D.Store IsNothing conn.old conn.new result }
     ensures clean { Doubts D.Store conn.old conn.new }
 {
     make(conn).map_err(fault_of)
 }
 
-// Adopts a database with other tables, of which no clause speaks, and with both of a store's or neither.
+// Adopts a database with other tables, of which no clause speaks, and with all of a store's or none.
 fn prepare_other<D: Alter>(conn: &mut Connection<D>) -> Result<(), StoreFault>
     requires quiet { conn.old.in_transaction ≡ false }
     requires unlimited { conn.old.step_limit ≡ None }
     requires settled { IsSettled (state D.Store conn.old) }
+    requires live { IsLive (state D.Store conn.old) }
     ensures clean { Doubts D.Store conn.old conn.new }
 {
-    if conn.schema().table_named(b"promise").is_some() {
+    if has_block(conn.schema()) {
         return prepare_ours(conn);
     }
     make(conn).map_err(fault_of)

@@ -4,8 +4,8 @@ ghost use Rattle.std.specs.Prelude.{◌≡◌, false};
 ghost use Rattle.sqlite.specs.State.{Survives};
 ghost use Rattle.sqlite.specs.Held.{state};
 ghost use Rattle.press_store.specs.Attempt.{IsSettled};
-ghost use Rattle.press_store.specs.Making.{GoesOn, IsNewIn, Keeps, Makes, MakesRows};
-ghost use Rattle.press_store.specs.Making.{MakesTables, Unmade};
+ghost use Rattle.press_store.specs.Making.{IsNewIn, Makes, MakesRows, MakesTables, Unmade};
+ghost use Rattle.press_store.specs.Steps.{GoesOn, Keeps};
 
 use sqlite::{Alter, Connection, Error, Transaction};
 
@@ -18,7 +18,11 @@ fn make_tables<S: Alter>(tx: &mut Transaction<'_, S>) -> Result<usize, Error>
         (λ _. ⊥) }
 {
     tx.execute(
-        "CREATE TABLE promise (slot INTEGER PRIMARY KEY, round INTEGER, node INTEGER, vround INTEGER, vnode INTEGER, value BLOB) STRICT",
+        "CREATE TABLE block (first INTEGER PRIMARY KEY, round INTEGER NOT NULL, node INTEGER NOT NULL) STRICT",
+        &[],
+    )?;
+    tx.execute(
+        "CREATE TABLE vote (slot INTEGER PRIMARY KEY, round INTEGER NOT NULL, node INTEGER NOT NULL, value BLOB NOT NULL) STRICT",
         &[],
     )?;
     tx.execute(
@@ -35,11 +39,11 @@ fn make_rows<S: Alter>(tx: &mut Transaction<'_, S>) -> Result<usize, Error>
     ensures survives { Survives (state S.Store tx.old.conn.now) (state S.Store tx.new.conn.now)
         (λ _. ⊥) }
 {
-    tx.execute("INSERT INTO meta (name, n) VALUES ('version', 1)", &[])?;
+    tx.execute("INSERT INTO meta (name, n) VALUES ('version', 2)", &[])?;
     tx.execute("INSERT INTO meta (name, n) VALUES ('last_round', 0)", &[])
 }
 
-/// Makes the two tables, or nothing.
+/// Makes the three tables, or nothing.
 pub fn make<S: Alter>(conn: &mut Connection<S>) -> Result<(), Error>
     requires quiet { conn.old.in_transaction ≡ false }
     requires settled { IsSettled (state S.Store conn.old) }

@@ -1,31 +1,17 @@
 //! The last round, in the table `meta`.
 
-ghost use Rattle.std.specs.Prelude.{◌≡◌, ◌≤◌, ◌^◌, pos, IfSome};
+ghost use Rattle.std.specs.Prelude.{◌≡◌, IfSome};
 ghost use Rattle.sqlite.specs.Order.{column};
 ghost use Rattle.sqlite.specs.Value.{owned};
-ghost use Rattle.sqlite.specs.declared.types.Value.TheVariants.{Int};
 ghost use Rattle.press_acceptor.specs.StoreMap.{with_round};
 ghost use Rattle.press_store.specs.Attempt.{Answers, Doubts, Looks, Saves, StaysReady};
 ghost use Rattle.press_store.specs.Shown.{most_rounds, number_in, IsRoundRow};
 
+use crate::rows::round_value;
 use crate::statement::{read, write};
 use press_wire::Round;
 use sqlite::types::ValueRef;
 use sqlite::{Alter, Connection, Error, Row as Shown};
-
-fn as_int(n: u64) -> i64
-    requires { n ≤ 2 ^ 40 }
-    ensures { result ≡ pos n }
-{
-    n as i64
-}
-
-fn round_value<'a>(round: Round) -> ValueRef<'a>
-    ensures value { owned result ≡ Int (pos round) }
-    ensures range { round ≤ 2 ^ 40 }
-{
-    ValueRef::Int(as_int(round.number()))
-}
 
 pub fn put_round<S: Alter>(conn: &mut Connection<S>, round: Round) -> Result<usize, Error>
     ensures saves { Saves S.Store conn.old conn.new (λ store. with_round store round) result }

@@ -1,9 +1,10 @@
-//! Whether a schema is the one that `make` makes.
+//! Whether a schema is that of a store.
 
-ghost use Rattle.std.specs.Prelude.{◌≡◌, IsTrue};
-ghost use Rattle.press_store.specs.Tables.{IsBareTable, named_column, promise, meta, meta_key};
-ghost use Rattle.press_store.specs.Tables.{store_schema, no_schema};
-ghost use Rattle.press_store.specs.Adopted.{is_half};
+ghost use Rattle.std.specs.Prelude.{◌≡◌, [], ◌∷◌, codes, IsTrue};
+ghost use Rattle.press_store.specs.Tables.{column_of, promise_columns, block_columns, vote_columns};
+ghost use Rattle.press_store.specs.Tables.{promise, block_on, vote_on, meta_on, meta_key_on};
+ghost use Rattle.press_store.specs.Tables.{IsBareTable, IsKeyed, Fresh, Moved, schema_of, no_schema};
+ghost use Rattle.press_store.specs.Adopted.{has_table, is_half, IsOurs};
 
 use sqlite_schema::schema::{Column, Index, Kind, Schema, Table};
 use sqlite_value::keys::Collation;
@@ -17,8 +18,8 @@ fn is_named(name: &Bytes, wanted: &[u8]) -> bool
 }
 
 fn is_column(column: &Column, name: &[u8], kind: Kind, not_null: bool) -> bool
-    ensures tells { IsTrue result → column.now ≡ named_column name.now kind not_null }
-    ensures same { column.now ≡ named_column name.now kind not_null → IsTrue result }
+    ensures tells { IsTrue result → column.now ≡ column_of name.now kind not_null }
+    ensures same { column.now ≡ column_of name.now kind not_null → IsTrue result }
 {
     is_named(&column.name, name)
         && column.kind == kind
@@ -28,9 +29,9 @@ fn is_column(column: &Column, name: &[u8], kind: Kind, not_null: bool) -> bool
         && matches!(column.collation, Collation::Binary)
 }
 
-fn is_slot_table(columns: &[Column]) -> bool
-    ensures tells { IsTrue result → columns.now ≡ promise.columns }
-    ensures same { columns.now ≡ promise.columns → IsTrue result }
+fn is_old_table(columns: &[Column]) -> bool
+    ensures tells { IsTrue result → columns.now ≡ promise_columns }
+    ensures same { columns.now ≡ promise_columns → IsTrue result }
 {
     match columns {
         [slot, round, node, vround, vnode, value] => {
@@ -45,9 +46,38 @@ fn is_slot_table(columns: &[Column]) -> bool
     }
 }
 
+fn is_block_table(columns: &[Column]) -> bool
+    ensures tells { IsTrue result → columns.now ≡ block_columns }
+    ensures same { columns.now ≡ block_columns → IsTrue result }
+{
+    match columns {
+        [first, round, node] => {
+            is_column(first, b"first", Kind::Integer, false)
+                && is_column(round, b"round", Kind::Integer, true)
+                && is_column(node, b"node", Kind::Integer, true)
+        }
+        _ => false,
+    }
+}
+
+fn is_vote_table(columns: &[Column]) -> bool
+    ensures tells { IsTrue result → columns.now ≡ vote_columns }
+    ensures same { columns.now ≡ vote_columns → IsTrue result }
+{
+    match columns {
+        [slot, round, node, value] => {
+            is_column(slot, b"slot", Kind::Integer, false)
+                && is_column(round, b"round", Kind::Integer, true)
+                && is_column(node, b"node", Kind::Integer, true)
+                && is_column(value, b"value", Kind::Blob, true)
+        }
+        _ => false,
+    }
+}
+
 fn is_meta_table(columns: &[Column]) -> bool
-    ensures tells { IsTrue result → columns.now ≡ meta.columns }
-    ensures same { columns.now ≡ meta.columns → IsTrue result }
+    ensures tells { IsTrue result → columns.now ≡ (meta_on 0).columns }
+    ensures same { columns.now ≡ (meta_on 0).columns → IsTrue result }
 {
     match columns {
         [name, n] => {
@@ -71,30 +101,58 @@ fn is_bare(table: &Table) -> bool
         && !table.is_counted
 }
 
-fn is_promise(table: &Table) -> bool
-    ensures tells { IsTrue result → table.now ≡ promise }
-    ensures same { table.now ≡ promise → IsTrue result }
+// Whether its first column is its key, and it has no other.
+fn is_keyed(table: &Table) -> bool
+    ensures tells { IsTrue result → IsKeyed table.now }
+    ensures same { IsKeyed table.now → IsTrue result }
 {
-    is_named(&table.name, b"promise")
-        && table.tree == 0
-        && is_slot_table(table.columns.as_slice())
-        && matches!(table.key, Some(0))
+    matches!(table.key, Some(0))
         && matches!(table.primary.as_slice(), [0])
         && table.uniques.is_empty()
         && table.orders.is_empty()
         && is_bare(table)
 }
 
+fn is_promise(table: &Table) -> bool
+    ensures tells { IsTrue result → table.now ≡ promise }
+    ensures same { table.now ≡ promise → IsTrue result }
+{
+    is_named(&table.name, b"promise")
+        && table.tree == 0
+        && is_old_table(table.columns.as_slice())
+        && is_keyed(table)
+}
+
+fn is_block(table: &Table, tree: u32) -> bool
+    ensures tells { IsTrue result → table.now ≡ block_on tree }
+    ensures same { table.now ≡ block_on tree → IsTrue result }
+{
+    is_named(&table.name, b"block")
+        && table.tree == tree
+        && is_block_table(table.columns.as_slice())
+        && is_keyed(table)
+}
+
+fn is_vote(table: &Table, tree: u32) -> bool
+    ensures tells { IsTrue result → table.now ≡ vote_on tree }
+    ensures same { table.now ≡ vote_on tree → IsTrue result }
+{
+    is_named(&table.name, b"vote")
+        && table.tree == tree
+        && is_vote_table(table.columns.as_slice())
+        && is_keyed(table)
+}
+
 fn is_first_place(places: &[usize]) -> bool
-    ensures tells { IsTrue result → places.now ≡ meta.primary }
-    ensures same { places.now ≡ meta.primary → IsTrue result }
+    ensures tells { IsTrue result → places.now ≡ 1 ∷ [] }
+    ensures same { places.now ≡ 1 ∷ [] → IsTrue result }
 {
     matches!(places, [1])
 }
 
-fn is_meta(table: &Table) -> bool
-    ensures tells { IsTrue result → table.now ≡ meta }
-    ensures same { table.now ≡ meta → IsTrue result }
+fn is_meta(table: &Table, tree: u32) -> bool
+    ensures tells { IsTrue result → table.now ≡ meta_on tree }
+    ensures same { table.now ≡ meta_on tree → IsTrue result }
 {
     let [unique] = table.uniques.as_slice() else {
         return false;
@@ -103,7 +161,7 @@ fn is_meta(table: &Table) -> bool
         return false;
     };
     is_named(&table.name, b"meta")
-        && table.tree == 1
+        && table.tree == tree
         && is_meta_table(table.columns.as_slice())
         && table.key.is_none()
         && is_first_place(table.primary.as_slice())
@@ -112,39 +170,89 @@ fn is_meta(table: &Table) -> bool
         && is_bare(table)
 }
 
-fn is_meta_key(index: &Index) -> bool
-    ensures tells { IsTrue result → index.now ≡ meta_key }
-    ensures same { index.now ≡ meta_key → IsTrue result }
+fn is_meta_key(index: &Index, tree: u32, table: u32) -> bool
+    ensures tells { IsTrue result → index.now ≡ meta_key_on tree table }
+    ensures same { index.now ≡ meta_key_on tree table → IsTrue result }
 {
     is_named(&index.name, b"sqlite_autoindex_meta_1")
-        && index.tree == 2
-        && index.table == 1
+        && index.tree == tree
+        && index.table == table
         && is_first_place(index.columns.as_slice())
         && index.order.digits == 0
         && index.is_unique
 }
 
-/// Whether the tables are those of a store, with nothing else.
-pub fn is_ours(schema: &Schema) -> bool
-    ensures tells { IsTrue result → schema.now ≡ store_schema }
-    ensures same { schema.now ≡ store_schema → IsTrue result }
+// Whether the tables are those of a new store, with nothing else.
+fn is_fresh(schema: &Schema) -> bool
+    ensures tells { IsTrue result → schema.now ≡ schema_of Fresh }
+    ensures same { schema.now ≡ schema_of Fresh → IsTrue result }
 {
     match (schema.tables.as_slice(), schema.indexes.as_slice()) {
-        ([first, second], [key]) => {
-            is_promise(first) && is_meta(second) && is_meta_key(key) && schema.views.is_empty()
+        ([block, vote, meta], [key]) => {
+            is_block(block, 0)
+                && is_vote(vote, 1)
+                && is_meta(meta, 2)
+                && is_meta_key(key, 3, 2)
+                && schema.views.is_empty()
         }
         _ => false,
     }
 }
 
-/// Whether one of the two tables is there without the other.
+// The same behind the table of version 1.
+fn is_moved(schema: &Schema) -> bool
+    ensures tells { IsTrue result → schema.now ≡ schema_of Moved }
+    ensures same { schema.now ≡ schema_of Moved → IsTrue result }
+{
+    match (schema.tables.as_slice(), schema.indexes.as_slice()) {
+        ([promise, meta, block, vote], [key]) => {
+            is_promise(promise)
+                && is_meta(meta, 1)
+                && is_block(block, 3)
+                && is_vote(vote, 4)
+                && is_meta_key(key, 2, 1)
+                && schema.views.is_empty()
+        }
+        _ => false,
+    }
+}
+
+/// Whether the tables are those of a store, with nothing else.
+pub fn is_ours(schema: &Schema) -> bool
+    ensures tells { IsTrue result → IsOurs schema.now }
+    ensures same { IsOurs schema.now → IsTrue result }
+{
+    is_fresh(schema) || is_moved(schema)
+}
+
+fn has_table(schema: &Schema, name: &[u8]) -> bool
+    ensures { result ≡ has_table schema.now name.now }
+{
+    schema.table_named(name).is_some()
+}
+
+/// Whether some of the tables are there without the others, or that of version 1 alone.
 #[tactic(auto, unfolding(crate::specs::Adopted::is_half))]
 pub fn is_half(schema: &Schema) -> bool
     ensures { result ≡ is_half schema.now }
 {
-    let has_promise = schema.table_named(b"promise").is_some();
-    let has_meta = schema.table_named(b"meta").is_some();
-    if has_promise { !has_meta } else { has_meta }
+    let has_block = has_table(schema, b"block");
+    let has_vote = has_table(schema, b"vote");
+    let has_meta = has_table(schema, b"meta");
+    let has_any = has_block || has_vote || has_meta || has_table(schema, b"promise");
+    has_any && !(has_block && has_vote && has_meta)
+}
+
+/// Whether there is a table of blocks.
+pub fn has_block(schema: &Schema) -> bool {
+    has_table(schema, b"block")
+}
+
+/// Whether the table of version 1 is there.
+pub fn has_old(schema: &Schema) -> bool
+    ensures { result ≡ has_table schema.now (codes "promise") }
+{
+    has_table(schema, b"promise")
 }
 
 /// Whether the schema is empty.

@@ -15,18 +15,21 @@ ghost use Rattle.press_store.specs.Voted.{IsLastVote};
 ghost use Rattle.press_acceptor.specs.Seen.{Counts, Looks, fault_in};
 
 use crate::adopt::prepare;
+use crate::block::put_promise;
 use crate::fault::fault_of;
 use crate::last::read_last;
+use crate::load::read_block;
 use crate::meta::{put_round, read_round};
-use crate::rows::{put_row, read_row, spell};
-use press_acceptor::{PromiseStore, Row, StoreFault};
-use press_wire::{Round, Slot, WireFault};
+use crate::save::put_vote;
+use press_acceptor::{Block, PromiseStore, StoreFault};
+use press_wire::{Ballot, Round, Slot, Vote, WireFault, encode_cmd};
 use sqlite::{Alter, Connection, Error, File, FileFrom, FileStore, Start, Unknown};
 use std::alloc::Global;
 use std::marker::Model;
 use std::rt::HostRuntime;
 
-/// A store over the tables `promise` and `meta` of a database. Each save is one statement, so it is kept whole or not at all.
+/// A store over the tables `block`, `vote` and `meta` of a database. Each save is one statement or one transaction, so it is kept whole or
+/// not at all.
 pub struct SqlStore<D: Alter> {
     conn: Connection<D>,
     faults: u64,
@@ -62,8 +65,8 @@ impl<D: Alter> Model for SqlStore<D> {
 
 impl<D: Alter> SqlStore<D> {
     /// A store over the connection, which has no limit on its steps from then on. Its tables are made where it has none. A fault returns
-    /// the connection: Damaged where it is in a transaction, or where the tables are not those of a store. Where one of the two tables is
-    /// there without the other, the connection is the very one that was given.
+    /// the connection: Damaged where it is in a transaction, or where the tables are not those of a store. Where some of the tables are
+    /// there without the others, as where they are of version 1, the connection is the very one that was given.
     pub fn adopt(
         alloc: Global,
         conn: Connection<D>,
@@ -90,8 +93,8 @@ impl<D: Alter> SqlStore<D> {
         }
     }
 
-    /// The last slot with a vote, by the store's order of slots and not by its search: two statements at most, however
-    /// many slots there are. None where no slot has a vote.
+    /// The last slot with a vote, by the store's order of slots and not by its search: one statement, however many slots
+    /// there are. None where no slot has a vote.
     pub fn last_vote(&mut self) -> Result<Option<Slot>, StoreFault>
         ensures honest { (seen_of D.Store self.new).is_honest →
             (seen_of D.Store self.old).is_honest }
@@ -102,7 +105,7 @@ impl<D: Alter> SqlStore<D> {
         ensures looks { (seen_of D.Store self.new).is_honest →
             Looks (seen_of D.Store self.old) (seen_of D.Store self.new) }
     {
-        match read_last(self.alloc, &mut self.conn) {
+        match read_last(&mut self.conn) {
             Ok(Some(last)) => Ok(last),
             Ok(None) => Err(StoreFault::Damaged),
             Err(error) => Err(counted(&mut self.faults, error)),
@@ -191,22 +194,29 @@ impl<D: Alter> PromiseStore for SqlStore<D> {
         self.faults
     }
 
-    fn load(&mut self, slot: Slot) -> Result<Row, StoreFault> {
-        match read_row(self.alloc, &mut self.conn, slot) {
-            Ok(Some(row)) => Ok(row),
+    fn load(&mut self, first: Slot) -> Result<Block, StoreFault> {
+        match read_block(self.alloc, &mut self.conn, first) {
+            Ok(Some(block)) => Ok(block),
             Ok(None) => Err(StoreFault::Damaged),
             Err(error) => Err(counted(&mut self.faults, error)),
         }
     }
 
-    fn save(&mut self, slot: Slot, row: &Row) -> Result<(), StoreFault> {
-        let bytes = match spell(self.alloc, &row.vote) {
+    fn save_promise(&mut self, first: Slot, ballot: Ballot) -> Result<(), StoreFault> {
+        match put_promise(&mut self.conn, first, ballot) {
+            Ok(_) => Ok(()),
+            Err(error) => Err(counted(&mut self.faults, error)),
+        }
+    }
+
+    fn save_vote(&mut self, slot: Slot, vote: &Vote) -> Result<(), StoreFault> {
+        let bytes = match encode_cmd(self.alloc, &vote.value) {
             Ok(bytes) => bytes,
             Err(WireFault::NoMemory) => return Err(StoreFault::NoMemory),
             Err(_) => return Err(StoreFault::Damaged),
         };
-        match put_row(&mut self.conn, slot, row, &bytes) {
-            Ok(_) => Ok(()),
+        match put_vote(&mut self.conn, slot, vote, &bytes) {
+            Ok(()) => Ok(()),
             Err(error) => Err(counted(&mut self.faults, error)),
         }
     }

@@ -1,5 +1,5 @@
 -- What the types of values and messages always hold: names of their class, texts in UTF-8, numbers in their ranges.
-use Rattle.std.specs.Prelude.{◌≡◌, ℕ, ◌<◌, ◌≤◌, ◌^◌, List, length, get_or, Option, Some, None, true}
+use Rattle.std.specs.Prelude.{◌≡◌, ℕ, ◌+◌, ◌<◌, ◌≤◌, ◌^◌, List, [], ◌∷◌, length, get_or, true}
 use Rattle.std.specs.Str.{is_utf8}
 use Rattle.press_text.specs.Names.{IsName}
 use Rattle.press_posts.specs.declared.draft.Draft.{Draft}
@@ -13,6 +13,9 @@ use Rattle.press_wire.specs.declared.message.Body.{Body}
 use Rattle.press_wire.specs.declared.message.Body.TheVariants.{Prepare, Promise, Nack, Accept, Accepted, Query}
 use Rattle.press_wire.specs.declared.message.Message.{Message}
 use Rattle.press_wire.specs.declared.vote.Vote.{Vote}
+use Rattle.press_wire.specs.declared.votes.SlotVote.{SlotVote}
+use Rattle.press_wire.specs.Blocks.{is_first}
+use Rattle.press_wire.specs.Votes.{IsWithin}
 use Rattle.press_wire.specs.Spelling.{longest}
 
 -- each number of the list is a byte
@@ -62,13 +65,13 @@ IsBallot b = IsRound b.round × IsNode b.node
 abbrev pub IsVote : Vote → Type 0
 IsVote v = IsBallot v.ballot × IsValue v.value
 
-abbrev pub IsPerhapsVote : Option Vote → Type 0
-IsPerhapsVote None = Unit {0}
-IsPerhapsVote (Some v) = IsVote v
+abbrev pub AreVotes : List SlotVote → Type 0
+AreVotes [] = Unit {0}
+AreVotes (v ∷ votes) = IsSlot v.slot × IsVote v.vote × AreVotes votes
 
 abbrev pub IsBody : Body → Type 0
 IsBody (Prepare round) = IsRound round
-IsBody (Promise ballot vote) = IsBallot ballot × IsPerhapsVote vote
+IsBody (Promise ballot votes) = IsBallot ballot × AreVotes votes
 IsBody (Nack refused promised) = IsBallot refused × IsBallot promised
 IsBody (Accept round value) = IsRound round × IsValue value
 IsBody (Accepted vote) = IsVote vote
@@ -76,6 +79,19 @@ IsBody Query = Unit {0}
 
 abbrev pub IsMessage : Message → Type 0
 IsMessage m = IsNode m.from × IsNode m.to × IsSlot m.slot × IsBody m.body
+
+-- ---- the form of a message: one about a block has its first slot, and its votes are for slots of the block, which rise
+
+abbrev pub IsInForm : ℕ → Body → Type 0
+IsInForm slot (Prepare round) = is_first slot ≡ true
+IsInForm slot (Promise ballot votes) = (is_first slot ≡ true) × IsWithin slot (slot + 16) votes
+IsInForm slot (Nack refused promised) = Unit {0}
+IsInForm slot (Accept round value) = Unit {0}
+IsInForm slot (Accepted vote) = Unit {0}
+IsInForm slot Query = Unit {0}
+
+abbrev pub IsFormed : Message → Type 0
+IsFormed m = IsInForm m.slot m.body
 
 -- ---- the texts of a command that isn't too long
 

@@ -1,6 +1,6 @@
 -- What has to be read before memory is taken: of a command its editor's name, and of its fields the first name or text (own).
 -- Where there is none to be read, no memory is taken.
-use Rattle.std.specs.Prelude.{ℕ, List, Bool, true, false, Err}
+use Rattle.std.specs.Prelude.{ℕ, List, [], Ok, Err}
 use Rattle.press_apply.specs.declared.kind.CommandKind.{CommandKind}
 use Rattle.press_apply.specs.declared.kind.CommandKind.TheVariants as kind
 use Rattle.press_wire.specs.declared.fault.WireFault.TheVariants.{BadKind, BadField}
@@ -8,11 +8,11 @@ use Rattle.press_wire.specs.declared.kind.ValueKind.{ValueKind}
 use Rattle.press_wire.specs.declared.kind.ValueKind.TheVariants as value
 use Rattle.press_wire.specs.declared.kind.MessageKind.{MessageKind}
 use Rattle.press_wire.specs.declared.kind.MessageKind.TheVariants as about
-use Rattle.press_wire.specs.Fields.{Reading, ◌>>=◌, byte_at, number4_at, number8_at, checked, counted, name_at, text_at, node_at, slot_at, round_at, ballot_at}
+use Rattle.press_wire.specs.Fields.{Reading, ◌>>=◌, byte_at, number4_at, number8_at, checked, counted, name_at, text_at, node_at, round_at, ballot_at}
 use Rattle.press_wire.specs.Kinds.{value_kind_of, message_kind_of}
-use Rattle.press_wire.specs.Ranges.{only, is_at_most}
-use Rattle.press_wire.specs.Reading.{flag_of}
-use Rattle.press_wire.specs.Spelling.{longest}
+use Rattle.press_wire.specs.Ranges.{only, is_at_most, is_within}
+use Rattle.press_wire.specs.Reading.{slot_for}
+use Rattle.press_wire.specs.Spelling.{longest, most_votes}
 
 -- ---- commands
 
@@ -54,28 +54,27 @@ editor_of_vote bytes = do
   ballot ← ballot_at bytes
   editor_inside ballot.1
 
-unfoldable pub editor_if_flagged : Bool → Reading (List ℕ)
-editor_if_flagged false bytes = Err BadKind
-editor_if_flagged true bytes = editor_of_vote bytes
+-- how many votes a report has, where it has any: their list takes memory
+unfoldable pub votes_counted : Reading ℕ
+votes_counted bytes = checked BadField (only (is_within 1 most_votes)) byte_at bytes
 
-unfoldable pub editor_perhaps : Reading (List ℕ)
-editor_perhaps bytes = do
-  flag ← checked BadField flag_of byte_at bytes
-  editor_if_flagged flag.0 flag.1
-
-unfoldable pub editor_of_promise : Reading (List ℕ)
-editor_of_promise bytes = do
+unfoldable pub votes_of_promise : Reading ℕ
+votes_of_promise bytes = do
   ballot ← ballot_at bytes
-  editor_perhaps ballot.1
+  votes_counted ballot.1
 
 unfoldable pub editor_of_accept : Reading (List ℕ)
 editor_of_accept bytes = do
   round ← round_at bytes
   editor_inside round.1
 
+-- what is read, where memory is taken
+abbrev read_some : {A : Type 0} → Reading A → Reading (List ℕ)
+read_some at bytes = at bytes >>= λ x. Ok ([], x.1)
+
 unfoldable pub editor_of_body : MessageKind → Reading (List ℕ)
 editor_of_body about.Prepare bytes = Err BadKind
-editor_of_body about.Promise bytes = editor_of_promise bytes
+editor_of_body about.Promise bytes = read_some votes_of_promise bytes
 editor_of_body about.Nack bytes = Err BadKind
 editor_of_body about.Accept bytes = editor_of_accept bytes
 editor_of_body about.Accepted bytes = editor_of_vote bytes
@@ -86,5 +85,5 @@ editor_of_message bytes = do
   kind ← checked BadKind message_kind_of byte_at bytes
   from ← node_at kind.1
   to ← node_at from.1
-  slot ← slot_at to.1
+  slot ← slot_for kind.0 to.1
   editor_of_body kind.0 slot.1

@@ -1,5 +1,5 @@
 -- What bytes are read as: a value or a message, with no byte left; else the fault of the first field that fails (own).
-use Rattle.std.specs.Prelude.{ℕ, List, ◌==◌, length, nat_lt, Bool, true, false, Option, Some, None, Result, Ok, Err, if◌then◌else◌}
+use Rattle.std.specs.Prelude.{ℕ, zero, suc, ◌+◌, List, [], ◌∷◌, ◌==◌, length, nat_lt, Result, Ok, Err, if◌then◌else◌}
 use Rattle.press_posts.specs.declared.draft.Draft.{Draft}
 use Rattle.press_apply.specs.declared.command.Command.{Command}
 use Rattle.press_apply.specs.declared.command.Command.TheVariants.{Insert, Update, Trash, Untrash, Delete, SetOption, Activate, Deactivate, Tick, Profile}
@@ -18,10 +18,11 @@ use Rattle.press_wire.specs.declared.message.Body.{Body}
 use Rattle.press_wire.specs.declared.message.Body.TheVariants.{Prepare, Promise, Nack, Accept, Accepted, Query}
 use Rattle.press_wire.specs.declared.message.Message.{Message}
 use Rattle.press_wire.specs.declared.vote.Vote.{Vote}
+use Rattle.press_wire.specs.declared.votes.SlotVote.{SlotVote}
 use Rattle.press_wire.specs.Fields.{Reading, ◌>>=◌, byte_at, number4_at, checked, counted, name_at, text_at, number8_at, moment_at, status_at, node_at, slot_at, round_at, ballot_at}
-use Rattle.press_wire.specs.Kinds.{value_kind_of, message_kind_of}
-use Rattle.press_wire.specs.Ranges.{only, is_at_most}
-use Rattle.press_wire.specs.Spelling.{longest}
+use Rattle.press_wire.specs.Kinds.{value_kind_of, may_be_about, message_kind_of}
+use Rattle.press_wire.specs.Ranges.{only, is_at_most, is_between}
+use Rattle.press_wire.specs.Spelling.{longest, most_votes}
 
 -- nothing is left
 abbrev pub ended : {A : Type 0} → A × List ℕ → Result A WireFault
@@ -114,23 +115,32 @@ vote_at bytes = do
   value ← value_at ballot.1
   Ok (record { ballot = ballot.0; value = value.0 }, value.1)
 
-abbrev pub flag_of : ℕ → Option Bool
-flag_of n = if n == 0 then Some false else (if n == 1 then Some true else None)
+-- a vote for a slot from the first number on, and below the last
+unfoldable pub slot_vote_at : ℕ → ℕ → Reading SlotVote
+slot_vote_at first last bytes = do
+  slot ← checked BadField (only (is_between first last)) slot_at bytes
+  vote ← vote_at slot.1
+  Ok (record { slot = slot.0; vote = vote.0 }, vote.1)
 
-unfoldable pub if_flagged : Bool → Reading (Option Vote)
-if_flagged false bytes = Ok (None, bytes)
-if_flagged true bytes = vote_at bytes >>= λ vote. Ok (Some vote.0, vote.1)
+-- so many votes, whose slots rise
+unfoldable pub slot_votes_at : ℕ → ℕ → ℕ → Reading (List SlotVote)
+slot_votes_at zero first last bytes = Ok ([], bytes)
+slot_votes_at (suc more) first last bytes = do
+  vote ← slot_vote_at first last bytes
+  votes ← slot_votes_at more (vote.0.slot + 1) last vote.1
+  Ok (vote.0 ∷ votes.0, votes.1)
 
-unfoldable pub perhaps_vote_at : Reading (Option Vote)
-perhaps_vote_at bytes = do
-  flag ← checked BadField flag_of byte_at bytes
-  if_flagged flag.0 flag.1
+-- votes for slots of the block, at most one for each
+unfoldable pub report_at : ℕ → Reading (List SlotVote)
+report_at block bytes = do
+  count ← checked BadField (only (is_at_most most_votes)) byte_at bytes
+  slot_votes_at count.0 block (block + 16) count.1
 
-unfoldable pub promise_at : Reading Body
-promise_at bytes = do
+unfoldable pub promise_at : ℕ → Reading Body
+promise_at block bytes = do
   ballot ← ballot_at bytes
-  vote ← perhaps_vote_at ballot.1
-  Ok (Promise ballot.0 vote.0, vote.1)
+  votes ← report_at block ballot.1
+  Ok (Promise ballot.0 votes.0, votes.1)
 
 unfoldable pub nack_at : Reading Body
 nack_at bytes = do
@@ -144,21 +154,25 @@ accept_at bytes = do
   value ← value_at round.1
   Ok (Accept round.0 value.0, value.1)
 
-unfoldable pub body_at : MessageKind → Reading Body
-body_at about.Prepare bytes = round_at bytes >>= λ round. Ok (Prepare round.0, round.1)
-body_at about.Promise bytes = promise_at bytes
-body_at about.Nack bytes = nack_at bytes
-body_at about.Accept bytes = accept_at bytes
-body_at about.Accepted bytes = vote_at bytes >>= λ vote. Ok (Accepted vote.0, vote.1)
-body_at about.Query bytes = Ok (Query, bytes)
+unfoldable pub body_at : MessageKind → ℕ → Reading Body
+body_at about.Prepare slot bytes = round_at bytes >>= λ round. Ok (Prepare round.0, round.1)
+body_at about.Promise slot bytes = promise_at slot bytes
+body_at about.Nack slot bytes = nack_at bytes
+body_at about.Accept slot bytes = accept_at bytes
+body_at about.Accepted slot bytes = vote_at bytes >>= λ vote. Ok (Accepted vote.0, vote.1)
+body_at about.Query slot bytes = Ok (Query, bytes)
+
+-- the slot of a message of the kind
+unfoldable pub slot_for : MessageKind → Reading ℕ
+slot_for kind bytes = checked BadField (only (may_be_about kind)) slot_at bytes
 
 unfoldable pub message_at : Reading Message
 message_at bytes = do
   kind ← checked BadKind message_kind_of byte_at bytes
   from ← node_at kind.1
   to ← node_at from.1
-  slot ← slot_at to.1
-  body ← body_at kind.0 slot.1
+  slot ← slot_for kind.0 to.1
+  body ← body_at kind.0 slot.0 slot.1
   Ok (record { from = from.0; to = to.0; slot = slot.0; body = body.0 }, body.1)
 
 -- all of the bytes as one message

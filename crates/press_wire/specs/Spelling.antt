@@ -1,5 +1,5 @@
 -- The one spelling of each value and message: its kind and its fields from left to right, numbers big-endian (own).
-use Rattle.std.specs.Prelude.{ℕ, List, [], ◌∷◌, ◌++◌, length, nat_lt, Bool, false, Option, Some, None}
+use Rattle.std.specs.Prelude.{ℕ, List, [], ◌∷◌, ◌++◌, ◌||◌, length, nat_lt, Bool, false}
 use Rattle.std.specs.Int.{w32, w64, to_be_bytes}
 use Rattle.press_apply.specs.declared.command.Command.{Command}
 use Rattle.press_apply.specs.declared.command.Command.TheVariants.{Insert, Update, Trash, Untrash, Delete, SetOption, Activate, Deactivate, Tick, Profile}
@@ -12,6 +12,7 @@ use Rattle.press_wire.specs.declared.message.Body.{Body}
 use Rattle.press_wire.specs.declared.message.Body.TheVariants.{Prepare, Promise, Nack, Accept, Accepted, Query}
 use Rattle.press_wire.specs.declared.message.Message.{Message}
 use Rattle.press_wire.specs.declared.vote.Vote.{Vote}
+use Rattle.press_wire.specs.declared.votes.SlotVote.{SlotVote}
 use Rattle.press_apply.specs.Kinds.{command_number, kind_of_command}
 use Rattle.press_wire.specs.Kinds.{message_number, kind_of_body, status_number}
 
@@ -75,13 +76,20 @@ value v = text (spelled_command v)
 unfoldable pub vote : Vote → List ℕ
 vote v = ballot v.ballot ++ value v.value
 
-unfoldable pub perhaps_vote : Option Vote → List ℕ
-perhaps_vote None = 0 ∷ []
-perhaps_vote (Some v) = 1 ∷ vote v
+unfoldable pub slot_vote : SlotVote → List ℕ
+slot_vote v = number4 v.slot ++ vote v.vote
+
+unfoldable pub slot_votes : List SlotVote → List ℕ
+slot_votes [] = []
+slot_votes (v ∷ votes) = slot_vote v ++ slot_votes votes
+
+-- votes of a block: how many they are in one byte, and each with its slot
+unfoldable pub report : List SlotVote → List ℕ
+report votes = length votes ∷ slot_votes votes
 
 unfoldable pub body : Body → List ℕ
 body (Prepare round) = number8 round
-body (Promise b v) = ballot b ++ perhaps_vote v
+body (Promise b votes) = ballot b ++ report votes
 body (Nack refused promised) = ballot refused ++ ballot promised
 body (Accept round v) = number8 round ++ value v
 body (Accepted v) = vote v
@@ -90,22 +98,25 @@ body Query = []
 unfoldable pub spelled_message : Message → List ℕ
 spelled_message m = message_number (kind_of_body m.body) ∷ m.from ∷ m.to ∷ (number4 m.slot ++ body m.body)
 
--- the value inside a message
-abbrev pub perhaps_value_of : Option Vote → Option Value
-perhaps_value_of None = None
-perhaps_value_of (Some v) = Some v.value
+-- the most votes of a block
+abbrev pub most_votes : ℕ
+most_votes = 16
 
-abbrev pub value_of : Body → Option Value
-value_of (Prepare round) = None
-value_of (Promise b v) = perhaps_value_of v
-value_of (Nack refused promised) = None
-value_of (Accept round v) = Some v
-value_of (Accepted v) = Some v.value
-value_of Query = None
+abbrev pub has_long_vote : List SlotVote → Bool
+has_long_vote [] = false
+has_long_vote (v ∷ votes) = is_too_long v.vote.value || has_long_vote votes
 
-abbrev pub is_too_long_inside : Option Value → Bool
-is_too_long_inside None = false
-is_too_long_inside (Some v) = is_too_long v
+-- too many votes, or a value in them that is too long
+abbrev pub is_too_long_report : List SlotVote → Bool
+is_too_long_report votes = nat_lt most_votes (length votes) || has_long_vote votes
+
+abbrev pub is_too_long_body : Body → Bool
+is_too_long_body (Prepare round) = false
+is_too_long_body (Promise b votes) = is_too_long_report votes
+is_too_long_body (Nack refused promised) = false
+is_too_long_body (Accept round v) = is_too_long v
+is_too_long_body (Accepted v) = is_too_long v.value
+is_too_long_body Query = false
 
 abbrev pub is_too_long_message : Message → Bool
-is_too_long_message m = is_too_long_inside (value_of m.body)
+is_too_long_message m = is_too_long_body m.body

@@ -28,10 +28,10 @@ pub fn decode_cmd(alloc: Global, bytes: &[u8]) -> Result<Value, WireFault>
 }
 
 /// The message that all of the bytes spell; else the fault of the first field that fails. A fault inside a value is one of the field.
-/// Memory is taken for names and for texts past 22 bytes alone.
+/// Memory is taken for names, for texts past 22 bytes and for a list of votes alone.
 pub fn decode_msg(alloc: Global, bytes: &[u8]) -> Result<Message, WireFault>
     ensures read { Gives Refuses Ok result (read_message bytes.now) }
-    // Out of memory comes only behind the name of a value's editor.
+    // Out of memory comes only behind the name of a value's editor, or behind the number of a promise's votes, if it has any.
     ensures memory { result ≡ Err WireFault.NoMemory → IsOk (editor_of_message bytes.now) }
     // No other bytes are read as this message.
     ensures spelled { IfOk result (λ m. bytes.now ≡ spelled_message m) }

@@ -1,11 +1,12 @@
 //! What the types hold, as facts for the law that spellings read back. Nothing here does anything.
 
 ghost use Rattle.std.specs.Prelude.{◌≡◌};
-ghost use Rattle.press_wire.specs.Held.{IsText, IsDraft, IsCommand, IsStamped, IsValue, IsBallot, IsVote, IsPerhapsVote, IsBody, IsMessage};
+ghost use Rattle.press_wire.specs.Held.{IsText, IsDraft, IsCommand, IsStamped, IsValue, IsBallot, IsVote, IsSlot, AreVotes, IsBody, IsMessage};
 
 use crate::ballot::Ballot;
 use crate::message::{Body, Message};
 use crate::vote::Vote;
+use crate::votes::SlotVote;
 use press_apply::{Command, Stamped, Value};
 use press_posts::Draft;
 use press_text::Text;
@@ -94,12 +95,19 @@ fn hold_vote(vote: &Vote)
     hold_value(&vote.value);
 }
 
-fn hold_perhaps_vote(vote: &Option<Vote>)
-    ensures { IsPerhapsVote vote.now }
+fn hold_slot_vote(vote: &SlotVote)
+    ensures slot { IsSlot vote.now.slot }
+    ensures vote { IsVote vote.now.vote }
 {
-    match vote {
-        Some(vote) => hold_vote(vote),
-        None => {}
+    let _slot = vote.slot.number();
+    hold_vote(&vote.vote);
+}
+
+fn hold_votes(votes: &[SlotVote])
+    ensures { AreVotes votes.now }
+{
+    for vote in votes {
+        hold_slot_vote(vote);
     }
 }
 
@@ -110,9 +118,9 @@ fn hold_body(body: &Body)
         Body::Prepare { round } => {
             let _round = round.number();
         }
-        Body::Promise { ballot, vote } => {
+        Body::Promise { ballot, votes } => {
             hold_ballot(*ballot);
-            hold_perhaps_vote(vote);
+            hold_votes(votes.as_slice());
         }
         Body::Nack { refused, promised } => {
             hold_ballot(*refused);

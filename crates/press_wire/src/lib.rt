@@ -19,6 +19,7 @@ mod round;
 mod slot;
 mod status;
 mod vote;
+mod votes;
 mod write_message;
 mod write_value;
 mod writer;
@@ -33,5 +34,6 @@ pub use laws::{
 pub use message::{Body, Message};
 pub use node::Node;
 pub use round::Round;
-pub use slot::Slot;
+pub use slot::{Slot, is_first};
 pub use vote::Vote;
+pub use votes::{SlotVote, Votes};

@@ -1,4 +1,5 @@
-ghost use Rattle.std.specs.Prelude.{◌≡◌, ◌≤◌};
+ghost use Rattle.std.specs.Prelude.{◌≡◌, ◌≤◌, true};
+ghost use Rattle.press_wire.specs.Blocks.{block_of, is_first, is_last};
 ghost use Rattle.press_wire.specs.Ranges.{slot_of};
 
 use std::marker::Model;
@@ -42,4 +43,32 @@ impl Slot {
     {
         self.number
     }
+
+    /// The first slot of its block.
+    #[tactic(auto, unfolding(crate::specs::Blocks::block_of))]
+    pub fn first(self) -> Slot
+        ensures block { result ≡ block_of self }
+        ensures first { is_first result ≡ true }
+    {
+        let number = self.number();
+        let Some(first) = Slot::new(number - (number - 1) % 16) else {
+            unreachable!()
+        };
+        first
+    }
+
+    /// Whether it is the last slot of its block.
+    #[tactic(auto, unfolding(crate::specs::Blocks::is_last))]
+    pub fn is_last(self) -> bool
+        ensures { result ≡ is_last self }
+    {
+        self.number() % 16 == 0
+    }
+}
+
+/// Whether it is the first slot of a block.
+pub fn is_first(slot: Slot) -> bool
+    ensures { result ≡ is_first slot }
+{
+    slot.first() == slot
 }

@@ -8,14 +8,16 @@ use Rattle.press_wire.specs.Spelling.{is_too_long}
 use Rattle.press_acceptor.specs.InMemory.{EndsInMemory}
 use Rattle.press_acceptor.specs.Plans.{answer_calls}
 use Rattle.press_acceptor.specs.Seen.{Call, Seen, SavesIf}
-use Rattle.press_acceptor.specs.Seen.Call.{LoadsRow, SavesRow, LoadsRound, SavesRound}
+use Rattle.press_acceptor.specs.Seen.Call.{LoadsBlock, SavesPromise, SavesVote, LoadsRound, SavesRound}
 use Rattle.press_acceptor.specs.StoreMap.{StoreMap, Save, saved_if}
 use Rattle.press_acceptor.specs.Turned.{Trusts, LastEnds, Turned, TurnedBy, moved}
 use Rattle.press_acceptor.specs.declared.fault.StoreFault.{StoreFault}
 use Rattle.press_acceptor.specs.declared.fault.StoreFault.TheVariants as store_fault
 use Rattle.press_learner.specs.Chosen.{has_gap}
 use Rattle.press_proposer.specs.Queues.{is_full}
-use Rattle.press_proposer.specs.Turns.{is_content, is_used_up, next_round, asks, prepares}
+use Rattle.press_proposer.specs.Turns.{is_content, is_used_up, next_round, asks, goes_on, prepares}
+use Rattle.press_proposer.specs.Phases.{can_ask}
+use Rattle.press_wire.specs.Blocks.{block_of}
 use Rattle.press_proposer.specs.Wakes.{last_round_plan}
 use Rattle.press_node.specs.declared.event.Event.{Event}
 use Rattle.press_node.specs.declared.event.Event.TheVariants.{Submit, Wake, Deliver}
@@ -38,8 +40,9 @@ memory_seen s = record { is_honest = Unit {0}; is_open = true; kept = s; may_lea
 -- ---- which faults there are
 
 one_end : (t : StoreMap) (c : Call) (f : StoreFault) → EndsInMemory t c (Some f) → f ≡ store_fault.NoMemory
-one_end t (LoadsRow slot) f e = e.0
-one_end t (SavesRow slot) f e = e
+one_end t (LoadsBlock block) f e = e.0
+one_end t (SavesPromise block) f e = e
+one_end t (SavesVote slot) f e = e
 one_end t LoadsRound f e = cc
 one_end t SavesRound f e = cc
 
@@ -91,7 +94,7 @@ module _ (s t : StoreMap) where
 -- an event that doesn't ask the store saves nothing
 body_still : (n id : ℕ) (store : StoreMap) (node : Running) (m : Message) (body : Body) → answer_calls m.slot body ≡ [] → (on_body n id store node m body).save ≡ None
 body_still n id store node m (Prepare round) e = cc
-body_still n id store node m (Promise ballot vote) e = promise_saves node.proposer m.from m.slot ballot vote
+body_still n id store node m (Promise ballot votes) e = promise_saves node m.from m.slot ballot votes
 body_still n id store node m (Nack refused promised) e = refl
 body_still n id store node m (Accept round value) e = cc
 body_still n id store node m (Accepted vote) e = refl
@@ -99,12 +102,13 @@ body_still n id store node m Query e = cc
 
 still : (n id : ℕ) (store : StoreMap) (node : Running) (event : Event) → event_calls n id node event ≡ [] → (on_event n id store node event).save ≡ None
 still n id store node (Submit command) e = refl
-still n id store node Wake e = go (is_content node.proposer (has_gap node.learner)) e
+still n id store node Wake e = go (is_content node.proposer (has_gap node.learner)) (can_ask node.proposer.phase (node.learner.applied + 1)) e
   where
-    go : (b : Bool) → cond b [] (LoadsRound ∷ SavesRound ∷ []) ≡ [] →
-        (cond b (asks node.proposer (node.learner.applied + 1)) (prepares node.proposer (node.learner.applied + 1) (next_round store node.proposer))).save ≡ None
-    go true e = refl
-    go false e = cc
+    go : (b c : Bool) → cond b [] (cond c [] (LoadsRound ∷ SavesRound ∷ [])) ≡ [] →
+        (cond b (asks node.proposer (node.learner.applied + 1)) (cond c (goes_on node.proposer (node.learner.applied + 1)) (prepares node.proposer (block_of (node.learner.applied + 1)) (next_round store node.proposer)))).save ≡ None
+    go true c e = refl
+    go false true e = refl
+    go false false e = cc
 still n id store node (Deliver m) e = go (is_for n id m) e
   where
     go : (b : Bool) → calls_where b (answer_calls m.slot m.body) ≡ [] → (cond b (on_body n id store node m m.body) (quiet node)).save ≡ None
@@ -129,7 +133,7 @@ calm node (Deliver m) fault e = let q : None ≡ Some fault = e in cc
 
 pub by_rounds : (store : StoreMap) (node : Running) (event : Event) (fault : NodeFault) → refusal_by_rounds store node event ≡ Some fault → fault ≡ RoundsUsedUp
 by_rounds store node (Submit command) fault e = let q : None ≡ Some fault = e in cc
-by_rounds store node Wake fault e = go (is_used_up store node.proposer (has_gap node.learner)) e
+by_rounds store node Wake fault e = go (is_used_up store node.proposer node.learner.applied (has_gap node.learner)) e
   where
     go : (a : Bool) → cond a (Some RoundsUsedUp) None ≡ Some fault → fault ≡ RoundsUsedUp
     go true e = cc

@@ -7,6 +7,7 @@ mod Events
 mod Fronts
 mod Growing
 mod Lists
+pub mod Looking
 mod Members
 mod Nodes
 mod Onward

@@ -2,7 +2,7 @@
 use Rattle.std.proofs.Common.{ℕ, suc, ◌+◌, ◌≡◌, ◌⊎◌, inl, inr, Bool, true, false, List, [], ◌∷◌, slice_get, length, Option, None, Some, Result, Ok, Err, OnOk, IfErr, refl, sym, subst, ap, ap₂, ◌∙◌, arith}
 use Rattle.std.specs.List.{AllByRecursion}
 use Rattle.press_apply.specs.declared.value.Value.{Value}
-use Rattle.press_acceptor.specs.Blocks.{block_of}
+use Rattle.press_wire.specs.Blocks.{block_of}
 use Rattle.press_acceptor.specs.Trace.{Fact, Legal, Chosen}
 use Rattle.press_acceptor.proofs.Agreement.{one_chosen, chosen_later}
 use Rattle.press_callbacks.specs.Kits.{KitView}

@@ -18,9 +18,12 @@ use std::test::Fail;
 
 const NODES: usize = 3;
 
-// How many messages three nodes send for a command, and how often each wakes at the end.
-const MESSAGES: u32 = 18;
+// How many messages three nodes send for the first command, and for each later one, for whose block the first node needs no promises any more.
+const FIRST_MESSAGES: u32 = 18;
 
+const MESSAGES: u32 = 12;
+
+// How often each node wakes at the end.
 const WAKES: u32 = 6;
 
 // Of the row `three-nodes`, where no plugin is active.
@@ -45,16 +48,17 @@ const PAGES: &str = "{\"do\":\"get\",\"node\":1,\"target\":\"post:1\"},\n\
 // A schedule in which the first node chooses the commands one after the other, and then the last steps.
 fn schedule(alloc: Global, commands: &[&str], last: &str) -> Result<String, AllocError> {
     let mut steps = format!(in alloc; "{{\"nodes\":3,\"steps\":[\n")?;
-    let mut message = 1u64;
+    let (mut message, mut count) = (1u64, FIRST_MESSAGES);
     for command in commands {
         let submit = format!(in alloc; "{{\"do\":\"submit\",\"node\":1,{command}}},\n")?;
         steps.push_str(submit.as_str())?;
         steps.push_str("{\"do\":\"wake\",\"node\":1},\n")?;
-        for _ in 0..MESSAGES {
+        for _ in 0..count {
             let deliver = format!(in alloc; "{{\"do\":\"deliver\",\"message\":{message}}},\n")?;
             steps.push_str(deliver.as_str())?;
             message = message.saturating_add(1);
         }
+        count = MESSAGES;
     }
     steps.push_str(last)?;
     Ok(steps)

@@ -3,8 +3,8 @@
 ghost use Rattle.std.specs.Prelude.{◌≡◌, ◌⊎◌, ◌<◌, ◌≤◌};
 ghost use Rattle.press_acceptor.specs.declared.fault.StoreFault.TheVariants.{Damaged, Disk};
 
-use press_acceptor::{MemoryStore, PromiseStore, Row, StoreFault};
-use press_wire::{Round, Slot};
+use press_acceptor::{Block, MemoryStore, PromiseStore, StoreFault};
+use press_wire::{Ballot, Round, Slot, Vote};
 use std::alloc::Global;
 
 /// A store in memory, of which each call fails while it is shut.
@@ -96,18 +96,25 @@ impl PromiseStore for Mendable {
         self.faults
     }
 
-    fn load(&mut self, slot: Slot) -> Result<Row, StoreFault> {
+    fn load(&mut self, first: Slot) -> Result<Block, StoreFault> {
         if !self.works {
             return Err(self.fails());
         }
-        self.memory.load(slot)
+        self.memory.load(first)
     }
 
-    fn save(&mut self, slot: Slot, row: &Row) -> Result<(), StoreFault> {
+    fn save_promise(&mut self, first: Slot, ballot: Ballot) -> Result<(), StoreFault> {
         if !self.works {
             return Err(self.fails());
         }
-        self.memory.save(slot, row)
+        self.memory.save_promise(first, ballot)
+    }
+
+    fn save_vote(&mut self, slot: Slot, vote: &Vote) -> Result<(), StoreFault> {
+        if !self.works {
+            return Err(self.fails());
+        }
+        self.memory.save_vote(slot, vote)
     }
 
     fn last_round(&mut self) -> Result<u64, StoreFault> {

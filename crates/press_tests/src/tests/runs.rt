@@ -26,7 +26,7 @@ fn filter_of(alloc: Global, text: &str) -> Result<Job, Fail> {
     let text = Text::from_str(alloc, text)?;
     Ok(Job::Apply {
         hook: HookName::new(alloc, "h")?,
-        args: Texts::from_vec(vec![in alloc; text]?)?,
+        args: Texts::one(alloc, text),
     })
 }
 

@@ -12,7 +12,7 @@ returns-in_err-rows-clause-looks g c clean has = round_looks g.D.Store c.args.co
 pub returns-clause-shows : goal.returns-clause-shows
 returns-clause-shows g c clean has = round_same g.D.Store c.args.conn.now c.read.new.conn has c.in_ok-rows.rows (c.in_ok-rows.ensures.asked clean)
 
-pub returns-clause-kept : goal.returns-clause-kept
-returns-clause-kept g c clean has found =
+pub returns-clause-tells : goal.returns-clause-tells
+returns-clause-tells g c clean has live found =
     let same : c.deref.result.now ≡ c.in_ok-rows.rows.items = search rules in
-    round_kept g.D.Store c.args.conn.now c.read.new.conn has c.in_ok-rows.rows (c.in_ok-rows.ensures.asked clean) (subst IsOneNumber same (c.is_one_number.ensures found))
+    round_kept g.D.Store c.args.conn.now c.read.new.conn has live c.in_ok-rows.rows (c.in_ok-rows.ensures.asked clean) (subst IsOneNumber same (c.is_one_number.ensures found))

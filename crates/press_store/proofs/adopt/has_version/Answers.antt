@@ -1,5 +1,5 @@
 use Rattle.std.proofs.Common.{◌≡◌, subst, rules}
-use Rattle.press_store.specs.Adopting.{IsOne}
+use Rattle.press_store.specs.Adopting.{IsOneTwo}
 use Rattle.press_store.proofs.Adopting.{version_looks, version_same, version_kept}
 use Rattle.press_store.proofs.adopt.has_version.Goals as goal
 
@@ -12,7 +12,7 @@ returns-in_err-rows-clause-looks g c clean has = version_looks g.D.Store c.args.
 pub returns-clause-shows : goal.returns-clause-shows
 returns-clause-shows g c clean has = version_same g.D.Store c.args.conn.now c.read.new.conn has c.in_ok-rows.rows (c.in_ok-rows.ensures.asked clean)
 
-pub returns-clause-kept : goal.returns-clause-kept
-returns-clause-kept g c clean has found =
+pub returns-clause-tells : goal.returns-clause-tells
+returns-clause-tells g c clean has live found =
     let same : c.deref.result.now ≡ c.in_ok-rows.rows.items = search rules in
-    version_kept g.D.Store c.args.conn.now c.read.new.conn has c.in_ok-rows.rows (c.in_ok-rows.ensures.asked clean) (subst IsOne same (c.is_one.ensures found))
+    version_kept g.D.Store c.args.conn.now c.read.new.conn has live c.in_ok-rows.rows (c.in_ok-rows.ensures.asked clean) (subst IsOneTwo same (c.is_one_two.ensures found))

@@ -6,7 +6,7 @@ use Rattle.sqlite.specs.Held.{state}
 use Rattle.sqlite.proofs.StateLemmas.{survives_then}
 use Rattle.sqlite.proofs.Callers.{survives_begin}
 use Rattle.sqlite.proofs.InsideLemmas.{keeps_then}
-use Rattle.press_store.specs.Tables.{no_schema, store_schema}
+use Rattle.press_store.specs.Tables.{Fresh, no_schema, schema_of}
 use Rattle.press_store.specs.Making.{IsFresh}
 use Rattle.press_store.proofs.Made.{fresh_kept, fresh_left}
 use Rattle.press_store.proofs.Adopting.{unmade, commit_unmade, on_err}
@@ -32,7 +32,7 @@ returns-clause-survives g c =
     let last = c.make_rows.new.tx.conn.now in
     let end = c.commit.new.self.0 in
     let begun = c.transaction-tx.ensures.begun in
-    let P = λ (trees : Trees). old.schema ≡ no_schema → IsFresh (record { schema = store_schema; trees = trees }) in
+    let P = λ (trees : Trees). old.schema ≡ no_schema → IsFresh (record { schema = schema_of Fresh; trees = trees }) in
     let made = λ (was : HasCleanDisk (state g.S.Store last)) (has : old.schema ≡ no_schema).
     let one = c.in_ok-make_tables.ensures.made (omega (arith, c.make_rows.ensures.survives.clean, was)) (rw begun) (rw begun has) in
     (c.in_ok-make_rows.ensures.made was one.1 one.0).0 in

@@ -7,8 +7,11 @@ use Rattle.press_store.proofs.make.make_tables.Goals as goal
 pub returns-clause-made : goal.returns-clause-made
 returns-clause-made g c clean going has =
     let old = state g.S.Store c.args.tx.now.conn.now in
-    let mid = state g.S.Store c.execute.new.self.conn.now in
-    let new = state g.S.Store c.execute-2.new.self.conn.now in
-    let was : HasCleanDisk mid = omega (arith, c.execute-2.ensures.survives.clean, clean) in
-    let one = c.in_ok-execute.ensures.runs was going in
-    tables_made old mid new c.in_ok-execute.field-0 c.execute-2.result has one (c.execute-2.ensures.runs clean one.1.mode)
+    let one = state g.S.Store c.execute.new.self.conn.now in
+    let two = state g.S.Store c.execute-2.new.self.conn.now in
+    let new = state g.S.Store c.execute-3.new.self.conn.now in
+    let late : HasCleanDisk two = omega (arith, c.execute-3.ensures.survives.clean, clean) in
+    let early : HasCleanDisk one = omega (arith, c.in_ok-execute-2.ensures.survives.clean, late) in
+    let first = c.in_ok-execute.ensures.runs early going in
+    let second = c.in_ok-execute-2.ensures.runs late first.1.mode in
+    tables_made old one two new c.in_ok-execute.field-0 c.in_ok-execute-2.field-0 c.execute-3.result has first second (c.execute-3.ensures.runs clean second.1.mode)
