@@ -1,11 +1,12 @@
 -- A node without its kit and its store: which member it is, and what it has in memory while it is up.
-use Rattle.std.specs.Prelude.{◌≡◌, ◌≤◌, ℕ, Bool, true, false, Option, None, Some, option_map, length}
+use Rattle.std.specs.Prelude.{◌≡◌, ◌≤◌, ℕ, Bool, true, false, Option, None, Some, option_map, length, not}
 use Rattle.press_callbacks.specs.Kits.{KitView}
 use Rattle.press_apply.specs.Apply.{site_after}
 use Rattle.press_site.specs.SiteView.{SiteView}
 use Rattle.press_site.specs.Effects.{no_site}
 use Rattle.press_acceptor.specs.StoreMap.{StoreMap}
 use Rattle.press_learner.specs.Chosen.{chosen_next}
+use Rattle.press_proposer.specs.Queues.{is_empty}
 use Rattle.press_node.specs.declared.event.Event.{Event}
 use Rattle.press_node.specs.NodeEvent.{Running, Answer, fresh, on_event}
 
@@ -48,6 +49,14 @@ count_where (Some up) = length up.running.values
 
 abbrev pub applied_count : NodeState → ℕ
 applied_count state = count_where state.up
+
+-- a command waits to be chosen; none does where the node is down
+abbrev pub is_waiting_where : Option Up → Bool
+is_waiting_where None = false
+is_waiting_where (Some up) = not (is_empty up.running.proposer.queue)
+
+abbrev pub is_waiting : NodeState → Bool
+is_waiting state = is_waiting_where state.up
 
 -- the site is what the kit makes of the applied values
 abbrev pub IsFolded : KitView → NodeState → Type 0

@@ -5,7 +5,7 @@ ghost use Rattle.press_callbacks.specs.Kits.{kit_view};
 ghost use Rattle.press_acceptor.specs.Seen.{Calls, Looks};
 ghost use Rattle.press_acceptor.specs.Seen.Call.{LoadsRound};
 ghost use Rattle.press_node.specs.Nodes.{IsPageAt, NodePlays, kit_of, state_of, store_of};
-ghost use Rattle.press_node.specs.States.{IsMemberOf, IsWhole, applied_count, is_down, started_at};
+ghost use Rattle.press_node.specs.States.{IsMemberOf, IsWhole, applied_count, is_down, is_waiting, started_at};
 
 use crate::event::Event;
 use crate::fault::NodeFault;
@@ -32,6 +32,13 @@ impl<S> Node<S> {
         ensures whole { IsWhole (state_of self.now) }
     {
         self.state.applied()
+    }
+
+    /// Whether a command that was submitted to it waits to be chosen; false where it is down.
+    pub fn is_waiting(&self) -> bool
+        ensures { result ≡ is_waiting (state_of self.now) }
+    {
+        self.state.is_waiting()
     }
 
     pub fn store(&self) -> &S

@@ -9,6 +9,7 @@ ghost use Rattle.press_node.specs.Refusals.{refusal};
 ghost use Rattle.press_node.specs.States.{
   applied_count,
   is_down,
+  is_waiting,
   IsFolded,
   IsMemberOf,
   IsWhole,
@@ -110,6 +111,16 @@ impl State {
         match &self.up {
             Some(up) => up.values.len() as u64,
             None => 0,
+        }
+    }
+
+    /// Whether a command waits to be chosen; false where the node is down.
+    pub fn is_waiting(&self) -> bool
+        ensures { result ≡ is_waiting self.now }
+    {
+        match &self.up {
+            Some(up) => up.proposer.is_waiting(),
+            None => false,
         }
     }
 

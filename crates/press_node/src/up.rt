@@ -25,9 +25,9 @@ use press_acceptor::{Acceptor, PromiseStore};
 use press_apply::{Stamped, Value, apply};
 use press_callbacks::Kit;
 use press_learner::{Learner, none_is_chosen_after_64};
-use press_proposer::{Promise, Proposer};
+use press_proposer::Proposer;
 use press_site::Site;
-use press_wire::{Ballot, Body, Message, Node as Member, Slot, Vote, is_command_too_long};
+use press_wire::{Ballot, Body, Message, Node as Member, Slot, Vote, Votes, is_command_too_long};
 use std::alloc::Global;
 
 // How many slots there are.
@@ -287,27 +287,31 @@ impl Up {
     fn promise(
         &mut self,
         alloc: Global,
-        promise: Promise,
+        from: Member,
         first: Slot,
         ballot: Ballot,
+        votes: Votes,
     ) -> Result<Vec<Message>, NodeFault>
-        requires { promise.from ≤ self.old.proposer.members }
+        requires { from ≤ self.old.proposer.members }
         ensures rest { IsBeside self.old self.new }
         ensures out { IfOk result (λ out. out.items
-            ≡ (promise_answer (running_of self.old) promise.from first ballot promise.votes).out) }
+            ≡ (promise_answer (running_of self.old) from first ballot votes).out) }
         ensures after { OnOk result (running_of self.new ≡
-            (promise_answer (running_of self.old) promise.from first ballot promise.votes).after) }
+            (promise_answer (running_of self.old) from first ballot votes).after) }
         ensures stops { IfErr result (λ fault. stops fault ≡ true) }
         ensures memory { IfErr result
             (λ fault. (fault ≡ NodeFault.NoMemory) ×
-            TakesForPromise (running_of self.old) promise.from first ballot) }
+            TakesForPromise (running_of self.old) from first ballot) }
     {
         if self.is_at_end() {
-            drop(promise);
+            drop(votes);
             return Ok(Vec::new(alloc));
         }
         let applied = self.learner.applied() as u32;
-        match self.proposer.on_promise(promise, first, ballot, applied) {
+        match self
+            .proposer
+            .on_promise(from, first, ballot, votes, applied)
+        {
             Ok(out) => Ok(out),
             Err(_) => Err(NodeFault::NoMemory),
         }
@@ -349,7 +353,7 @@ impl Up {
         } = message;
         match body {
             Body::Promise { ballot, votes } => {
-                self.promise(fixed.alloc, Promise { from, votes }, slot, ballot)
+                self.promise(fixed.alloc, from, slot, ballot, votes)
             }
             Body::Nack { refused, promised } => {
                 self.nack(slot, refused, promised);

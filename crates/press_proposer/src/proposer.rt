@@ -1,6 +1,6 @@
 //! What a proposer does at each event: at most one save, and the messages that go out after it.
 
-ghost use Rattle.std.specs.Prelude.{◌≡◌, ◌≢◌, ◌<◌, ◌≤◌, ◌^◌, ◌+◌, Err, IfOk, IfErr, IsTrue, OnOk, OnErr, false, nat_lt, true, if◌then◌else◌};
+ghost use Rattle.std.specs.Prelude.{◌≡◌, ◌≢◌, ◌<◌, ◌≤◌, ◌^◌, ◌+◌, Err, IfOk, IfErr, IsTrue, OnOk, OnErr, false, nat_lt, not, true, if◌then◌else◌};
 ghost use Rattle.press_acceptor.specs.Messages as messages;
 ghost use Rattle.press_acceptor.specs.Seen.{Calls, Looks, fault_in};
 ghost use Rattle.press_acceptor.specs.Seen.Call.{LoadsRound};
@@ -12,7 +12,7 @@ ghost use Rattle.press_wire.specs.declared.message.Body.TheVariants.{Accept};
 ghost use Rattle.press_proposer.specs.Faults.{store_fault};
 ghost use Rattle.press_proposer.specs.Phases.{awaits};
 ghost use Rattle.press_proposer.specs.Proposing.{started, in_phase};
-ghost use Rattle.press_proposer.specs.Queues.{is_full};
+ghost use Rattle.press_proposer.specs.Queues.{is_empty, is_full};
 ghost use Rattle.press_proposer.specs.Turns.{queued_by, is_content, is_used_up, next_round, wake_turn, promise_turn, nacked_by, applied_by, accepts_in};
 ghost use Rattle.press_proposer.specs.Wakes.{Wakes, wake_calls};
 
@@ -22,7 +22,7 @@ use crate::promises::{Promise, Promises, lacks_one, value_of, value_with};
 use crate::queue::Queue;
 use press_acceptor::{Heading, PromiseStore, StoreFault, to_all};
 use press_apply::{Stamped, Value};
-use press_wire::{Ballot, Body, Message, Node, Round, Slot};
+use press_wire::{Ballot, Body, Message, Node, Round, Slot, Votes};
 use std::alloc::{AllocError, Global};
 use std::marker::Model;
 
@@ -91,6 +91,13 @@ impl Proposer {
         ensures { result ≡ is_full self.now.queue }
     {
         self.queue.is_full()
+    }
+
+    /// Whether a command waits to be chosen.
+    pub fn is_waiting(&self) -> bool
+        ensures { result ≡ not (is_empty self.now.queue) }
+    {
+        !self.queue.is_empty()
     }
 
     /// Whether a wake would want a round, and none is left, where this is the last round of the store and so many slots have values.
@@ -171,24 +178,26 @@ impl Proposer {
     /// Takes a member's promise for the block with this first slot. At a majority it leads the block, and Accept for the next slot goes to all members.
     pub fn on_promise(
         &mut self,
-        promise: Promise,
+        from: Node,
         first: Slot,
         ballot: Ballot,
+        votes: Votes,
         applied: u32,
     ) -> Result<Vec<Message>, AllocError>
-        requires member { promise.from ≤ self.old.members }
+        requires member { from ≤ self.old.members }
         requires left { applied < 1000000 }
         ensures kept { self.new ≡ in_phase self.old self.new.phase }
         ensures after { OnOk result (self.new
-            ≡ (promise_turn self.old promise.from first ballot promise.votes applied).after) }
+            ≡ (promise_turn self.old from first ballot votes applied).after) }
         ensures out { IfOk result (λ out. out.items
-            ≡ (promise_turn self.old promise.from first ballot promise.votes applied).out) }
+            ≡ (promise_turn self.old from first ballot votes applied).out) }
         ensures unchanged { OnErr result (self.new ≡ self.old) }
-        ensures memory { OnErr result (IsTrue (awaits self.old.phase promise.from first ballot)) }
+        ensures memory { OnErr result (IsTrue (awaits self.old.phase from first ballot)) }
     {
-        if !self.phase.awaits(promise.from, first, &ballot) {
+        if !self.phase.awaits(from, first, &ballot) {
             return Ok(Vec::new(self.alloc));
         }
+        let promise = Promise { from, votes };
         if lacks_one(self.phase.promises(), self.members) {
             let slot = slot_after(applied);
             let promises = self.phase.promises();

@@ -5,7 +5,7 @@ ghost use Rattle.press_apply.specs.declared.value.Value.TheVariants.{Cmd};
 ghost use Rattle.press_wire.specs.Held.{IsFormed, IsShort};
 ghost use Rattle.press_wire.specs.Reading.{read_command, read_message};
 ghost use Rattle.press_wire.specs.Spelling as spell;
-ghost use Rattle.press_wire.specs.Spelling.{longest, spelled_command, spelled_message, is_too_long, is_too_long_message, is_too_long_report};
+ghost use Rattle.press_wire.specs.Spelling.{spelled_command, spelled_message, is_too_long, is_too_long_message, is_too_long_report};
 
 use crate::fault::WireFault;
 use crate::held::{hold_message, hold_value};
