@@ -1,20 +1,18 @@
 //! What the receiving end of a connection makes of a request, and its answer.
 
-ghost use Rattle.std.specs.Prelude.{◌≡◌, ◌≢◌, true, Some, IfErr, IfOk, IfSome, option_map};
+ghost use Rattle.std.specs.Prelude.{◌≡◌, ◌≢◌, true, IfErr, IfOk, IfSome};
 ghost use Rattle.std.specs.Io.KnownBytes.{Appends};
 ghost use Rattle.press_http.specs.Replies.{fixed_reply, reply_bytes};
 ghost use Rattle.press_node.specs.Serving.{queued, status_of_node, taken};
-ghost use Rattle.press_wire.specs.Spelling.{spelled_message};
-ghost use Rattle.press_world.specs.Models.{model};
-ghost use Rattle.press_world.specs.Refusing.{message_numbered};
 ghost use Rattle.press_loop.specs.Responses.{bytes_of, reply_for, reply_to, status_to, without_page};
 
+use crate::alike::is_sent;
 use press_apply::{Stamped, same_values_are_equal};
 use press_http::{Asked, HttpFault, read_request, route, write_fault, write_reply};
 use press_node::NodeFault;
 use press_page::{ContentKind, Reply, Target};
 use press_text::Text;
-use press_wire::{Message, WireFault, encode_msg};
+use press_wire::Message;
 use press_world::{Played, ReplayFault, Step, World, WorldFault};
 use std::alloc::{AllocError, Global};
 use std::io::{Read, Write};
@@ -34,22 +32,6 @@ fn fault_of(fault: HttpFault) -> ReplayFault
 fn asked<R: Read>(alloc: Global, reader: &mut R) -> Result<Asked, HttpFault> {
     let request = read_request(alloc, reader)?;
     route(alloc, &request)
-}
-
-// Whether the message has the bytes of the one of that number.
-fn is_sent(alloc: Global, world: &World, number: u64, message: &Message) -> Result<bool, AllocError>
-    ensures { IfOk result (λ is. is ≡ true
-        → option_map spelled_message (message_numbered (model world.now) number)
-        ≡ Some (spelled_message message.now)) }
-{
-    let Some(sent) = world.sent(number) else {
-        return Ok(false);
-    };
-    match (encode_msg(alloc, sent), encode_msg(alloc, message)) {
-        (Ok(sent), Ok(came)) => Ok(sent.as_slice() == came.as_slice()),
-        (Err(WireFault::TooLong), _) | (_, Err(WireFault::TooLong)) => Ok(false),
-        (Err(_), _) | (_, Err(_)) => Err(AllocError),
-    }
 }
 
 fn is_same(target: &Target, other: &Target) -> bool
@@ -92,22 +74,15 @@ fn get_from(step: &Step, came: Target) -> Option<Step>
     }
 }
 
-fn deliver_from(
-    alloc: Global,
-    step: &Step,
-    came: &Message,
-    world: &World,
-) -> Result<Option<Step>, AllocError>
-    ensures { IfOk result (λ made. IfSome made (λ made. made ≡ step.now)) }
+fn deliver_from(step: &Step, came: &Message, world: &World) -> Option<Step>
+    ensures { IfSome result (λ made. made ≡ step.now) }
 {
     match step {
-        Step::Deliver { message, cut } if is_sent(alloc, world, *message, came)? => {
-            Ok(Some(Step::Deliver {
-                message: *message,
-                cut: *cut,
-            }))
-        }
-        _ => Ok(None),
+        Step::Deliver { message, cut } if is_sent(world, *message, came) => Some(Step::Deliver {
+            message: *message,
+            cut: *cut,
+        }),
+        _ => None,
     }
 }
 
@@ -125,7 +100,7 @@ pub fn step_from<R: Read>(
     let made = match asked(alloc, reader).map_err(fault_of)? {
         Asked::Command(command) => submit_from(step, command),
         Asked::Page(target) => get_from(step, target),
-        Asked::Peer(message) => deliver_from(alloc, step, &message, world)?,
+        Asked::Peer(message) => deliver_from(step, &message, world),
     };
     made.ok_or(ReplayFault::ReadFault)
 }
