@@ -1,5 +1,5 @@
 """Three nodes of `press serve` over files on the loopback, for bench/cluster: processes, relays between them, and what is asked of them."""
-import json, pathlib, random, select, socket, subprocess, threading, time, urllib.parse
+import collections, json, pathlib, random, select, socket, subprocess, threading, time, urllib.parse
 
 
 class Gone(Exception):
@@ -45,12 +45,16 @@ def send_message(port, message, source=None):
     return ask(port, b"POST /peer HTTP/1.1\r\nContent-Length: %d\r\n\r\n%s" % (len(message), message), source=source)
 
 
+PREPARE = b"\r\n\r\n\x01"
+
+
 class Relay:
-    """Carries connections from one node to another, or cuts them, or holds them back."""
+    """Carries connections from one node to another, or cuts them, or holds them back; counts the prepares that it carries."""
 
     def __init__(self, target, chance):
         self.target, self.chance = target, chance
         self.cut = self.hold = 0.0
+        self.prepares = 0
         self.listener = socket.create_server(("127.0.0.1", 0), backlog=256)
         self.port = self.listener.getsockname()[1]
         threading.Thread(target=self.run, daemon=True).start()
@@ -73,13 +77,16 @@ class Relay:
                 with socket.create_connection(("127.0.0.1", self.target), timeout=2) as other:
                     # A reply that is cut leaves a message that came, and of which its sender knows nothing.
                     mute = self.chance.random() < self.cut
-                    open_ends = {conn: other, other: conn}
+                    open_ends, asked = {conn: other, other: conn}, b""
                     while open_ends:
                         for end in select.select(list(open_ends), [], [], 3)[0] or [None]:
                             if end is None:
                                 return
                             piece = end.recv(65536)
                             to = open_ends[end]
+                            if end is conn and PREPARE not in asked:
+                                asked += piece
+                                self.prepares += PREPARE in asked
                             if not piece:
                                 del open_ends[end]
                                 to.shutdown(socket.SHUT_WR)
@@ -149,6 +156,21 @@ class Cluster:
                 return time.perf_counter() - begun
             time.sleep(0.01)
         return None
+
+    def seconds(self, place):
+        """Processor seconds of a node since its start."""
+        fields = pathlib.Path(f"/proc/{self.nodes[place].pid}/stat").read_text().rsplit(") ", 1)[1].split()
+        return (int(fields[11]) + int(fields[12])) / 100
+
+    def statuses(self, place):
+        """How many replies to forms a node has logged, by status."""
+        counts = collections.Counter()
+        # The last line may be cut.
+        for line in (self.folder / f"node{place + 1}.log").read_text().split("\n")[:-1]:
+            words = line.split(" ")
+            if words[2:4] == ["POST", "/command"]:
+                counts[words[4]] += 1
+        return counts
 
     def outcome(self, place, editor, seq):
         status, body = get(self.ports[place], f"/result/{editor}/{seq}")

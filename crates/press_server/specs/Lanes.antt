@@ -1,5 +1,6 @@
 -- The requests that go out, by the member that they are for (own).
-use Rattle.std.specs.Prelude.{ℕ, ◌-◌, ◌+◌, ◌&&◌, Bool, List, map, Option, option_and_then, option_map, unwrap_or, slice_get, slice_set, nat_le, nat_lt, length, position, drop, replicate, ◌≡◌, ◌++◌, ◌∷◌, [], ◌⊎◌, Some, None, MatchOption, is_none}
+use Rattle.std.specs.Prelude.{ℕ, ◌-◌, ◌+◌, ◌&&◌, ◌||◌, Bool, List, map, Option, option_and_then, option_map, unwrap_or, slice_get, slice_set, nat_le, nat_lt, length, position, drop, replicate, ◌≡◌, ◌++◌, ◌∷◌, [], ◌⊎◌, Some, None, MatchOption, is_none, true}
+use Rattle.std.specs.List.{list_all}
 use Rattle.press_server.specs.declared.answers.Outgoing.{Outgoing}
 use Rattle.std.specs.Time.{instant_nanos}
 use Rattle.std.specs.declared.time.Instant.{Instant}
@@ -49,6 +50,17 @@ ended queue = record { waiting = queue.waiting; «open» = queue.«open» - 1 }
 -- the first that waits goes out
 abbrev pub sent : Queue → Queue
 sent queue = record { waiting = drop 1 queue.waiting; «open» = queue.«open» + 1 }
+
+-- all of a request is out, or it had two milliseconds for that
+abbrev pub is_out : Instant → Call → Bool
+is_out now call = nat_le (length call.request.bytes.items) call.request.sent || nat_le 2000000 (instant_nanos now - instant_nanos call.begun)
+
+-- no request at a place is still going out
+abbrev pub is_out_at : Instant → Option Call → Bool
+is_out_at now slot = unwrap_or (option_map (is_out now) slot) true
+
+abbrev pub are_out : Instant → Calls → Bool
+are_out now calls = list_all (is_out_at now) calls.places.items
 
 -- one may go out: fewer than 32 are open, and one waits
 abbrev pub is_ready : Queue → Bool

@@ -59,6 +59,13 @@ pub trait Answers {
     /// The next request that goes out, if one waits.
     fn next_call(&mut self) -> Option<Outgoing>;
 
+    /// Whether it has requests to send, or something to do that waits for nothing else.
+    fn has_more(&self) -> bool;
+
+    /// It may do now what waits for nothing else: its requests are out, or had two milliseconds.
+    fn go_on(&mut self)
+        requires always { Unit {0} };
+
     /// A request that went out, or was to, has ended: its reply, as far as it is looked at; empty where it is lost.
     fn called(&mut self, place: usize, errand: Errand, reply: &[u8])
         ensures hears { hears self.old (credit place errand reply.now) self.new };

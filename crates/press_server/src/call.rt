@@ -1,7 +1,7 @@
 //! One request that goes out to a member, from its begin to its end.
 
 ghost use Rattle.std.specs.Prelude.{◌≡◌, ◌++◌, ◌-◌, ◌<◌, ◌≤◌, IfOk, IsFalse, IsTrue, length, option_map, take};
-ghost use Rattle.press_server.specs.Lanes.{HasSameAim, asked_by, is_call_late, reply_in, request_of};
+ghost use Rattle.press_server.specs.Lanes.{HasSameAim, asked_by, is_call_late, is_out, reply_in, request_of};
 
 use crate::answers::{Errand, Outgoing};
 use crate::sending::Sending;
@@ -21,6 +21,9 @@ const LONGEST: usize = 512;
 
 // Its time limit.
 const SECONDS: u64 = 2;
+
+// How long others may wait for it to be out.
+const MILLISECONDS: u64 = 2;
 
 /// How far a request is.
 #[derive(Clone, Copy, PartialEq, Eq)]
@@ -104,6 +107,14 @@ impl Call {
         ensures { result ≡ self.now.errand }
     {
         self.errand
+    }
+
+    /// Whether all of it is out, or it had two milliseconds for that.
+    pub fn is_out(&self, now: Instant) -> bool
+        ensures { result ≡ is_out now self.now }
+    {
+        self.request.bytes.len() <= self.request.sent()
+            || Duration::from_millis(MILLISECONDS) <= now.duration_since(self.begun)
     }
 
     pub fn course(&self) -> Course

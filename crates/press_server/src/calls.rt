@@ -2,7 +2,7 @@
 
 ghost use Rattle.std.specs.Prelude.{◌≡◌, [], if◌then◌else◌, ◌+◌, ◌<◌, ◌≤◌, ◌⊎◌, IfErr, IfOk, IfSome, IsFalse, IsTrue, MatchOption, None, Some, false, is_none, length, option_and_then, option_map, position, slice_get, slice_set, unwrap_or};
 ghost use Rattle.std.specs.VecDeque.{deque_capacity, deque_len};
-ghost use Rattle.press_server.specs.Lanes.{IsGrown, MakesRoom, call_at, changed_at, ended, front_at, is_call_late, is_ready, queue_of, queues, ready, sent, with_lanes, with_last};
+ghost use Rattle.press_server.specs.Lanes.{IsGrown, MakesRoom, are_out, call_at, changed_at, ended, front_at, is_call_late, is_out_at, is_ready, queue_of, queues, ready, sent, with_lanes, with_last};
 
 use crate::answers::Outgoing;
 use crate::call::Call;
@@ -52,6 +52,16 @@ impl Drop for Lane {
             waiting: _,
             open: _,
         } = self;
+    }
+}
+
+// Whether no request at a place is still going out.
+fn is_out_at(slot: &Option<Call>, now: Instant) -> bool
+    ensures { result ≡ is_out_at now slot.now }
+{
+    match slot {
+        Some(call) => call.is_out(now),
+        None => true,
     }
 }
 
@@ -217,6 +227,13 @@ impl Calls {
         ensures { result ≡ length self.now.places.items }
     {
         self.places.len()
+    }
+
+    /// Whether all of each is out, or each had two milliseconds for that.
+    pub fn are_out(&self, now: Instant) -> bool
+        ensures { result ≡ are_out now self.now }
+    {
+        self.places.iter().all(|slot| is_out_at(slot, now))
     }
 
     /// Whether the time of one is over.

@@ -17,6 +17,7 @@ use crate::talks::{Round, Talks};
 use mio::net::{TcpListener, TcpStream};
 use mio::{Events, Interest, Poll, Token};
 use std::alloc::Global;
+use std::collections::VecDeque;
 use std::io;
 use std::io::Write;
 use std::net::{IpAddr, Net, SocketAddr};
@@ -39,6 +40,12 @@ const MILLISECONDS: u64 = 100;
 
 // How long may pass where requests go out by time.
 const STEP: u64 = 2;
+
+// Milliseconds from one reply that has a client come again later to the next one: many clients that come again at once take a small part of its time.
+const PAUSE: u64 = 2;
+
+// The most of them that go out at once.
+const MOST_LET_OUT: u128 = 32;
 
 // Who has a token of the poll.
 enum Holder {
@@ -134,12 +141,22 @@ pub struct Task {
     pub is_timed: bool,
 }
 
+// A connection whose reply is held: its place, and its number among all that have come.
+#[derive(Clone, Copy)]
+struct Held {
+    place: usize,
+    number: u64,
+}
+
 /// A listener, the connections that came by it, and the requests that go out.
 pub struct Server {
     poll: Poll,
     listener: TcpListener,
     talks: Talks,
     calls: Calls,
+    // Those whose replies are held, the oldest first, and when one was last let out.
+    held: VecDeque<Held>,
+    last_out: Instant,
     // How many connections came.
     came: u64,
     // Whether some may wait of whom nothing more will be told.
@@ -161,6 +178,8 @@ impl Drop for Server {
             listener: _,
             talks: _,
             calls: _,
+            held: _,
+            last_out: _,
             came: _,
             is_behind: _,
             left: _,
@@ -194,6 +213,8 @@ impl Server {
             listener,
             talks: Talks::new(rt.alloc(), most),
             calls: Calls::new(rt.alloc()),
+            held: VecDeque::new(rt.alloc()),
+            last_out: now,
             came: 0,
             is_behind: false,
             left: turns,
@@ -349,11 +370,64 @@ impl Server {
         let had_turn = talk.step(answers, now, log);
         let is_over = talk.phase() == Phase::Over;
         let has_more = talk.has_more();
+        let held = Held {
+            place,
+            number: talk.number(),
+        };
+        let is_held = had_turn && talk.is_held();
         if is_over || (has_more && self.watch_again(place).is_err()) {
             self.talks.leave(place);
+        } else if is_held {
+            self.hold(held);
         }
         if had_turn {
             self.had_turn();
+        }
+    }
+
+    // Lets a held reply out, if its connection is still there.
+    fn let_out(&mut self, held: Held) {
+        let Held { place, number } = held;
+        let now = self.now;
+        let Some(talk) = self.talks.get_mut(place) else {
+            return;
+        };
+        if talk.number() != number || !talk.is_held() {
+            return;
+        }
+        talk.let_out(now);
+        let is_over = talk.phase() == Phase::Over;
+        let has_more = talk.has_more();
+        if is_over || (has_more && self.watch_again(place).is_err()) {
+            self.talks.leave(place);
+        }
+    }
+
+    // A reply is held. Those that are held have half of the places at most, and where more would be, the oldest is let out.
+    fn hold(&mut self, held: Held) {
+        if self.held.len() >= self.talks.most() / 2 {
+            if let Some(oldest) = self.held.pop_front() {
+                self.let_out(oldest);
+            }
+        }
+        if self.held.push_back(held).is_err() {
+            self.let_out(held);
+        }
+    }
+
+    // Lets the oldest held replies out: one for each two milliseconds that passed, or as many where no connection is still to have its turn.
+    fn let_some_out(&mut self) {
+        let passed = self.now.duration_since(self.last_out);
+        if self.is_open() && passed < Duration::from_millis(PAUSE) {
+            return;
+        }
+        self.last_out = self.now;
+        let count = (passed.as_millis() / u128::from(PAUSE)).max(1);
+        for _ in 0..count.min(MOST_LET_OUT) {
+            let Some(held) = self.held.pop_front() else {
+                return;
+            };
+            self.let_out(held);
         }
     }
 
@@ -396,6 +470,8 @@ impl Server {
             token_of_call(place),
             Interest::READABLE | Interest::WRITABLE,
         )?;
+        // Where the member is near, it is connected already.
+        call.step();
         self.calls.enter(place, call);
         Ok(())
     }
@@ -423,16 +499,19 @@ impl Server {
         }
     }
 
-    // Waits until a socket is ready, or a connection may be late, or it is time for something.
-    fn wait(&mut self, events: &mut Events<Global>) -> io::Result<()> {
-        let limit = if self.is_timed {
+    // How long it may wait for a socket: not at all where there is something to do.
+    fn limit(&self, has_more: bool) -> Option<Duration> {
+        if has_more && self.calls.are_out(self.now) {
+            Some(Duration::from_millis(0))
+        } else if has_more || !self.held.is_empty() {
+            Some(Duration::from_millis(PAUSE))
+        } else if self.is_timed {
             Some(Duration::from_millis(STEP))
         } else if self.talks.is_empty() && !self.is_behind {
             None
         } else {
             Some(Duration::from_millis(MILLISECONDS))
-        };
-        self.poll.poll(events, limit)
+        }
     }
 
     // Does what the sockets are ready for. The listener is last, so that what has come is heard before any gives way.
@@ -497,11 +576,16 @@ impl Server {
                 return Ok(());
             }
             self.call_all(rt, answers);
-            self.wait(&mut events)?;
+            if self.calls.are_out(self.now) {
+                answers.go_on();
+            }
+            let limit = self.limit(answers.has_more());
+            self.poll.poll(&mut events, limit)?;
             let now = self.look_at_clock(rt);
             let time = self.time(rt, now);
             answers.pass(time);
             self.round(rt, answers, &events, log);
+            self.let_some_out();
             self.end_late(answers, now, log);
         }
         Ok(())

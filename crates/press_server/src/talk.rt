@@ -18,7 +18,7 @@ use std::time::{Duration, Instant};
 
 const PIECE: usize = 8192;
 
-// More pieces than a request has, so that a look after them asks for no more.
+// The most pieces that are read at once.
 const MOST_PIECES: u32 = 10;
 
 // The most pieces that are drained at once.
@@ -29,6 +29,12 @@ const SECONDS: u64 = 10;
 
 // A reply of which nothing was taken for so many seconds is stalled.
 const STALLED: u64 = 1;
+
+// The status of a reply that has a client come again later.
+const LATER: u16 = 503;
+
+// The status of a reply to bytes that are no message.
+const MISUNDERSTOOD: u16 = 400;
 
 #[derive(Clone, Copy, PartialEq, Eq)]
 pub enum Phase {
@@ -86,6 +92,8 @@ pub struct Talk {
     has_more: bool,
     // When its socket last took some of the reply, or the reply was made.
     taken: Instant,
+    // Whether its reply waits until it is let out.
+    is_held: bool,
     alloc: Global,
 }
 
@@ -99,6 +107,7 @@ impl Drop for Talk {
             told: _,
             has_more: _,
             taken: _,
+            is_held: _,
             alloc: _,
         } = self;
     }
@@ -131,6 +140,7 @@ impl Talk {
             told: Sending::new(Vec::new(alloc)),
             has_more: false,
             taken: arrival.begun,
+            is_held: false,
             alloc,
         }
     }
@@ -167,6 +177,13 @@ impl Talk {
         ensures { result ≡ self.now.has_more }
     {
         self.has_more
+    }
+
+    /// Whether its reply is made and waits until it is let out, as one does that has an editor's client come again later.
+    pub fn is_held(&self) -> bool
+        ensures { result ≡ self.now.is_held }
+    {
+        self.is_held
     }
 
     /// Its socket, for the poll.
@@ -208,6 +225,20 @@ impl Talk {
         );
     }
 
+    // A member's message that isn't understood gets a line: a program of another version may have sent it.
+    fn log_misunderstood<E: Write>(&self, log: &mut E, status: u16) {
+        let is_message = self.came.asked() == ("POST", "/peer");
+        if status == MISUNDERSTOOD && is_message && self.group().is_member() {
+            let from = self.arrival.from;
+            write_line(
+                log,
+                format!(in self.alloc;
+                    "{from} sent a message that isn't understood: is its program of another version?\n"
+                ),
+            );
+        }
+    }
+
     // Reads what has come of the request; returns whether the input has ended.
     fn gather(&mut self) -> io::Result<bool> {
         let mut piece = [0u8; PIECE];
@@ -219,6 +250,7 @@ impl Talk {
                 Err(e) => return Err(e),
             }
         }
+        self.has_more = true;
         Ok(false)
     }
 
@@ -252,8 +284,10 @@ impl Talk {
         ) {
             Ok(status) => {
                 self.log_served(log, status);
+                self.log_misunderstood(log, status);
                 self.phase = Phase::Writing;
                 self.taken = now;
+                self.is_held = status == LATER && self.came.asked() == ("POST", "/command");
                 true
             }
             Err(HttpFault::Ended) if !ended => {
@@ -321,9 +355,18 @@ impl Talk {
         Ok(())
     }
 
+    /// Lets its reply out.
+    pub fn let_out(&mut self, now: Instant) {
+        self.is_held = false;
+        self.taken = now;
+        if self.reply(now).is_err() {
+            self.phase = Phase::Over;
+        }
+    }
+
     // What is left to do after a look.
     fn reply(&mut self, now: Instant) -> io::Result<()> {
-        if self.phase == Phase::Writing {
+        if self.phase == Phase::Writing && !self.is_held {
             self.send(now)?;
         }
         if self.phase == Phase::Ending {

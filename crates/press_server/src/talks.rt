@@ -206,6 +206,13 @@ impl Talks {
         self.places.iter().all(|talk| talk.is_none())
     }
 
+    /// The most connections that are open at once.
+    pub fn most(&self) -> usize
+        ensures { result ≡ self.now.most }
+    {
+        self.most
+    }
+
     /// The one at a place.
     pub fn get_mut(&mut self, place: usize) -> Option<&mut Talk>
         ensures is { MatchOption result (talk_at self.old place ≡ None)

@@ -93,6 +93,14 @@ impl<S: PromiseStore> Answers for Alone<'_, S> {
         None
     }
 
+    fn has_more(&self) -> bool {
+        false
+    }
+
+    fn go_on(&mut self)
+        requires always { Unit {0} }
+    {}
+
     fn called(&mut self, _place: usize, _errand: Errand, _reply: &[u8]) {}
 
     fn pass(&mut self, time: Time)

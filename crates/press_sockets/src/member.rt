@@ -87,6 +87,18 @@ fn look_request(alloc: Global) -> Option<Vec<u8>> {
     Some(text.into_bytes())
 }
 
+// The slot of a message, which its fourth to seventh bytes spell, in the request that brought it.
+fn slot_in(request: &[u8]) -> Option<u64> {
+    let head = request
+        .windows(4)
+        .position(|it| it == b"\r\n\r\n".as_slice())?;
+    let body = request.get(head.saturating_add(4)..)?;
+    match body.get(3..7)? {
+        [a, b, c, d] => Some(u64::from(u32::from_be_bytes([*a, *b, *c, *d]))),
+        _ => None,
+    }
+}
+
 // How many slots are chosen as far as a member knows, by its reply.
 fn chosen_in(reply: &[u8]) -> Option<u64> {
     let text = from_utf8(reply).ok()?;
@@ -101,21 +113,38 @@ fn is_message(request: &[u8]) -> bool {
     method == "POST" && target == "/peer"
 }
 
-fn is_proposal(message: &Message) -> bool {
-    matches!(message.body, Body::Prepare { .. } | Body::Accept { .. })
-}
-
 fn is_question(message: &Message) -> bool {
     matches!(message.body, Body::Query)
 }
 
-fn is_refusal(message: &Message) -> bool {
-    matches!(message.body, Body::Nack { .. })
+// What a message that a node sends says of who proposes.
+enum Sign {
+    Nothing,
+    /// It prepares a block itself.
+    Prepares,
+    /// It asks for votes itself.
+    Asks,
+    /// The member of that number proposes.
+    Other(Member),
+    /// Another would, and is refused.
+    Refuses,
+    /// It refuses its own proposal.
+    RefusesOwn,
 }
 
-// Whether it answers a proposal of another.
-fn is_answer(message: &Message) -> bool {
-    matches!(message.body, Body::Promise { .. } | Body::Accepted { .. })
+// A vote that goes to all members is one for a proposal that came; one that goes to a single member answers a question.
+fn sign_of(message: &Message, own: Member, is_for_all: bool) -> Sign {
+    match &message.body {
+        Body::Prepare { .. } => Sign::Prepares,
+        Body::Accept { .. } => Sign::Asks,
+        Body::Promise { .. } if message.to != own => Sign::Other(message.to),
+        Body::Accepted { vote } if is_for_all && vote.ballot.node != own => {
+            Sign::Other(vote.ballot.node)
+        }
+        Body::Nack { .. } if message.to == own => Sign::RefusesOwn,
+        Body::Nack { .. } => Sign::Refuses,
+        Body::Promise { .. } | Body::Accepted { .. } | Body::Query => Sign::Nothing,
+    }
 }
 
 impl<'s, S: PromiseStore> Clustered<'s, S> {
@@ -184,19 +213,25 @@ impl<'s, S: PromiseStore> Clustered<'s, S> {
     }
 
     // What a message that is sent says about the pace.
-    fn note(&mut self, message: &Message) {
-        if message.to == self.member {
-            if is_refusal(message) {
-                self.pace.refused();
+    fn note(&mut self, message: &Message, is_for_all: bool) {
+        let slot = u64::from(message.slot.number());
+        match sign_of(message, self.member, is_for_all) {
+            Sign::Nothing => {}
+            Sign::Prepares => self.pace.lead(slot, true),
+            Sign::Asks => self.pace.lead(slot, false),
+            Sign::Other(member) => {
+                let place = u64::from(member.number()).saturating_sub(1);
+                self.pace.leave_to(place, slot);
             }
-        } else if is_answer(message) {
-            self.pace.leave_alone();
+            Sign::Refuses => self.pace.share(),
+            Sign::RefusesOwn => self.pace.begin_again(),
         }
     }
 
     fn send(&mut self, messages: Vec<Message>) {
+        let is_for_all = messages.len() > 1;
         for message in messages {
-            self.note(&message);
+            self.note(&message, is_for_all);
             self.send_one(message);
         }
     }
@@ -213,24 +248,35 @@ impl<'s, S: PromiseStore> Clustered<'s, S> {
                 self.send(sent);
             }
         }
-        let applied = self.node.applied();
-        self.pace.moved(applied);
     }
 
     fn wake(&mut self)
         requires always { Unit {0} }
     {
-        let sent = match self.node.on(Event::Wake) {
-            Ok(sent) => sent,
-            Err(_) => {
-                self.pace.woken(false);
-                return;
+        let is_filling = !self.node.is_waiting();
+        match self.node.on(Event::Wake) {
+            Ok(sent) if sent.iter().any(is_question) => {
+                self.pace.rest();
+                self.send(sent);
             }
-        };
-        let proposes = sent.iter().any(is_proposal);
-        self.pace.woken(proposes);
-        self.send(sent);
-        self.hear_own();
+            Ok(sent) => {
+                self.pace.begin(is_filling);
+                self.send(sent);
+            }
+            Err(_) => self.pace.rest(),
+        }
+    }
+
+    // Tells the pace what is applied, and wakes the node where that is due at once: who leads goes on without a timer.
+    fn note_applied(&mut self)
+        requires always { Unit {0} }
+    {
+        let applied = self.node.applied();
+        let waits = self.node.is_waiting();
+        self.pace.moved(applied, waits);
+        if self.pace.is_due() {
+            self.wake();
+        }
     }
 
     // Asks a member for its vote for a slot.
@@ -250,9 +296,7 @@ impl<'s, S: PromiseStore> Clustered<'s, S> {
 
     // Asks each member that isn't busy for the slots that are not applied, up to the one after this: a vote there is
     // the gap that has this one proposed again, where too few members voted.
-    fn ask(&mut self, last: u64)
-        requires always { Unit {0} }
-    {
+    fn ask(&mut self, last: u64) {
         let next = self.node.applied().saturating_add(1);
         for place in 0..self.peers.count() {
             let Some(to) = member_at(place) else {
@@ -264,10 +308,9 @@ impl<'s, S: PromiseStore> Clustered<'s, S> {
                 }
             }
         }
-        self.hear_own();
     }
 
-    // Asks the others how far they are, and wakes this node.
+    // Asks the others how far they are, and wakes this node, where nobody proposes.
     fn look(&mut self)
         requires always { Unit {0} }
     {
@@ -279,7 +322,7 @@ impl<'s, S: PromiseStore> Clustered<'s, S> {
                 }
             }
         }
-        if !self.pace.is_waiting() {
+        if !self.pace.is_waiting() && self.pace.is_quiet() {
             self.wake();
         }
         self.note_told();
@@ -301,7 +344,18 @@ impl<'s, S: PromiseStore> Clustered<'s, S> {
             self.pace.submitted();
         }
         self.send(outbox);
-        self.hear_own();
+        self.note_applied();
+        Ok(status)
+    }
+
+    // Takes a member's message, which tells how far others are.
+    fn take(&mut self, request: &[u8], told: &mut Vec<u8>) -> Result<u16, HttpFault>
+        requires always { Unit {0} }
+    {
+        let status = self.serve(request, told)?;
+        if let (200, Some(slot)) = (status, slot_in(request)) {
+            self.pace.hear_of(slot);
+        }
         Ok(status)
     }
 
@@ -325,7 +379,7 @@ impl<'s, S: PromiseStore> Clustered<'s, S> {
     {
         let is_peer = self.peers.has(from);
         if is_peer && is_message(request) {
-            return self.serve(request, told);
+            return self.take(request, told);
         }
         match sort_of(self.alloc, request)? {
             Sort::Ready => self.show_ready(told),
@@ -365,6 +419,17 @@ impl<S: PromiseStore> Answers for Clustered<'_, S> {
 
     fn next_call(&mut self) -> Option<Outgoing> {
         self.out.pop_front()
+    }
+
+    fn has_more(&self) -> bool {
+        !self.out.is_empty() || !self.own.is_empty()
+    }
+
+    fn go_on(&mut self)
+        requires always { Unit {0} }
+    {
+        self.hear_own();
+        self.note_applied();
     }
 
     fn called(&mut self, place: usize, errand: Errand, reply: &[u8]) {

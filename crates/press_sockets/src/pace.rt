@@ -1,17 +1,23 @@
 //! When a node of a cluster wakes, when it looks how far the others are, and when it asks what it has missed. It is a
 //! matter of time alone: what the cluster agrees on doesn't depend on it.
 
-// Milliseconds between the turns of two nodes: the nodes take turns, by slots, so that two proposals seldom meet.
+// Milliseconds between the turns of two members at the begin of a block, which who proposed last has after all others.
 const STEP: u64 = 4;
 
-// How long a proposal has, of this node or of another, before this node wakes again.
-const LEFT_ALONE: u64 = 40;
+// How long who proposes may be silent before another member does, and how long this one waits for what it proposed.
+const SILENT: u64 = 40;
 
-// How long after a refusal it wakes again.
-const REFUSED: u64 = 10;
-
-// The most times that these waits are doubled: to some 1.3 seconds.
+// The most times that a wait for its own proposal is doubled: to some 1.3 seconds.
 const DOUBLINGS: u32 = 5;
+
+// How long after another proposed this member leaves the begin of a block to others first.
+const SHARED: u64 = 1_000;
+
+// After so long a command that waits has its member propose in a new block though another has begun it, which tells that one to leave the next.
+const LONG: u64 = 100;
+
+// How many slots share a prepare.
+const BLOCK: u64 = 16;
 
 // How long answers may be on their way before it asks again.
 const ON_ITS_WAY: u64 = 100;
@@ -21,6 +27,9 @@ const UNKNOWN: u64 = 50;
 
 // The most slots that are asked for at once: as many as a node keeps votes for.
 const WINDOW: u64 = 64;
+
+// How many slots a member may be behind what others are about before it asks for them: half of those that a node keeps votes for.
+const SLACK: u64 = 32;
 
 /// What is due.
 #[derive(Clone, Copy, PartialEq, Eq)]
@@ -42,11 +51,27 @@ pub struct Pace {
     // Milliseconds from one look to the next.
     tick: u64,
     now: u64,
-    // How many slots are applied.
+    // How many slots are applied, and since when.
     applied: u64,
+    applied_at: u64,
+    // The place of who proposed last, if anybody did, and when that was.
+    leader: Option<u64>,
+    heard_at: u64,
+    // Whether that was since the last look at the time.
+    is_fresh: bool,
+    // How many blocks somebody has begun, as far as it heard.
+    begun: u64,
+    // Until when others have the begin of a block before this node.
+    shared_until: u64,
+    // Whether it proposed last for a gap, and not for a command.
+    is_filling: bool,
+    // Whether it has prepared a block, and hasn't enough promises yet.
+    is_preparing: bool,
     // When it wakes, where a command may wait.
     wake_at: Option<u64>,
-    // How many proposals it has begun since a slot was applied: each leaves the next one twice the time.
+    // Since when a command waits that it didn't propose.
+    waiting_at: u64,
+    // How many wakes have proposed since a slot was applied: each leaves the next one twice the time.
     tries: u32,
     // When it looks again.
     look_at: u64,
@@ -68,7 +93,16 @@ impl Pace {
             tick,
             now: 0,
             applied: 0,
+            applied_at: 0,
+            leader: None,
+            heard_at: 0,
+            is_fresh: false,
+            begun: 0,
+            shared_until: 0,
+            is_filling: false,
+            is_preparing: false,
             wake_at: None,
+            waiting_at: 0,
             tries: 0,
             look_at: 0,
             newest: 0,
@@ -84,80 +118,149 @@ impl Pace {
         self.is_settled
     }
 
-    // How many nodes have their turn before this one, for the next slot.
+    // How many have their turn before this one: who proposed last has it after all others.
     fn rank(&self) -> u64 {
         if self.members == 0 {
             return 0;
         }
-        let first = self.applied % self.members;
+        let last = self.leader.unwrap_or(0) % self.members;
         let place = self.place % self.members;
-        if place >= first {
-            place - first
+        if place > last {
+            place - last - 1
         } else {
-            (self.members - first).saturating_add(place)
+            (self.members - last - 1).saturating_add(place)
         }
     }
 
-    // A wait, doubled for each proposal that came to nothing: an answer takes as long as it takes.
-    fn patient(&self, wait: u64) -> u64 {
-        let mut longer = wait;
-        for _ in 0..self.tries.min(DOUBLINGS) {
-            longer = longer.saturating_mul(2);
-        }
-        longer
-    }
-
-    // The time of this node's turn, counted from now.
-    fn turn_after(&self, wait: u64) -> u64 {
+    // The begin of its turn, which a rank leaves to others first.
+    fn turn_from(&self, time: u64) -> u64 {
         let turn = STEP.saturating_mul(self.rank());
-        self.now
-            .saturating_add(self.patient(wait.saturating_add(turn)))
+        self.now.max(time.saturating_add(turn))
     }
 
-    fn wake_by(&mut self, time: u64) {
-        let earlier = match self.wake_at {
-            Some(at) => at.min(time),
-            None => time,
-        };
-        self.wake_at = Some(earlier);
+    fn leads(&self) -> bool {
+        self.leader == Some(self.place)
+    }
+
+    // Whether a block begins with the next slot, and nobody was heard to propose in it.
+    fn is_unbegun(&self) -> bool {
+        self.applied % BLOCK == 0 && self.begun <= self.applied / BLOCK
+    }
+
+    // Whether a command has waited long.
+    fn is_late(&self) -> bool {
+        self.waiting_at.saturating_add(LONG) <= self.now
+    }
+
+    // When it proposes what waits. A new block is each one's in turn, and at once that of who led the last one, unless others proposed lately. Within a
+    // block who leads goes on at once, and who doesn't waits until who leads was silent.
+    fn turn(&self) -> u64 {
+        if self.leads() && (!self.is_unbegun() || self.shared_until <= self.now) {
+            return self.now;
+        }
+        if self.is_unbegun() {
+            return self.turn_from(self.now);
+        }
+        let last = self.heard_at.max(self.applied_at);
+        self.turn_from(last.saturating_add(self.patience()))
+    }
+
+    // How long a proposal has: longer after each of its own that came to nothing, since an answer takes as long as it takes.
+    fn patience(&self) -> u64 {
+        let mut wait = SILENT;
+        for _ in 1..self.tries.min(DOUBLINGS + 1) {
+            wait = wait.saturating_mul(2);
+        }
+        wait
     }
 
     /// A command was taken.
     pub fn submitted(&mut self) {
         if self.wake_at.is_none() {
-            let turn = self.turn_after(0);
+            self.waiting_at = self.now;
+            let turn = self.turn();
             self.wake_at = Some(turn);
         }
     }
 
-    /// It was woken; whether it proposes.
-    pub fn woken(&mut self, proposes: bool) {
-        let again = self.turn_after(LEFT_ALONE);
-        self.wake_at = if proposes { Some(again) } else { None };
-        if proposes {
-            self.tries = self.tries.saturating_add(1);
+    /// A wake had nothing to propose.
+    pub fn rest(&mut self) {
+        self.wake_at = None;
+        self.is_filling = false;
+    }
+
+    /// A wake proposes, for a gap where no command waits.
+    pub fn begin(&mut self, is_filling: bool) {
+        self.tries = self.tries.saturating_add(1);
+        self.is_filling = is_filling;
+    }
+
+    // Somebody proposes for a slot. Whether that is news: it isn't in a block that is over.
+    fn hear(&mut self, leader: u64, slot: u64) -> bool {
+        let block = slot.saturating_sub(1) / BLOCK;
+        if block < self.applied / BLOCK {
+            return false;
+        }
+        self.begun = self.begun.max(block.saturating_add(1));
+        self.leader = Some(leader);
+        self.is_preparing = false;
+        self.heard_at = self.now;
+        self.is_fresh = true;
+        true
+    }
+
+    /// It proposes for a slot itself; whether it prepares its block.
+    pub fn lead(&mut self, slot: u64, is_preparing: bool) {
+        if self.hear(self.place, slot) {
+            self.is_preparing = is_preparing;
+            self.waiting_at = self.now;
+            let again = self.now.saturating_add(self.patience());
+            let turn = self.turn_from(again);
+            self.wake_at = Some(turn);
         }
     }
 
-    /// Another proposes.
-    pub fn leave_alone(&mut self) {
-        let later = self.turn_after(LEFT_ALONE);
-        if let Some(at) = self.wake_at {
-            self.wake_at = Some(at.max(later));
+    /// The member at another place proposes for a slot.
+    pub fn leave_to(&mut self, place: u64, slot: u64) {
+        if self.hear(place, slot) {
+            self.share();
+            if let Some(at) = self.wake_at {
+                self.wake_at = Some(at.max(self.turn()));
+            }
         }
     }
 
-    /// Its proposal was refused.
-    pub fn refused(&mut self) {
-        if self.wake_at.is_some() {
-            let turn = self.turn_after(REFUSED);
-            self.wake_by(turn);
+    /// Another would propose, and is refused.
+    pub fn share(&mut self) {
+        self.shared_until = self.now.saturating_add(SHARED);
+    }
+
+    /// Its own proposal was refused, by what this node has promised.
+    pub fn begin_again(&mut self) {
+        if !self.leads() {
+            return;
         }
+        let again = self.now.saturating_add(self.patience() / 4);
+        let turn = self.turn_from(again);
+        self.wake_at = Some(turn);
     }
 
     /// Whether a command may wait.
     pub fn is_waiting(&self) -> bool {
         self.wake_at.is_some()
+    }
+
+    /// Whether nobody proposed lately.
+    pub fn is_quiet(&self) -> bool {
+        self.leader.is_none() || self.heard_at.saturating_add(SILENT) <= self.now
+    }
+
+    /// Whether it wakes at once.
+    pub fn is_due(&self) -> bool {
+        match self.wake_at {
+            Some(at) => at <= self.now,
+            None => false,
+        }
     }
 
     fn settle(&mut self) {
@@ -166,23 +269,45 @@ impl Pace {
         }
     }
 
-    /// This many slots are applied.
-    pub fn moved(&mut self, applied: u64) {
+    /// This many slots are applied; whether a command still waits. With a block that is over one that has waited long is proposed at once. What it fills
+    /// goes on until a wake has nothing to propose.
+    pub fn moved(&mut self, applied: u64, waits: bool) {
         if applied <= self.applied {
             return;
         }
+        let is_over = self.applied / BLOCK < applied / BLOCK;
+        self.is_preparing &= !is_over;
         self.applied = applied;
-        self.tries = 0;
-        if self.wake_at.is_some() {
-            let turn = self.turn_after(0);
-            self.wake_at = Some(turn);
-        }
+        self.applied_at = self.now;
+        self.wake_at = self.next_wake(waits || self.is_filling, is_over);
         self.settle();
+    }
+
+    // When it wakes behind a slot that was applied. What it has prepared goes on with its promises.
+    fn next_wake(&mut self, waits: bool, is_over: bool) -> Option<u64> {
+        if !waits {
+            return None;
+        }
+        if self.is_preparing {
+            return self.wake_at;
+        }
+        self.tries = 0;
+        if is_over && self.is_late() {
+            return Some(self.now);
+        }
+        Some(self.turn())
     }
 
     /// This many slots are chosen, by its own store or by another's report.
     pub fn told(&mut self, chosen: u64) {
         self.newest = self.newest.max(chosen);
+    }
+
+    /// A message is about this slot: those before it are chosen. Votes that are on their way close a small distance.
+    pub fn hear_of(&mut self, slot: u64) {
+        if slot > self.applied.saturating_add(SLACK) {
+            self.told(slot.saturating_sub(1));
+        }
     }
 
     /// How many slots are chosen, as far as it knows.
@@ -211,9 +336,20 @@ impl Pace {
         self.newest > self.applied && (self.applied >= self.asked_to || self.ask_at <= self.now)
     }
 
+    // Takes the time. What was heard since it was last looked at counts from now on: a save may have held this node up.
+    fn look_at_clock(&mut self, now: u64) {
+        let passed = now.saturating_sub(self.now);
+        self.now = now;
+        if self.is_fresh {
+            self.is_fresh = false;
+            self.heard_at = now;
+            self.wake_at = self.wake_at.map(|at| at.saturating_add(passed));
+        }
+    }
+
     /// Takes the time; returns what is due.
     pub fn pass(&mut self, now: u64) -> Due {
-        self.now = now;
+        self.look_at_clock(now);
         if self.asks() {
             self.asked_to = self.newest.min(self.applied.saturating_add(WINDOW));
             self.ask_at = now.saturating_add(ON_ITS_WAY);
@@ -223,9 +359,9 @@ impl Pace {
             self.look();
             return Due::Look;
         }
-        match self.wake_at {
-            Some(at) if at <= now => Due::Wake,
-            _ => Due::Nothing,
+        if self.is_due() {
+            return Due::Wake;
         }
+        Due::Nothing
     }
 }
