@@ -1,8 +1,8 @@
 //! Plays stores on a SQL database: `press_stops WORD ..`. `store`, `store-over-files` and `store-loose` begin with a
-//! new one, and the arguments after them ask it; `store-later`, `store-earlier`, `store-half`, `store-half-file` and
-//! `store-beside-file` say whether one is made, or why none; `stops-of-log`, `stops-of-file`, `command-stops-of-log` and
-//! `command-stops-of-file` stop one on two files in memory at each call of one of them; `saves=N` and `wary-saves=N`
-//! save in a file, for whoever measures it.
+//! new one, `store-earlier` and `store-exchanged` with one of version 1, and the arguments after them ask it;
+//! `store-damaged`, `store-left-over`, `store-later`, `store-half`, `store-half-file` and `store-beside-file` say whether
+//! one is made, or why none; `stops-of-log`, `stops-of-file`, and with `command-` or `migration-` before them, stop one on
+//! two files in memory at each call of one of them; `saves=N` and `wary-saves=N` save in a file, for whoever measures it.
 //!
 //! Functions here that play an event on a node carry `requires always { Unit {0} }`, which always holds:
 //! `docs/DECISIONS.md` says why the checker wants it.

@@ -2,6 +2,7 @@
 
 use crate::command::{command_over, goes_on_over};
 use crate::numbered::{numbers_in, promise_of, vote_of};
+use crate::stores::EARLIER;
 use press_acceptor::{Block, PromiseStore, StoreFault};
 use press_store::SqlStore;
 use press_wire::{Round, Slot};
@@ -30,6 +31,8 @@ pub enum Work {
     Saves,
     /// A node by itself takes a command, and applies it.
     Command,
+    /// Tables of version 1 are made, which a store migrates, and a round is saved.
+    Migration,
 }
 
 impl Work {
@@ -38,6 +41,7 @@ impl Work {
         match self {
             Work::Saves => 4,
             Work::Command => 3,
+            Work::Migration => 2,
         }
     }
 }
@@ -85,6 +89,18 @@ fn saves_in(round: u64, block: &Block, slot: Slot) -> Option<u32> {
     }
 }
 
+// How many of these saves are kept: the tables, which stand for the same before their migration and after it, and the round.
+fn saves_of_migration_in(round: u64, block: &Block, behind: &Block) -> Option<u32> {
+    let first = numbers_in(block, Slot::new(1)?)?;
+    let second = numbers_in(behind, Slot::new(17)?)?;
+    match (round, first, second) {
+        (0, (0, 0, 0), (0, 0, 0)) => Some(0),
+        (4, (4, 1, 2), (1, 3, 0)) => Some(1),
+        (7, (4, 1, 2), (1, 3, 0)) => Some(2),
+        _ => None,
+    }
+}
+
 // How many saves come before this many events are done: a round with the wake, a promise with the first delivery, a vote with the third.
 fn saves_before(events: u32) -> u32 {
     match events {
@@ -110,8 +126,28 @@ fn saves_of_command_in(round: u64, block: &Block, slot: Slot) -> Option<u32> {
     }
 }
 
+// Makes tables of version 1, and a store of them, which saves a round; returns how many of these saves were reported as done.
+fn migrated<D: Alter>(alloc: Global, conn: Connection<D>) -> (Connection<D>, u32) {
+    let mut conn = conn;
+    if conn.execute_batch(EARLIER).is_err() {
+        return (conn, 0);
+    }
+    let mut store = match SqlStore::adopt(alloc, conn) {
+        Ok(store) => store,
+        Err((_, conn)) => return (conn, 1),
+    };
+    let told = match Round::new(7) {
+        Some(round) if store.save_round(round).is_ok() => 2,
+        _ => 1,
+    };
+    (store.into_connection(), told)
+}
+
 // Does the work over a store on the connection; returns how many saves were reported as done.
 fn worked<D: Alter>(alloc: Global, work: Work, conn: Connection<D>) -> (Connection<D>, u32) {
+    if work == Work::Migration {
+        return migrated(alloc, conn);
+    }
     let mut store = match SqlStore::adopt(alloc, conn) {
         Ok(store) => store,
         Err((_, conn)) => return (conn, 0),
@@ -126,6 +162,7 @@ fn worked<D: Alter>(alloc: Global, work: Work, conn: Connection<D>) -> (Connecti
             let (store, events) = command_over(alloc, store);
             (store.into_connection(), saves_before(events))
         }
+        Work::Migration => (store.into_connection(), 0),
     }
 }
 
@@ -151,6 +188,10 @@ fn kept_of<S: PromiseStore>(work: Work, store: &mut S) -> Option<u32> {
     match work {
         Work::Saves => saves_in(round, &block, slot),
         Work::Command => saves_of_command_in(round, &block, slot),
+        Work::Migration => {
+            let behind = store.load(Slot::new(17)?.first()).ok()?;
+            saves_of_migration_in(round, &block, &behind)
+        }
     }
 }
 
@@ -190,7 +231,7 @@ fn seen_in<D: Alter>(
     };
     let kept = kept_of(work, &mut store);
     let (store, goes_on) = match work {
-        Work::Saves => (store, true),
+        Work::Saves | Work::Migration => (store, true),
         Work::Command => goes_on_over(alloc, store, kept == Some(3)),
     };
     (store.into_connection(), came_of(work, told, kept, goes_on))

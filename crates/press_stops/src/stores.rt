@@ -18,8 +18,14 @@ pub enum Base {
     Loose,
     /// In memory, over the tables of a store of another version.
     Later,
-    /// In memory, over the tables of a store of the version before.
+    /// In memory, over the tables of a store of version 1, with a few rows.
     Earlier,
+    /// The same with the first two rows exchanged.
+    Exchanged,
+    /// The same with a vote whose value is damaged.
+    Damaged,
+    /// In memory, over the tables of a store of this version, with a row of version 1 beside them.
+    LeftOver,
     /// In memory, over one table of the three.
     Half,
     /// The same in a file, which a store opens by its name.
@@ -39,10 +45,26 @@ const LATER: &str = "CREATE TABLE block (first INTEGER PRIMARY KEY, round INTEGE
     CREATE TABLE meta (name TEXT PRIMARY KEY, n INTEGER NOT NULL) STRICT;
     INSERT INTO meta VALUES ('version', 3), ('last_round', 4)";
 
-const EARLIER: &str =
-    "CREATE TABLE promise (slot INTEGER PRIMARY KEY, round INTEGER, node INTEGER, vround INTEGER, vnode INTEGER, value BLOB);
+/// The tables of a store of version 1: of slots 1, 5 and 20 the first has a vote.
+pub const EARLIER: &str = "BEGIN;
+    CREATE TABLE promise (slot INTEGER PRIMARY KEY, round INTEGER, node INTEGER, vround INTEGER, vnode INTEGER, value BLOB) STRICT;
     CREATE TABLE meta (name TEXT PRIMARY KEY, n INTEGER NOT NULL) STRICT;
-    INSERT INTO meta VALUES ('version', 1), ('last_round', 4)";
+    INSERT INTO meta VALUES ('version', 1), ('last_round', 4);
+    INSERT INTO promise VALUES (1, 3, 2, 2, 1, x'000000000000000002'), (5, 4, 1, NULL, NULL, NULL), (20, 1, 3, NULL, NULL, NULL);
+    COMMIT";
+
+const EXCHANGE: &str =
+    "UPDATE promise SET slot = 6 WHERE slot = 1; UPDATE promise SET slot = 1 WHERE slot = 5; UPDATE promise SET slot = 5 WHERE slot = 6";
+
+const DAMAGE: &str = "UPDATE promise SET value = x'00' WHERE slot = 1";
+
+const LEFT_OVER: &str =
+    "CREATE TABLE promise (slot INTEGER PRIMARY KEY, round INTEGER, node INTEGER, vround INTEGER, vnode INTEGER, value BLOB) STRICT;
+    CREATE TABLE meta (name TEXT PRIMARY KEY, n INTEGER NOT NULL) STRICT;
+    CREATE TABLE block (first INTEGER PRIMARY KEY, round INTEGER NOT NULL, node INTEGER NOT NULL) STRICT;
+    CREATE TABLE vote (slot INTEGER PRIMARY KEY, round INTEGER NOT NULL, node INTEGER NOT NULL, value BLOB NOT NULL) STRICT;
+    INSERT INTO meta VALUES ('version', 2), ('last_round', 4);
+    INSERT INTO promise VALUES (20, 1, 3, NULL, NULL, NULL)";
 
 const HALF: &str = "CREATE TABLE meta (name TEXT PRIMARY KEY, n INTEGER NOT NULL) STRICT;
     INSERT INTO meta VALUES ('version', 2), ('last_round', 4)";
@@ -94,17 +116,39 @@ fn prepared(conn: &mut Connection<MemStore>, base: Base) -> anyhow::Result<()> {
         Base::Loose => conn.execute_batch(LOOSE)?,
         Base::Later => conn.execute_batch(LATER)?,
         Base::Earlier => conn.execute_batch(EARLIER)?,
+        Base::Exchanged => {
+            conn.execute_batch(EARLIER)?;
+            conn.execute_batch(EXCHANGE)?;
+        }
+        Base::Damaged => {
+            conn.execute_batch(EARLIER)?;
+            conn.execute_batch(DAMAGE)?;
+        }
+        Base::LeftOver => conn.execute_batch(LEFT_OVER)?,
         Base::Half => conn.execute_batch(HALF)?,
     }
+    Ok(())
+}
+
+// How many rows of version 1 there are, where some were.
+fn show_left(rt: &HostRuntime, conn: &mut Connection<MemStore>, base: Base) -> anyhow::Result<()> {
+    if !matches!(base, Base::Earlier | Base::Damaged | Base::LeftOver) {
+        return Ok(());
+    }
+    let row = conn.query_row("SELECT count(*) FROM promise", &[])?;
+    let count: i64 = row.get(0)?;
+    println!(rt; "rows of version 1: {count}")?;
     Ok(())
 }
 
 fn play_in_memory(rt: &HostRuntime, base: Base, all: &[Session<'_>]) -> anyhow::Result<()> {
     let mut conn = Connection::open_in_memory(rt.alloc())?;
     let made = prepared(&mut conn, base);
-    let (conn, done) = sessions(rt, conn, all);
+    let (mut conn, done) = sessions(rt, conn, all);
+    let shown = show_left(rt, &mut conn, base);
     drop(conn.into_store());
     made?;
+    shown?;
     done
 }
 
@@ -174,9 +218,13 @@ fn play_in_file(rt: &HostRuntime, name: &str, tables: &str) -> anyhow::Result<()
 /// Plays each session on the store, the first on a new one.
 pub fn play_store(rt: &HostRuntime, base: Base, all: &[Session<'_>]) -> anyhow::Result<()> {
     match base {
-        Base::Memory | Base::Loose => play_in_memory(rt, base, all),
+        Base::Memory | Base::Loose | Base::Earlier | Base::Exchanged => {
+            play_in_memory(rt, base, all)
+        }
         Base::Files => play_over_files(rt, all),
-        Base::Later | Base::Earlier | Base::Half => show_refusal(rt, play_in_memory(rt, base, all)),
+        Base::Later | Base::Damaged | Base::LeftOver | Base::Half => {
+            show_refusal(rt, play_in_memory(rt, base, all))
+        }
         Base::HalfFile => show_refusal(rt, play_in_file(rt, "half.db", HALF)),
         Base::BesideFile => show_refusal(rt, play_in_file(rt, "beside.db", BESIDE)),
     }

@@ -26,6 +26,9 @@ impl Start {
             "store-loose" => Some(Start::Store(Base::Loose)),
             "store-later" => Some(Start::Store(Base::Later)),
             "store-earlier" => Some(Start::Store(Base::Earlier)),
+            "store-exchanged" => Some(Start::Store(Base::Exchanged)),
+            "store-damaged" => Some(Start::Store(Base::Damaged)),
+            "store-left-over" => Some(Start::Store(Base::LeftOver)),
             "store-half" => Some(Start::Store(Base::Half)),
             "store-half-file" => Some(Start::Store(Base::HalfFile)),
             "store-beside-file" => Some(Start::Store(Base::BesideFile)),
@@ -33,6 +36,8 @@ impl Start {
             "stops-of-file" => Some(Start::Stop(Work::Saves, Stops::Database)),
             "command-stops-of-log" => Some(Start::Stop(Work::Command, Stops::Log)),
             "command-stops-of-file" => Some(Start::Stop(Work::Command, Stops::Database)),
+            "migration-stops-of-log" => Some(Start::Stop(Work::Migration, Stops::Log)),
+            "migration-stops-of-file" => Some(Start::Stop(Work::Migration, Stops::Database)),
             _ => Start::saves(word),
         }
     }

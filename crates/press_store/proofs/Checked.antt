@@ -28,7 +28,7 @@ first_of [] = []
 first_of (r ∷ rs) = r
 
 -- one row that is shown is of one row that passes
-one_shown : (f : Row → Row) (xs rows : List Row) (v : Row) → IsPermutation (map f xs) rows → rows ≡ v ∷ [] → (r : Row) × (xs ≡ r ∷ []) × (f r ≡ v)
+pub one_shown : (f : Row → Row) (xs rows : List Row) (v : Row) → IsPermutation (map f xs) rows → rows ≡ v ∷ [] → (r : Row) × (xs ≡ r ∷ []) × (f r ≡ v)
 one_shown f xs rows v h is =
     let count = sym (length_permutation _ rows h) ∙ ap length is in
     let one = one_of xs (sym (length-map xs f) ∙ count) in

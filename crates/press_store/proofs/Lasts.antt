@@ -23,13 +23,15 @@ use Rattle.sqlite_sql.proofs.QueryLemmas.{output_cmp_total}
 use Rattle.press_acceptor.specs.StoreMap.{vote_of}
 use Rattle.press_acceptor.proofs.Maps.{IsSlot}
 use Rattle.press_store.specs.Tables.{Layout, vote_tree}
-use Rattle.press_store.specs.Shown.{number_in, voted_in, vote_at, store_of, store_in, block_rows, vote_rows, meta_rows}
+use Rattle.press_store.specs.Shown.{number_in, voted_in, vote_at, store_of, block_rows, vote_rows, meta_rows}
+use Rattle.press_store.specs.Stands.{store_in}
 use Rattle.press_store.specs.Attempt.{AreTables}
 use Rattle.press_store.specs.Voted.{most_slots, IsLastVote, last_in}
 use Rattle.press_store.proofs.Maps.{vote_got, vote_outside}
 use Rattle.press_store.proofs.Put.{is_equal, same_int}
 use Rattle.press_store.proofs.Queries.{outputs, all_pass, plain_vote}
 use Rattle.press_store.proofs.Standing.{stand}
+use Rattle.press_store.proofs.Versions.{as_newer}
 use Rattle.press_store.proofs.Texts.{last_vote_query}
 
 -- ---- the last of some rows
@@ -161,7 +163,7 @@ module _ (blocks votes meta : List Row) where
 
 -- the slot that the query shows has a vote, and behind it no slot has one
 pub last_shown : (l : Layout) (db : Database) (rows : List Row) → AreTables l db → Answers db (record { lets = []; body = last_vote_query (vote_tree l) }) [] rows → IfSome (last_in rows) (IsLastVote (store_in db.trees))
-unfolding store_in
 last_shown l db rows has h =
     let found = last_found (vote_tree l) db rows (plain_vote l db.trees) h in
-    last_of (block_rows db.trees) (vote_rows db.trees) (meta_rows db.trees) rows (subst (λ table. IsLastOf table rows) (sym (stand l db.trees has.listed).votes) found)
+    subst (λ store. IfSome (last_in rows) (IsLastVote store)) (as_newer db.trees has.emptied)
+    (last_of (block_rows db.trees) (vote_rows db.trees) (meta_rows db.trees) rows (subst (λ table. IsLastOf table rows) (sym (stand l db.trees has.listed).votes) found))

@@ -31,10 +31,12 @@ use Rattle.sqlite_catalog.specs.Listing.{Lists}
 use Rattle.press_acceptor.specs.StoreMap.{new_store}
 use Rattle.press_store.specs.Making.{IsBare, IsFresh}
 use Rattle.press_store.specs.Tables.{Fresh, schema_of, no_schema, make_block, make_vote, make_meta, block_on, vote_on, meta_on}
-use Rattle.press_store.specs.Shown.{is_last_round, is_version, IsKept, IsOurVersion, IsEmptied, block_rows, vote_rows, meta_rows, round_at, store_of, store_in}
+use Rattle.press_store.specs.Shown.{is_last_round, is_version, IsKept, IsOurVersion, IsEmptied, block_rows, vote_rows, meta_rows, round_at, store_of}
+use Rattle.press_store.specs.Stands.{store_in}
 use Rattle.press_store.proofs.Maps.{nothing_saved}
 use Rattle.press_store.proofs.Put.{went, same_value, cast_int, cast_null}
 use Rattle.press_store.proofs.Standing.{OthersStay, stand, still_listed}
+use Rattle.press_store.proofs.Versions.{as_newer}
 use Rattle.press_store.proofs.Texts.{tables_defined, whole_schema}
 
 abbrev one_table : Schema
@@ -53,7 +55,7 @@ abbrev row_terms : List ℕ → ℤ → List Term
 row_terms name n = lit Null ∷ lit (Text name) ∷ lit (Int n) ∷ []
 
 -- the text makes a table, over this schema
-abbrev IsCreate : Schema → List ℕ → Type 0
+abbrev pub IsCreate : Schema → List ℕ → Type 0
 IsCreate schema text = (command_of (understood schema text) ≡ CreateTable) × (statement_of text (understood schema text) ≡ text) × IsPlain (understood schema text)
 
 block_made : IsCreate no_schema make_block
@@ -94,7 +96,7 @@ made limit mode params now after tally schema whole table text has defined is no
     )
 
 -- a CREATE that is run makes its table, which is empty, and the list of tables says so
-create : (a b : State) (count : ℕ) (schema whole : Schema) (table : Table) (text : List ℕ) → a.now.schema ≡ schema → table_defined_by text ≡ Ok table → created schema table ≡ whole → lacks_sequence whole ≡ false → IsCreate schema text
+pub create : (a b : State) (count : ℕ) (schema whole : Schema) (table : Table) (text : List ℕ) → a.now.schema ≡ schema → table_defined_by text ≡ Ok table → created schema table ≡ whole → lacks_sequence whole ≡ false → IsCreate schema text
     → Executes text [] a b (Ok count) → (b.now.schema ≡ whole) × (b.now.trees (next_tree schema) ≡ []) × KeepsRows schema.tables a.now.trees b.now.trees × Lists (b.now.trees catalog_tree) whole
 create a b count schema whole table text has defined is none creates ran =
     let w = runs_as text [] a b schema has CreateTable creates.0 creates.2 count ran in
@@ -171,9 +173,9 @@ in_order none one two empty first second =
     let beside : two ≡ put_row (numbered_row 2 (codes "last_round") (pos 0)) (numbered_row 1 (codes "version") (pos 2) ∷ []) = rw alone at second in
     beside ∙ rw (value_cmp-Int (pos 1) (pos 2))
 
-new_in : (db : Trees) (row : Row) → block_rows db ≡ [] → vote_rows db ≡ [] → filter is_last_round (meta_rows db) ≡ row ∷ [] → column row 2 ≡ Int (pos 0) → store_in db ≡ new_store
-unfolding store_in round_at
-new_in db row blocks votes one is = ap₂ (λ b v. store_of b v (meta_rows db)) blocks votes ∙ nothing_saved (meta_rows db) (rw (one, is) refl)
+new_in : (db : Trees) (row : Row) → IsEmptied db → block_rows db ≡ [] → vote_rows db ≡ [] → filter is_last_round (meta_rows db) ≡ row ∷ [] → column row 2 ≡ Int (pos 0) → store_in db ≡ new_store
+unfolding round_at
+new_in db row emptied blocks votes one is = sym (as_newer db emptied) ∙ ap₂ (λ b v. store_of b v (meta_rows db)) blocks votes ∙ nothing_saved (meta_rows db) (rw (one, is) refl)
 
 pub rows_made : (old mid new : State) (count : ℕ) (result : Result ℕ Error) → IsBare old.now → ExecutesInside 0 version_text [] old mid (Ok count) → ExecutesInside 0 insert_text [] mid new result
     → OnOk result (IsFresh new.now × IsTrue new.in_transaction)
@@ -194,7 +196,7 @@ rows_made old mid new count (Ok n) bare one two =
       record {
         tables = record { schema = b.2; listed = listed; emptied = at.old; kept = record { row = row; one = one_row; id = pos 2; numbered = refl } };
         version = record { row = first; one = one_version; number = refl };
-        new = new_in new.now.trees row blocks votes one_row refl;
+        new = new_in new.now.trees row at.old blocks votes one_row refl;
       },
       two.1.mode,
     )

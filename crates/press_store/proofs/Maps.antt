@@ -152,11 +152,11 @@ pub round_saved : (blocks votes meta new : List Row) (round : ℕ) → round_at 
 unfolding store_of
 round_saved blocks votes meta new round is = ap (λ n. record { promises = map_of (promise_at blocks votes); votes = map_of (vote_at votes); last_round = n }) is
 
-no_vote_at : (q : ℕ) → vote_at [] q ≡ None
+pub no_vote_at : (q : ℕ) → vote_at [] q ≡ None
 unfolding vote_at
 no_vote_at q = refl
 
-none_promised : (q : ℕ) → promise_at [] [] q ≡ None
+pub none_promised : (q : ℕ) → promise_at [] [] q ≡ None
 unfolding promise_at
 none_promised q = elim (cases_Bool (is_first q)) [
   | inr other ↦ rw other refl

@@ -15,11 +15,13 @@ use Rattle.press_wire.specs.Blocks.{is_first}
 use Rattle.press_acceptor.specs.StoreMap.{block_votes}
 use Rattle.press_acceptor.proofs.Maps.{IsSlot}
 use Rattle.press_store.specs.Tables.{Layout, block_tree}
-use Rattle.press_store.specs.Shown.{ballot_in, promise_in, promise_over, damaged_ballot, shown_promise, IsPromiseShown, block_rows, vote_rows, meta_rows, store_in}
+use Rattle.press_store.specs.Shown.{ballot_in, promise_in, promise_over, damaged_ballot, shown_promise, IsPromiseShown, block_rows, vote_rows, meta_rows}
+use Rattle.press_store.specs.Stands.{store_in}
 use Rattle.press_store.specs.Attempt.{AreTables}
 use Rattle.press_store.proofs.Maps.{block_promised}
 use Rattle.press_store.proofs.Queries.{picked, equals_int, plain_block}
 use Rattle.press_store.proofs.Standing.{stand}
+use Rattle.press_store.proofs.Versions.{as_newer, newer_in}
 use Rattle.press_store.proofs.Texts.{is_equal_to, promise_query}
 
 abbrev project : Row → Row
@@ -43,7 +45,6 @@ if_some (Some a) so h = so a h
 
 pub promise_shown : (l : Layout) (db : Database) (first : ℕ) (rows : List Row) → IsSlot first → is_first first ≡ true → AreTables l db → Answers db (record { lets = []; body = promise_query l }) (Int (pos first) ∷ []) rows
     → IfSome (shown_promise rows) (IsPromiseShown (store_in db.trees) first)
-unfolding store_in
 promise_shown l db first rows i e has h =
     let params = Int (pos first) ∷ [] in
     let tree = block_tree l in
@@ -53,5 +54,6 @@ promise_shown l db first rows i e has h =
     let same = ap (λ p. map (λ r. eval_all project_terms (params ∷ r ∷ [])) (filter p (db.trees tree))) (fun_ext (λ r. equals_int (column r 0) (pos first)))
     ∙ ap (λ xs. map project (filter (has_rowid (pos first)) xs)) (sym (stand l db.trees has.listed).blocks) in
     let promised = block_promised blocks (vote_rows db.trees) (meta_rows db.trees) first i e in
-    if_some (shown_promise rows) (λ p is. promised ∙ ap (λ o. promise_over o (block_votes (store_in db.trees) first)) (sym is))
-    (shown_same (filter (has_rowid (pos first)) blocks) rows (subst (λ xs. IsPermutation xs rows) same found))
+    subst (λ store. IfSome (shown_promise rows) (IsPromiseShown store first)) (as_newer db.trees has.emptied)
+    (if_some (shown_promise rows) (λ p is. promised ∙ ap (λ o. promise_over o (block_votes (newer_in db.trees) first)) (sym is))
+    (shown_same (filter (has_rowid (pos first)) blocks) rows (subst (λ xs. IsPermutation xs rows) same found)))

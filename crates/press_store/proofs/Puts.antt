@@ -22,14 +22,16 @@ use Rattle.press_acceptor.specs.StoreMap.{StoreMap, promise_of, with_promise, wi
 use Rattle.press_acceptor.proofs.Maps.{IsSlot, get_here}
 use Rattle.press_store.specs.Tables.{Layout, schema_of, save_promise_text, save_vote_text}
 use Rattle.press_store.specs.Saving.{PutsPromise, AddsVote}
-use Rattle.press_store.specs.Shown.{most_rounds, ballot_in, vote_as, promise_in, voted_in, damaged_ballot, damaged_vote, block_rows, vote_rows, meta_rows, store_of, store_in}
+use Rattle.press_store.specs.Shown.{most_rounds, ballot_in, vote_as, promise_in, voted_in, damaged_ballot, damaged_vote, block_rows, vote_rows, meta_rows, store_of}
+use Rattle.press_store.specs.Stands.{store_in}
 use Rattle.press_store.specs.Attempt.{AreTables}
 use Rattle.press_store.proofs.Maps.{IsReplaced, promise_saved, vote_saved}
 use Rattle.press_store.proofs.Replaced.{block_row, vote_row, block_replaced, vote_replaced}
 use Rattle.press_store.proofs.Standing.{stand, blocks_change, votes_change, still_listed, kept_still, tables_still}
+use Rattle.press_store.proofs.Versions.{as_newer, newer_in, turned}
 use Rattle.press_store.proofs.Texts.{promise_insert, vote_insert, save_promise_means, save_vote_means}
 
-ballot_back : (b : Ballot) → IsBallot b → ballot_in (Int (pos b.round)) (Int (pos b.node)) ≡ Some b
+pub ballot_back : (b : Ballot) → IsBallot b → ballot_in (Int (pos b.round)) (Int (pos b.node)) ≡ Some b
 ballot_back b h = rw (le-leb 1 b.round h.0.0, le-leb b.round most_rounds h.0.1, le-leb 1 b.node h.1.0, le-leb b.node 7 h.1.1)
 
 module _ (first : ℕ) (ballot : Ballot) (i : IsSlot first) (e : is_first first ≡ true) (h : IsBallot ballot) where
@@ -38,7 +40,6 @@ module _ (first : ℕ) (ballot : Ballot) (i : IsSlot first) (e : is_first first 
 
   pub promise_put : (l : Layout) (limit : Option ℕ) (mode : Mode) (now after : Database) (tally : Tally) (text : List ℕ) → AreTables l now → Does limit mode promise_params now text None (promise_insert l) (Ok (tally, after))
       → AreTables l after × (store_in after.trees ≡ with_promise (store_in now.trees) first ballot)
-  unfolding store_in
   promise_put l limit mode now after tally text has does =
       let row = block_row first ballot.round ballot.node in
       let (schema, put) = block_replaced l first ballot.round ballot.node limit mode now after tally text has.schema does in
@@ -51,7 +52,8 @@ module _ (first : ℕ) (ballot : Ballot) (i : IsSlot first) (e : is_first first 
       } in
       let shows : promise_in (row ∷ []) ≡ Some ballot = ap (λ o. Some (unwrap_or o damaged_ballot)) (ballot_back ballot h) in (
         tables_still l now after schema change.listed change.old_stay (kept_still now.trees after.trees change.meta has.kept) has,
-        ap₂ (store_of (block_rows after.trees)) change.votes change.meta ∙ promise_saved (block_rows now.trees) (block_rows after.trees) (vote_rows now.trees) (meta_rows now.trees) first row ballot i e shows replaced,
+        turned (λ store. with_promise store first ballot) now.trees after.trees has.emptied (change.old_stay ∙ has.emptied)
+            (ap₂ (store_of (block_rows after.trees)) change.votes change.meta ∙ promise_saved (block_rows now.trees) (block_rows after.trees) (vote_rows now.trees) (meta_rows now.trees) first row ballot i e shows replaced),
       )
 
 module _ (slot : ℕ) (vote : Vote) (bytes : List ℕ) (i : IsSlot slot) (h : IsBallot vote.ballot) (reads : read_command bytes ≡ Ok vote.value) where
@@ -60,7 +62,6 @@ module _ (slot : ℕ) (vote : Vote) (bytes : List ℕ) (i : IsSlot slot) (h : Is
 
   pub vote_put : (l : Layout) (limit : Option ℕ) (mode : Mode) (now after : Database) (tally : Tally) (text : List ℕ) → AreTables l now → Does limit mode vote_params now text None (vote_insert l) (Ok (tally, after))
       → AreTables l after × AddsVote slot vote (store_in now.trees) (store_in after.trees)
-  unfolding store_in
   vote_put l limit mode now after tally text has does =
       let row = vote_row slot vote.ballot.round vote.ballot.node bytes in
       let (schema, put) = vote_replaced l slot vote.ballot.round vote.ballot.node bytes limit mode now after tally text has.schema does in
@@ -73,7 +74,8 @@ module _ (slot : ℕ) (vote : Vote) (bytes : List ℕ) (i : IsSlot slot) (h : Is
       } in
       let shows : voted_in (row ∷ []) ≡ Some vote = rw (ballot_back vote.ballot h) (ap (λ v. Some (unwrap_or (vote_as vote.ballot v) damaged_vote)) reads) in (
         tables_still l now after schema change.listed change.old_stay (kept_still now.trees after.trees change.meta has.kept) has,
-        λ promised. ap₂ (λ b m. store_of b (vote_rows after.trees) m) change.blocks change.meta ∙ vote_saved (block_rows now.trees) (vote_rows now.trees) (vote_rows after.trees) (meta_rows now.trees) slot row vote i shows replaced promised,
+        subst (AddsVote slot vote (store_in now.trees)) (as_newer after.trees (change.old_stay ∙ has.emptied)) (subst (λ store. AddsVote slot vote store (newer_in after.trees)) (as_newer now.trees has.emptied)
+            (λ promised. ap₂ (λ b m. store_of b (vote_rows after.trees) m) change.blocks change.meta ∙ vote_saved (block_rows now.trees) (vote_rows now.trees) (vote_rows after.trees) (meta_rows now.trees) slot row vote i shows replaced promised)),
       )
 
 -- ---- the same within a transaction

@@ -28,12 +28,14 @@ use Rattle.sqlite_rules.proofs.ListLemmas.{has_filtered}
 use Rattle.sqlite.proofs.Callers.{one_permutation, one_step}
 use Rattle.press_acceptor.specs.StoreMap.{with_round}
 use Rattle.press_store.specs.Tables.{Layout, Fresh, Moved, schema_of, meta_on, meta_place, meta_tree}
-use Rattle.press_store.specs.Shown.{is_last_round, most_rounds, damaged_round, IsKept, block_rows, vote_rows, meta_rows, round_at, store_of, store_in, number_in}
+use Rattle.press_store.specs.Shown.{is_last_round, most_rounds, damaged_round, IsKept, block_rows, vote_rows, meta_rows, round_at, store_of, number_in}
+use Rattle.press_store.specs.Stands.{store_in, store_with}
 use Rattle.press_store.specs.Attempt.{AreTables}
 use Rattle.press_store.proofs.Maps.{round_saved}
 use Rattle.press_store.proofs.Put.{went, same_value, cast_int, put_among, same_int}
 use Rattle.press_store.proofs.Queries.{picked, equals_text, plain_meta}
 use Rattle.press_store.proofs.Standing.{stand, meta_change, still_listed, tables_still}
+use Rattle.press_store.proofs.Versions.{turned}
 use Rattle.press_store.proofs.Texts.{is_equal_to, update_query, round_query, round_update}
 
 pub filter_turned : {X : Type 0} (p q : X → Bool) (xs : List X) → filter p (filter q xs) ≡ filter q (filter p xs)
@@ -136,7 +138,7 @@ module _ (l : Layout) (limit : Option ℕ) (mode : Mode) (params : Row) (n : ℕ
   found_one = rw rows (replaced is_last_round row new has.kept.id (now.trees tree) was_one has.kept.numbered still)
 
   pub round_put : AreTables l after × (store_in after.trees ≡ with_round (store_in now.trees) n)
-  unfolding store_in round_at
+  unfolding round_at
   round_put =
       let trees : after.trees ≡ done.0.trees = ap (λ (d : Database). d.trees) done.2 in
       let others = subst (λ (t : Trees). (k : ℕ) → (k ≡ tree → ⊥) → IsNoIndex (schema_of l) k → t k ≡ now.trees k) (sym trees) wrote.2.others in
@@ -146,7 +148,8 @@ module _ (l : Layout) (limit : Option ℕ) (mode : Mode) (params : Row) (n : ℕ
       let kept : IsKept after.trees = record { row = new; one = now_one; id = has.kept.id; numbered = refl } in
       let shows : round_at (meta_rows after.trees) ≡ n = rw (now_one, in_range n small) refl in (
         tables_still l now after (ap (λ (d : Database). d.schema) done.2) change.listed change.old_stay kept has,
-        ap₂ (λ b v. store_of b v (meta_rows after.trees)) change.blocks change.votes ∙ round_saved (block_rows now.trees) (vote_rows now.trees) (meta_rows now.trees) (meta_rows after.trees) n shows,
+        turned (λ store. with_round store n) now.trees after.trees has.emptied (change.old_stay ∙ has.emptied)
+            (ap₂ (λ b v. store_of b v (meta_rows after.trees)) change.blocks change.votes ∙ round_saved (block_rows now.trees) (vote_rows now.trees) (meta_rows now.trees) (meta_rows after.trees) n shows),
       )
 
 -- ---- the query
@@ -162,5 +165,5 @@ round_found l db rows has h =
     one_permutation _ rows (subst (λ xs. IsPermutation xs rows) same found)
 
 pub round_shown : (db : Trees) (kept : IsKept db) → (store_in db).last_round ≡ unwrap_or (number_in 0 most_rounds (column kept.row 2)) damaged_round
-unfolding store_in store_of round_at
+unfolding store_in store_with round_at
 round_shown db kept = rw kept.one

@@ -20,7 +20,7 @@ use Rattle.sqlite.specs.Clock.{timed}
 use Rattle.sqlite.proofs.Callers.{IsPlain, command_of, statement_of, runs_as, unchanged_then}
 use Rattle.press_acceptor.specs.StoreMap.{StoreMap, Only, OldOr}
 use Rattle.press_store.specs.Tables.{Layout, schema_of}
-use Rattle.press_store.specs.Shown.{store_in}
+use Rattle.press_store.specs.Stands.{store_in}
 use Rattle.press_store.specs.Kept.{kept_by, MayLeave}
 use Rattle.press_store.specs.Attempt.{Attempts, AreTables, Ready, IsReady, Saved, Stays}
 use Rattle.press_store.proofs.Texts.{IsWrite}

@@ -19,7 +19,7 @@ use Rattle.std.specs.Ordering.{is_eq}
 use Rattle.std.specs.Char.{to_ascii_lowercase}
 use Rattle.std.proofs.lemmas.Cmp.{tied_itself}
 use Rattle.sqlite_value.proofs.OrderLemmas.{value_cmp-Text, value_cmp_total}
-use Rattle.press_store.specs.Tables.{Layout, Fresh, Moved, schema_of, no_schema}
+use Rattle.press_store.specs.Tables.{Layout, Fresh, Moved, schema_of, old_schema, no_schema}
 
 -- ---- lists, item by item
 
@@ -132,6 +132,10 @@ never at key got = absurd (cc)
 pub layout_alone : (l : Layout) (schema : Schema) (db : Trees) → IsSound schema db → IsSound (schema_of l) db → schema ≡ schema_of l
 layout_alone Fresh = one_schema (schema_of Fresh) (never, (never, (only_first (1 ∷ []), tt))) refl
 layout_alone Moved = one_schema (schema_of Moved) (never, (only_first (1 ∷ []), (never, (never, tt)))) refl
+
+-- that of version 1
+pub old_alone : (schema : Schema) (db : Trees) → IsSound schema db → IsSound old_schema db → schema ≡ old_schema
+old_alone = one_schema old_schema (never, (only_first (1 ∷ []), tt)) refl
 
 pub lists_nothing : (schema : Schema) (db : Trees) → IsSound schema db → db catalog_tree ≡ [] → schema ≡ no_schema
 lists_nothing schema db own none =

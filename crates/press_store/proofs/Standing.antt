@@ -47,7 +47,7 @@ listed_at name (r ∷ rows) (t ∷ ts) h =
     ]
 
 -- the rows under a name are those of the tree that the schema has for it
-table_at : (schema : Schema) (name : List ℕ) (db : Trees) → Lists (db catalog_tree) schema → rows_of name db ≡ rows_at db (option_map (λ (t : Table). t.tree) (find (name_is name) schema.tables))
+pub table_at : (schema : Schema) (name : List ℕ) (db : Trees) → Lists (db catalog_tree) schema → rows_of name db ≡ rows_at db (option_map (λ (t : Table). t.tree) (find (name_is name) schema.tables))
 unfolding rows_of
 table_at schema name db lists =
     ap (rows_at db) (ap (option_map (λ r. number_of (rowid r) - 1)) (among is_table_row (λ r. is_eq (value_cmp (column r 2) (Text name))) (db catalog_tree)) ∙ listed_at name (filter is_table_row (db catalog_tree)) schema.tables lists.listed.tables)

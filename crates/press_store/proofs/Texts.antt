@@ -2,11 +2,11 @@
 use Rattle.std.proofs.Common.{◌≡◌, ℕ, pos, negsuc, List, [], ◌∷◌, codes, true, false, None, Ok, refl}
 use Rattle.sqlite.specs.Compile.{table_defined_by}
 use Rattle.sqlite.specs.Command.{Command}
-use Rattle.sqlite.specs.Command.TheVariants.{Select, Update, InsertOr}
+use Rattle.sqlite.specs.Command.TheVariants.{Select, Update, Delete, InsertOr}
 use Rattle.sqlite.specs.Source.TheVariants.{Values}
 use Rattle.sqlite_schema.specs.declared.command.Conflict.TheVariants.{Replace}
 use Rattle.sqlite_sql.specs.declared.ops.BinaryOp.TheVariants as by
-use Rattle.sqlite_sql.specs.declared.ops.CompareOp.TheVariants.{Eq, Ge, Le}
+use Rattle.sqlite_sql.specs.declared.ops.CompareOp.TheVariants.{Eq, Ge, Le, Lt, Gt}
 use Rattle.sqlite.specs.Collation.TheVariants.{Binary}
 use Rattle.sqlite.specs.declared.types.Value.TheVariants.{Null, Int, Text}
 use Rattle.sqlite.specs.Term.{Term, lit, col, op2}
@@ -17,6 +17,7 @@ use Rattle.sqlite.proofs.Callers.{IsPlain, command_of}
 use Rattle.sqlite.specs.Change.{created}
 use Rattle.press_store.specs.Tables.{Layout, Fresh, Moved, schema_of, no_schema, block_tree, vote_tree, meta_tree, block_place, vote_place, meta_place, block_on, vote_on, meta_on}
 use Rattle.press_store.specs.Tables.{make_block, make_vote, make_meta, promise_text, save_promise_text, votes_text, save_vote_text, last_vote_text, round_text, save_round_text, check_text, version_query_text, left_text}
+use Rattle.press_store.specs.Tables.{slot_text, last_slot_text, outside_text, clear_text, number_text, set_version_text}
 
 pub tables_defined : (table_defined_by make_block ≡ Ok (block_on 0)) × (table_defined_by make_vote ≡ Ok (vote_on 0)) × (table_defined_by make_meta ≡ Ok (meta_on 0))
 unfolding understood everything
@@ -177,3 +178,69 @@ save_round_means Moved = (refl, (refl, refl))
 pub left_means : (command_of (understood (schema_of Moved) left_text) ≡ select left_query (codes "slot" ∷ [])) × IsPlain (understood (schema_of Moved) left_text) × (reads_listing (schema_of Moved) left_text ≡ false)
 unfolding understood everything
 left_means = (refl, (refl, refl), refl)
+
+-- ---- a migration
+
+abbrev pub slot_query : Query
+slot_query = picks 0 (is_equal_to (col 1 0) (col 0 0) ∷ []) (col 1 2 ∷ col 1 3 ∷ col 1 4 ∷ col 1 5 ∷ col 1 6 ∷ [])
+
+abbrev pub is_outside : Term
+is_outside = op2 by.Or (op2 (by.Compare Lt Binary) (col 1 0) (lit (Int (pos 1)))) (op2 (by.Compare Gt Binary) (col 1 0) (col 0 0))
+
+abbrev pub outside_query : Query
+outside_query = picks 0 (is_outside ∷ []) (col 1 0 ∷ [])
+
+abbrev pub clear_query : Query
+clear_query = picks 0 [] (col 1 0 ∷ [])
+
+abbrev pub number_query : Query
+number_query = picks 1 (is_equal_to (col 1 1) (col 0 0) ∷ []) (col 1 0 ∷ col 1 2 ∷ [])
+
+abbrev pub set_version_query : Query
+set_version_query = named_query (codes "version") (col 1 0 ∷ col 1 0 ∷ col 1 1 ∷ lit (Int (pos 2)) ∷ []) 1
+
+abbrev pub slot_select : Command
+slot_select = select slot_query (codes "round" ∷ codes "node" ∷ codes "vround" ∷ codes "vnode" ∷ codes "value" ∷ [])
+
+abbrev pub outside_select : Command
+outside_select = select outside_query (codes "slot" ∷ [])
+
+abbrev pub number_select : Command
+number_select = select number_query (codes "rowid" ∷ codes "n" ∷ [])
+
+abbrev pub clear_delete : Command
+clear_delete = Delete 0 (record { lets = []; body = clear_query })
+
+abbrev pub version_update : Command
+version_update = Update 1 (record { lets = []; body = set_version_query })
+
+-- the text is a plain query, over the tables of both versions, with this meaning
+abbrev pub MeansQuery : List ℕ → Command → Type 0
+MeansQuery text command = (command_of (understood (schema_of Moved) text) ≡ command) × IsPlain (understood (schema_of Moved) text) × (reads_listing (schema_of Moved) text ≡ false)
+
+abbrev pub MeansWrite : List ℕ → Command → Type 0
+MeansWrite text command = (command_of (understood (schema_of Moved) text) ≡ command) × IsPlain (understood (schema_of Moved) text)
+
+pub slot_means : MeansQuery slot_text slot_select
+unfolding understood everything
+slot_means = (refl, (refl, refl), refl)
+
+pub last_slot_plain : IsPlain (understood (schema_of Moved) last_slot_text)
+unfolding understood everything
+last_slot_plain = (refl, refl)
+
+pub outside_means : MeansQuery outside_text outside_select
+unfolding understood everything
+outside_means = (refl, (refl, refl), refl)
+
+pub number_means : MeansQuery number_text number_select
+unfolding understood everything
+number_means = (refl, (refl, refl), refl)
+
+pub clear_means : MeansWrite clear_text clear_delete
+unfolding understood everything
+clear_means = (refl, (refl, refl))
+
+pub set_version_means : MeansWrite set_version_text version_update
+unfolding understood everything
+set_version_means = (refl, (refl, refl))

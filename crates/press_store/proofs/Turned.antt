@@ -9,7 +9,7 @@ use Rattle.sqlite.specs.State.{HasCleanDisk, Survives}
 use Rattle.sqlite.specs.Held.{Held, state}
 use Rattle.press_acceptor.specs.StoreMap.{StoreMap}
 use Rattle.press_store.specs.Tables.{Layout}
-use Rattle.press_store.specs.Shown.{store_in}
+use Rattle.press_store.specs.Stands.{store_in}
 use Rattle.press_store.specs.Kept.{kept_by}
 use Rattle.press_store.specs.Attempt.{AreTables, Ready, Saved}
 use Rattle.press_store.specs.Steps.{IsTurned, Commits, Undone, WasOpen}

@@ -27,12 +27,14 @@ use Rattle.press_wire.proofs.Collected.{block_collected, block_same}
 use Rattle.press_acceptor.specs.StoreMap.{block_votes}
 use Rattle.press_acceptor.proofs.Maps.{IsSlot}
 use Rattle.press_store.specs.Tables.{Layout, vote_tree}
-use Rattle.press_store.specs.Shown.{number_in, ballot_in, vote_in, voted_in, damaged_vote, vote_at, slot_vote_of, shown_vote, before, shown_votes, block_rows, vote_rows, meta_rows, store_in}
+use Rattle.press_store.specs.Shown.{number_in, ballot_in, vote_in, voted_in, damaged_vote, vote_at, slot_vote_of, shown_vote, before, shown_votes, block_rows, vote_rows, meta_rows}
+use Rattle.press_store.specs.Stands.{store_in}
 use Rattle.press_store.specs.Attempt.{AreTables}
 use Rattle.press_store.proofs.Maps.{votes_got}
 use Rattle.press_store.proofs.Put.{is_equal, same_int, same_pos, not_same}
 use Rattle.press_store.proofs.Queries.{back, none_of, passes, shown_rows, plain_vote}
 use Rattle.press_store.proofs.Standing.{stand}
+use Rattle.press_store.proofs.Versions.{as_newer}
 use Rattle.press_store.proofs.Texts.{votes_query}
 
 -- ---- what one row shows
@@ -210,7 +212,6 @@ if_some (Some a) so = so a refl
 
 pub votes_shown : (l : Layout) (db : Database) (first : ℕ) (rows : List Row) → IsSlot first → is_first first ≡ true → AreTables l db → Answers db (record { lets = []; body = votes_query l }) (range_params first (first + 15)) rows
     → IfSome (shown_votes first (first + 15) rows) (λ votes. votes ≡ block_votes (store_in db.trees) first)
-unfolding store_in
 votes_shown l db first rows i e has h =
     let table = vote_rows db.trees in
     let tree = vote_tree l in
@@ -218,9 +219,10 @@ votes_shown l db first rows i e has h =
     let found = shown_rows tree range_terms terms _ db (range_params first (first + 15)) rows (plain_vote l db.trees) h in
     let listed : IsPermutation (map project (filter (passes range_terms (range_params first (first + 15))) table)) rows =
     subst (λ xs. IsPermutation (map project (filter (passes range_terms (range_params first (first + 15))) xs)) rows) (sym (stand l db.trees has.listed).votes) found in
-    if_some (shown_votes first (first + 15) rows) (λ votes is.
+    subst (λ store. IfSome (shown_votes first (first + 15) rows) (λ votes. votes ≡ block_votes store first)) (as_newer db.trees has.emptied)
+    (if_some (shown_votes first (first + 15) rows) (λ votes is.
     let r = read first (first + 15) rows votes is in
     let within : IsWithin first (first + 16) votes = subst (λ k. IsWithin first k votes) (omega arith) r.within in
     sym (block_collected votes first within)
     ∙ block_same (vote_for votes) (vote_at table) first (λ slot low high. voted first (first + 15) table rows listed votes r slot low (omega (arith, high)))
-    ∙ sym (votes_got (block_rows db.trees) table (meta_rows db.trees) first i e))
+    ∙ sym (votes_got (block_rows db.trees) table (meta_rows db.trees) first i e)))

@@ -7,7 +7,7 @@ use Rattle.sqlite.specs.State.{State, HasCleanDisk}
 use Rattle.sqlite.specs.Held.{Held, held_code, state}
 use Rattle.press_acceptor.specs.StoreMap.{StoreMap}
 use Rattle.press_acceptor.specs.Seen.{Seen}
-use Rattle.press_store.specs.Shown.{store_in}
+use Rattle.press_store.specs.Stands.{store_in}
 
 -- what the last commit of a connection left
 abbrev pub kept_by : State → StoreMap

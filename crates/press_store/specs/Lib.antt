@@ -4,10 +4,14 @@ pub mod Attempt
 pub mod Faults
 pub mod Kept
 pub mod Making
+pub mod Migrated
+pub mod Moving
 pub mod Named
 pub mod Opened
 pub mod Saving
 pub mod Shown
+pub mod Slots
+pub mod Stands
 pub mod Steps
 pub mod Tables
 pub mod Voted

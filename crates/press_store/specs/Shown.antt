@@ -87,8 +87,9 @@ promise_at blocks votes first = if is_first first then promise_over (promise_in 
 abbrev pub is_last_round : Row → Bool
 is_last_round r = is_eq (value_cmp (column r 1) (Text (codes "last_round")))
 
+-- without a row it is 0, as where there are no tables
 abbrev pub round_in : List Row → Option ℕ
-round_in [] = None
+round_in [] = Some 0
 round_in (r ∷ []) = number_in 0 most_rounds (column r 2)
 round_in (r ∷ s ∷ more) = None
 
@@ -112,9 +113,6 @@ meta_rows db = rows_of (codes "meta") db
 abbrev pub old_rows : Trees → List Row
 old_rows db = rows_of (codes "promise") db
 
-unfoldable pub store_in : Trees → StoreMap
-store_in db = store_of (block_rows db) (vote_rows db) (meta_rows db)
-
 -- there is one last round, in a row with a number
 pub record IsKept (db : Trees) : Type 0 where
   pub row : Row
@@ -130,6 +128,12 @@ pub record IsOurVersion (db : Trees) : Type 0 where
   pub row : Row
   pub one : filter is_version (meta_rows db) ≡ row ∷ []
   pub number : column row 2 ≡ Int (pos 2)
+
+-- the same of version 1
+pub record IsOldVersion (db : Trees) : Type 0 where
+  pub row : Row
+  pub one : filter is_version (meta_rows db) ≡ row ∷ []
+  pub number : column row 2 ≡ Int (pos 1)
 
 -- no row of version 1 is left
 abbrev pub IsEmptied : Trees → Type 0

@@ -7,7 +7,7 @@ use Rattle.sqlite.specs.State.{State, HasCleanDisk, KeepsCommit}
 use Rattle.sqlite.specs.Held.{Held, state}
 use Rattle.press_acceptor.specs.StoreMap.{StoreMap}
 use Rattle.press_store.specs.Tables.{Layout}
-use Rattle.press_store.specs.Shown.{store_in}
+use Rattle.press_store.specs.Stands.{store_in}
 use Rattle.press_store.specs.Attempt.{AreTables}
 
 -- what a crash may leave of a commit

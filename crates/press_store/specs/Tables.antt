@@ -51,6 +51,24 @@ version_query_text = codes "SELECT n FROM meta WHERE name = 'version'"
 abbrev pub left_text : List ℕ
 left_text = codes "SELECT slot FROM promise LIMIT 1"
 
+abbrev pub slot_text : List ℕ
+slot_text = codes "SELECT round, node, vround, vnode, value FROM promise WHERE slot = ?1"
+
+abbrev pub last_slot_text : List ℕ
+last_slot_text = codes "SELECT slot FROM promise ORDER BY slot DESC LIMIT 1"
+
+abbrev pub outside_text : List ℕ
+outside_text = codes "SELECT slot FROM promise WHERE slot < 1 OR slot > ?1"
+
+abbrev pub clear_text : List ℕ
+clear_text = codes "DELETE FROM promise"
+
+abbrev pub number_text : List ℕ
+number_text = codes "SELECT rowid, n FROM meta WHERE name = ?1"
+
+abbrev pub set_version_text : List ℕ
+set_version_text = codes "UPDATE meta SET n = 2 WHERE name = 'version'"
+
 -- ---- tables
 
 abbrev pub column_of : List ℕ → Kind → Bool → Column
@@ -162,6 +180,10 @@ tables_of Moved = promise ∷ meta_on 1 ∷ block_on 3 ∷ vote_on 4 ∷ []
 
 abbrev pub schema_of : Layout → Schema
 schema_of l = record { tables = tables_of l; indexes = meta_key_on (key_tree l) (meta_tree l) ∷ []; views = [] }
+
+-- the tables of version 1
+abbrev pub old_schema : Schema
+old_schema = record { tables = promise ∷ meta_on 1 ∷ []; indexes = meta_key_on 2 1 ∷ []; views = [] }
 
 abbrev pub no_schema : Schema
 no_schema = record { tables = []; indexes = []; views = [] }

@@ -8,17 +8,19 @@ ghost use Rattle.press_acceptor.specs.declared.fault.StoreFault.TheVariants.{Dam
 ghost use Rattle.press_store.specs.Attempt.{Doubts, IsSettled};
 ghost use Rattle.sqlite.specs.State.{IsLive};
 ghost use Rattle.press_store.specs.Shown.{IsKept, IsOurVersion, IsEmptied};
-ghost use Rattle.press_store.specs.Adopted.{IsOurs, IsServed, IsAdopted, IsHandedBack, is_half};
+ghost use Rattle.press_store.specs.Adopted.{IsOld, IsOurs, IsServed, IsAdopted, IsHandedBack, is_half};
 ghost use Rattle.press_store.specs.Adopting.{AdoptsFrom, HandsBackFrom, IsNothing, IsMoved, IsPassed};
 ghost use Rattle.press_store.specs.Adopting.{IsOneNumber, IsOneTwo, LooksAt, OnlyReads, Shows, Tells};
 
 use crate::fault::fault_of;
 use crate::make::make;
-use crate::ours::{has_block, has_old, is_empty, is_half, is_ours};
+use crate::migrate::migrate;
+use crate::ours::{has_block, has_old, is_empty, is_half, is_old, is_ours};
 use crate::statement::read;
 use press_acceptor::StoreFault;
 use sqlite::types::ValueRef;
 use sqlite::{Alter, Connection, Error, Row as Shown};
+use std::alloc::Global;
 
 fn begins_with_number(row: &Shown) -> bool
     ensures { IsTrue result → (id : _) × (column row.now 0 ≡ Int id) }
@@ -148,6 +150,7 @@ fn prepare_empty<D: Alter>(conn: &mut Connection<D>) -> Result<(), StoreFault>
     requires quiet { conn.old.in_transaction ≡ false }
     requires unlimited { conn.old.step_limit ≡ None }
     requires settled { IsSettled (state D.Store conn.old) }
+    requires live { IsLive (state D.Store conn.old) }
     ensures adopts { AdoptsFrom D.Store IsNothing conn.old conn.new result }
     ensures back { HandsBackFrom D.Store IsNothing conn.old conn.new result }
     ensures clean { Doubts D.Store conn.old conn.new }
@@ -155,8 +158,21 @@ fn prepare_empty<D: Alter>(conn: &mut Connection<D>) -> Result<(), StoreFault>
     make(conn).map_err(fault_of)
 }
 
-// Adopts a database with other tables, of which no clause speaks, and with all of a store's or none.
-fn prepare_other<D: Alter>(conn: &mut Connection<D>) -> Result<(), StoreFault>
+// Adopts a database of version 1, which is one of this version then.
+fn prepare_old<D: Alter>(alloc: Global, conn: &mut Connection<D>) -> Result<(), StoreFault>
+    requires quiet { conn.old.in_transaction ≡ false }
+    requires unlimited { conn.old.step_limit ≡ None }
+    requires settled { IsSettled (state D.Store conn.old) }
+    requires live { IsLive (state D.Store conn.old) }
+    ensures adopts { AdoptsFrom D.Store IsOld conn.old conn.new result }
+    ensures back { HandsBackFrom D.Store IsOld conn.old conn.new result }
+    ensures clean { Doubts D.Store conn.old conn.new }
+{
+    migrate(alloc, conn).map_err(fault_of)
+}
+
+// Adopts a database with other tables, of which no clause speaks, and with all of a store's, of either version, or none.
+fn prepare_other<D: Alter>(alloc: Global, conn: &mut Connection<D>) -> Result<(), StoreFault>
     requires quiet { conn.old.in_transaction ≡ false }
     requires unlimited { conn.old.step_limit ≡ None }
     requires settled { IsSettled (state D.Store conn.old) }
@@ -166,11 +182,14 @@ fn prepare_other<D: Alter>(conn: &mut Connection<D>) -> Result<(), StoreFault>
     if has_block(conn.schema()) {
         return prepare_ours(conn);
     }
+    if has_old(conn.schema()) {
+        return migrate(alloc, conn).map_err(fault_of);
+    }
     make(conn).map_err(fault_of)
 }
 
-/// Makes the tables if there are none. Returns whether they are those that a store makes, with nothing else.
-pub fn prepare<D: Alter>(conn: &mut Connection<D>) -> Result<bool, StoreFault>
+/// Makes the tables if there are none, and migrates those of version 1. Returns whether they are those that a store makes, with nothing else.
+pub fn prepare<D: Alter>(alloc: Global, conn: &mut Connection<D>) -> Result<bool, StoreFault>
     ensures ours { IfOk result (λ is_ours. IsServed (state D.Store conn.old) → IsTrue is_ours) }
     ensures adopts { IfOk result (λ is_ours. IsTrue is_ours → IsAdopted D.Store conn.old conn.new) }
     ensures half { is_half (state D.Store conn.old).now.schema ≡ true →
@@ -193,6 +212,10 @@ pub fn prepare<D: Alter>(conn: &mut Connection<D>) -> Result<bool, StoreFault>
         prepare_empty(conn)?;
         return Ok(true);
     }
-    prepare_other(conn)?;
+    if is_old(conn.schema()) {
+        prepare_old(alloc, conn)?;
+        return Ok(true);
+    }
+    prepare_other(alloc, conn)?;
     Ok(false)
 }

@@ -3,14 +3,19 @@
 
 mod adopt;
 mod block;
+mod clearing;
 mod fault;
 mod last;
 mod load;
 mod make;
+mod marking;
 mod meta;
+mod migrate;
+mod moving;
 mod ours;
 mod rows;
 mod save;
+mod slots;
 mod sql_store;
 mod statement;
 mod vote;

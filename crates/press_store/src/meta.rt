@@ -36,7 +36,8 @@ fn find_round<S: Alter>(conn: &mut Connection<S>) -> Result<Vec<Shown>, Error>
     read(conn, "SELECT n FROM meta WHERE name = 'last_round'", &[])
 }
 
-fn number(value: ValueRef<'_>) -> Option<u64>
+/// The round that a value gives, which may be 0.
+pub fn number(value: ValueRef<'_>) -> Option<u64>
     ensures { result ≡ number_in 0 most_rounds (owned value.entry) }
 {
     let ValueRef::Int(n) = value else {

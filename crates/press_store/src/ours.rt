@@ -3,7 +3,7 @@
 ghost use Rattle.std.specs.Prelude.{◌≡◌, [], ◌∷◌, codes, IsTrue};
 ghost use Rattle.press_store.specs.Tables.{column_of, promise_columns, block_columns, vote_columns};
 ghost use Rattle.press_store.specs.Tables.{promise, block_on, vote_on, meta_on, meta_key_on};
-ghost use Rattle.press_store.specs.Tables.{IsBareTable, IsKeyed, Fresh, Moved, schema_of, no_schema};
+ghost use Rattle.press_store.specs.Tables.{IsBareTable, IsKeyed, Fresh, Moved, schema_of, no_schema, old_schema};
 ghost use Rattle.press_store.specs.Adopted.{has_table, is_half, IsOurs};
 
 use sqlite_schema::schema::{Column, Index, Kind, Schema, Table};
@@ -225,13 +225,29 @@ pub fn is_ours(schema: &Schema) -> bool
     is_fresh(schema) || is_moved(schema)
 }
 
+/// Whether the tables are those of version 1, with nothing else.
+pub fn is_old(schema: &Schema) -> bool
+    ensures tells { IsTrue result → schema.now ≡ old_schema }
+    ensures same { schema.now ≡ old_schema → IsTrue result }
+{
+    match (schema.tables.as_slice(), schema.indexes.as_slice()) {
+        ([promise, meta], [key]) => {
+            is_promise(promise)
+                && is_meta(meta, 1)
+                && is_meta_key(key, 2, 1)
+                && schema.views.is_empty()
+        }
+        _ => false,
+    }
+}
+
 fn has_table(schema: &Schema, name: &[u8]) -> bool
     ensures { result ≡ has_table schema.now name.now }
 {
     schema.table_named(name).is_some()
 }
 
-/// Whether some of the tables are there without the others, or that of version 1 alone.
+/// Whether some of the tables of a version are there without the others.
 #[tactic(auto, unfolding(crate::specs::Adopted::is_half))]
 pub fn is_half(schema: &Schema) -> bool
     ensures { result ≡ is_half schema.now }
@@ -239,8 +255,11 @@ pub fn is_half(schema: &Schema) -> bool
     let has_block = has_table(schema, b"block");
     let has_vote = has_table(schema, b"vote");
     let has_meta = has_table(schema, b"meta");
-    let has_any = has_block || has_vote || has_meta || has_table(schema, b"promise");
-    has_any && !(has_block && has_vote && has_meta)
+    let has_old = has_table(schema, b"promise");
+    let has_any = has_block || has_vote || has_meta || has_old;
+    let has_all = has_block && has_vote && has_meta;
+    let is_unmoved = has_old && has_meta && !(has_block || has_vote);
+    has_any && !(has_all || is_unmoved)
 }
 
 /// Whether there is a table of blocks.

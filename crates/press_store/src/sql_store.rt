@@ -8,7 +8,7 @@ ghost use Rattle.sqlite.specs.WalFiles.{image_at};
 ghost use Rattle.press_store.specs.Adopted.{Adopts, IsServed, IsHandedBack, is_half};
 ghost use Rattle.press_acceptor.specs.declared.fault.StoreFault.TheVariants.{Damaged};
 ghost use Rattle.press_store.specs.Faults.{told};
-ghost use Rattle.press_store.specs.Opened.{Begins, Finds, HoldsServed, IsUp};
+ghost use Rattle.press_store.specs.Opened.{Begins, Finds, HoldsServed, IsUp, WereSound};
 ghost use Rattle.press_store.specs.Attempt.{IsReady};
 ghost use Rattle.press_store.specs.Kept.{seen_of};
 ghost use Rattle.press_store.specs.Voted.{IsLastVote};
@@ -64,9 +64,10 @@ impl<D: Alter> Model for SqlStore<D> {
 }
 
 impl<D: Alter> SqlStore<D> {
-    /// A store over the connection, which has no limit on its steps from then on. Its tables are made where it has none. A fault returns
-    /// the connection: Damaged where it is in a transaction, or where the tables are not those of a store. Where some of the tables are
-    /// there without the others, as where they are of version 1, the connection is the very one that was given.
+    /// A store over the connection, which has no limit on its steps from then on. Its tables are made where it has none, and those of
+    /// version 1 are migrated, in one transaction. A fault returns the connection: Damaged where it is in a transaction, where the tables
+    /// are not those of a store, or where a row of version 1 is damaged. Where some of the tables are there without the others, the
+    /// connection is the very one that was given.
     pub fn adopt(
         alloc: Global,
         conn: Connection<D>,
@@ -82,7 +83,7 @@ impl<D: Alter> SqlStore<D> {
         ensures back { IfErr result (λ refused. IsHandedBack D.Store conn refused.1) }
     {
         let mut conn = conn;
-        match prepare(&mut conn) {
+        match prepare(alloc, &mut conn) {
             Ok(is_ours) => Ok(SqlStore {
                 conn,
                 faults: 0,
@@ -141,6 +142,8 @@ impl<S: Start> SqlStore<FileStore<FileFrom<S>>> {
             IsTrue store.is_ours → Begins (image_at S.Start) (file_state store.conn)) }
         ensures found { IfOk result (λ store. HasCleanDisk (file_state store.conn) →
             IsTrue store.is_ours → Finds (image_at S.Start) (file_state store.conn)) }
+        ensures sound { IfOk result (λ store. HasCleanDisk (file_state store.conn) →
+            IsTrue store.is_ours → WereSound (image_at S.Start)) }
         ensures faults { IfOk result (λ store. store.faults ≡ 0) }
     {
         let conn = match Connection::open_from(rt, path, false, start) {

@@ -1,5 +1,5 @@
 use Rattle.std.proofs.Common.{subst}
-use Rattle.press_store.specs.Adopted.{IsOurs}
+use Rattle.press_store.specs.Adopted.{IsOld, IsOurs}
 use Rattle.press_store.specs.Adopting.{IsNothing}
 use Rattle.press_store.proofs.Adopting.{back_unlimited, on_err}
 use Rattle.press_store.proofs.adopt.prepare.Goals as goal
@@ -15,3 +15,9 @@ returns-in_err-prepare_empty-clause-back g c =
     let mid = c.set_step_limit.new.self in
     let empty : IsNothing mid.schema = subst IsNothing c.schema-3.ensures.value (c.is_empty.ensures.tells c.if-is_empty.true) in
     on_err c.from_residual-in_err-prepare_empty.result (λ clean _. back_unlimited g.D.Store c.args.conn.now mid c.prepare_empty.new.conn c.set_step_limit.ensures (c.in_err-prepare_empty.ensures.back clean empty))
+
+pub returns-in_err-prepare_old-clause-back : goal.returns-in_err-prepare_old-clause-back
+returns-in_err-prepare_old-clause-back g c =
+    let mid = c.set_step_limit.new.self in
+    let old : IsOld mid.schema = subst IsOld c.schema-4.ensures.value (c.is_old.ensures.tells c.if-is_old.true) in
+    on_err c.from_residual-in_err-prepare_old.result (λ clean _. back_unlimited g.D.Store c.args.conn.now mid c.prepare_old.new.conn c.set_step_limit.ensures (c.in_err-prepare_old.ensures.back clean old))

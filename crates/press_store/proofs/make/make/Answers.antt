@@ -1,15 +1,14 @@
 use Rattle.std.proofs.Common.{◌≡◌, IsTrue, OnOk, true, sym, subst, arith, rules}
 use Rattle.std.specs.Prelude.{OnErr}
-use Rattle.sqlite.specs.Tree.{Trees}
 use Rattle.sqlite.specs.State.{HasCleanDisk, Survives}
 use Rattle.sqlite.specs.Held.{state}
 use Rattle.sqlite.proofs.StateLemmas.{survives_then}
 use Rattle.sqlite.proofs.Callers.{survives_begin}
 use Rattle.sqlite.proofs.InsideLemmas.{keeps_then}
-use Rattle.press_store.specs.Tables.{Fresh, no_schema, schema_of}
-use Rattle.press_store.specs.Making.{IsFresh}
+use Rattle.press_store.specs.Tables.{no_schema}
+use Rattle.press_store.specs.Making.{IsFresh, IsNewIn}
 use Rattle.press_store.proofs.Made.{fresh_kept, fresh_left}
-use Rattle.press_store.proofs.Adopting.{unmade, commit_unmade, on_err}
+use Rattle.press_store.proofs.Adopting.{unmade, commit_unmade, on_err, on_ok}
 use Rattle.press_store.proofs.make.make.Goals as goal
 
 pub returns-clause-made : goal.returns-clause-made
@@ -22,8 +21,9 @@ returns-clause-made g c clean has =
     let was : HasCleanDisk (state g.S.Store last) = omega (arith, c.commit.ensures.survives.clean, late) in
     let one = c.in_ok-make_tables.ensures.made (omega (arith, c.make_rows.ensures.survives.clean, was)) (rw begun) (rw begun has) in
     let two = c.in_ok-make_rows.ensures.made was one.1 one.0 in
-    subst (λ h. OnOk c.commit.result (IsTrue (state g.S.Store h).is_open × IsFresh (state g.S.Store h).now × ((state g.S.Store h).now ≡ (state g.S.Store h).committed))) same
-    (fresh_kept (state g.S.Store last) (state g.S.Store end) c.commit.result two.0 (c.commit.ensures.ok late))
+    let up : IsTrue (state g.S.Store c.args.conn.now).is_open = rw begun at (c.in_ok-make_tables.ensures.up (omega (arith, c.make_rows.ensures.survives.clean, was)) (rw begun)) in
+    subst (λ h. OnOk c.commit.result (IsTrue (state g.S.Store c.args.conn.now).is_open × IsTrue (state g.S.Store h).is_open × IsFresh (state g.S.Store h).now × ((state g.S.Store h).now ≡ (state g.S.Store h).committed))) same
+    (on_ok c.commit.result (λ kept. (up, kept.0, kept.1, kept.2)) (fresh_kept (state g.S.Store last) (state g.S.Store end) c.commit.result two.0 (c.commit.ensures.ok late)))
 
 pub returns-clause-survives : goal.returns-clause-survives
 returns-clause-survives g c =
@@ -32,14 +32,15 @@ returns-clause-survives g c =
     let last = c.make_rows.new.tx.conn.now in
     let end = c.commit.new.self.0 in
     let begun = c.transaction-tx.ensures.begun in
-    let P = λ (trees : Trees). old.schema ≡ no_schema → IsFresh (record { schema = schema_of Fresh; trees = trees }) in
+    let P = IsNewIn (state g.S.Store old) in
+    let up = λ (was : HasCleanDisk (state g.S.Store last)). rw begun at (c.in_ok-make_tables.ensures.up (omega (arith, c.make_rows.ensures.survives.clean, was)) (rw begun)) in
     let made = λ (was : HasCleanDisk (state g.S.Store last)) (has : old.schema ≡ no_schema).
     let one = c.in_ok-make_tables.ensures.made (omega (arith, c.make_rows.ensures.survives.clean, was)) (rw begun) (rw begun has) in
     (c.in_ok-make_rows.ensures.made was one.1 one.0).0 in
     let inside = survives_then (state g.S.Store c.transaction-tx.result.conn.now) (state g.S.Store mid) (state g.S.Store last) _ _ (λ _. ⊥) (λ _ db none. none) (λ _ db none. none)
     c.make_tables.ensures.survives c.make_rows.ensures.survives in
     let whole = survives_then (state g.S.Store old) (state g.S.Store last) (state g.S.Store end) _ _ P (λ _ db none. absurd none)
-    (λ clean db is has. fresh_left (state g.S.Store last).now db (made (omega (arith, c.commit.ensures.survives.clean, clean)) has) is) (survives_begin g.S.Store old (state g.S.Store last) _ (rw begun at inside)) c.commit.ensures.survives in
+    (λ clean db is. (up (omega (arith, c.commit.ensures.survives.clean, clean)), λ has. fresh_left (state g.S.Store last).now db (made (omega (arith, c.commit.ensures.survives.clean, clean)) has) is)) (survives_begin g.S.Store old (state g.S.Store last) _ (rw begun at inside)) c.commit.ensures.survives in
     let same : end ≡ c.conn-2-1.given.0 = search rules in
     subst (λ h. Survives (state g.S.Store old) (state g.S.Store h) P) same whole
 

@@ -6,7 +6,8 @@ use Rattle.sqlite.specs.Store.{Ghosts}
 use Rattle.sqlite.specs.Order.{Row, column}
 use Rattle.sqlite.specs.Held.{Held, state}
 use Rattle.press_store.specs.Tables.{round_text}
-use Rattle.press_store.specs.Shown.{IsRoundRow, store_in}
+use Rattle.press_store.specs.Shown.{IsRoundRow}
+use Rattle.press_store.specs.Stands.{store_in}
 use Rattle.press_store.specs.Kept.{kept_by}
 use Rattle.press_store.specs.Attempt.{Ready}
 use Rattle.press_store.proofs.Looked.{Finds, finds}

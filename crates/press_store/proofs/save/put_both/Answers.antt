@@ -3,7 +3,7 @@ use Rattle.std.specs.Prelude.{OnOk}
 use Rattle.sqlite.specs.State.{HasCleanDisk}
 use Rattle.sqlite.specs.Held.{state}
 use Rattle.press_store.specs.Saving.{PutsPromise}
-use Rattle.press_store.specs.Shown.{store_in}
+use Rattle.press_store.specs.Stands.{store_in}
 use Rattle.press_store.proofs.Puts.{both_done}
 use Rattle.press_store.proofs.save.put_both.Goals as goal
 
