@@ -1,5 +1,5 @@
 -- What an event's turn did to a store: the one word for it, from an acceptor's request to a whole node (own).
-use Rattle.std.specs.Prelude.{◌≡◌, ◌⊎◌, Option, None, Some, List, [], ◌∷◌, Result, IfOk}
+use Rattle.std.specs.Prelude.{◌≡◌, ◌⊎◌, IsTrue, Option, None, Some, List, [], ◌∷◌, Result, IfOk}
 use Rattle.press_acceptor.specs.Seen.{Call, Seen, Counts, SavesIf}
 use Rattle.press_acceptor.specs.StoreMap.{StoreMap, Save}
 use Rattle.press_acceptor.specs.declared.fault.StoreFault.{StoreFault}
@@ -48,6 +48,8 @@ pub record Asked (calls : List Call) (takes : StoreMap → Type 0) (save : Store
   pub honest : store.new.is_honest → store.old.is_honest
   pub counts : Counts store.old store.new fault
   pub ends : Ends calls (store.new.is_honest → takes store.old.kept) store.new fault
+  -- a store that answered is open
+  pub is_open : fault ≡ None → store.new.is_honest → IsTrue store.new.is_open
   -- done, the store is as the save leaves it; ended by a fault, it is as before the save or after it
   pub saves : store.new.is_honest → SavesIf (save store.old.kept) store.old store.new fault
 

@@ -1,6 +1,6 @@
 //! What an acceptor does with each request: at most one save, and what it says after it.
 
-ghost use Rattle.std.specs.Prelude.{◌≡◌, true, IfOk};
+ghost use Rattle.std.specs.Prelude.{◌≡◌, true, IfOk, IsTrue, OnOk};
 ghost use Rattle.press_wire.specs.Blocks.{is_first, block_of};
 ghost use Rattle.press_wire.specs.declared.vote.Vote.{Vote};
 ghost use Rattle.press_acceptor.specs.Plans.{accept_plan, prepare_plan, query_plan, reads, reads_and_promises, reads_and_votes};
@@ -90,6 +90,8 @@ impl Acceptor {
 // What is kept for the slot, out of its block.
 #[tactic(auto, using(crate::proofs::Rows::row_read))]
 fn row_of<S: PromiseStore>(store: &mut S, slot: Slot) -> Result<Row, StoreFault>
+    ensures opened { (S.seen store.new).is_honest →
+        OnOk result (IsTrue (S.seen store.new).is_open) }
     ensures calls { Calls (LoadsBlock (block_of slot)) (S.seen store.old) (S.seen store.new)
         (fault_in result) }
     ensures row { (S.seen store.new).is_honest →

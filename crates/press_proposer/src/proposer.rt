@@ -240,6 +240,8 @@ impl Proposer {
 
     // The round after the greatest that was saved or reported.
     fn next_round<S: PromiseStore>(&self, store: &mut S) -> Result<Round, ProposerFault>
+        ensures opened { store_fault (fault_in result) ≡ None → (S.seen store.new).is_honest →
+            IsTrue (S.seen store.new).is_open }
         ensures calls { Calls LoadsRound (S.seen store.old) (S.seen store.new)
             (store_fault (fault_in result)) }
         ensures looks { (S.seen store.new).is_honest → Looks (S.seen store.old) (S.seen store.new) }

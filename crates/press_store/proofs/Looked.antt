@@ -1,5 +1,5 @@
 -- From what a query finds to what it leaves.
-use Rattle.std.proofs.Common.{◌≡◌, ℕ, List, false, Ok, Err, Result, Vec, IfOk, sym, ap, subst, ◌∙◌, inl, inr, arith}
+use Rattle.std.proofs.Common.{◌≡◌, ℕ, List, false, Ok, Err, Result, Vec, IfOk, OnOk, sym, ap, subst, ◌∙◌, inl, inr, arith}
 use Rattle.std.specs.Prelude.{IsTrue}
 use Rattle.std.specs.declared.alloc.Global.{Global}
 use Rattle.sqlite.specs.declared.error.Error.{Error}
@@ -126,3 +126,14 @@ module _ {S : Type 0} (g : Ghosts S) (sql : List ℕ) (params : Row) (command : 
             (λ db may. fewer (state g old) (state g h.mid) h.quiet was db (showing sql params (state g h.mid) (state g new) plainly h.left clean db may)),
         (h.same.0.was_open, t.0, subst (AreTables t.0) h.same.0.now_is t.1, subst (λ (d : Database). Reads (command t.0) d params rows.items) h.same.0.now_is read),
       )
+
+  -- where it was answered, the connection is open
+  pub opens : (old new : Held S) (result : Result (Vec Row Global) Error) → HasCleanDisk (state g new) → IsReady g old → Queries g old new sql params result → OnOk result (IsTrue (state g new).is_open)
+  opens old new result clean ready (inr h) = subst (λ r. OnOk r (IsTrue (state g new).is_open)) (sym h.is) tt
+  opens old new (Err e) clean ready (inl h) = tt
+  opens old new (Ok rows) clean ready (inl h) =
+      let was : HasCleanDisk (state g h.mid) = omega (arith, h.left.clean, clean) in
+      let r = ready (omega (arith, h.quiet.clean, was)) in
+      let m = same_ready (state g old) (state g h.mid) r h.quiet.limit (inl h.same) in
+      let t = m.tables h.same.0.is_open in
+      (shown_same sql params (state g h.mid) (state g new) rows.items (tables_at t.0 (state g h.mid) t.1.schema) h.ok).0.is_open

@@ -112,6 +112,10 @@ module _ {S : Type 0} (g : Ghosts S) (old new : Held S) where
   abbrev pub Looks : Type 0
   Looks = HasCleanDisk (state g new) → IsReady g old → Looked (state g old) (state g new)
 
+  -- a connection that answers is open
+  abbrev pub Opens : {A : Type 0} → Result A Error → Type 0
+  Opens result = HasCleanDisk (state g new) → IsReady g old → OnOk result (IsTrue (state g new).is_open)
+
   -- what is answered is so of what the connection keeps, which was open
   abbrev pub Answers : {A : Type 0} → Result A Error → (StoreMap → A → Type 0) → Type 0
   Answers result Is = HasCleanDisk (state g new) → IsReady g old → IfOk result (λ found. IsTrue (state g old).is_open × Is (kept_by (state g old)) found)

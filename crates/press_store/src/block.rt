@@ -5,7 +5,7 @@ ghost use Rattle.sqlite.specs.State.{Survives};
 ghost use Rattle.sqlite.specs.Held.{state};
 ghost use Rattle.press_wire.specs.Blocks.{is_first};
 ghost use Rattle.press_acceptor.specs.StoreMap.{with_promise};
-ghost use Rattle.press_store.specs.Attempt.{Answers, Doubts, Looks, Saves, StaysReady};
+ghost use Rattle.press_store.specs.Attempt.{Answers, Doubts, Looks, Opens, Saves, StaysReady};
 ghost use Rattle.press_store.specs.Moving.{BallotPut, Does};
 ghost use Rattle.press_store.specs.Saving.{PutsPromise};
 ghost use Rattle.press_store.specs.Shown.{ballot_in, shown_promise, IsPromiseShown};
@@ -67,6 +67,7 @@ pub fn raise_promise<S: Alter>(
 
 fn find_promise<S: Alter>(conn: &mut Connection<S>, first: Slot) -> Result<Vec<Shown>, Error>
     requires { is_first first ≡ true }
+    ensures opened { Opens S.Store conn.old conn.new result }
     ensures looks { Looks S.Store conn.old conn.new }
     ensures promise { Answers S.Store conn.old conn.new result
         (λ store rows. IfSome (shown_promise rows.items) (IsPromiseShown store first)) }
@@ -106,6 +107,7 @@ pub fn read_promise<S: Alter>(
     first: Slot,
 ) -> Result<Option<Option<Ballot>>, Error>
     requires { is_first first ≡ true }
+    ensures opened { Opens S.Store conn.old conn.new result }
     ensures looks { Looks S.Store conn.old conn.new }
     ensures promise { Answers S.Store conn.old conn.new result
         (λ store found. IfSome found (IsPromiseShown store first)) }

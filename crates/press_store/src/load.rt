@@ -3,7 +3,7 @@
 ghost use Rattle.std.specs.Prelude.{◌≡◌, true, IfSome};
 ghost use Rattle.press_wire.specs.Blocks.{is_first};
 ghost use Rattle.press_acceptor.specs.StoreMap.{block_at};
-ghost use Rattle.press_store.specs.Attempt.{Answers, Doubts, Looks, StaysReady};
+ghost use Rattle.press_store.specs.Attempt.{Answers, Doubts, Looks, Opens, StaysReady};
 ghost use Rattle.press_store.specs.Shown.{block_from};
 
 use crate::block::read_promise;
@@ -30,6 +30,7 @@ pub fn read_block<S: Alter>(
     first: Slot,
 ) -> Result<Option<Block>, Error>
     requires { is_first first ≡ true }
+    ensures opened { Opens S.Store conn.old conn.new result }
     ensures looks { Looks S.Store conn.old conn.new }
     ensures block { Answers S.Store conn.old conn.new result
         (λ store found. IfSome found (λ block. block ≡ block_at store first)) }

@@ -4,7 +4,7 @@ ghost use Rattle.std.specs.Prelude.{◌≡◌, IfSome};
 ghost use Rattle.sqlite.specs.Order.{column};
 ghost use Rattle.sqlite.specs.Value.{owned};
 ghost use Rattle.press_acceptor.specs.StoreMap.{with_round};
-ghost use Rattle.press_store.specs.Attempt.{Answers, Doubts, Looks, Saves, StaysReady};
+ghost use Rattle.press_store.specs.Attempt.{Answers, Doubts, Looks, Opens, Saves, StaysReady};
 ghost use Rattle.press_store.specs.Shown.{most_rounds, number_in, IsRoundRow};
 
 use crate::rows::round_value;
@@ -27,6 +27,7 @@ pub fn put_round<S: Alter>(conn: &mut Connection<S>, round: Round) -> Result<usi
 }
 
 fn find_round<S: Alter>(conn: &mut Connection<S>) -> Result<Vec<Shown>, Error>
+    ensures opened { Opens S.Store conn.old conn.new result }
     ensures looks { Looks S.Store conn.old conn.new }
     ensures round { Answers S.Store conn.old conn.new result
         (λ store rows. IsRoundRow store rows.items) }
@@ -61,6 +62,7 @@ fn round_of(row: &Shown) -> Option<u64>
 
 /// Reads the last round; None where it is damaged.
 pub fn read_round<S: Alter>(conn: &mut Connection<S>) -> Result<Option<u64>, Error>
+    ensures opened { Opens S.Store conn.old conn.new result }
     ensures looks { Looks S.Store conn.old conn.new }
     ensures round { Answers S.Store conn.old conn.new result
         (λ store found. IfSome found (λ n. n ≡ store.last_round)) }

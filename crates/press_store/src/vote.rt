@@ -9,7 +9,7 @@ ghost use Rattle.press_wire.specs.Blocks.{is_first};
 ghost use Rattle.press_wire.specs.Reading.{read_command};
 ghost use Rattle.press_wire.specs.Spelling.{spelled_command};
 ghost use Rattle.press_acceptor.specs.StoreMap.{block_votes};
-ghost use Rattle.press_store.specs.Attempt.{Answers, Doubts, Looks, StaysReady};
+ghost use Rattle.press_store.specs.Attempt.{Answers, Doubts, Looks, Opens, StaysReady};
 ghost use Rattle.press_store.specs.Moving.{Does, VotePut};
 ghost use Rattle.press_store.specs.Saving.{AddsVote};
 ghost use Rattle.press_store.specs.Shown.{vote_in, shown_vote, shown_votes};
@@ -62,6 +62,7 @@ fn last_value<'a>(first: Slot) -> ValueRef<'a>
 
 fn find_votes<S: Alter>(conn: &mut Connection<S>, first: Slot) -> Result<Vec<Shown>, Error>
     requires { is_first first ≡ true }
+    ensures opened { Opens S.Store conn.old conn.new result }
     ensures looks { Looks S.Store conn.old conn.new }
     ensures votes { Answers S.Store conn.old conn.new result
         (λ store rows. IfSome (shown_votes first (first + 15) rows.items)
@@ -128,6 +129,7 @@ pub fn read_votes<S: Alter>(
     first: Slot,
 ) -> Result<Option<Votes>, Error>
     requires { is_first first ≡ true }
+    ensures opened { Opens S.Store conn.old conn.new result }
     ensures looks { Looks S.Store conn.old conn.new }
     ensures votes { Answers S.Store conn.old conn.new result
         (λ store found. IfSome found (λ votes. votes ≡ block_votes store first)) }

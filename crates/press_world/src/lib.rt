@@ -27,8 +27,8 @@ mod world;
 
 pub use fault::WorldFault;
 pub use laws::{
-    a_wake_prepares_legally, entries_stand_for_facts, every_schedule, what_is_learned_is_chosen,
-    what_is_proposed_is_allowed,
+    a_wake_prepares_legally, each_step_agrees, entries_stand_for_facts, every_schedule,
+    what_is_learned_is_chosen, what_is_proposed_is_allowed,
 };
 pub use played::Played;
 pub use reading::{read_schedule, read_site};

@@ -12,7 +12,7 @@ use Rattle.press_store.specs.Tables.{promise_text}
 use Rattle.press_store.specs.Shown.{shown_promise, IsPromiseShown}
 use Rattle.press_store.specs.Kept.{kept_by}
 use Rattle.press_store.specs.Attempt.{Ready}
-use Rattle.press_store.proofs.Looked.{Finds, finds}
+use Rattle.press_store.proofs.Looked.{Finds, finds, opens}
 use Rattle.press_store.proofs.PromiseRows.{promise_shown}
 use Rattle.press_store.proofs.Saved.{as_kept}
 use Rattle.press_store.proofs.Texts.{promise_select, promise_means}
@@ -36,3 +36,7 @@ returns-clause-promise g c clean ready =
 
 pub returns-clause-ready : goal.returns-clause-ready
 returns-clause-ready g c ready clean = (returns-clause-looks g c clean ready).ready
+
+pub returns-clause-opened : goal.returns-clause-opened
+returns-clause-opened g c clean ready =
+    opens g.S.Store promise_text (Int (pos c.args.first) ∷ []) promise_select promise_means c.args.conn.now c.read.new.conn c.read.result clean ready (rw c.slot_value.ensures.value at (c.read.ensures.asked clean))

@@ -10,7 +10,7 @@ use Rattle.press_store.specs.Shown.{IsRoundRow}
 use Rattle.press_store.specs.Stands.{store_in}
 use Rattle.press_store.specs.Kept.{kept_by}
 use Rattle.press_store.specs.Attempt.{Ready}
-use Rattle.press_store.proofs.Looked.{Finds, finds}
+use Rattle.press_store.proofs.Looked.{Finds, finds, opens}
 use Rattle.press_store.proofs.Rounds.{round_found, round_shown}
 use Rattle.press_store.proofs.Saved.{as_kept}
 use Rattle.press_store.proofs.Texts.{round_select, round_means}
@@ -35,3 +35,7 @@ returns-clause-round g c clean ready =
 
 pub returns-clause-ready : goal.returns-clause-ready
 returns-clause-ready g c ready clean = (returns-clause-looks g c clean ready).ready
+
+pub returns-clause-opened : goal.returns-clause-opened
+returns-clause-opened g c clean ready =
+    opens g.S.Store round_text [] round_select round_means c.args.conn.now c.read.new.conn c.read.result clean ready (c.read.ensures.asked clean)

@@ -13,7 +13,7 @@ use Rattle.press_store.specs.Tables.{votes_text}
 use Rattle.press_store.specs.Shown.{shown_votes}
 use Rattle.press_store.specs.Kept.{kept_by}
 use Rattle.press_store.specs.Attempt.{Ready}
-use Rattle.press_store.proofs.Looked.{Finds, finds}
+use Rattle.press_store.proofs.Looked.{Finds, finds, opens}
 use Rattle.press_store.proofs.VoteRows.{votes_shown}
 use Rattle.press_store.proofs.Saved.{as_kept}
 use Rattle.press_store.proofs.Texts.{votes_select, votes_means}
@@ -37,3 +37,7 @@ returns-clause-votes g c clean ready =
 
 pub returns-clause-ready : goal.returns-clause-ready
 returns-clause-ready g c ready clean = (returns-clause-looks g c clean ready).ready
+
+pub returns-clause-opened : goal.returns-clause-opened
+returns-clause-opened g c clean ready =
+    opens g.S.Store votes_text (Int (pos c.args.first) ∷ Int (pos (c.args.first + 15)) ∷ []) votes_select votes_means c.args.conn.now c.read.new.conn c.read.result clean ready (rw (c.slot_value.ensures.value, c.last_value.ensures) at (c.read.ensures.asked clean))
