@@ -1,0 +1,156 @@
+-- What is spelled is read.
+use Rattle.std.proofs.Common.{◌≡◌, ℕ, zero, suc, ◌^◌, ◌<◌, ◌≤◌, false, ltb, List, [], ◌∷◌, ◌++◌, length, Some, Result, Ok, refl, sym, ap, subst, ◌∙◌, append_assoc, arith}
+use Rattle.std.specs.Int.{Width, w32, w64, byte_len, from_be_bytes, to_be_bytes}
+use Rattle.std.proofs.lemmas.Bool.{le-ltb}
+use Rattle.std.proofs.lemmas.Bool.Decides.{nat_tests}
+use Rattle.std.proofs.lemmas.List.{append-nil, length-append, take_at, drop_at}
+use Rattle.std.proofs.lemmas.Nat.{from_be_bytes-to_be_bytes_4, from_be_bytes-to_be_bytes_8}
+use Rattle.press_wire.specs.declared.message.Message.{Message}
+use Rattle.press_wire.specs.Held.{IsNode}
+use Rattle.press_wire.specs.Ranges.{node_of, is_within}
+use Rattle.press_wire.specs.Reading.{read_message}
+use Rattle.press_wire.specs.Spelling.{number4, number8, spelled_message}
+use Rattle.press_wire.proofs.Codec.{passes_only}
+use Rattle.press_wire.proofs.MessageLaws.{reads_back}
+use Rattle.press_batch.specs.Carried.{Carried}
+use Rattle.press_batch.specs.Fields.{◌>>=◌, bytes_at, number_at, number4_at, number8_at, version_at, member_at, piece_at}
+use Rattle.press_batch.specs.Held.{IsReport, IsBatch, AreMessages, AreFormed, ReadBack}
+use Rattle.press_batch.specs.Reading.{digests_at, report_at, head_at, ended, read_report, message_at, messages_within, batch_in, read_batch}
+use Rattle.press_batch.specs.Spelling.{spelled_report, spelled_piece, spelled_messages, spelled_batch, most_bytes}
+use Rattle.press_batch.specs.declared.fault.BatchFault.{BatchFault}
+use Rattle.press_batch.specs.declared.report.Digests.{Digests}
+use Rattle.press_batch.specs.declared.report.Report.{Report}
+use Rattle.press_batch.proofs.Lengths.{messages_nil, messages_cons, length_cons}
+
+-- ---- fields
+
+number_again : (w : Width) (spelled : List ℕ) (n : ℕ) (rest : List ℕ) → length spelled ≡ byte_len w → from_be_bytes w spelled ≡ n → number_at w (spelled ++ rest) ≡ Ok (n, rest)
+number_again w spelled n rest len is =
+    let long : ltb (length (spelled ++ rest)) (byte_len w) ≡ false = le-ltb _ _ (omega (arith, len, length-append spelled rest)) in
+    rw (long, take_at spelled rest (byte_len w) len, drop_at spelled rest (byte_len w) len, is) refl
+
+number4_again : (n : ℕ) (rest : List ℕ) → n < 2 ^ 32 → number4_at (number4 n ++ rest) ≡ Ok (n, rest)
+unfolding number4_at number4
+number4_again n rest lt = number_again w32 (to_be_bytes w32 n) n rest refl (from_be_bytes-to_be_bytes_4 n lt)
+
+number8_again : (n : ℕ) (rest : List ℕ) → n < 2 ^ 64 → number8_at (number8 n ++ rest) ≡ Ok (n, rest)
+unfolding number8_at number8
+number8_again n rest lt = number_again w64 (to_be_bytes w64 n) n rest refl (from_be_bytes-to_be_bytes_8 n lt)
+
+version_again : (rest : List ℕ) → version_at (1 ∷ rest) ≡ Ok (1, rest)
+unfolding version_at
+version_again rest = refl
+
+node_again : (n : ℕ) → IsNode n → node_of n ≡ Some n
+node_again n node = passes_only (is_within 1 7) n (grind (arith, nat_tests))
+
+member_again : (n : ℕ) (rest : List ℕ) → IsNode n → member_at (n ∷ rest) ≡ Ok (n, rest)
+unfolding member_at
+member_again n rest node = rw (node_again n node) refl
+
+bytes_again : (front rest : List ℕ) → bytes_at (length front) (front ++ rest) ≡ Ok (front, rest)
+bytes_again front rest =
+    let long : ltb (length (front ++ rest)) (length front) ≡ false = le-ltb _ _ (omega (arith, length-append front rest)) in
+    rw (long, take_at front rest (length front) refl, drop_at front rest (length front) refl) refl
+
+-- a step that reads, and what comes of it
+next : {A B : Type 0} (r : Result A BatchFault) (f : A → Result B BatchFault) (x : A) → r ≡ Ok x → (r >>= f) ≡ f x
+next r f x e = rw e refl
+
+-- ---- reports
+
+digests_again : (d : Digests) (rest : List ℕ) → d.peers < 2 ^ 64 → d.kit < 2 ^ 64 → digests_at (number8 d.peers ++ (number8 d.kit ++ rest)) ≡ Ok (d, rest)
+unfolding digests_at
+digests_again d rest peers kit = rw (number8_again d.peers (number8 d.kit ++ rest) peers, number8_again d.kit rest kit) refl
+
+report_again : (r : Report) (rest : List ℕ) → IsReport r → report_at (number8 r.digests.peers ++ (number8 r.digests.kit ++ (number8 r.applied ++ (number8 r.chosen ++ rest)))) ≡ Ok (r, rest)
+unfolding report_at
+report_again r rest is =
+    rw (digests_again r.digests (number8 r.applied ++ (number8 r.chosen ++ rest)) is.0 is.1, number8_again r.applied (number8 r.chosen ++ rest) is.2, number8_again r.chosen rest is.3) refl
+
+report_is : (from : ℕ) (r : Report) (rest : List ℕ) → spelled_report from r ++ rest ≡ 1 ∷ from ∷ (number8 r.digests.peers ++ (number8 r.digests.kit ++ (number8 r.applied ++ (number8 r.chosen ++ rest))))
+unfolding spelled_report
+report_is from r rest = ap (λ (t : List ℕ). 1 ∷ from ∷ t) (simp append_assoc)
+
+head_again : (from : ℕ) (r : Report) (rest : List ℕ) → IsNode from → IsReport r → head_at (spelled_report from r ++ rest) ≡ Ok ((from, r), rest)
+unfolding head_at
+head_again from r rest node is =
+    rw (
+      report_is from r rest,
+      version_again (from ∷ (number8 r.digests.peers ++ (number8 r.digests.kit ++ (number8 r.applied ++ (number8 r.chosen ++ rest))))),
+      member_again from (number8 r.digests.peers ++ (number8 r.digests.kit ++ (number8 r.applied ++ (number8 r.chosen ++ rest)))) node,
+      report_again r rest is,
+    ) refl
+
+pub report_reads_back : (from : ℕ) (r : Report) → IsNode from → IsReport r → read_report (spelled_report from r) ≡ Ok (from, r)
+unfolding read_report
+report_reads_back from r node is = ap (λ (t : List ℕ). head_at t >>= ended) (sym (append-nil (spelled_report from r))) ∙ next (head_at (spelled_report from r ++ [])) ended ((from, r), []) (head_again from r [] node is)
+
+-- ---- messages
+
+piece_again : (front rest : List ℕ) → length front < 2 ^ 32 → piece_at (spelled_piece front ++ rest) ≡ Ok (front, rest)
+unfolding piece_at spelled_piece
+piece_again front rest lt = rw (append_assoc (number4 (length front)) front rest, number4_again (length front) (front ++ rest) lt) (bytes_again front rest)
+
+message_again : (m : Message) (rest : List ℕ) → length (spelled_message m) < 2 ^ 32 → read_message (spelled_message m) ≡ Ok m → message_at (spelled_piece (spelled_message m) ++ rest) ≡ Ok (m, rest)
+unfolding message_at
+message_again m rest lt reads = rw (piece_again (spelled_message m) rest lt, reads) refl
+
+within_one : (more : ℕ) (front rest : List ℕ) → messages_within (suc more) (spelled_piece front ++ rest) ≡ (message_at (spelled_piece front ++ rest) >>= λ m. messages_within more m.1 >>= λ messages. Ok (m.0 ∷ messages))
+unfolding messages_within spelled_piece number4
+within_one more front rest = refl
+
+-- each is read from its spelling
+abbrev pub AreRead : List Message → Type 0
+AreRead [] = Unit {0}
+AreRead (m ∷ messages) = (read_message (spelled_message m) ≡ Ok m) × AreRead messages
+
+nothing_again : (most : ℕ) → messages_within most [] ≡ Ok []
+unfolding messages_within
+nothing_again zero = refl
+nothing_again (suc more) = refl
+
+messages_again : (most : ℕ) (messages : List Message) → length (spelled_messages messages) ≤ most → most < 2 ^ 32 → AreRead messages → messages_within most (spelled_messages messages) ≡ Ok messages
+messages_again most [] enough few read = ap (messages_within most) messages_nil ∙ nothing_again most
+messages_again zero (m ∷ messages) enough few read = absurd (omega (arith, enough, length_cons m messages))
+messages_again (suc more) (m ∷ messages) enough few read =
+    let len = length_cons m messages in
+    let short : length (spelled_message m) < 2 ^ 32 = omega (arith, enough, few, len) in
+    let left : length (spelled_messages messages) ≤ more = omega (arith, enough, len) in
+    let again : messages_within more (spelled_messages messages) ≡ Ok messages = messages_again more messages left (omega (arith, few)) read.1 in
+    ap (messages_within (suc more)) (messages_cons m messages)
+    ∙ within_one more (spelled_message m) (spelled_messages messages)
+    ∙ next (message_at (spelled_piece (spelled_message m) ++ spelled_messages messages)) (λ x. messages_within more x.1 >>= λ xs. Ok (x.0 ∷ xs)) (m, spelled_messages messages) (message_again m (spelled_messages messages) short read.0)
+    ∙ next (messages_within more (spelled_messages messages)) (λ xs. Ok (m ∷ xs)) messages again
+
+-- ---- batches
+
+batch_again : (b : Carried) → IsNode b.from → IsReport b.report → length (spelled_batch b) ≤ most_bytes → AreRead b.messages → read_batch (spelled_batch b) ≡ Ok b
+unfolding read_batch batch_in spelled_batch
+batch_again b node is short read =
+    let fitting : ltb most_bytes (length (spelled_report b.from b.report ++ spelled_messages b.messages)) ≡ false = le-ltb _ _ short in
+    let few : length (spelled_messages b.messages) < 2 ^ 32 = omega (arith, short, length-append (spelled_report b.from b.report) (spelled_messages b.messages)) in
+    rw (fitting, head_again b.from b.report (spelled_messages b.messages) node is, messages_again (length (spelled_messages b.messages)) b.messages (omega arith) few read) refl
+
+are_read : (messages : List Message) → AreMessages messages → AreRead messages
+are_read [] are = tt
+are_read (m ∷ messages) are = (reads_back m are.0.0 are.0.1 are.0.2, are_read messages are.1)
+
+pub batch_reads_back : (b : Carried) → IsBatch b → length (spelled_batch b) ≤ most_bytes → read_batch (spelled_batch b) ≡ Ok b
+batch_reads_back b is short = batch_again b is.0 is.1 short (are_read b.messages is.2)
+
+-- ---- what was written
+
+formed_read : (messages : List Message) → ReadBack messages → AreFormed messages → AreRead messages
+formed_read [] back formed = tt
+formed_read (m ∷ messages) back formed = (back.0 formed.0, formed_read messages back.1 formed.1)
+
+pub written_reads : (b : Carried) (bytes : List ℕ) → IsNode b.from → IsReport b.report → ReadBack b.messages → bytes ≡ spelled_batch b → length bytes ≤ most_bytes → AreFormed b.messages → read_batch bytes ≡ Ok b
+written_reads b bytes node is back spelled short formed =
+    ap read_batch spelled ∙ batch_again b node is (subst (λ (t : List ℕ). length t ≤ most_bytes) spelled short) (formed_read b.messages back formed)
+
+-- the report, and then the messages
+pub made_reads : (b : Carried) (bytes front : List ℕ) {messages : List Message} → IsNode b.from → IsReport b.report → ReadBack b.messages → front ≡ spelled_report b.from b.report → messages ≡ b.messages → bytes ≡ front ++ spelled_messages messages → length bytes ≤ most_bytes → AreFormed b.messages → read_batch bytes ≡ Ok b
+unfolding spelled_batch
+made_reads b bytes front node is back begun same made short formed =
+    written_reads b bytes node is back (made ∙ ap (λ (xs : List Message). front ++ spelled_messages xs) same ∙ ap (λ (t : List ℕ). t ++ spelled_messages b.messages) begun) short formed

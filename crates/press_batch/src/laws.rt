@@ -1,0 +1,51 @@
+ghost use Rattle.std.specs.Prelude.{◌≡◌, ◌≤◌, ◌++◌, ℕ, List, None, length, Ok};
+ghost use Rattle.press_wire.specs.Held.{IsBytes, IsNode};
+ghost use Rattle.press_wire.specs.Spelling.{spelled_message};
+ghost use Rattle.press_wire.specs.declared.message.Message.{Message};
+ghost use Rattle.press_batch.specs.Carried.{Carried};
+ghost use Rattle.press_batch.specs.Held.{AreShort, IsBatch, IsReport};
+ghost use Rattle.press_batch.specs.Reading.{read_batch, read_report};
+ghost use Rattle.press_batch.specs.Spelling.{most_bytes, refusal, spelled_batch, spelled_piece, spelled_report, with_last};
+ghost use Rattle.press_batch.specs.declared.report.Report.{Report};
+
+/// Each report is read from its spelling, with who sends it.
+pub fn a_report_reads_back()
+    ensures { (from : ℕ) (r : Report) → IsNode from → IsReport r →
+        read_report (spelled_report from r) ≡ Ok (from, r) }
+{}
+
+/// Each batch of messages in form that has at most 1,048,576 bytes is read from its spelling.
+pub fn a_batch_reads_back()
+    ensures { (b : Carried) → IsBatch b → length (spelled_batch b) ≤ most_bytes →
+        read_batch (spelled_batch b) ≡ Ok b }
+{}
+
+/// Bytes that are read as a report are its spelling, so no two byte strings are read alike.
+pub fn reports_have_one_spelling()
+    ensures spelled { (bytes : List ℕ) (from : ℕ) (r : Report) → IsBytes bytes →
+        read_report bytes ≡ Ok (from, r) → bytes ≡ spelled_report from r }
+    ensures alone { (a b : List ℕ) (from : ℕ) (r : Report) → IsBytes a → IsBytes b →
+        read_report a ≡ Ok (from, r) → read_report b ≡ Ok (from, r) → a ≡ b }
+{}
+
+/// Bytes that are read as a batch are its spelling, so no two byte strings are read alike.
+pub fn batches_have_one_spelling()
+    ensures spelled { (bytes : List ℕ) (b : Carried) → IsBytes bytes → read_batch bytes ≡ Ok b →
+        bytes ≡ spelled_batch b }
+    ensures alone { (c d : List ℕ) (b : Carried) → IsBytes c → IsBytes d → read_batch c ≡ Ok b →
+        read_batch d ≡ Ok b → c ≡ d }
+{}
+
+/// A batch is refused exactly where a message in it is too long in itself, or it has over 1,048,576 bytes.
+pub fn what_is_refused_is_too_long()
+    ensures not_refused { (b : Carried) → refusal b ≡ None →
+        AreShort b.messages × (length (spelled_batch b) ≤ most_bytes) }
+    ensures fitting { (b : Carried) → AreShort b.messages → length (spelled_batch b) ≤ most_bytes →
+        refusal b ≡ None }
+{}
+
+/// One message more is spelled behind the others, so what a `BatchWriter` wrote is the spelling of all that was put.
+pub fn a_last_message_is_spelled_last()
+    ensures { (b : Carried) (m : Message) → spelled_batch (with_last m b)
+        ≡ spelled_batch b ++ spelled_piece (spelled_message m) }
+{}

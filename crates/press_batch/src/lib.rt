@@ -1,0 +1,26 @@
+//! The bytes of what members of a cluster send each other in one request: how far the sender is, and messages.
+//!
+//! Each batch has one spelling, and no other bytes are read.
+#![tactic(auto)]
+
+mod batch;
+mod batch_writer;
+mod decode;
+mod encode;
+mod fault;
+mod laws;
+mod pieces;
+mod reader;
+mod report;
+
+pub use batch::Batch;
+pub use batch_writer::BatchWriter;
+pub use decode::{decode_batch, decode_report};
+pub use encode::{encode_batch, encode_report};
+pub use fault::BatchFault;
+pub use laws::{
+    a_batch_reads_back, a_last_message_is_spelled_last, a_report_reads_back,
+    batches_have_one_spelling, reports_have_one_spelling, what_is_refused_is_too_long,
+};
+pub use pieces::MOST_BATCH_BYTES;
+pub use report::{Digests, Report};
