@@ -1,0 +1,12 @@
+mod Acting
+mod Coming
+mod Directed
+mod Inputs
+mod Lists
+mod Moving
+mod Opening
+mod Others
+mod Sorting
+mod Standing
+mod Turning
+mod Wholes

@@ -1,0 +1,13 @@
+use Rattle.std.proofs.Common.{◌≡◌, ℕ}
+use Rattle.std.specs.Prelude.{IsTrue, true}
+use Rattle.press_node.specs.Nodes.{kit_of, node_moved}
+use Rattle.press_member.specs.Turns.{AreOwn, Turned}
+use Rattle.press_member.proofs.player.Player.hear_own.Given as goal
+
+-- so far it is one turn
+abbrev pub invariant-loop-count : goal.invariant-loop-count
+invariant-loop-count g l = record {
+  id : l.self.id ≡ l.initial.self.id;
+  kit : kit_of l.self.node ≡ kit_of l.initial.self.node;
+  turned : (n : ℕ) → Turned (λ a b. node_moved g.S.PromiseStore.seen a b) n l.initial.self.id AreOwn (IsTrue true) l.initial.self.own.items l.initial.self.node l.self.own.items l.self.node l.initial.out.items l.out.items;
+}

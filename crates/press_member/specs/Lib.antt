@@ -1,0 +1,13 @@
+pub mod Acting
+pub mod Acts
+pub mod Among
+pub mod Coming
+pub mod Deeds
+pub mod Holds
+pub mod Members
+pub mod Moving
+pub mod Parts
+pub mod Played
+pub mod Readiness
+pub mod Ready
+pub mod Turns

@@ -1,0 +1,36 @@
+-- What a member's parts say of a turn (own).
+use Rattle.std.specs.Prelude.{◌≡◌, Option, List, length, Result, IfOk, IsTrue, is_ok}
+use Rattle.std.specs.declared.alloc.AllocError.{AllocError}
+use Rattle.press_wire.specs.declared.message.Message.{Message}
+use Rattle.press_node.specs.Nodes.{NodeMove}
+use Rattle.press_node.specs.declared.event.Event.{Event}
+use Rattle.press_node.specs.declared.fault.NodeFault.{NodeFault}
+use Rattle.press_member.specs.Acts.{View, taken}
+use Rattle.press_member.specs.Turns.{AreOwn, Brings, Turned}
+use Rattle.press_member.specs.declared.output.Answer.{Answer}
+use Rattle.press_member.specs.declared.peers.Peers.{Peers}
+
+-- they are as many, and run the same
+pub record AreSame (old new : Peers) : Type 0 where
+  pub own : new.own ≡ old.own
+  pub count : length new.all.items ≡ length old.all.items
+  pub digests : new.digests ≡ old.digests
+
+module _ {N : Type 0} (moved : N → N → NodeMove) (old new : View N) where
+  -- it is the same member
+  pub record IsSame : Type 0 where
+    pub id : new.id ≡ old.id
+    pub members : new.members ≡ old.members
+    pub digests : new.digests ≡ old.digests
+    pub kit : (moved new.node new.node).kit ≡ (moved old.node old.node).kit
+
+  -- it does deeds of its own
+  abbrev pub TurnsOwn : List Message → List Message → Type 0 → Type 0
+  TurnsOwn out out' Whole = Turned moved old.members old.id AreOwn Whole old.own old.node new.own new.node out out'
+
+  -- the event is played first, and its answer tells what became of it
+  abbrev pub BringsEvent : Event → List Message → List Message → Result Answer AllocError → Type 0
+  BringsEvent event out out' result =
+      (refused : Option NodeFault)
+      × Turned moved old.members old.id (Brings event refused) (IsTrue (is_ok result)) old.own old.node new.own new.node out out'
+      × IfOk result (λ given. given ≡ taken refused)

@@ -1,0 +1,13 @@
+-- Whether a member answers for the site as well as any (own).
+use Rattle.std.specs.Prelude.{◌+◌, ◌&&◌, not, Bool, nat_le, max, length}
+use Rattle.press_node.specs.States.{applied_count, is_down}
+use Rattle.press_node.specs.Nodes.{state_of}
+use Rattle.press_member.specs.Ready.{borne_out, is_heard, is_majority, others}
+use Rattle.press_member.specs.declared.member.Member.{Member}
+
+-- it is open and up, it heard a majority lately, and it is at most 64 slots behind what a majority says lately is chosen
+abbrev pub is_ready : {S : _} {t : _} {F : _} {g : _} → Member S t F g → Bool
+is_ready member =
+    member.player.pace.is_settled && (not (is_down (state_of member.player.node))
+    && (is_majority (length member.peers.all.items) (others (is_heard member.time) member.peers + 1)
+    && nat_le (borne_out member.peers (max member.player.pace.newest member.player.pace.applied) member.time) (applied_count (state_of member.player.node) + 64)))

@@ -1,0 +1,422 @@
+//! A member: its node, and what it has beside it.
+
+ghost use Rattle.std.specs.Prelude.{◌≡◌, ◌<◌, ◌≤◌, false, Ok, None, [], IfOk, IsTrue, is_ok, length, max};
+ghost use Rattle.press_node.specs.States.{is_down};
+ghost use Rattle.press_node.specs.Nodes.{kit_of, node_moved, state_of, store_of};
+ghost use Rattle.press_member.specs.Acts.{Acts, Answers, has_more, is_open, node_in, view_of};
+ghost use Rattle.press_member.specs.Coming.{AreItsMoves};
+ghost use Rattle.press_member.specs.Readiness.{is_ready};
+ghost use Rattle.press_member.specs.Parts.{BringsEvent, IsSame, TurnsOwn};
+ghost use Rattle.press_member.specs.declared.input.Input.TheVariants as input;
+
+use crate::input::Input;
+use crate::output::{Answer, Outputs};
+use crate::pace::{Due, Pace};
+use crate::peers::{Peers, id_at};
+use crate::player::Player;
+use crate::signs::proposed_in;
+use press_acceptor::PromiseStore;
+use press_apply::Stamped;
+use press_batch::{Digests, Report};
+use press_node::{Event, Node};
+use press_page::Target;
+use press_wire::{Message, Node as Id};
+use std::alloc::{AllocError, Global};
+use std::collections::VecDeque;
+
+// A member that is so many slots behind what a majority says answers for the site as well as any.
+const NEAR: u64 = 64;
+
+/// What a member begins with, beside its node.
+#[derive(Clone, Copy, Debug)]
+pub struct Beginning {
+    pub id: Id,
+    pub members: u8,
+    /// Milliseconds from one look at the others to the next.
+    pub tick: u32,
+    pub digests: Digests,
+    /// How many slots are chosen, by what its store keeps.
+    pub chosen: u64,
+}
+
+/// A node with what it has beside it.
+pub struct Member<S> {
+    alloc: Global,
+    player: Player<S>,
+    peers: Peers,
+    time: u64,
+}
+
+impl<S: Drop> Drop for Member<S> {
+    fn drop(self) {
+        let Member {
+            alloc: _,
+            player: _,
+            peers: _,
+            time: _,
+        } = self;
+    }
+}
+
+impl<S: PromiseStore + Drop> Member<S> {
+    /// A member that hasn't heard of any other yet.
+    pub fn new(alloc: Global, node: Node<S>, beginning: Beginning) -> Result<Member<S>, AllocError>
+        ensures begins { IfOk result (λ member. view_of member ≡ record {
+          id = beginning.id;
+          members = beginning.members;
+          digests = beginning.digests;
+          node = node;
+          own = [];
+          is_open = false;
+        }) }
+    {
+        let Beginning {
+            id,
+            members,
+            tick,
+            digests,
+            chosen,
+        } = beginning;
+        let peers = Peers::new(alloc, id, members, digests)?;
+        let mut pace = Pace::new(peers.place(), peers.count(), u64::from(tick));
+        pace.prove(chosen);
+        let own = VecDeque::new(alloc);
+        let player = Player {
+            alloc,
+            id,
+            node,
+            own,
+            pace,
+        };
+        Ok(Member {
+            alloc,
+            player,
+            peers,
+            time: 0,
+        })
+    }
+}
+
+impl<S: PromiseStore> Member<S> {
+    /// Its node.
+    pub fn node(&self) -> &Node<S>
+        ensures { result.now ≡ node_in (view_of self.now) }
+    {
+        &self.player.node
+    }
+
+    /// Whether a fault has stopped its node: it does nothing more.
+    pub fn is_down(&self) -> bool
+        ensures { result ≡ is_down (state_of (node_in (view_of self.now))) }
+    {
+        self.player.node.is_down()
+    }
+
+    /// Ends it, and returns its node.
+    pub fn into_node(self) -> Node<S>
+        ensures { result ≡ node_in (view_of self) }
+    {
+        let Member {
+            alloc: _,
+            player,
+            peers: _,
+            time: _,
+        } = self;
+        player.into_node()
+    }
+
+    /// Whether it takes commands and shows pages: it has once applied what was known to be chosen.
+    pub fn is_open(&self) -> bool
+        ensures { result ≡ is_open (view_of self.now) }
+    {
+        self.player.pace.is_settled()
+    }
+
+    /// Whether it has something to do that waits for nothing else: it has sent messages to itself.
+    pub fn has_more(&self) -> bool
+        ensures { result ≡ has_more (view_of self.now) }
+    {
+        !self.player.own.is_empty()
+    }
+
+    /// How many slots are chosen, as far as it knows by votes and by what a majority says.
+    pub fn chosen(&self) -> u64
+        ensures { result ≡ max self.now.player.pace.newest self.now.player.pace.applied }
+    {
+        self.player.pace.chosen()
+    }
+
+    /// How far it is, as it says to others.
+    pub fn report(&self) -> Report {
+        Report {
+            applied: self.player.node.applied(),
+            chosen: self.chosen(),
+            digests: self.peers.digests(),
+        }
+    }
+
+    /// Whether it answers for the site as well as any: it is open and up, hears a majority, and is at most 64 slots behind
+    /// what a majority says is chosen.
+    pub fn is_ready(&self) -> bool
+        ensures { result ≡ is_ready self.now }
+    {
+        let applied = self.player.node.applied();
+        let borne_out = self.peers.borne_out(self.chosen(), self.time);
+        self.is_open()
+            && !self.player.node.is_down()
+            && self.peers.is_majority_near(self.time)
+            && borne_out <= applied.saturating_add(NEAR)
+    }
+
+    /// Whether the member at a place, from 0, was heard lately, or is this one.
+    pub fn is_near(&self, place: usize) -> bool {
+        self.peers.is_near(place, self.time)
+    }
+
+    /// Whether the member at a place, from 0, counts other members or runs another kit, by its last report.
+    pub fn is_foreign(&self, place: usize) -> bool {
+        self.peers.is_foreign(place)
+    }
+
+    /// What happens to it, and what that brings. Without memory for a message that is lost, as one may be on its way,
+    /// with what else the input would have brought.
+    ///
+    /// Of members among whom it is one, over a store that keeps its word, that is a list of moves.
+    pub fn on(&mut self, input: Input) -> Result<Outputs, AllocError>
+        requires always { Unit {0} }
+        ensures acts { Acts (λ a b. node_moved S.seen a b) input (view_of self.old)
+            (view_of self.new) result }
+        ensures moves { AreItsMoves S.seen (λ node. store_of node) (λ node. state_of node) input
+            (view_of self.old) (view_of self.new) result }
+    {
+        match self.act(input) {
+            Ok(outputs) => Ok(outputs),
+            Err(fault) => Err(fault),
+        }
+    }
+}
+
+// What each input does.
+impl<S: PromiseStore> Member<S> {
+    fn act(&mut self, input: Input) -> Result<Outputs, AllocError>
+        requires always { Unit {0} }
+        ensures { Acts (λ a b. node_moved S.seen a b) input (view_of self.old)
+            (view_of self.new) result }
+    {
+        match input {
+            Input::Form(command) => self.on_form(command),
+            Input::Page(target) => Ok(self.on_page(&target)),
+            Input::Message(message) => self.on_message(message),
+            Input::Report { from, report } => Ok(self.on_report(from, report)),
+            Input::Ended {
+                to,
+                asked,
+                is_taken,
+            } => Ok(self.on_end(to, asked, is_taken)),
+            Input::Sent => self.on_sent(),
+            Input::Time(now) => self.on_time(now),
+        }
+    }
+
+    // An event that an input brings, and what follows it.
+    fn bring(&mut self, event: Event, out: &mut Vec<Message>) -> Result<Answer, AllocError>
+        requires always { Unit {0} }
+        ensures same { IsSame (λ a b. node_moved S.seen a b) (view_of self.old) (view_of self.new) }
+        ensures brings { BringsEvent (λ a b. node_moved S.seen a b) (view_of self.old)
+            (view_of self.new) event out.old.items out.new.items result }
+    {
+        let is_command = matches!(event, Event::Submit(_));
+        let played = self.player.play(event, out)?;
+        self.player
+            .pace
+            .note_command(is_command && played.is_done());
+        self.player.follow(out)?;
+        Ok(played.answer())
+    }
+
+    fn on_form(&mut self, command: Stamped) -> Result<Outputs, AllocError>
+        requires always { Unit {0} }
+        ensures acts { Acts (λ a b. node_moved S.seen a b) (input.Form command)
+            (view_of self.old) (view_of self.new) result }
+    {
+        if !self.is_open() {
+            return Ok(Outputs::only(self.alloc, Answer::NotYet));
+        }
+        let mut messages = Vec::new(self.alloc);
+        let answer = self.bring(Event::Submit(command), &mut messages)?;
+        Ok(Outputs::with(self.alloc, answer, messages))
+    }
+
+    // The slot for which somebody proposes, by a message of a member to this one.
+    fn proposed_in(&self, message: &Message) -> Option<u64> {
+        if message.to != self.player.id || !self.peers.counts(message.from) {
+            return None;
+        }
+        proposed_in(message)
+    }
+
+    fn on_message(&mut self, message: Message) -> Result<Outputs, AllocError>
+        requires always { Unit {0} }
+        ensures acts { Acts (λ a b. node_moved S.seen a b) (input.Message message)
+            (view_of self.old) (view_of self.new) result }
+    {
+        let from = message.from;
+        let proposed = self.proposed_in(&message);
+        let mut messages = Vec::new(self.alloc);
+        let answer = self.bring(Event::Deliver(message), &mut messages)?;
+        self.peers.hear(from, self.time);
+        self.player.pace.hear_of(proposed, answer.is_taken());
+        Ok(Outputs::with(self.alloc, answer, messages))
+    }
+
+    fn answer_to(&self, target: &Target) -> Answer
+        ensures { Answers self.now.player.pace.is_settled (kit_of self.now.player.node)
+            (state_of self.now.player.node).up (input.Page target.now) None result }
+    {
+        if !self.is_open() {
+            return Answer::NotYet;
+        }
+        match self.player.node.get(target) {
+            Ok(reply) => Answer::Page(reply),
+            Err(fault) => Answer::Refused(fault),
+        }
+    }
+
+    fn on_page(&mut self, target: &Target) -> Outputs
+        ensures acts { Acts (λ a b. node_moved S.seen a b) (input.Page target.now)
+            (view_of self.old) (view_of self.new) (Ok result) }
+    {
+        let answer = self.answer_to(target);
+        Outputs::only(self.alloc, answer)
+    }
+
+    fn on_report(&mut self, from: Id, report: Report) -> Outputs
+        ensures acts { Acts (λ a b. node_moved S.seen a b) (input.Report from report)
+            (view_of self.old) (view_of self.new) (Ok result) }
+    {
+        if !self.peers.take_report(from, report, self.time) {
+            return Outputs::only(self.alloc, Answer::Foreign);
+        }
+        self.note_reports();
+        Outputs::only(self.alloc, Answer::Taken)
+    }
+
+    // What others say of how far they are.
+    fn note_reports(&mut self)
+        ensures same { IsSame (λ a b. node_moved S.seen a b) (view_of self.old) (view_of self.new) }
+        ensures node { self.new.player.node ≡ self.old.player.node }
+        ensures own { self.new.player.own ≡ self.old.player.own }
+    {
+        let borne_out = self.peers.borne_out(self.player.pace.chosen(), self.time);
+        let claim = self.peers.claim(self.time);
+        let is_known = self.peers.has_told(self.time);
+        self.player.pace.hear_reports(borne_out, claim, is_known);
+    }
+
+    fn on_end(&mut self, to: Id, asked: u32, is_taken: bool) -> Outputs
+        ensures acts { Acts (λ a b. node_moved S.seen a b) (input.Ended to asked is_taken)
+            (view_of self.old) (view_of self.new) (Ok result) }
+    {
+        self.peers.end_asking(to, asked, is_taken, self.time);
+        Outputs::only(self.alloc, Answer::Nothing)
+    }
+
+    fn on_sent(&mut self) -> Result<Outputs, AllocError>
+        requires always { Unit {0} }
+        ensures acts { Acts (λ a b. node_moved S.seen a b) input.Sent
+            (view_of self.old) (view_of self.new) result }
+    {
+        let mut messages = Vec::new(self.alloc);
+        self.player.hear_own(&mut messages)?;
+        self.player.follow(&mut messages)?;
+        Ok(Outputs::with(self.alloc, Answer::Nothing, messages))
+    }
+
+    // Asks the member at a place for the slots that are not applied, unless it is busy.
+    fn ask_one(&mut self, place: usize, end: u64, out: &mut Vec<Message>) -> Result<(), AllocError>
+        requires { place < length self.now.peers.all.items }
+        ensures same { IsSame (λ a b. node_moved S.seen a b) (view_of self.old) (view_of self.new) }
+        ensures turned { TurnsOwn (λ a b. node_moved S.seen a b) (view_of self.old)
+            (view_of self.new) out.old.items out.new.items (IsTrue (is_ok result)) }
+    {
+        let Some(to) = id_at(place) else {
+            return Ok(());
+        };
+        if self.peers.is_busy(place) {
+            return Ok(());
+        }
+        let next = self.player.node.applied().saturating_add(1);
+        let count = self.player.ask_from(to, next, end, out)?;
+        self.peers.begin_asking(to, count);
+        Ok(())
+    }
+
+    // Asks each member for the slots that are not applied, up to the one after this: a vote there is the gap that has
+    // this one proposed again, where too few members voted.
+    fn ask(&mut self, last: u64, out: &mut Vec<Message>) -> Result<(), AllocError>
+        ensures same { IsSame (λ a b. node_moved S.seen a b) (view_of self.old) (view_of self.new) }
+        ensures turned { TurnsOwn (λ a b. node_moved S.seen a b) (view_of self.old)
+            (view_of self.new) out.old.items out.new.items (IsTrue (is_ok result)) }
+    {
+        let end = last.saturating_add(2);
+        for place in 0..self.peers.count() {
+            self.ask_one(place, end, out)?;
+        }
+        Ok(())
+    }
+
+    // Asks the others how far they are, and wakes this node, where nobody proposes.
+    fn look(&mut self, messages: &mut Vec<Message>, looks: &mut Vec<Id>) -> Result<(), AllocError>
+        requires always { Unit {0} }
+        ensures same { IsSame (λ a b. node_moved S.seen a b) (view_of self.old) (view_of self.new) }
+        ensures turned { TurnsOwn (λ a b. node_moved S.seen a b) (view_of self.old)
+            (view_of self.new) messages.old.items messages.new.items (IsTrue (is_ok result)) }
+    {
+        self.peers.look(looks)?;
+        self.note_reports();
+        if self.player.pace.is_busy() {
+            return Ok(());
+        }
+        self.player.wake(messages)
+    }
+
+    fn do_due(
+        &mut self,
+        due: Due,
+        messages: &mut Vec<Message>,
+        looks: &mut Vec<Id>,
+    ) -> Result<(), AllocError>
+        requires always { Unit {0} }
+        ensures same { IsSame (λ a b. node_moved S.seen a b) (view_of self.old) (view_of self.new) }
+        ensures turned { TurnsOwn (λ a b. node_moved S.seen a b) (view_of self.old)
+            (view_of self.new) messages.old.items messages.new.items (IsTrue (is_ok result)) }
+    {
+        match due {
+            Due::Nothing => Ok(()),
+            Due::Wake => self.player.wake(messages),
+            Due::Look => self.look(messages, looks),
+            Due::Ask(last) => self.ask(last, messages),
+        }
+    }
+
+    // What is due. A member that is down does nothing more.
+    fn on_time(&mut self, now: u64) -> Result<Outputs, AllocError>
+        requires always { Unit {0} }
+        ensures acts { Acts (λ a b. node_moved S.seen a b) (input.Time now)
+            (view_of self.old) (view_of self.new) result }
+    {
+        self.time = now;
+        if self.player.node.is_down() {
+            return Ok(Outputs::only(self.alloc, Answer::Nothing));
+        }
+        let mut messages = Vec::new(self.alloc);
+        let mut looks = Vec::new(self.alloc);
+        let due = self.player.pace.pass(now);
+        self.do_due(due, &mut messages, &mut looks)?;
+        Ok(Outputs {
+            answer: Answer::Nothing,
+            messages,
+            looks,
+        })
+    }
+}

@@ -1,0 +1,462 @@
+//! When a member wakes, when it looks how far the others are, and when it asks what it has missed. It is a matter of
+//! time alone: what the cluster agrees on doesn't depend on it.
+
+ghost use Rattle.std.specs.Prelude.{◌≡◌, false, max};
+
+use crate::signs::{Sign, sign_of};
+use press_wire::{Message, Node as Id};
+
+// Milliseconds between the turns of two members at the begin of a block, which who proposed last has after all others.
+const STEP: u64 = 4;
+
+// How long who proposes may be silent before another member does, and how long this one waits for what it proposed.
+const SILENT: u64 = 40;
+
+// The most times that a wait for its own proposal is doubled: to some 1.3 seconds.
+const DOUBLINGS: u32 = 5;
+
+// How long after another proposed this member leaves the begin of a block to others first.
+const SHARED: u64 = 1_000;
+
+// After so long a command that waits has its member propose in a new block though another has begun it, which tells that one to leave the next.
+const LONG: u64 = 100;
+
+// How many slots share a prepare.
+const BLOCK: u64 = 16;
+
+// How long answers may be on their way before it asks again, at first.
+const ON_ITS_WAY: u64 = 100;
+
+// How long what others say holds a member up that hasn't applied it: so long, and a millisecond for each slot, at most a minute.
+const UNPROVED: u64 = 2_000;
+
+const MOST_UNPROVED: u64 = 60_000;
+
+// However seldom an operator has it look, what others say is to be of the last two seconds.
+const MOST_TICK: u64 = 1_000;
+
+// How often it looks as long as it doesn't know how far the others are.
+const UNKNOWN: u64 = 50;
+
+// The most slots that are asked for at once: as many as a node keeps votes for.
+const WINDOW: u64 = 64;
+
+// How many slots a member may be behind what others are about before it asks for them: half of those that a node keeps votes for.
+const SLACK: u64 = 32;
+
+/// What is due.
+#[derive(Clone, Copy, PartialEq, Eq)]
+pub enum Due {
+    Nothing,
+    /// A wake, for a command that waits.
+    Wake,
+    /// A look at how far the others are.
+    Look,
+    /// Questions for the slots that are not applied, up to this one.
+    Ask(u64),
+}
+
+#[derive(Clone, Copy)]
+pub struct Pace {
+    // The node's place, from 0, and how many nodes there are.
+    place: u64,
+    members: u64,
+    // Milliseconds from one look to the next.
+    tick: u64,
+    time: u64,
+    // How many slots are applied, and since when.
+    applied: u64,
+    applied_at: u64,
+    // The place of who proposed last, if anybody did, and when that was.
+    leader: Option<u64>,
+    heard_at: u64,
+    // Whether that was since the last look at the time.
+    is_fresh: bool,
+    // How many blocks somebody has begun, as far as it heard.
+    begun: u64,
+    // Until when others have the begin of a block before this node.
+    shared_until: u64,
+    // Whether it proposed last for a gap, and not for a command.
+    is_filling: bool,
+    // Whether it has prepared a block, and hasn't enough promises yet.
+    is_preparing: bool,
+    // When it wakes, where a command may wait.
+    wake_at: Option<u64>,
+    // Since when a command waits that it didn't propose.
+    waiting_at: u64,
+    // How many wakes have proposed since a slot was applied: each leaves the next one twice the time.
+    tries: u32,
+    // When it looks again.
+    look_at: u64,
+    // How many slots are chosen, by votes and by what a majority said.
+    newest: u64,
+    // The most that another says lately, and until when that holds this member up.
+    claim: u64,
+    claim_until: Option<u64>,
+    // Whether a majority has said how far it is.
+    is_known: bool,
+    // The last slot that it asked for, when it asks again, and how often it has asked for nothing new.
+    asked_to: u64,
+    ask_at: u64,
+    asks: u32,
+    is_settled: bool,
+}
+
+impl Pace {
+    /// The pace of the member at `place` of `members`, with the milliseconds of a tick.
+    pub fn new(place: usize, members: usize, tick: u64) -> Pace
+        ensures { result.is_settled ≡ false }
+    {
+        Pace {
+            place: place as u64,
+            members: members as u64,
+            tick,
+            time: 0,
+            applied: 0,
+            applied_at: 0,
+            leader: None,
+            heard_at: 0,
+            is_fresh: false,
+            begun: 0,
+            shared_until: 0,
+            is_filling: false,
+            is_preparing: false,
+            wake_at: None,
+            waiting_at: 0,
+            tries: 0,
+            look_at: 0,
+            newest: 0,
+            claim: 0,
+            claim_until: None,
+            is_known: false,
+            asked_to: 0,
+            ask_at: 0,
+            asks: 0,
+            is_settled: false,
+        }
+    }
+
+    /// Whether it has once applied what a majority knew to be chosen.
+    pub fn is_settled(&self) -> bool
+        ensures { result ≡ self.now.is_settled }
+    {
+        self.is_settled
+    }
+
+    // How many have their turn before this one: who proposed last has it after all others.
+    fn rank(&self) -> u64 {
+        if self.members == 0 {
+            return 0;
+        }
+        let last = self.leader.unwrap_or(0) % self.members;
+        let place = self.place % self.members;
+        if place > last {
+            place - last - 1
+        } else {
+            (self.members - last - 1).saturating_add(place)
+        }
+    }
+
+    // The begin of its turn, which a rank leaves to others first.
+    fn turn_from(&self, time: u64) -> u64 {
+        let turn = STEP.saturating_mul(self.rank());
+        self.time.max(time.saturating_add(turn))
+    }
+
+    fn leads(&self) -> bool {
+        self.leader == Some(self.place)
+    }
+
+    // Whether a block begins with the next slot, and nobody was heard to propose in it.
+    fn is_unbegun(&self) -> bool {
+        self.applied % BLOCK == 0 && self.begun <= self.applied / BLOCK
+    }
+
+    // Whether a command has waited long.
+    fn is_late(&self) -> bool {
+        self.waiting_at.saturating_add(LONG) <= self.time
+    }
+
+    // When it proposes what waits. A new block is each one's in turn, and at once that of who led the last one, unless others proposed lately. Within a
+    // block who leads goes on at once, and who doesn't waits until who leads was silent.
+    fn turn(&self) -> u64 {
+        if self.leads() && (!self.is_unbegun() || self.shared_until <= self.time) {
+            return self.time;
+        }
+        if self.is_unbegun() {
+            return self.turn_from(self.time);
+        }
+        let last = self.heard_at.max(self.applied_at);
+        self.turn_from(last.saturating_add(self.patience()))
+    }
+
+    // A wait that is doubled so often.
+    fn doubled(&self, wait: u64, times: u32) -> u64 {
+        let mut wait = wait;
+        for _ in 0..times.min(DOUBLINGS) {
+            wait = wait.saturating_mul(2);
+        }
+        wait
+    }
+
+    // How long a proposal has: longer after each of its own that came to nothing, since an answer takes as long as it takes.
+    fn patience(&self) -> u64 {
+        self.doubled(SILENT, self.tries.saturating_sub(1))
+    }
+
+    /// A command was taken, or not.
+    pub fn note_command(&mut self, is_taken: bool) {
+        if is_taken && self.wake_at.is_none() {
+            self.waiting_at = self.time;
+            let turn = self.turn();
+            self.wake_at = Some(turn);
+        }
+    }
+
+    /// The node was woken: whether it proposes, and whether it does so for a gap, where no command waits.
+    pub fn woken(&mut self, is_filling: bool, proposes: bool) {
+        if proposes {
+            self.tries = self.tries.saturating_add(1);
+            self.is_filling = is_filling;
+        } else {
+            self.wake_at = None;
+            self.is_filling = false;
+        }
+    }
+
+    // Somebody proposes for a slot. Whether that is news: it isn't in a block that is over.
+    fn hear(&mut self, leader: u64, slot: u64) -> bool {
+        let block = slot.saturating_sub(1) / BLOCK;
+        if block < self.applied / BLOCK {
+            return false;
+        }
+        self.begun = self.begun.max(block.saturating_add(1));
+        self.leader = Some(leader);
+        self.is_preparing = false;
+        self.heard_at = self.time;
+        self.is_fresh = true;
+        true
+    }
+
+    // It proposes for a slot itself; whether it prepares its block.
+    fn lead(&mut self, slot: u64, is_preparing: bool) {
+        if self.hear(self.place, slot) {
+            self.is_preparing = is_preparing;
+            self.waiting_at = self.time;
+            let again = self.time.saturating_add(self.patience());
+            let turn = self.turn_from(again);
+            self.wake_at = Some(turn);
+        }
+    }
+
+    // The member at another place proposes for a slot.
+    fn leave_to(&mut self, place: u64, slot: u64) {
+        if self.hear(place, slot) {
+            self.share();
+            if let Some(at) = self.wake_at {
+                self.wake_at = Some(at.max(self.turn()));
+            }
+        }
+    }
+
+    // Another would propose, and is refused.
+    fn share(&mut self) {
+        self.shared_until = self.time.saturating_add(SHARED);
+    }
+
+    // Its own proposal was refused, by what this node has promised.
+    fn begin_again(&mut self) {
+        if !self.leads() {
+            return;
+        }
+        let again = self.time.saturating_add(self.patience() / 4);
+        let turn = self.turn_from(again);
+        self.wake_at = Some(turn);
+    }
+
+    // What a message that it sends says of who proposes.
+    fn note(&mut self, message: &Message, own: Id, is_for_all: bool) {
+        let slot = u64::from(message.slot.number());
+        match sign_of(message, own, is_for_all) {
+            Sign::Nothing => {}
+            Sign::Prepares => self.lead(slot, true),
+            Sign::Asks => self.lead(slot, false),
+            Sign::Other(member) => {
+                let place = u64::from(member.number()).saturating_sub(1);
+                self.leave_to(place, slot);
+            }
+            Sign::Refuses => self.share(),
+            Sign::RefusesOwn => self.begin_again(),
+        }
+    }
+
+    /// What the messages of one event say of who proposes.
+    pub fn note_all(&mut self, sent: &[Message], own: Id) {
+        let is_for_all = sent.len() > 1;
+        for message in sent {
+            self.note(message, own, is_for_all);
+        }
+    }
+
+    /// Whether a command may wait, or somebody proposed lately.
+    pub fn is_busy(&self) -> bool {
+        let is_quiet = self.leader.is_none() || self.heard_at.saturating_add(SILENT) <= self.time;
+        self.wake_at.is_some() || !is_quiet
+    }
+
+    /// Whether it wakes at once.
+    pub fn is_due(&self) -> bool {
+        match self.wake_at {
+            Some(at) => at <= self.time,
+            None => false,
+        }
+    }
+
+    // Whether it has applied what is known to be chosen, and what others say that is chosen, or has waited long enough for
+    // that.
+    fn has_all(&self) -> bool {
+        let is_held_up = match self.claim_until {
+            Some(until) => self.applied < self.claim && self.time < until,
+            None => false,
+        };
+        self.is_known && self.applied >= self.newest && !is_held_up
+    }
+
+    // Others say that so many slots are chosen.
+    fn hear_claim(&mut self, claim: u64) {
+        self.claim = claim;
+        if claim <= self.applied {
+            self.claim_until = None;
+        } else if self.claim_until.is_none() {
+            let wait = UNPROVED.saturating_add(claim - self.applied);
+            self.claim_until = Some(self.time.saturating_add(wait.min(MOST_UNPROVED)));
+        }
+    }
+
+    fn settle(&mut self) {
+        self.is_settled |= self.has_all();
+    }
+
+    /// This many slots are applied; whether a command still waits. With a block that is over one that has waited long is proposed at once. What it fills
+    /// goes on until a wake has nothing to propose.
+    pub fn moved(&mut self, applied: u64, waits: bool) {
+        if applied <= self.applied {
+            return;
+        }
+        let is_over = self.applied / BLOCK < applied / BLOCK;
+        self.is_preparing &= !is_over;
+        self.applied = applied;
+        self.applied_at = self.time;
+        self.wake_at = self.next_wake(waits || self.is_filling, is_over);
+        self.settle();
+    }
+
+    // When it wakes behind a slot that was applied. What it has prepared goes on with its promises.
+    fn next_wake(&mut self, waits: bool, is_over: bool) -> Option<u64> {
+        if !waits {
+            return None;
+        }
+        if self.is_preparing {
+            return self.wake_at;
+        }
+        self.tries = 0;
+        if is_over && self.is_late() {
+            return Some(self.time);
+        }
+        Some(self.turn())
+    }
+
+    /// This many slots are chosen, by votes or by what a majority said.
+    pub fn prove(&mut self, chosen: u64)
+        ensures { self.new.is_settled ≡ self.old.is_settled }
+    {
+        self.newest = self.newest.max(chosen);
+    }
+
+    /// Somebody proposes for this slot: those before it are chosen. Votes that are on their way close a small distance.
+    pub fn hear_of(&mut self, proposed: Option<u64>, is_taken: bool) {
+        let slot = proposed.unwrap_or(0);
+        if is_taken && slot > self.applied.saturating_add(SLACK) {
+            self.prove(slot.saturating_sub(1));
+        }
+    }
+
+    /// How many slots are chosen, as far as it knows.
+    pub fn chosen(&self) -> u64
+        ensures { result ≡ max self.now.newest self.now.applied }
+    {
+        self.newest.max(self.applied)
+    }
+
+    /// What others say: so many slots of which a majority says that they are chosen, and the most that anybody says.
+    pub fn hear_reports(&mut self, borne_out: u64, claim: u64, is_known: bool) {
+        self.prove(borne_out);
+        self.hear_claim(claim);
+        self.is_known |= is_known;
+        self.settle();
+    }
+
+    fn look(&mut self) {
+        let tick = self.tick.min(MOST_TICK);
+        let share = tick.saturating_mul(self.place) / 16;
+        let wait = if self.is_known {
+            tick.saturating_add(share)
+        } else {
+            UNKNOWN
+        };
+        self.look_at = self.time.saturating_add(wait);
+    }
+
+    // As far as it asks.
+    fn wanted(&self) -> u64 {
+        self.newest.max(self.claim)
+    }
+
+    // Whether it asks: for slots that it hasn't asked for, or again.
+    fn asks(&self) -> bool {
+        self.wanted() > self.applied && (self.applied >= self.asked_to || self.ask_at <= self.time)
+    }
+
+    // Asks for what is missing. The wait for answers is doubled each time that nothing came of it.
+    fn ask(&mut self) -> Due {
+        let is_new = self.applied >= self.asked_to;
+        self.asks = if is_new {
+            0
+        } else {
+            self.asks.saturating_add(1)
+        };
+        self.asked_to = self.wanted().min(self.applied.saturating_add(WINDOW));
+        self.ask_at = self
+            .time
+            .saturating_add(self.doubled(ON_ITS_WAY, self.asks));
+        Due::Ask(self.asked_to)
+    }
+
+    // Takes the time. What was heard since it was last looked at counts from now on: a save may have held this node up.
+    fn look_at_clock(&mut self, now: u64) {
+        let passed = now.saturating_sub(self.time);
+        self.time = now;
+        if self.is_fresh {
+            self.is_fresh = false;
+            self.heard_at = now;
+            self.wake_at = self.wake_at.map(|at| at.saturating_add(passed));
+        }
+    }
+
+    /// Takes the time; returns what is due.
+    pub fn pass(&mut self, now: u64) -> Due {
+        self.look_at_clock(now);
+        self.settle();
+        if self.asks() {
+            return self.ask();
+        }
+        if self.look_at <= now {
+            self.look();
+            return Due::Look;
+        }
+        if self.is_due() {
+            return Due::Wake;
+        }
+        Due::Nothing
+    }
+}

@@ -1,0 +1,50 @@
+//! What a member's own messages say of who proposes.
+
+use press_wire::{Body, Message, Node as Id};
+
+/// What a message that a node sends says of who proposes.
+pub enum Sign {
+    Nothing,
+    /// It prepares a block itself.
+    Prepares,
+    /// It asks for votes itself.
+    Asks,
+    /// The member of that number proposes.
+    Other(Id),
+    /// Another would, and is refused.
+    Refuses,
+    /// It refuses its own proposal.
+    RefusesOwn,
+}
+
+/// What a message of this member says. A vote that goes to all members is one for a proposal that came; one that goes to
+/// a single member answers a question.
+pub fn sign_of(message: &Message, own: Id, is_for_all: bool) -> Sign {
+    match &message.body {
+        Body::Prepare { .. } => Sign::Prepares,
+        Body::Accept { .. } => Sign::Asks,
+        Body::Promise { .. } if message.to != own => Sign::Other(message.to),
+        Body::Accepted { vote } if is_for_all && vote.ballot.node != own => {
+            Sign::Other(vote.ballot.node)
+        }
+        Body::Nack { .. } if message.to == own => Sign::RefusesOwn,
+        Body::Nack { .. } => Sign::Refuses,
+        Body::Promise { .. } | Body::Accepted { .. } | Body::Query => Sign::Nothing,
+    }
+}
+
+/// Whether the message asks for a vote that was cast.
+pub fn is_question(message: &Message) -> bool {
+    matches!(message.body, Body::Query)
+}
+
+/// The slots before this one are chosen, by a message about it: who proposes for a slot has applied those before it. A
+/// question and a refusal say nothing of that.
+pub fn proposed_in(message: &Message) -> Option<u64> {
+    match message.body {
+        Body::Prepare { .. } | Body::Accept { .. } | Body::Accepted { .. } => {
+            Some(u64::from(message.slot.number()))
+        }
+        Body::Promise { .. } | Body::Nack { .. } | Body::Query => None,
+    }
+}
