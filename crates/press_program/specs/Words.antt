@@ -1,7 +1,8 @@
 -- What the words after the program's name ask for: `page FILE TARGET`, `replay FILE`, `loop FILE`, or `serve` with words by their names, each of them with a kit file or without, as
 -- `clap` reads words; without any, post 1 of the standard input (own).
-use Rattle.std.specs.Prelude.{ℕ, List, [], ◌∷◌, ◌&&◌, Bool, true, bytes_eq, nat_le, if◌then◌else◌, Option, Some, None, option_and_then, option_map, codes}
+use Rattle.std.specs.Prelude.{ℕ, List, [], ◌∷◌, ◌&&◌, Bool, true, false, bytes_eq, nat_le, if◌then◌else◌, Option, Some, None, option_and_then, option_map, codes}
 use Rattle.clap.specs.Kinds.{Kinds}
+use Rattle.clap.specs.declared.builder.action.ArgAction.TheVariants.{SetTrue}
 use Rattle.clap.specs.Words.{App, Row, Rule, Text, fault_of, first_of, new_app, new_rule, subcommand_of, with_rule, with_subcommand}
 use Rattle.press_page.specs.declared.reply.Target.TheVariants.{Post}
 use Rattle.press_page.specs.Targets.{target_in}
@@ -33,6 +34,10 @@ needed id = record (new_rule id) { required = true }
 abbrev pub named : Text → Rule
 named id = record (new_rule id) { long = Some id }
 
+-- a word `--NAME` without a value, which may be there
+abbrev pub flagged : Text → Rule
+flagged id = record (named id) { action = Some SetTrue }
+
 -- a command without a call for help
 abbrev pub helpless : Text → App
 helpless name = record { top = record (new_app name).top { disable_help_flag = true }; subs = [] }
@@ -53,9 +58,12 @@ abbrev pub place_words : App
 place_words =
     with_rule (with_rule (with_rule (with_rule (helpless (codes "serve")) (named (codes "port"))) (named (codes "id"))) (named (codes "peers"))) (named (codes "tick"))
 
-abbrev pub server_words : App
-server_words =
+abbrev pub valued_words : App
+valued_words =
     with_rule (with_rule (with_rule (with_rule place_words (named (codes "store"))) (named (codes "turns"))) (named (codes "editor"))) (named (codes "ahead"))
+
+abbrev pub server_words : App
+server_words = with_rule valued_words (flagged (codes "stay"))
 
 abbrev pub serve_words : App
 serve_words = with_kit server_words
@@ -76,7 +84,7 @@ abbrev pub OfFile : Type 0
 OfFile = List ℕ × Task
 
 -- a server: its place, with the milliseconds of its tick; for so many connections, or until it is ended; over the store in a file, or in memory; with the file of a page for
--- editors; and how many seconds ahead a command may be
+-- editors; how many seconds ahead a command may be; and whether a member stays whose store has failed
 pub record Server : Type 0 where
   pub place : Where
   pub tick : ℕ
@@ -84,6 +92,7 @@ pub record Server : Type 0 where
   pub store : Option (List ℕ)
   pub editor : Option (List ℕ)
   pub ahead : Option ℕ
+  pub stay : Bool
 
 pub data Job : Type 0 where
   of_file : OfFile → Job
@@ -123,6 +132,11 @@ abbrev pub tick_in : Option Text → Option ℕ
 tick_in None = Some 300
 tick_in (Some text) = number_in 10 60000 text
 
+-- whether a word without a value is there
+abbrev pub is_set : Option Text → Bool
+is_set None = false
+is_set (Some text) = bytes_eq text (codes "true")
+
 -- something, where the word isn't there
 abbrev pub without : {A : Type 0} → Option Text → Option A → Option A
 without None found = found
@@ -159,6 +173,7 @@ server_in rows = do
     store = first_of (codes "store") rows;
     editor = first_of (codes "editor") rows;
     ahead = ahead;
+    stay = is_set (first_of (codes "stay") rows);
   })
 
 -- by the name of the subcommand
@@ -203,6 +218,7 @@ server_of s = record {
   store = option_map (λ file. file.now) s.store;
   editor = option_map (λ file. file.now) s.editor;
   ahead = s.ahead;
+  stay = s.stay;
 }
 
 abbrev pub job_of : declared.Job → Job

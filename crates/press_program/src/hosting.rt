@@ -19,7 +19,7 @@ use crate::{demonstration_kit, filed_kit};
 use press_callbacks::{BoxedTurns, CallIn, Kit, Stored, script_turn};
 use press_demonstration::{grow, grow_turn, parts};
 use press_kit::read_kit_file;
-use press_sockets::{ServeFault, Setup};
+use press_sockets::{ServeFault, Setup, digest_of};
 use press_text::Copied;
 use std::alloc::AllocError;
 use std::io::{Read, Write};
@@ -85,7 +85,11 @@ impl<S: Serves> Hosting<'_, S> {
         };
         match filed_kit!(alloc, parts) {
             Ok(kit) => {
-                let ended = self.serves.serve(kit, setup, writer, error);
+                let setup = Setup {
+                    kit: digest_of(bytes),
+                    ..*setup
+                };
+                let ended = self.serves.serve(kit, &setup, writer, error);
                 Ok(ended)
             }
             Err(_) => Err(AllocError),

@@ -120,7 +120,8 @@ impl<S: Serves> Program<'_, S> {
 /// the loopback. `serve --port N [--store FILE]` serves a node of a cluster of one at a port of 127.0.0.1, and `serve
 /// --id N --peers HOST:PORT,.. --store FILE [--tick N]` one of a cluster of up to seven at its own address among these;
 /// with `--turns N` for N connections, and then it ends with status 0; with `--editor FILE` that file is shown at
-/// `/editor`, and with `--ahead N` no command is taken that is more than N seconds ahead of the machine's clock. With
+/// `/editor`, and with `--ahead N` no command is taken that is more than N seconds ahead of the machine's clock. A member
+/// whose store fails ends with its fault, and with `--stay` answers 503. With
 /// `--kit FILE` each of them plays the callbacks and plugins of a kit file in place of the demonstration kit; what is
 /// wrong with that file is reported with its place, and what in it is surely a slip is a line `press: warning in FILE:
 /// ..` before anything else. A fault is a line `press: fault N` on standard error, and status 2; so is `press: usage`

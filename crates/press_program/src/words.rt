@@ -9,7 +9,7 @@ ghost use Rattle.press_program.specs.Words as spec;
 use crate::task::Task;
 use crate::wanted::{Asked, Job, Wanted};
 use clap::error::ErrorKind;
-use clap::{Arg, ArgMatches, Command, Error};
+use clap::{Arg, ArgAction, ArgMatches, Command, Error};
 use press_page::Target;
 use press_sockets::{Place, Setup};
 use press_text::dec_u64;
@@ -64,9 +64,9 @@ fn place_words<'a>(alloc: Global) -> Result<Command<'a>, AllocError>
     Ok(serve)
 }
 
-// The options of a server.
-fn server_words<'a>(alloc: Global) -> Result<Command<'a>, AllocError>
-    ensures app { IfOk result (λ c. app_of c ≡ spec.server_words) }
+// The options of a server that have a value.
+fn valued_words<'a>(alloc: Global) -> Result<Command<'a>, AllocError>
+    ensures app { IfOk result (λ c. app_of c ≡ spec.valued_words) }
     ensures local { IfOk result (λ c. (out-Command c).has_globals ≡ false) }
 {
     let place = place_words(alloc)?;
@@ -74,6 +74,17 @@ fn server_words<'a>(alloc: Global) -> Result<Command<'a>, AllocError>
     let two = one.arg(Arg::new(alloc, "turns").long("turns"))?;
     let three = two.arg(Arg::new(alloc, "editor").long("editor"))?;
     let serve = three.arg(Arg::new(alloc, "ahead").long("ahead"))?;
+    Ok(serve)
+}
+
+// The options of a server.
+fn server_words<'a>(alloc: Global) -> Result<Command<'a>, AllocError>
+    ensures app { IfOk result (λ c. app_of c ≡ spec.server_words) }
+    ensures local { IfOk result (λ c. (out-Command c).has_globals ≡ false) }
+{
+    let valued = valued_words(alloc)?;
+    let stay = Arg::new(alloc, "stay").long("stay");
+    let serve = valued.arg(stay.action(ArgAction::SetTrue))?;
     Ok(serve)
 }
 
@@ -219,6 +230,16 @@ fn place_in<'a>(inside: &ArgMatches<'a>) -> Option<Place<'a>>
     }
 }
 
+// Whether a word was given that has no value.
+fn is_set(text: Option<&str>) -> bool
+    ensures { result ≡ spec.is_set (option_map (λ t. t.now) text.entry) }
+{
+    match text {
+        Some(text) => text == "true",
+        None => false,
+    }
+}
+
 #[tactic(auto, using(crate::proofs::FirstValue::first_is))]
 fn server_in<'a>(inside: &ArgMatches<'a>) -> Option<Setup<'a>>
     ensures { option_map (λ s. spec.server_of s) result
@@ -233,6 +254,8 @@ fn server_in<'a>(inside: &ArgMatches<'a>) -> Option<Setup<'a>>
         store: inside.get_str("store"),
         editor: inside.get_str("editor"),
         ahead,
+        stay: is_set(inside.get_str("stay")),
+        kit: 0,
     })
 }
 

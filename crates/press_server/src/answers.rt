@@ -15,13 +15,10 @@ pub struct Time {
 }
 
 /// What a request that goes out is for.
-#[derive(Clone, Copy, PartialEq, Eq)]
-pub enum Errand {
-    Message,
-    /// A message too: a question for a vote.
-    Question,
-    /// How far a member is.
-    Look,
+#[derive(Clone, Copy, Debug, PartialEq, Eq)]
+pub struct Errand {
+    /// How many looks and questions are in it.
+    pub asked: u32,
 }
 
 /// A request that goes out.
@@ -62,12 +59,16 @@ pub trait Answers {
     /// Whether it has requests to send, or something to do that waits for nothing else.
     fn has_more(&self) -> bool;
 
+    /// Whether it answers no more: its server ends.
+    fn is_over(&self) -> bool;
+
     /// It may do now what waits for nothing else: its requests are out, or had two milliseconds.
     fn go_on(&mut self)
         requires always { Unit {0} };
 
     /// A request that went out, or was to, has ended: its reply, as far as it is looked at; empty where it is lost.
     fn called(&mut self, place: usize, errand: Errand, reply: &[u8])
+        requires always { Unit {0} }
         ensures hears { hears self.old (credit place errand reply.now) self.new };
 
     /// Time has passed.

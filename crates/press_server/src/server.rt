@@ -560,8 +560,8 @@ impl Server {
         }
     }
 
-    /// Serves until all its connections had their turn and the last reply is out, or until it is ended. A connection
-    /// has its turn when its request is served, or it is closed without a reply.
+    /// Serves until all its connections had their turn and the last reply is out, until nothing is answered any more, or
+    /// until it is ended. A connection has its turn when its request is served, or it is closed without a reply.
     pub fn serve<R: Net + Clock, A: Answers, E: Write>(
         &mut self,
         rt: &R,
@@ -572,7 +572,7 @@ impl Server {
     {
         let mut events = Events::with_capacity(self.alloc, EVENTS)?;
         for _ in 0..u64::MAX {
-            if !self.is_open() && self.talks.is_empty() {
+            if answers.is_over() || (!self.is_open() && self.talks.is_empty()) {
                 return Ok(());
             }
             self.call_all(rt, answers);

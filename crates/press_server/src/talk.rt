@@ -225,10 +225,15 @@ impl Talk {
         );
     }
 
+    // Whether its first line has it as one of a member's messages, or more of them.
+    fn is_message(&self) -> bool {
+        let (method, target) = self.came.asked();
+        method == "POST" && (target == "/members" || target == "/peer")
+    }
+
     // A member's message that isn't understood gets a line: a program of another version may have sent it.
     fn log_misunderstood<E: Write>(&self, log: &mut E, status: u16) {
-        let is_message = self.came.asked() == ("POST", "/peer");
-        if status == MISUNDERSTOOD && is_message && self.group().is_member() {
+        if status == MISUNDERSTOOD && self.is_message() && self.group().is_member() {
             let from = self.arrival.from;
             write_line(
                 log,

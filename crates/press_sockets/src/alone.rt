@@ -97,6 +97,10 @@ impl<S: PromiseStore> Answers for Alone<'_, S> {
         false
     }
 
+    fn is_over(&self) -> bool {
+        false
+    }
+
     fn go_on(&mut self)
         requires always { Unit {0} }
     {}

@@ -7,37 +7,48 @@ ghost use Rattle.press_node.specs.States.{applied_count, started_at};
 ghost use Rattle.press_sockets.specs.Members.{number_of};
 ghost use Rattle.press_sockets.specs.Turns.{HasCaughtUp};
 
-use crate::member::{Clustered, Party};
-use crate::pace::Pace;
+use crate::clustered::{Clustered, Party};
 use crate::peers::Peers;
 use crate::screen::Screen;
 use crate::serve_fault::ServeFault;
 use crate::setup::{Place, Setup};
 use crate::turn::catch_up;
 use press_acceptor::{PromiseStore, StoreFault};
+use press_batch::Digests;
 use press_callbacks::Kit;
+use press_member::{Beginning, Member};
 use press_node::{Node, StartFault};
 use press_store::SqlStore;
 use sqlite::Alter;
 use std::alloc::Global;
 
-/// A member's place: its peers, and the milliseconds of its tick.
+/// A member's place: its peers, the milliseconds of its tick, the digest of its kit, and whether it stays where its node
+/// has stopped.
 #[derive(Drop)]
 pub struct Seat {
     peers: Peers,
     tick: u32,
+    kit: u64,
+    stays: bool,
 }
 
 impl Seat {
-    /// What it has beside its node.
-    pub fn party(self, screen: &Screen) -> Party<'_> {
-        let Seat { peers, tick } = self;
-        let pace = Pace::new(peers.place(), peers.count(), u64::from(tick));
-        Party {
-            peers,
-            pace,
-            screen,
-        }
+    // What the member begins with beside its node, where so many slots are chosen.
+    fn beginning(&self, chosen: u64) -> Result<Beginning, ServeFault> {
+        let Ok(members) = u8::try_from(self.peers.count()) else {
+            return Err(ServeFault::BadPeers);
+        };
+        let digests = Digests {
+            peers: self.peers.digest(),
+            kit: self.kit,
+        };
+        Ok(Beginning {
+            id: self.peers.own(),
+            members,
+            tick: self.tick,
+            digests,
+            chosen,
+        })
     }
 }
 
@@ -53,7 +64,12 @@ pub fn seat_of(rt: &HostRuntime, setup: &Setup<'_>) -> Result<Option<Seat>, Serv
         return Err(ServeFault::BadPeers);
     }
     let peers = Peers::read(rt.alloc(), rt, id, peers)?;
-    Ok(Some(Seat { peers, tick }))
+    Ok(Some(Seat {
+        peers,
+        tick,
+        kit: setup.kit,
+        stays: setup.stay,
+    }))
 }
 
 // How many slots are chosen, by what the store keeps: who proposes for a slot has applied those before it, so these are
@@ -115,18 +131,32 @@ fn begin_caught_up<S: PromiseStore + Drop>(
     Ok(node)
 }
 
+/// Who is to be a member: its place, and what its operator asked for.
+#[derive(Drop)]
+pub struct Joiner<'s> {
+    pub seat: Seat,
+    pub screen: &'s Screen,
+}
+
 /// The member, over its store.
 pub fn join<'s, D: Alter + Drop>(
     alloc: Global,
-    party: Party<'s>,
+    joiner: Joiner<'s>,
     kit: Kit,
     store: SqlStore<D>,
 ) -> Result<Clustered<'s, SqlStore<D>>, ServeFault>
     requires always { Unit {0} }
 {
-    let mut party = party;
+    let Joiner { seat, screen } = joiner;
     let mut store = store;
-    party.pace.told(chosen_by(&mut store)?);
-    let node = begin_caught_up(alloc, &party.peers, kit, store)?;
-    Ok(Clustered::new(alloc, node, party))
+    let beginning = seat.beginning(chosen_by(&mut store)?)?;
+    let node = begin_caught_up(alloc, &seat.peers, kit, store)?;
+    let member = Member::new(alloc, node, beginning)?;
+    let Seat { peers, stays, .. } = seat;
+    let party = Party {
+        peers,
+        screen,
+        stays,
+    };
+    Ok(Clustered::new(alloc, member, party)?)
 }

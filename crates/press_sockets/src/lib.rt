@@ -2,17 +2,22 @@
 #![tactic(auto)]
 
 mod alone;
+mod carrying;
+mod clustered;
+mod digest;
 mod files;
 mod joining;
-mod member;
-mod pace;
+mod lanes;
+mod paths;
 mod peers;
+mod replies;
 mod screen;
 mod serve_fault;
 mod serving;
 mod setup;
 mod turn;
 
+pub use digest::digest_of;
 pub use serve_fault::ServeFault;
 pub use serving::begin;
 pub use setup::{Place, Setup};

@@ -5,6 +5,7 @@ ghost use Rattle.std.specs.Io.KnownBytes.{Appends};
 ghost use Rattle.press_http.specs.Replies.{fault_bytes};
 ghost use Rattle.press_sockets.specs.Screening.{IsOfSort, asks_editor, asks_ready, sort_by, sort_named};
 
+use press_batch::Report;
 use press_http::{Asked, HttpFault, read_request, route, write_fault, write_reply};
 use press_page::{ContentKind, Reply};
 use press_text::{Text, write_once};
@@ -186,16 +187,44 @@ fn ready_head(alloc: Global, is_ready: bool, count: usize) -> Result<String, All
     )
 }
 
-/// How far a node is.
+/// How a member stands.
 #[derive(Clone, Copy)]
 pub struct Standing<'a> {
     pub is_ready: bool,
-    /// How many slots are applied.
-    pub applied: u64,
-    /// How many are chosen, as far as it knows.
-    pub chosen: u64,
-    /// The numbers of the members that answered lately, with commas between.
-    pub near: &'a str,
+    /// How far it is.
+    pub report: Report,
+    /// The numbers of the members that answered lately.
+    pub near: &'a [usize],
+    /// Those that count other members, or run another kit.
+    pub foreign: &'a [usize],
+}
+
+// Numbers with commas between.
+fn list_of(alloc: Global, numbers: &[usize]) -> Result<String, AllocError> {
+    let mut text = String::new(alloc);
+    for number in numbers {
+        if !text.is_empty() {
+            text.push(',')?;
+        }
+        let digits = format!(in alloc; "{number}")?;
+        text.push_str(&digits)?;
+    }
+    Ok(text)
+}
+
+fn ready_body(alloc: Global, standing: Standing<'_>) -> Result<String, AllocError> {
+    let Standing {
+        is_ready,
+        report,
+        near,
+        foreign,
+    } = standing;
+    let (applied, chosen) = (report.applied, report.chosen);
+    let near = list_of(alloc, near)?;
+    let foreign = list_of(alloc, foreign)?;
+    format!(in alloc;
+        "{{\"ready\":{is_ready},\"applied\":{applied},\"chosen\":{chosen},\"members\":[{near}],\"foreign\":[{foreign}]}}\n"
+    )
 }
 
 /// How far the node is.
@@ -204,17 +233,9 @@ pub fn show_ready(
     standing: Standing<'_>,
     told: &mut Vec<u8>,
 ) -> Result<u16, HttpFault> {
-    let Standing {
-        is_ready,
-        applied,
-        chosen,
-        near,
-    } = standing;
-    let body = format!(in alloc;
-        "{{\"ready\":{is_ready},\"applied\":{applied},\"chosen\":{chosen},\"members\":[{near}]}}\n"
-    )?;
-    let head = ready_head(alloc, is_ready, body.len())?;
+    let body = ready_body(alloc, standing)?;
+    let head = ready_head(alloc, standing.is_ready, body.len())?;
     tell(told, head.as_bytes())?;
     tell(told, body.as_bytes())?;
-    Ok(if is_ready { 200 } else { 503 })
+    Ok(if standing.is_ready { 200 } else { 503 })
 }

@@ -11,7 +11,7 @@ ghost use Rattle.press_sockets.specs.Turns.{HasCaughtUp};
 
 use crate::alone::Alone;
 use crate::files::{FEWEST, OWN, most_connections, open_files};
-use crate::joining::{Seat, join, seat_of};
+use crate::joining::{Joiner, Seat, join, seat_of};
 use crate::screen::Screen;
 use crate::serve_fault::ServeFault;
 use crate::setup::{Place, Setup};
@@ -253,14 +253,23 @@ fn serve_stored<D: Alter + Drop, W: Write, E: Write>(
         kit,
         ..
     } = beside;
-    let mut clustered = join(start.rt.alloc(), seat.party(&screen), kit, store)?;
-    serve_over(start, &mut clustered, writer, error)
+    let joiner = Joiner {
+        seat,
+        screen: &screen,
+    };
+    let mut clustered = join(start.rt.alloc(), joiner, kit, store)?;
+    serve_over(start, &mut clustered, writer, error)?;
+    match clustered.stop() {
+        Some(stop) => Err(stop.into()),
+        None => Ok(()),
+    }
 }
 
 impl Setup<'_> {
     /// Serves one node: it listens, writes its line, and serves connections until as many as were asked for had their
     /// turn, or until it is ended, with a line for each on the other writer. One by itself has caught up with its store
-    /// by then; a member of a cluster answers no page and no command until its peers have nothing newer.
+    /// by then; a member of a cluster answers no page and no command until its peers have nothing newer, and ends where its
+    /// store fails, unless it is to stay.
     #[tactic(auto, using(crate::proofs::Fronts::nothing))]
     pub fn serve<W: Write, E: Write>(
         &self,

@@ -26,4 +26,8 @@ pub struct Setup<'a> {
     pub editor: Option<&'a str>,
     /// How many seconds a command may be ahead of the machine's clock.
     pub ahead: Option<u32>,
+    /// Whether a member whose store has failed stays, and answers 503; another ends.
+    pub stay: bool,
+    /// The digest of its kit: that of the bytes of a kit file, and 0 for another.
+    pub kit: u64,
 }

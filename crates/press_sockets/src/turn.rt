@@ -86,8 +86,8 @@ pub fn wake<S: PromiseStore>(alloc: Global, node: &mut Node<S>) -> Result<(), No
     }
 }
 
-// What stopped the node, where the fault is more than a refusal.
-fn stop_of(fault: NodeFault) -> Option<StoreFault>
+/// What stopped the node, where the fault is more than a refusal.
+pub fn stop_of(fault: NodeFault) -> Option<StoreFault>
     ensures { MatchOption result (stops fault ≡ false) (λ by. fault ≡ of_store by) }
 {
     match fault {

@@ -1,0 +1,79 @@
+//! What a member answers, as bytes.
+
+ghost use Rattle.std.specs.Prelude.{◌≡◌};
+ghost use Rattle.press_node.specs.Serving.{queued, taken};
+
+use crate::screen::refuse_for_now;
+use press_http::{HttpFault, write_fault, write_reply};
+use press_member::Answer;
+use press_node::NodeFault;
+use press_page::{ContentKind, Reply};
+use press_text::Text;
+use std::alloc::Global;
+
+/// The reply that a command waits to be chosen. Its body is short, so it takes no memory.
+pub fn queued(alloc: Global) -> Reply
+    ensures { result ≡ queued }
+{
+    let Ok(body) = Text::from_str(alloc, "{\"queued\":true}") else {
+        unreachable!()
+    };
+    Reply {
+        status: 202,
+        kind: ContentKind::Json,
+        body,
+    }
+}
+
+/// The reply that a message was taken.
+pub fn taken(alloc: Global) -> Reply
+    ensures { result ≡ taken }
+{
+    Reply {
+        status: 200,
+        kind: ContentKind::Text,
+        body: Text::new(alloc),
+    }
+}
+
+/// A request is refused; the connection of one that isn't whole is closed without a reply.
+pub fn refuse(fault: HttpFault, told: &mut Vec<u8>) -> Result<u16, HttpFault> {
+    match fault.status() {
+        Some(status) => {
+            write_fault(told, status)?;
+            Ok(status)
+        }
+        None => Err(fault),
+    }
+}
+
+/// A node refuses what it is asked.
+pub fn refuse_by(fault: NodeFault, told: &mut Vec<u8>) -> Result<u16, HttpFault> {
+    let status = fault.status();
+    write_fault(told, status)?;
+    Ok(status)
+}
+
+// Writes a reply; without memory for its head, 503 in its place.
+fn tell(alloc: Global, reply: &Reply, told: &mut Vec<u8>) -> Result<u16, HttpFault> {
+    match write_reply(alloc, told, reply) {
+        Ok(()) => Ok(reply.status),
+        Err(fault) => refuse(fault, told),
+    }
+}
+
+/// What a member answers, with the reply for what it has taken.
+pub fn tell_answer(
+    alloc: Global,
+    taken: &Reply,
+    answer: &Answer,
+    told: &mut Vec<u8>,
+) -> Result<u16, HttpFault> {
+    match answer {
+        Answer::Taken => tell(alloc, taken, told),
+        Answer::Page(reply) => tell(alloc, reply, told),
+        Answer::NotYet => refuse_for_now(told),
+        Answer::Nothing | Answer::Foreign => refuse(HttpFault::NotFound, told),
+        Answer::Refused(fault) => refuse_by(*fault, told),
+    }
+}
