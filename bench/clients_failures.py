@@ -338,6 +338,6 @@ def without_memory(program):
         with serving(program, "out of memory, a node by itself", *ahead, env=env) as (server, port):
             good = refused_each(server, shim, Row(port, b"", late), "out of memory while a form of a time too far ahead is sorted", 400)
             yield good and asked(port, b"GET /result/ann/7 HTTP/1.1\r\nHost: a\r\n\r\n")[0] == 404
-        with member_of_three(program, "out of memory, a member that isn't ready", *ahead, env=env) as (server, port):
+        with member_of_three(program, "out of memory, a member that isn't ready", *ahead, "--stay", env=env) as (server, port):
             for what, request, status in (("a page", GET, 503), ("a form", timely, 503), ("a form of a time too far ahead", late, 503), ("a stranger's message", message(2, 1), 404)):
                 yield refused_each(server, shim, Row(port, b"", request, host=MEMBERS[0]), f"out of memory while {what} is sorted, at a member that isn't ready", status)

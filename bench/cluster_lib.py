@@ -1,5 +1,5 @@
 """Three nodes of `press serve` over files on the loopback, for bench/cluster: processes, relays between them, and what is asked of them."""
-import collections, json, pathlib, random, select, socket, subprocess, threading, time, urllib.parse
+import collections, json, pathlib, random, socket, subprocess, threading, time, urllib.parse
 
 
 class Gone(Exception):
@@ -40,12 +40,61 @@ def insert(port, editor, seq):
     return ask(port, b"POST /command HTTP/1.1\r\nContent-Type: application/x-www-form-urlencoded\r\nContent-Length: %d\r\n\r\n%s" % (len(body), body))
 
 
+def send_batch(port, sender, peers, messages, source=None):
+    """A batch of a member with that list of peers and the demonstration kit, from that address."""
+    body = bytes([1, sender]) + digest_of(peers) + bytes(24)
+    for message in messages:
+        body += len(message).to_bytes(4, "big") + message
+    return ask(port, b"POST /members HTTP/1.1\r\nContent-Length: %d\r\n\r\n%s" % (len(body), body), source=source)
+
+
 def send_message(port, message, source=None):
     """A message of a node, from that address."""
     return ask(port, b"POST /peer HTTP/1.1\r\nContent-Length: %d\r\n\r\n%s" % (len(message), message), source=source)
 
 
-PREPARE = b"\r\n\r\n\x01"
+REPORT = 34
+PREPARE = 1
+
+
+def digest_of(text):
+    """The digest of a list of peers, as 8 bytes: FNV-1a."""
+    digest = 14695981039346656037
+    for byte in text.encode():
+        digest = (digest ^ byte) * 1099511628211 % 2**64
+    return digest.to_bytes(8, "big")
+
+
+def read_whole(conn):
+    """A request, by its length."""
+    asked, count = b"", None
+    while count is None or len(asked) < count:
+        piece = conn.recv(65536)
+        if not piece:
+            raise OSError
+        asked += piece
+        head, split, _ = asked.partition(b"\r\n\r\n")
+        if split and count is None:
+            lengths = [int(it.split(b":")[1]) for it in head.split(b"\r\n") if it.lower().startswith(b"content-length:")]
+            count = len(head) + 4 + sum(lengths)
+    return asked
+
+
+def prepares_in(asked):
+    """How many of the messages of a batch are prepares."""
+    rest, count = asked.partition(b"\r\n\r\n")[2][REPORT:], 0
+    while rest:
+        count += rest[4] == PREPARE
+        rest = rest[4 + int.from_bytes(rest[:4], "big") :]
+    return count
+
+
+def with_digest(text, digest):
+    """A batch, or the reply to one, with the digest of the peers of whoever hears it: behind relays each member has a list of its own."""
+    head, split, body = text.partition(b"\r\n\r\n")
+    if len(body) >= REPORT and body[0] == 1:
+        body = body[:2] + digest + body[10:]
+    return head + split + body
 
 
 class Relay:
@@ -55,6 +104,8 @@ class Relay:
         self.target, self.chance = target, chance
         self.cut = self.hold = 0.0
         self.prepares = 0
+        # The digests of the lists of peers of who asks, and of who answers.
+        self.digests = (bytes(8), bytes(8))
         self.listener = socket.create_server(("127.0.0.1", 0), backlog=256)
         self.port = self.listener.getsockname()[1]
         threading.Thread(target=self.run, daemon=True).start()
@@ -73,25 +124,22 @@ class Relay:
                 return
             if self.chance.random() < self.hold:
                 time.sleep(self.chance.uniform(0, 0.3))
+            conn.settimeout(3)
             try:
-                with socket.create_connection(("127.0.0.1", self.target), timeout=2) as other:
-                    # A reply that is cut leaves a message that came, and of which its sender knows nothing.
+                asked = read_whole(conn)
+                with socket.create_connection(("127.0.0.1", self.target), timeout=3) as other:
+                    # A reply that is cut leaves messages that came, and of which their sender knows nothing.
                     mute = self.chance.random() < self.cut
-                    open_ends, asked = {conn: other, other: conn}, b""
-                    while open_ends:
-                        for end in select.select(list(open_ends), [], [], 3)[0] or [None]:
-                            if end is None:
-                                return
-                            piece = end.recv(65536)
-                            to = open_ends[end]
-                            if end is conn and PREPARE not in asked:
-                                asked += piece
-                                self.prepares += PREPARE in asked
-                            if not piece:
-                                del open_ends[end]
-                                to.shutdown(socket.SHUT_WR)
-                            elif end is conn or not mute:
-                                to.sendall(piece)
+                    other.sendall(with_digest(asked, self.digests[1]))
+                    self.prepares += prepares_in(asked)
+                    reply = b""
+                    while piece := other.recv(65536):
+                        reply += piece
+                if not mute:
+                    conn.sendall(with_digest(reply, self.digests[0]))
+                conn.shutdown(socket.SHUT_WR)
+                while conn.recv(65536):
+                    pass
             except OSError:
                 return
 
@@ -104,6 +152,8 @@ class Cluster:
         self.chance = chance or random.Random(0)
         self.ports = [free_port() for _ in range(count)]
         self.relays = {(a, b): Relay(self.ports[b], random.Random(self.chance.random())) for a in range(count) for b in range(count) if a != b} if relays else {}
+        for (a, b), relay in self.relays.items():
+            relay.digests = (digest_of(self.peers(a)), digest_of(self.peers(b)))
         self.nodes = [None] * count
 
     def peers(self, place):
