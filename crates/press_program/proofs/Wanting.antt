@@ -6,7 +6,7 @@ use Rattle.press_callbacks.specs.Kits.{KitView}
 use Rattle.press_text.specs.Streams.{AppendsFront}
 use Rattle.press_program.specs.declared.ending.Ending.TheVariants.{Fault}
 use Rattle.press_world.specs.declared.replay_fault.ReplayFault.TheVariants.{NoMemory}
-use Rattle.press_sockets.specs.declared.serve_fault.ServeFault.TheVariants as fault
+use Rattle.press_server.specs.declared.serve_fault.ServeFault.TheVariants as fault
 use Rattle.press_demonstration.specs.Demonstration.{demonstration}
 use Rattle.press_program.specs.Endings.{known_of, Does, Runs, RunsOver, Served}
 use Rattle.press_program.specs.KitFiles.{fault_line}

@@ -17,9 +17,9 @@ use Rattle.press_program.specs.declared.ending.Ending.{Ending}
 use Rattle.press_program.specs.declared.ending.Ending.TheVariants.{Printed, Replayed, Fault}
 use Rattle.press_kit.specs.declared.place.Place.{Place}
 use Rattle.press_kit.specs.SiteFile.{site_in}
-use Rattle.press_sockets.specs.Listening.{listening_line}
-use Rattle.press_sockets.specs.declared.serve_fault.ServeFault.{ServeFault}
-use Rattle.press_sockets.specs.declared.serve_fault.ServeFault.TheVariants as fault
+use Rattle.press_server.specs.Listening.{listening_line}
+use Rattle.press_server.specs.declared.serve_fault.ServeFault.{ServeFault}
+use Rattle.press_server.specs.declared.serve_fault.ServeFault.TheVariants as fault
 use Rattle.press_loop.specs.Loops.{Loops}
 use Rattle.press_program.specs.Words.{Asked, Job, OfFile, Server, of_file, serve, is_input}
 use Rattle.press_program.specs.declared.task.Task.{Task}

@@ -10,11 +10,11 @@ use Rattle.press_text.specs.Decimals.{decimal_in}
 use Rattle.press_program.specs.declared.wanted.Asked as asked
 use Rattle.press_program.specs.declared.wanted.Job as declared
 use Rattle.press_program.specs.declared.wanted.Job.TheVariants as told
-use Rattle.press_sockets.specs.Listening.Where.{alone_at, member_of}
-use Rattle.press_sockets.specs.Listening.{Where}
-use Rattle.press_sockets.specs.declared.setup.Place.TheVariants.{Alone, Member}
-use Rattle.press_sockets.specs.declared.setup.Place.{Place}
-use Rattle.press_sockets.specs.declared.setup.Setup.{Setup}
+use Rattle.press_server.specs.Listening.Where.{alone_at, member_of}
+use Rattle.press_server.specs.Listening.{Where}
+use Rattle.press_server.specs.declared.setup.Place.TheVariants.{Alone, Member}
+use Rattle.press_server.specs.declared.setup.Place.{Place}
+use Rattle.press_server.specs.declared.setup.Setup.{Setup}
 use Rattle.press_program.specs.declared.wanted.Wanted.{Wanted}
 use Rattle.press_program.specs.declared.task.Task.{Task}
 use Rattle.press_program.specs.declared.task.Task.TheVariants.{Page, Replay, Loop}

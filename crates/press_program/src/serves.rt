@@ -2,13 +2,13 @@
 
 ghost use Rattle.std.specs.Prelude.{◌≡◌, Result};
 ghost use Rattle.press_callbacks.specs.Kits.{KitView, kit_view};
-ghost use Rattle.press_sockets.specs.Listening.{listening_line, where_of};
-ghost use Rattle.press_sockets.specs.declared.serve_fault.ServeFault.{ServeFault as Fault};
+ghost use Rattle.press_server.specs.Listening.{listening_line, where_of};
+ghost use Rattle.press_server.specs.declared.serve_fault.ServeFault.{ServeFault as Fault};
 ghost use Rattle.press_text.specs.Streams.{AppendsFront};
 ghost use Rattle.press_program.specs.Words.{Server, server_of};
 
 use press_callbacks::Kit;
-use press_sockets::{ServeFault, Setup};
+use press_server::{ServeFault, Setup};
 use std::io::Write;
 
 /// Whoever serves a node over a kit, at the place, over the store and with the page for editors that a setup names.

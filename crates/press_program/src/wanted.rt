@@ -1,5 +1,5 @@
 use crate::task::Task;
-use press_sockets::Setup;
+use press_server::Setup;
 
 /// A file, and what is asked of it.
 #[derive(Debug, Drop)]

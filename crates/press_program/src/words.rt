@@ -11,7 +11,7 @@ use crate::wanted::{Asked, Job, Wanted};
 use clap::error::ErrorKind;
 use clap::{Arg, ArgAction, ArgMatches, Command, Error};
 use press_page::Target;
-use press_sockets::{Place, Setup};
+use press_server::{Place, Setup};
 use press_text::dec_u64;
 use std::alloc::{AllocError, Global};
 

@@ -1,8 +1,6 @@
-mod Lanes
-mod Mapped
-mod Counted
-mod Found
-mod Sent
-pub mod Padding
-pub mod Credited
-mod Pieces
+pub mod Delivering
+pub mod Fronts
+mod Named
+mod Samples
+pub mod Sorts
+pub mod Tables

@@ -1,8 +1,8 @@
-pub mod Lanes
-pub mod Talking
-pub mod Turning
-pub mod Heads
-pub mod Padding
-pub mod Answering
-pub mod Accepting
-pub mod Losing
+pub mod Digests
+pub mod Files
+pub mod Going
+pub mod Listening
+pub mod Members
+pub mod Paths
+pub mod Turns
+pub mod Screening

@@ -1,18 +1,24 @@
-//! A server over readiness: connections that come, and requests that go out, none of which is waited for.
+//! Nodes behind sockets: a turn of a server, a node by itself, and a node of a cluster whose messages go out as requests.
 #![tactic(auto)]
 
-mod answers;
-mod call;
-mod calls;
-mod gathered;
-mod lines;
-mod outlet;
-mod sending;
-mod server;
-mod talk;
-mod talks;
+mod alone;
+mod carrying;
+mod clustered;
+mod digest;
+mod files;
+mod joining;
+mod lanes;
+mod paths;
+mod peers;
+mod replies;
+mod screen;
+mod serve_fault;
+mod serving;
+mod setup;
+mod turn;
 
-pub use answers::{Answers, Errand, Outgoing, Time};
-pub use gathered::words_of;
-pub use lines::Lines;
-pub use server::{Server, Task};
+pub use digest::digest_of;
+pub use serve_fault::ServeFault;
+pub use serving::begin;
+pub use setup::{Place, Setup};
+pub use turn::{serve_turn, wake};

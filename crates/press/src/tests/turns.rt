@@ -1,7 +1,7 @@
 use press_acceptor::MemoryStore;
 use press_callbacks::Kit;
 use press_node::Node;
-use press_sockets::{begin, serve_turn};
+use press_server::{begin, serve_turn};
 use std::alloc::Global;
 use std::test::Fail;
 

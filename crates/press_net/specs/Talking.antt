@@ -1,0 +1,210 @@
+-- The open connections (own).
+use Rattle.std.specs.Prelude.{ℕ, ◌≡◌, ◌≤◌, ◌<◌, ◌⊎◌, ◌-◌, ◌+◌, ◌/◌, ◌&&◌, ◌||◌, Bool, true, false, List, [], ◌∷◌, ◌++◌, map, Option, Some, None, IsSome, Result, Ok, Err, not, option_and_then, unwrap_or, option_map, is_none, slice_get, slice_set, length, nat_le, nat_lt, bytes_eq, position, if◌then◌else◌}
+use Rattle.std.specs.Time.{instant_nanos}
+use Rattle.press_http.specs.declared.fault.HttpFault.{HttpFault}
+use Rattle.press_http.specs.declared.fault.HttpFault.TheVariants as fault
+use Rattle.press_net.specs.Answering.{Exchange, exchange}
+use Rattle.std.specs.declared.time.Instant.{Instant}
+use Rattle.std.specs.declared.net.ip_addr.IpAddr.{IpAddr}
+use Rattle.std.specs.declared.net.ip_addr.IpAddr.TheVariants.{V4, V6}
+use Rattle.press_net.specs.declared.talk.Group.{Group}
+use Rattle.press_net.specs.declared.talk.Group.TheVariants.{Surplus, Within, Member}
+use Rattle.press_net.specs.declared.talk.Phase.{Phase}
+use Rattle.press_net.specs.declared.talk.Phase.TheVariants.{Reading, Writing, Ending, Over}
+use Rattle.press_net.specs.declared.talk.Talk.{Talk}
+use Rattle.press_net.specs.declared.talks.Rank.{Rank}
+use Rattle.press_net.specs.declared.talks.Round.{Round}
+use Rattle.press_net.specs.declared.talks.Talks.{Talks}
+
+-- its request isn't whole yet
+abbrev pub is_phase_reading : Phase → Bool
+is_phase_reading Reading = true
+is_phase_reading Writing = false
+is_phase_reading Ending = false
+is_phase_reading Over = false
+
+abbrev pub is_reading : Talk → Bool
+is_reading talk = is_phase_reading talk.phase
+
+-- ten seconds or more are over since it began
+abbrev pub is_late : Instant → Talk → Bool
+is_late now talk = nat_le 10000000000 (instant_nanos now - instant_nanos talk.arrival.begun)
+
+-- its reply isn't out yet
+abbrev pub is_phase_writing : Phase → Bool
+is_phase_writing Reading = false
+is_phase_writing Writing = true
+is_phase_writing Ending = false
+is_phase_writing Over = false
+
+-- its reply isn't out, and its socket took nothing of it for a second or more
+abbrev pub is_stalled : Instant → Talk → Bool
+is_stalled now talk = is_phase_writing talk.phase && nat_le 1000000000 (instant_nanos now - instant_nanos talk.taken)
+
+abbrev pub is_member : Group → Bool
+is_member Surplus = false
+is_member Within = false
+is_member Member = true
+
+-- it is no member's
+abbrev pub is_stranger : Talk → Bool
+is_stranger talk = not (is_member talk.arrival.group)
+
+-- a connection of a member, or not, that comes as its address has a quarter of the places, or hasn't
+abbrev pub group_of : Bool → Bool → Group
+group_of member crowded = if member then Member else if crowded then Surplus else Within
+
+-- the connection at a place
+abbrev pub talk_at : Talks → ℕ → Option Talk
+talk_at talks place = option_and_then (λ talk. talk) (slice_get talks.places.items place)
+
+-- a connection stays at its place unless it meets a test
+abbrev pub kept_unless : (Talk → Bool) → Option Talk → Option Talk
+kept_unless ends = option_and_then (λ talk. if ends talk then None else Some talk)
+
+abbrev pub freed : (Talk → Bool) → List (Option Talk) → List (Option Talk)
+freed ends places = map (kept_unless ends) places
+
+-- a connection stands there that meets a test
+abbrev pub meets : (Talk → Bool) → Option Talk → Bool
+meets test slot = unwrap_or (option_map test slot) false
+
+-- how many connections meet a test
+abbrev pub count_of : (Talk → Bool) → List (Option Talk) → ℕ
+count_of test [] = 0
+count_of test (slot ∷ rest) = (if meets test slot then 1 else 0) + count_of test rest
+
+-- it is late, and had no turn
+abbrev pub is_unheard : Instant → Talk → Bool
+is_unheard now talk = is_late now talk && is_reading talk
+
+-- two addresses are the same
+abbrev pub is_same : IpAddr → IpAddr → Bool
+is_same (V4 one) (V4 other) = bytes_eq one.octets other.octets
+is_same (V6 one) (V6 other) = bytes_eq one.segments other.segments
+is_same (V4 one) (V6 other) = false
+is_same (V6 one) (V4 other) = false
+
+abbrev pub is_from : IpAddr → Talk → Bool
+is_from address talk = is_same address talk.arrival.from
+
+-- an address has a quarter of all places: what comes from it then is beyond its quarter
+abbrev pub is_crowded : ℕ → IpAddr → List (Option Talk) → Bool
+is_crowded most address slots = nat_le (most / 4) (count_of (is_from address) slots)
+
+abbrev pub rank_of : Group → Phase → Bool → Rank
+rank_of group phase stalled = record { group = group; phase = phase; is_stalled = stalled }
+
+abbrev pub ending : Group → Rank
+ending group = rank_of group Ending false
+
+abbrev pub reading : Group → Rank
+reading group = rank_of group Reading false
+
+abbrev pub stalled : Group → Rank
+stalled group = rank_of group Writing true
+
+abbrev pub writing : Group → Rank
+writing group = rank_of group Writing false
+
+-- it is of a group, in a phase, and its reply is stalled, or isn't
+abbrev pub HasRank : Instant → Rank → Talk → Type 0
+HasRank now rank talk = (talk.arrival.group ≡ rank.group) × (talk.phase ≡ rank.phase) × (is_stalled now talk ≡ rank.is_stalled)
+
+-- a connection of that rank may give way to those of a round: it came before the first of them
+abbrev pub MayGo : Rank → Round → List (Option Talk) → ℕ → Talk → Type 0
+MayGo rank round slots place talk =
+    (slice_get slots place ≡ Some (Some talk)) × HasRank round.now rank talk × (talk.arrival.number < round.first)
+
+-- of those that may, none came before it
+abbrev pub IsOldest : Rank → Round → List (Option Talk) → ℕ → Type 0
+IsOldest rank round slots place =
+    (talk : Talk) × MayGo rank round slots place talk
+    × ((other : ℕ) (next : Talk) → MayGo rank round slots other next → talk.arrival.number ≤ next.arrival.number)
+
+-- none may
+abbrev pub HasNone : Rank → Round → List (Option Talk) → Type 0
+HasNone rank round slots = (place : ℕ) (talk : Talk) → MayGo rank round slots place talk → ⊥
+
+-- of a group the oldest that was served and stays open goes first, else the oldest whose request isn't whole, else the oldest of whose reply nothing
+-- was taken for a second, else the oldest whose reply isn't out; none that came in the same round
+abbrev pub GoesFirst : Group → Round → List (Option Talk) → Option ℕ → Type 0
+GoesFirst group round slots None =
+    HasNone (ending group) round slots × HasNone (reading group) round slots × HasNone (stalled group) round slots × HasNone (writing group) round slots
+GoesFirst group round slots (Some place) =
+    IsOldest (ending group) round slots place
+    ⊎ (HasNone (ending group) round slots × IsOldest (reading group) round slots place)
+    ⊎ (HasNone (ending group) round slots × HasNone (reading group) round slots × IsOldest (stalled group) round slots place)
+    ⊎ (HasNone (ending group) round slots × HasNone (reading group) round slots × HasNone (stalled group) round slots
+    × IsOldest (writing group) round slots place)
+
+-- where none is beyond its address's quarter: one that comes beyond it puts out nobody, another one that is no member's, and a member's such a one, and
+-- a member's where there is none
+abbrev pub GoesFor : Group → Round → List (Option Talk) → Option ℕ → Type 0
+GoesFor Surplus round slots gone = gone ≡ None
+GoesFor Within round slots gone = GoesFirst Within round slots gone
+GoesFor Member round slots gone =
+    (IsSome gone × GoesFirst Within round slots gone) ⊎ (GoesFirst Within round slots None × GoesFirst Member round slots gone)
+
+-- one that is beyond its address's quarter goes; where none does, it depends on who comes
+abbrev pub MakesWay : Group → Round → List (Option Talk) → Option ℕ → Type 0
+MakesWay newcomer round slots gone =
+    (IsSome gone × GoesFirst Surplus round slots gone) ⊎ (GoesFirst Surplus round slots None × GoesFor newcomer round slots gone)
+
+-- what stands at a place, if there is one, is put in for what stood there
+abbrev pub with_slot : Option ℕ → Option Talk → List (Option Talk) → List (Option Talk)
+with_slot place slot slots = unwrap_or (option_map (λ place. slice_set slots place slot) place) slots
+
+-- it is closed, and its place is free
+abbrev pub GivesWay : Group → Round → List (Option Talk) → List (Option Talk) → Option ℕ → Type 0
+GivesWay newcomer round old new gone = MakesWay newcomer round old gone × (new ≡ with_slot gone None old)
+
+-- no place is free, and fewer are taken than may be
+abbrev pub MayGrow : ℕ → List (Option Talk) → Type 0
+MayGrow most slots = (position is_none slots ≡ None) × (length slots < most)
+
+-- it is a member's, or so many that aren't are fewer than all places but the sixteenth that is kept back for members
+abbrev pub has_room : ℕ → Group → List (Option Talk) → Bool
+has_room most newcomer slots = is_member newcomer || nat_lt (count_of is_stranger slots) (most - most / 16)
+
+-- where it may have a place beside the others the first free one is it, else one more, else that of one that gives way; where it may not, that of one
+-- that gives way; there is none where none does
+abbrev pub MakesPlace : ℕ → Group → Round → List (Option Talk) → List (Option Talk) → Option ℕ → Type 0
+MakesPlace most newcomer round old new place =
+    ((has_room most newcomer old ≡ true) × IsSome place × (place ≡ position is_none old) × (new ≡ old))
+    ⊎ ((has_room most newcomer old ≡ true) × MayGrow most old × (place ≡ Some (length old)) × (new ≡ old ++ None ∷ []))
+    ⊎ ((has_room most newcomer old ≡ true) × (position is_none old ≡ None) × (most ≤ length old) × GivesWay newcomer round old new place)
+    ⊎ ((has_room most newcomer old ≡ false) × GivesWay newcomer round old new place)
+
+-- another look at its request is due
+abbrev pub is_due : Talk → Bool
+is_due talk = nat_le talk.came.due (length talk.came.bytes.items)
+
+-- the bytes that came are answered, for the address from which they came
+abbrev pub asked_by : Talk → Talk → Result ℕ HttpFault → Exchange
+asked_by old new result = exchange old.arrival.from old.came.bytes.items old.told.bytes.items new.told.bytes.items result
+
+-- the input ended within the request, as far as it came
+abbrev pub is_end : HttpFault → Bool
+is_end fault.Ended = true
+is_end fault.NoMemory = false
+is_end fault.ReadFault = false
+is_end fault.WriteFault = false
+is_end fault.BadHead = false
+is_end fault.BadForm = false
+is_end fault.BadPeer = false
+is_end fault.NotFound = false
+is_end fault.NotAllowed = false
+is_end fault.NoLength = false
+is_end fault.TooBig = false
+is_end fault.FieldsTooLarge = false
+is_end fault.NotDone = false
+
+-- where a look leaves a connection: its reply goes out; it waits on where more has to come and may; else it is closed
+abbrev pub phase_by : Bool → Phase → Result ℕ HttpFault → Phase
+phase_by ended phase (Ok status) = Writing
+phase_by ended phase (Err fault) = if is_end fault && not ended then phase else Over
+
+abbrev pub IsAnswered : {A : Type 0} → (A → Exchange → A → Type 0) → Bool → A → Talk → Talk → A → Type 0
+IsAnswered answers ended before old new after =
+    (result : Result ℕ HttpFault) × answers before (asked_by old new result) after × (new.phase ≡ phase_by ended old.phase result)

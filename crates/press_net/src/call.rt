@@ -1,0 +1,205 @@
+//! One request that goes out to a member, from its begin to its end.
+
+ghost use Rattle.std.specs.Prelude.{◌≡◌, ◌++◌, ◌-◌, ◌<◌, ◌≤◌, IfOk, IsFalse, IsTrue, length, option_map, take};
+ghost use Rattle.press_net.specs.Lanes.{HasSameAim, asked_by, is_call_late, is_out, reply_in, request_of};
+
+use crate::answers::{Errand, Outgoing};
+use crate::sending::Sending;
+use mio::net::TcpStream;
+use std::alloc::{AllocError, Global};
+use std::io;
+use std::io::{ErrorKind, Read};
+use std::time::{Duration, Instant};
+
+const PIECE: usize = 1024;
+
+// The most pieces of a reply that are drained at once.
+const MOST_AWAY: u32 = 16;
+
+// How many bytes of a reply are looked at.
+const LONGEST: usize = 512;
+
+// Its time limit.
+const SECONDS: u64 = 2;
+
+// How long others may wait for it to be out.
+const MILLISECONDS: u64 = 2;
+
+/// How far a request is.
+#[derive(Clone, Copy, PartialEq, Eq)]
+pub enum Course {
+    Goes,
+    /// Its reply came.
+    Whole,
+    Lost,
+}
+
+/// A request that goes out.
+pub struct Call {
+    stream: TcpStream,
+    // For which member it is.
+    place: usize,
+    errand: Errand,
+    request: Sending,
+    reply: Vec<u8>,
+    begun: Instant,
+    course: Course,
+}
+
+impl Drop for Call {
+    fn drop(self) {
+        let Call {
+            stream: _,
+            place: _,
+            errand: _,
+            request: _,
+            reply: _,
+            begun: _,
+            course: _,
+        } = self;
+    }
+}
+
+impl Call {
+    /// A request that goes out over a stream that is being connected.
+    pub fn new(alloc: Global, stream: TcpStream, outgoing: Outgoing, begun: Instant) -> Call
+        ensures request { request_of result ≡ asked_by outgoing }
+        ensures begun { result.begun ≡ begun }
+        ensures stream { result.stream ≡ stream }
+    {
+        let Outgoing {
+            place,
+            addr: _,
+            bytes,
+            errand,
+        } = outgoing;
+        Call {
+            stream,
+            place,
+            errand,
+            request: Sending::new(bytes),
+            reply: Vec::new(alloc),
+            begun,
+            course: Course::Goes,
+        }
+    }
+
+    /// Its socket, for the poll.
+    pub fn stream(&mut self) -> &mut TcpStream {
+        &mut self.stream
+    }
+
+    /// For which member it is.
+    pub fn place(&self) -> usize
+        ensures { result ≡ self.now.place }
+    {
+        self.place
+    }
+
+    /// The reply to it, as far as it is looked at.
+    pub fn reply(&self) -> &[u8]
+        ensures { result.now ≡ self.now.reply.items }
+    {
+        &self.reply
+    }
+
+    pub fn errand(&self) -> Errand
+        ensures { result ≡ self.now.errand }
+    {
+        self.errand
+    }
+
+    /// Whether all of it is out, or it had two milliseconds for that.
+    pub fn is_out(&self, now: Instant) -> bool
+        ensures { result ≡ is_out now self.now }
+    {
+        self.request.bytes.len() <= self.request.sent()
+            || Duration::from_millis(MILLISECONDS) <= now.duration_since(self.begun)
+    }
+
+    pub fn course(&self) -> Course
+        ensures { result ≡ self.now.course }
+    {
+        self.course
+    }
+
+    /// What is told of it: nothing while it goes, and an empty reply where it is lost.
+    pub fn told(&self) -> Option<&[u8]>
+        ensures { option_map (λ reply. reply.now) result ≡
+            reply_in self.now.course self.now.reply.items }
+    {
+        match self.course() {
+            Course::Goes => None,
+            Course::Whole => Some(self.reply()),
+            Course::Lost => Some(&[]),
+        }
+    }
+
+    /// Whether its time is over.
+    pub fn is_late(&self, now: Instant) -> bool
+        ensures { result ≡ is_call_late now self.now }
+    {
+        Duration::from_secs(SECONDS) <= now.duration_since(self.begun)
+    }
+
+    // Sends the request as far as the socket takes it: none of it before it is connected. Returns whether it is out.
+    fn send(&mut self) -> io::Result<bool>
+        ensures whole { IfOk result (λ whole. IsTrue whole →
+            length self.new.request.bytes.items ≤ self.new.request.sent) }
+        ensures left { IfOk result (λ whole. IsFalse whole →
+            self.new.request.sent < length self.new.request.bytes.items) }
+        ensures same { HasSameAim self.new self.old }
+    {
+        match self.request.send(&mut self.stream) {
+            Err(e) if e.kind() == ErrorKind::NotConnected => Ok(false),
+            sent => sent,
+        }
+    }
+
+    fn hear(&mut self, piece: &[u8]) -> Result<(), AllocError>
+        ensures heard { IfOk result (λ _. self.new.reply.items ≡
+            self.old.reply.items ++ take (512 - length self.old.reply.items) piece.now) }
+        ensures same { HasSameAim self.new self.old }
+    {
+        let room = LONGEST.saturating_sub(self.reply.len());
+        let front = piece.get(..room).unwrap_or(piece);
+        self.reply.extend_from_slice(front)
+    }
+
+    // Drains the reply, until it ends.
+    fn read_away(&mut self) -> io::Result<()>
+        ensures { HasSameAim self.new self.old }
+    {
+        let mut piece = [0u8; PIECE];
+        for _ in 0..MOST_AWAY {
+            match self.stream.read(&mut piece) {
+                Ok(0) => {
+                    self.course = Course::Whole;
+                    return Ok(());
+                }
+                Ok(n) => self.hear(&piece[..n])?,
+                Err(e) if e.kind() == ErrorKind::WouldBlock => return Ok(()),
+                Err(e) => return Err(e),
+            }
+        }
+        Ok(())
+    }
+
+    fn go_on(&mut self) -> io::Result<()>
+        ensures { HasSameAim self.new self.old }
+    {
+        if self.send()? {
+            self.read_away()?;
+        }
+        Ok(())
+    }
+
+    /// Does what its socket is ready for.
+    pub fn step(&mut self)
+        ensures { HasSameAim self.new self.old }
+    {
+        if self.go_on().is_err() {
+            self.course = Course::Lost;
+        }
+    }
+}

@@ -1,0 +1,593 @@
+//! A server over readiness: no connection is waited for, so one that says nothing, or reads nothing, holds up nobody.
+
+ghost use Rattle.std.specs.Prelude.{◌≡◌, ◌-◌, ◌/◌, ◌<◌, [], MatchOption, MatchResult, if◌then◌else◌, not, option_map};
+ghost use Rattle.std.specs.Duration.{as_nanos};
+ghost use Rattle.std.specs.IoError.{raw_os_error};
+ghost use Rattle.press_net.specs.Accepting.{is_wanting, miss_of};
+ghost use Rattle.press_net.specs.Answering.{credit};
+ghost use Rattle.press_net.specs.Lanes.{IsCredited, call_at};
+ghost use Rattle.press_net.specs.Talking.{freed, group_of, is_crowded, is_reading};
+ghost use Rattle.press_net.specs.Turning.{KeepsAllButCalls, call_of, ends_at, holder_named, talk_of};
+
+use crate::answers::{Answers, Outgoing, Time};
+use crate::call::Call;
+use crate::calls::Calls;
+use crate::talk::{Arrival, Group, Phase, Talk, log_closed};
+use crate::talks::{Round, Talks};
+use mio::net::{TcpListener, TcpStream};
+use mio::{Events, Interest, Poll, Token};
+use std::alloc::Global;
+use std::collections::VecDeque;
+use std::io;
+use std::io::Write;
+use std::net::{IpAddr, Net, SocketAddr};
+use std::time::{Clock, Duration, Instant};
+
+const LISTENER: usize = 0;
+
+// More than can be ready at once (1,024 connections, 192 requests, the listener), so that a round looks at all that came
+// before any is told late.
+const EVENTS: usize = 2_048;
+
+// The most connections that are taken before others have their turn.
+const MOST_TAKEN: u32 = 256;
+
+// The most requests that go out before others have their turn.
+const MOST_CALLED: u32 = 256;
+
+// How long may pass before late connections are looked for.
+const MILLISECONDS: u64 = 100;
+
+// How long may pass where requests go out by time.
+const STEP: u64 = 2;
+
+// Milliseconds from one reply that has a client come again later to the next one: many clients that come again at once take a small part of its time.
+const PAUSE: u64 = 2;
+
+// The most of them that go out at once.
+const MOST_LET_OUT: u128 = 32;
+
+// Who has a token of the poll.
+enum Holder {
+    Listener,
+    // The connection of that place.
+    Talk(usize),
+    // The request of that place.
+    Call(usize),
+}
+
+fn holder_of(token: Token) -> Holder
+    ensures { result ≡ holder_named token.0 }
+{
+    let number = usize::from(token);
+    match number.checked_sub(1) {
+        None => Holder::Listener,
+        Some(rest) if rest % 2 == 0 => Holder::Talk(rest / 2),
+        Some(rest) => Holder::Call(rest / 2),
+    }
+}
+
+fn token_of_talk(place: usize) -> Token
+    ensures { place < 4611686018427387904 → holder_named result.0 ≡ talk_of place }
+{
+    Token(place.saturating_mul(2).saturating_add(1))
+}
+
+fn token_of_call(place: usize) -> Token
+    ensures { place < 4611686018427387904 → holder_named result.0 ≡ call_of place }
+{
+    Token(place.saturating_mul(2).saturating_add(2))
+}
+
+// What an accept that gave no connection says.
+enum Miss {
+    NobodyWaits,
+    // Nothing more can be opened: who waits first waits on.
+    WaitsOn,
+    // Who waited first is gone.
+    IsLost,
+}
+
+// Whether an error of that number says that there is no memory (ENOMEM), no descriptor of the machine (ENFILE) or of the
+// process (EMFILE), or no buffer (ENOBUFS).
+fn is_wanting(code: i32) -> bool
+    ensures { result ≡ is_wanting code }
+{
+    code == 12 || code == 23 || code == 24 || code == 105
+}
+
+fn miss_of(error: &io::Error) -> Miss
+    ensures { result ≡ miss_of (raw_os_error error.now) }
+{
+    match error.raw_os_error() {
+        None => Miss::IsLost,
+        Some(11) => Miss::NobodyWaits,
+        Some(code) if is_wanting(code) => Miss::WaitsOn,
+        Some(_) => Miss::IsLost,
+    }
+}
+
+// Seconds since 1970. Before that, and by a clock that can't be read, it is 1970.
+pub fn seconds_of(since: io::Result<Duration>) -> u64
+    ensures { MatchResult since (λ past. result ≡ as_nanos past / 1000000000) (λ _. result ≡ 0) }
+{
+    match since {
+        Ok(past) => past.as_secs(),
+        Err(_) => 0,
+    }
+}
+
+// Those of members are never beyond a quarter.
+fn group_of(is_member: bool, is_crowded: bool) -> Group
+    ensures { result ≡ group_of is_member is_crowded }
+{
+    if is_member {
+        return Group::Member;
+    }
+    if is_crowded {
+        return Group::Surplus;
+    }
+    Group::Within
+}
+
+/// What a server is to do.
+#[derive(Clone, Copy)]
+pub struct Task {
+    /// After how many connections it ends; without it, when it is ended.
+    pub turns: Option<u32>,
+    /// The most connections that are open at once.
+    pub most: usize,
+    /// Whether requests go out by time.
+    pub is_timed: bool,
+}
+
+// A connection whose reply is held: its place, and its number among all that have come.
+#[derive(Clone, Copy)]
+struct Held {
+    place: usize,
+    number: u64,
+}
+
+/// A listener, the connections that came by it, and the requests that go out.
+pub struct Server {
+    poll: Poll,
+    listener: TcpListener,
+    talks: Talks,
+    calls: Calls,
+    // Those whose replies are held, the oldest first, and when one was last let out.
+    held: VecDeque<Held>,
+    last_out: Instant,
+    // How many connections came.
+    came: u64,
+    // Whether some may wait of whom nothing more will be told.
+    is_behind: bool,
+    // How many are still to have their turn, if it ends by that.
+    left: Option<u32>,
+    // When it began, and the time when it was last looked at.
+    begun: Instant,
+    now: Instant,
+    // Whether requests go out by time.
+    is_timed: bool,
+    alloc: Global,
+}
+
+impl Drop for Server {
+    fn drop(self) {
+        let Server {
+            poll: _,
+            listener: _,
+            talks: _,
+            calls: _,
+            held: _,
+            last_out: _,
+            came: _,
+            is_behind: _,
+            left: _,
+            begun: _,
+            now: _,
+            is_timed: _,
+            alloc: _,
+        } = self;
+    }
+}
+
+impl Server {
+    /// Listens at an address.
+    pub fn listen<R: AllocGlobal + Net + Clock>(
+        rt: &R,
+        addr: SocketAddr,
+        task: Task,
+    ) -> io::Result<Server> {
+        let Task {
+            turns,
+            most,
+            is_timed,
+        } = task;
+        let poll = Poll::new(rt)?;
+        let mut listener = TcpListener::bind(rt, addr)?;
+        poll.registry()
+            .register(&mut listener, Token(LISTENER), Interest::READABLE)?;
+        let now = Instant::now(rt)?;
+        Ok(Server {
+            poll,
+            listener,
+            talks: Talks::new(rt.alloc(), most),
+            calls: Calls::new(rt.alloc()),
+            held: VecDeque::new(rt.alloc()),
+            last_out: now,
+            came: 0,
+            is_behind: false,
+            left: turns,
+            begun: now,
+            now,
+            is_timed,
+            alloc: rt.alloc(),
+        })
+    }
+
+    // A connection that comes now.
+    fn arrival(&self, from: IpAddr, is_member: bool) -> Arrival
+        ensures from { result.from ≡ from }
+        ensures number { result.number ≡ self.entry.now.came }
+        ensures begun { result.begun ≡ self.entry.now.now }
+        ensures group { result.group ≡ group_of is_member
+            (is_crowded self.entry.now.talks.most from self.entry.now.talks.places.items) }
+    {
+        Arrival {
+            from,
+            number: self.came,
+            begun: self.now,
+            group: group_of(is_member, self.talks.is_crowded(from)),
+        }
+    }
+
+    // Has the poll look at a connection.
+    fn watch(&mut self, place: usize) -> io::Result<()> {
+        let Some(talk) = self.talks.get_mut(place) else {
+            return Ok(());
+        };
+        self.poll.registry().register(
+            talk.stream(),
+            token_of_talk(place),
+            Interest::READABLE | Interest::WRITABLE,
+        )
+    }
+
+    // Has the poll look at a connection again, of which nothing new may be told otherwise.
+    fn watch_again(&mut self, place: usize) -> io::Result<()> {
+        let Some(talk) = self.talks.get_mut(place) else {
+            return Ok(());
+        };
+        self.poll.registry().reregister(
+            talk.stream(),
+            token_of_talk(place),
+            Interest::READABLE | Interest::WRITABLE,
+        )
+    }
+
+    // A connection begins, in the round whose first one has that number.
+    fn begin<E: Write>(
+        &mut self,
+        stream: TcpStream,
+        arrival: Arrival,
+        round: Round,
+        log: &mut E,
+    ) -> io::Result<()> {
+        let talk = Talk::new(self.alloc, stream, arrival);
+        self.came = self.came.saturating_add(1);
+        let Some(place) = self.talks.enter(talk, round, log)? else {
+            return Ok(());
+        };
+        let watched = self.watch(place);
+        if watched.is_err() {
+            self.talks.leave(place);
+        }
+        watched
+    }
+
+    // Has the poll look at the listener again.
+    fn listen_again(&mut self) -> io::Result<()> {
+        self.poll
+            .registry()
+            .reregister(&mut self.listener, Token(LISTENER), Interest::READABLE)
+    }
+
+    // Looks at the time. A clock that can't be read stands still.
+    fn look_at_clock<C: Clock>(&mut self, clock: &C) -> Instant
+        ensures now { result ≡ self.new.now }
+        ensures same { self.new.talks ≡ self.old.talks }
+    {
+        if let Ok(now) = Instant::now(clock) {
+            self.now = now;
+        }
+        self.now
+    }
+
+    // Accepts those that wait, each at the time when it is taken. An error costs the one that it is of. Where nothing more can be opened, one that came in
+    // an earlier round gives way, but none of a member, since nothing is known of who waits; where none does, those that wait are tried again by time.
+    fn take<C: Clock, A: Answers, E: Write>(&mut self, clock: &C, answers: &A, log: &mut E) {
+        let round = Round {
+            first: self.came,
+            now: self.now,
+        };
+        self.is_behind = false;
+        for _ in 0..MOST_TAKEN {
+            match self.listener.accept() {
+                Ok((stream, from)) => {
+                    self.look_at_clock(clock);
+                    let from = from.ip();
+                    let arrival = self.arrival(from, answers.is_member(from));
+                    if self.begin(stream, arrival, round, log).is_err() {
+                        log_closed(self.alloc, log, from, "nothing more can be opened");
+                    }
+                }
+                Err(e) => match miss_of(&e) {
+                    Miss::NobodyWaits => return,
+                    Miss::IsLost => {}
+                    Miss::WaitsOn => {
+                        if self.talks.give_way(Group::Within, round, log).is_none() {
+                            self.is_behind = true;
+                            return;
+                        }
+                    }
+                },
+            }
+        }
+        // More may wait though nothing else comes.
+        self.is_behind = self.listen_again().is_err();
+    }
+
+    // Whether connections are still to have their turn.
+    fn is_open(&self) -> bool
+        ensures { result ≡ not (ends_at 0 self.entry.now.left) }
+    {
+        self.left != Some(0)
+    }
+
+    fn had_turn(&mut self)
+        ensures left { self.new.left ≡ option_map (λ left. left - 1) self.old.left }
+        ensures ends { self.new.talks.places.items ≡ (if ends_at 0 self.new.left
+            then freed is_reading self.old.talks.places.items else self.old.talks.places.items) }
+        ensures same { self.new.calls ≡ self.old.calls }
+    {
+        if let Some(left) = self.left {
+            let left = left.saturating_sub(1);
+            self.left = Some(left);
+            if left == 0 {
+                self.talks.end_unheard();
+            }
+        }
+    }
+
+    // A connection's socket is ready.
+    fn step<A: Answers, E: Write>(&mut self, answers: &mut A, place: usize, log: &mut E)
+        requires always { Unit {0} }
+    {
+        let now = self.now;
+        let Some(talk) = self.talks.get_mut(place) else {
+            return;
+        };
+        let had_turn = talk.step(answers, now, log);
+        let is_over = talk.phase() == Phase::Over;
+        let has_more = talk.has_more();
+        let held = Held {
+            place,
+            number: talk.number(),
+        };
+        let is_held = had_turn && talk.is_held();
+        if is_over || (has_more && self.watch_again(place).is_err()) {
+            self.talks.leave(place);
+        } else if is_held {
+            self.hold(held);
+        }
+        if had_turn {
+            self.had_turn();
+        }
+    }
+
+    // Lets a held reply out, if its connection is still there.
+    fn let_out(&mut self, held: Held) {
+        let Held { place, number } = held;
+        let now = self.now;
+        let Some(talk) = self.talks.get_mut(place) else {
+            return;
+        };
+        if talk.number() != number || !talk.is_held() {
+            return;
+        }
+        talk.let_out(now);
+        let is_over = talk.phase() == Phase::Over;
+        let has_more = talk.has_more();
+        if is_over || (has_more && self.watch_again(place).is_err()) {
+            self.talks.leave(place);
+        }
+    }
+
+    // A reply is held. Those that are held have half of the places at most, and where more would be, the oldest is let out.
+    fn hold(&mut self, held: Held) {
+        if self.held.len() >= self.talks.most() / 2 {
+            if let Some(oldest) = self.held.pop_front() {
+                self.let_out(oldest);
+            }
+        }
+        if self.held.push_back(held).is_err() {
+            self.let_out(held);
+        }
+    }
+
+    // Lets the oldest held replies out: one for each two milliseconds that passed, or as many where no connection is still to have its turn.
+    fn let_some_out(&mut self) {
+        let passed = self.now.duration_since(self.last_out);
+        if self.is_open() && passed < Duration::from_millis(PAUSE) {
+            return;
+        }
+        self.last_out = self.now;
+        let count = (passed.as_millis() / u128::from(PAUSE)).max(1);
+        for _ in 0..count.min(MOST_LET_OUT) {
+            let Some(held) = self.held.pop_front() else {
+                return;
+            };
+            self.let_out(held);
+        }
+    }
+
+    // The socket of a request that goes out is ready.
+    fn step_call<A: Answers>(&mut self, answers: &mut A, place: usize)
+        ensures credits { MatchOption (call_at self.old.calls place) (answers.new ≡ answers.old)
+            (λ call. IsCredited A.hears call answers.old answers.new) }
+        ensures rest { KeepsAllButCalls self.new self.old }
+    {
+        let Some(call) = self.calls.get_mut(place) else {
+            return;
+        };
+        call.step();
+        let Some(reply) = call.told() else {
+            return;
+        };
+        answers.called(call.place(), call.errand(), reply);
+        self.calls.leave(place);
+    }
+
+    // Gives up a request that goes out.
+    fn lose<A: Answers>(&mut self, answers: &mut A, place: usize)
+        ensures loses { MatchOption (call_at self.old.calls place) (answers.new ≡ answers.old)
+            (λ call. A.hears answers.old (credit call.place call.errand []) answers.new) }
+    {
+        if let Some(call) = self.calls.get_mut(place) {
+            answers.called(call.place(), call.errand(), &[]);
+        }
+        self.calls.leave(place);
+    }
+
+    // A request goes out, at the time when it does. One that can't is lost, as a message may be.
+    fn call<R: Net + Clock>(&mut self, rt: &R, outgoing: Outgoing) -> io::Result<()> {
+        let now = self.look_at_clock(rt);
+        let stream = TcpStream::connect(rt, outgoing.addr)?;
+        let mut call = Call::new(self.alloc, stream, outgoing, now);
+        let place = self.calls.free_place()?;
+        self.poll.registry().register(
+            call.stream(),
+            token_of_call(place),
+            Interest::READABLE | Interest::WRITABLE,
+        )?;
+        // Where the member is near, it is connected already.
+        call.step();
+        self.calls.enter(place, call);
+        Ok(())
+    }
+
+    // Sends what waits, as far as there is room.
+    fn call_all<R: Net + Clock, A: Answers>(&mut self, rt: &R, answers: &mut A) {
+        for _ in 0..u64::MAX {
+            let Some(outgoing) = answers.next_call() else {
+                break;
+            };
+            let (place, errand) = (outgoing.place, outgoing.errand);
+            if !self.calls.add(outgoing) {
+                answers.called(place, errand, &[]);
+            }
+        }
+        for _ in 0..MOST_CALLED {
+            let Some(outgoing) = self.calls.next() else {
+                return;
+            };
+            let (place, errand) = (outgoing.place, outgoing.errand);
+            if self.call(rt, outgoing).is_err() {
+                self.calls.close_lane(place);
+                answers.called(place, errand, &[]);
+            }
+        }
+    }
+
+    // How long it may wait for a socket: not at all where there is something to do.
+    fn limit(&self, has_more: bool) -> Option<Duration> {
+        if has_more && self.calls.are_out(self.now) {
+            Some(Duration::from_millis(0))
+        } else if has_more || !self.held.is_empty() {
+            Some(Duration::from_millis(PAUSE))
+        } else if self.is_timed {
+            Some(Duration::from_millis(STEP))
+        } else if self.talks.is_empty() && !self.is_behind {
+            None
+        } else {
+            Some(Duration::from_millis(MILLISECONDS))
+        }
+    }
+
+    // Does what the sockets are ready for. The listener is last, so that what has come is heard before any gives way.
+    fn round<C: Clock, A: Answers, E: Write>(
+        &mut self,
+        clock: &C,
+        answers: &mut A,
+        events: &Events<Global>,
+        log: &mut E,
+    )
+        requires always { Unit {0} }
+    {
+        let mut some_may_wait = self.is_behind;
+        for event in events.iter() {
+            match holder_of(event.token()) {
+                Holder::Talk(place) => self.step(answers, place, log),
+                Holder::Call(place) => self.step_call(answers, place),
+                Holder::Listener => some_may_wait = true,
+            }
+        }
+        if some_may_wait && self.is_open() {
+            self.take(clock, answers, log);
+        }
+    }
+
+    // Ends what is late at a time up to which all that came was looked at.
+    fn end_late<A: Answers, E: Write>(&mut self, answers: &mut A, now: Instant, log: &mut E) {
+        for _ in 0..self.talks.end_late(now, log) {
+            if self.is_open() {
+                self.had_turn();
+            }
+        }
+        for place in 0..self.calls.len() {
+            if self.calls.is_late(place, now) {
+                self.lose(answers, place);
+            }
+        }
+    }
+
+    // The time, by both clocks.
+    fn time<C: Clock>(&self, clock: &C, now: Instant) -> Time {
+        let since = now.duration_since(self.begun);
+        Time {
+            millis: u64::try_from(since.as_millis()).unwrap_or(u64::MAX),
+            seconds: seconds_of(clock.since_1970()),
+        }
+    }
+
+    /// Serves until all its connections had their turn and the last reply is out, until nothing is answered any more, or
+    /// until it is ended. A connection has its turn when its request is served, or it is closed without a reply.
+    pub fn serve<R: Net + Clock, A: Answers, E: Write>(
+        &mut self,
+        rt: &R,
+        answers: &mut A,
+        log: &mut E,
+    ) -> io::Result<()>
+        requires always { Unit {0} }
+    {
+        let mut events = Events::with_capacity(self.alloc, EVENTS)?;
+        for _ in 0..u64::MAX {
+            if answers.is_over() || (!self.is_open() && self.talks.is_empty()) {
+                return Ok(());
+            }
+            self.call_all(rt, answers);
+            if self.calls.are_out(self.now) {
+                answers.go_on();
+            }
+            let limit = self.limit(answers.has_more());
+            self.poll.poll(&mut events, limit)?;
+            let now = self.look_at_clock(rt);
+            let time = self.time(rt, now);
+            answers.pass(time);
+            self.round(rt, answers, &events, log);
+            self.let_some_out();
+            self.end_late(answers, now, log);
+        }
+        Ok(())
+    }
+}

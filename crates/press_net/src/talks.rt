@@ -1,0 +1,422 @@
+//! The open connections.
+
+ghost use Rattle.std.specs.Prelude.{◌≡◌, ◌<◌, ◌≤◌, [], IfErr, IfOk, IfSome, IsSomeAnd, List, MatchOption, None, Option, Some, is_none, position, slice_set};
+ghost use Rattle.std.specs.List.{list_all};
+ghost use Rattle.press_net.specs.declared.talk.Group.TheVariants.{Member};
+ghost use Rattle.press_net.specs.declared.talk.Talk.{Talk};
+ghost use Rattle.press_net.specs.Talking.{GivesWay, GoesFirst, GoesFor, HasNone, HasRank, IsOldest, MakesPlace, MakesWay, MayGrow, count_of, freed, has_room, is_crowded, is_from, is_late, is_reading, is_same, is_stranger, is_unheard, kept_unless, meets, rank_of, talk_at, with_slot};
+
+use crate::talk::{Group, Phase, Talk};
+use std::alloc::{AllocError, Global};
+use std::io::Write;
+use std::net::IpAddr;
+use std::time::Instant;
+
+// The part of all places that is kept back for members: a sixteenth.
+const KEPT_BACK: usize = 16;
+
+const GIVEN_UP: &str = "given up for another";
+
+/// Those of a group that are in a phase.
+#[derive(Clone, Copy)]
+pub struct Rank {
+    pub group: Group,
+    pub phase: Phase,
+    /// Whether a second or more is over since their sockets took anything of a reply that isn't out.
+    pub is_stalled: bool,
+}
+
+/// Connections that are taken one after the other, before others have their turn.
+#[derive(Clone, Copy)]
+pub struct Round {
+    /// The number of the first of them.
+    pub first: u64,
+    /// A time up to which all that came was looked at.
+    pub now: Instant,
+}
+
+/// Connections by their places. Where each place is taken, one that was there before gives way to a newcomer.
+pub struct Talks {
+    places: Vec<Option<Talk>>,
+    // The most connections that are open at once.
+    most: usize,
+}
+
+// A connection ends, with a line where its request wasn't whole; whether it wasn't.
+fn close<E: Write>(slot: &mut Option<Talk>, log: &mut E, why: &str) -> bool
+    ensures free { slot.new ≡ None }
+    ensures reading { result ≡ meets is_reading slot.old }
+{
+    let Some(talk) = slot.take() else {
+        return false;
+    };
+    if talk.phase() != Phase::Reading {
+        return false;
+    }
+    talk.give_up(log, why);
+    true
+}
+
+// Closes one whose time is over; whether it had had no turn.
+fn end_if_late<E: Write>(slot: &mut Option<Talk>, now: Instant, log: &mut E) -> bool
+    ensures free { slot.new ≡ kept_unless (is_late now) slot.old }
+    ensures unheard { result ≡ meets (is_unheard now) slot.old }
+{
+    match slot {
+        Some(talk) if talk.is_late(now) => close(slot, log, "its time is over"),
+        _ => false,
+    }
+}
+
+fn end_all_late<E: Write>(slots: &mut [Option<Talk>], now: Instant, log: &mut E) -> usize
+    ensures freed { slots.new ≡ freed (is_late now) slots.old }
+    ensures count { result ≡ count_of (is_unheard now) slots.old }
+{
+    let mut count: usize = 0;
+    for slot in slots.iter_mut() {
+        count = count.saturating_add(usize::from(end_if_late(slot, now, log)));
+    }
+    count
+}
+
+fn is_same(one: IpAddr, other: IpAddr) -> bool
+    ensures { result ≡ is_same one other }
+{
+    one == other
+}
+
+// Whether a connection stands there that came from that address.
+fn is_from(slot: &Option<Talk>, from: IpAddr) -> bool
+    ensures { result ≡ meets (is_from from) slot.now }
+{
+    match slot {
+        Some(talk) => is_same(from, talk.from()),
+        None => false,
+    }
+}
+
+// How many came from that address.
+fn count_from(slots: &[Option<Talk>], from: IpAddr) -> usize
+    ensures { result ≡ count_of (is_from from) slots.now }
+{
+    let mut count: usize = 0;
+    for slot in slots {
+        count = count.saturating_add(usize::from(is_from(slot, from)));
+    }
+    count
+}
+
+// Whether a connection stands there that isn't a member's.
+fn is_stranger(slot: &Option<Talk>) -> bool
+    ensures { result ≡ meets is_stranger slot.now }
+{
+    match slot {
+        Some(talk) => !talk.group().is_member(),
+        None => false,
+    }
+}
+
+// How many are no members'.
+fn count_strangers(slots: &[Option<Talk>]) -> usize
+    ensures { result ≡ count_of is_stranger slots.now }
+{
+    let mut count: usize = 0;
+    for slot in slots {
+        count = count.saturating_add(usize::from(is_stranger(slot)));
+    }
+    count
+}
+
+// The number of a connection of that rank that came before the first of a round, and before what was found.
+fn number_before(
+    found: Option<(usize, u64)>,
+    rank: Rank,
+    round: Round,
+    slot: &Option<Talk>,
+) -> Option<u64>
+    ensures { MatchOption result
+        ((talk : Talk) → slot.now ≡ Some talk → HasRank round.now rank talk →
+        talk.arrival.number < round.first → IsSomeAnd found (λ f. f.1 ≤ talk.arrival.number))
+        (λ number. (talk : Talk) × (slot.now ≡ Some talk) × HasRank round.now rank talk
+        × (talk.arrival.number < round.first) × (number ≡ talk.arrival.number)
+        × IfSome found (λ f. number < f.1)) }
+{
+    let Some(talk) = slot else {
+        return None;
+    };
+    if talk.group() != rank.group {
+        return None;
+    }
+    if talk.phase() != rank.phase {
+        return None;
+    }
+    if talk.is_stalled(round.now) != rank.is_stalled {
+        return None;
+    }
+    if round.first <= talk.number() {
+        return None;
+    }
+    match found {
+        None => Some(talk.number()),
+        Some((_, number)) if talk.number() < number => Some(talk.number()),
+        Some(_) => None,
+    }
+}
+
+// Frees a place whose request isn't whole.
+fn end_if_unheard(slot: &mut Option<Talk>)
+    ensures { slot.new ≡ kept_unless is_reading slot.old }
+{
+    if let Some(talk) = slot {
+        if talk.phase() == Phase::Reading {
+            *slot = None;
+        }
+    }
+}
+
+fn end_all_unheard(slots: &mut [Option<Talk>])
+    ensures { slots.new ≡ freed is_reading slots.old }
+{
+    for slot in slots.iter_mut() {
+        end_if_unheard(slot);
+    }
+}
+
+impl Drop for Talks {
+    fn drop(self) {
+        let Talks { places: _, most: _ } = self;
+    }
+}
+
+impl Talks {
+    /// None is open yet, and so many may be at once.
+    pub fn new(alloc: Global, most: usize) -> Talks
+        ensures none { result.places.items ≡ [] }
+        ensures most { result.most ≡ most }
+    {
+        Talks {
+            places: Vec::new(alloc),
+            most,
+        }
+    }
+
+    pub fn is_empty(&self) -> bool
+        ensures { result ≡ list_all is_none self.now.places.items }
+    {
+        self.places.iter().all(|talk| talk.is_none())
+    }
+
+    /// The most connections that are open at once.
+    pub fn most(&self) -> usize
+        ensures { result ≡ self.now.most }
+    {
+        self.most
+    }
+
+    /// The one at a place.
+    pub fn get_mut(&mut self, place: usize) -> Option<&mut Talk>
+        ensures is { MatchOption result (talk_at self.old place ≡ None)
+            (λ talk. talk_at self.old place ≡ Some talk.now) }
+    {
+        match self.places.get_mut(place) {
+            Some(Some(talk)) => Some(talk),
+            _ => None,
+        }
+    }
+
+    fn free_place(&self) -> Option<usize>
+        ensures { result ≡ position is_none self.now.places.items }
+    {
+        self.places.iter().position(|talk| talk.is_none())
+    }
+
+    /// Whether an address has a quarter of the places.
+    pub fn is_crowded(&self, from: IpAddr) -> bool
+        ensures { result ≡ is_crowded self.now.most from self.now.places.items }
+    {
+        self.most / 4 <= count_from(&self.places, from)
+    }
+
+    // The place of the oldest of that rank that came before the first of a round.
+    fn oldest(&self, rank: Rank, round: Round) -> Option<usize>
+        ensures { MatchOption result (HasNone rank round self.now.places.items)
+            (IsOldest rank round self.now.places.items) }
+    {
+        let mut found: Option<(usize, u64)> = None;
+        for (place, slot) in self.places.iter().enumerate() {
+            if let Some(number) = number_before(found, rank, round, slot) {
+                found = Some((place, number));
+            }
+        }
+        let (place, _) = found?;
+        Some(place)
+    }
+
+    fn oldest_in(&self, group: Group, phase: Phase, is_stalled: bool, round: Round) -> Option<usize>
+        ensures { MatchOption result
+            (HasNone (rank_of group phase is_stalled) round self.now.places.items)
+            (IsOldest (rank_of group phase is_stalled) round self.now.places.items) }
+    {
+        let rank = Rank {
+            group,
+            phase,
+            is_stalled,
+        };
+        self.oldest(rank, round)
+    }
+
+    // Which goes first of a group.
+    fn first_of(&self, group: Group, round: Round) -> Option<usize>
+        ensures { GoesFirst group round self.now.places.items result }
+    {
+        if let Some(place) = self.oldest_in(group, Phase::Ending, false, round) {
+            return Some(place);
+        }
+        if let Some(place) = self.oldest_in(group, Phase::Reading, false, round) {
+            return Some(place);
+        }
+        if let Some(place) = self.oldest_in(group, Phase::Writing, true, round) {
+            return Some(place);
+        }
+        self.oldest_in(group, Phase::Writing, false, round)
+    }
+
+    // Which goes first for a member's, where none is beyond its address's quarter.
+    fn first_for_member(&self, round: Round) -> Option<usize>
+        ensures { GoesFor Member round self.now.places.items result }
+    {
+        if let Some(place) = self.first_of(Group::Within, round) {
+            return Some(place);
+        }
+        self.first_of(Group::Member, round)
+    }
+
+    // Which one is to be closed for one of a round, of that group.
+    fn first_to_go(&self, newcomer: Group, round: Round) -> Option<usize>
+        ensures { MakesWay newcomer round self.now.places.items result }
+    {
+        if let Some(place) = self.first_of(Group::Surplus, round) {
+            return Some(place);
+        }
+        match newcomer {
+            Group::Surplus => None,
+            Group::Within => self.first_of(Group::Within, round),
+            Group::Member => self.first_for_member(round),
+        }
+    }
+
+    /// Closes one for one of a round, of that group: one that came as its address had a quarter of the places, else, for
+    /// a newcomer that doesn't come so itself, any other that is no member's, else, for a member's, any; among those the
+    /// oldest that was served and stays open, else the oldest whose request isn't whole, else the oldest of whose reply
+    /// nothing was taken for a second, else the oldest, and none that came in that round. Returns its place, if there was
+    /// one.
+    pub fn give_way<E: Write>(
+        &mut self,
+        newcomer: Group,
+        round: Round,
+        log: &mut E,
+    ) -> Option<usize>
+        ensures { GivesWay newcomer round self.old.places.items self.new.places.items result }
+    {
+        let place = self.first_to_go(newcomer, round)?;
+        self.close(place, log, GIVEN_UP);
+        Some(place)
+    }
+
+    // A connection ends, with a line where its request wasn't whole.
+    fn close<E: Write>(&mut self, place: usize, log: &mut E, why: &str)
+        ensures { self.new.places.items ≡ slice_set self.old.places.items place None }
+    {
+        if let Some(slot) = self.places.get_mut(place) {
+            close(slot, log, why);
+        }
+    }
+
+    /// Frees a place.
+    pub fn leave(&mut self, place: usize)
+        ensures { self.new.places.items ≡ slice_set self.old.places.items place None }
+    {
+        if let Some(slot) = self.places.get_mut(place) {
+            *slot = None;
+        }
+    }
+
+    // Whether one of that group may have a place beside those that are there.
+    fn has_room(&self, newcomer: Group) -> bool
+        ensures { result ≡ has_room self.now.most newcomer self.now.places.items }
+    {
+        let for_strangers = self.most - self.most / KEPT_BACK;
+        newcomer.is_member() || count_strangers(&self.places) < for_strangers
+    }
+
+    // A place for one more of that group, if there is one.
+    fn place<E: Write>(
+        &mut self,
+        newcomer: Group,
+        round: Round,
+        log: &mut E,
+    ) -> Result<Option<usize>, AllocError>
+        ensures made { IfOk result (MakesPlace self.old.most newcomer round self.old.places.items
+            self.new.places.items) }
+        ensures no_memory { IfErr result (λ _. MayGrow self.old.most self.old.places.items
+            × (self.new.places.items ≡ self.old.places.items)) }
+    {
+        if !self.has_room(newcomer) {
+            return Ok(self.give_way(newcomer, round, log));
+        }
+        if let Some(place) = self.free_place() {
+            return Ok(Some(place));
+        }
+        let count = self.places.len();
+        if count < self.most {
+            self.places.push(None)?;
+            return Ok(Some(count));
+        }
+        Ok(self.give_way(newcomer, round, log))
+    }
+
+    fn put(&mut self, place: usize, talk: Talk)
+        ensures { self.new.places.items ≡ slice_set self.old.places.items place (Some talk) }
+    {
+        if let Some(slot) = self.places.get_mut(place) {
+            *slot = Some(talk);
+        }
+    }
+
+    /// Puts a connection of a round at a free place, at a new one, or at that of one that gives way; where none does, it
+    /// is closed. Returns its place.
+    pub fn enter<E: Write>(
+        &mut self,
+        talk: Talk,
+        round: Round,
+        log: &mut E,
+    ) -> Result<Option<usize>, AllocError>
+        ensures entered { IfOk result (λ place. (slots : List (Option Talk))
+            × MakesPlace self.old.most talk.arrival.group round self.old.places.items slots place
+            × (self.new.places.items ≡ with_slot place (Some talk) slots)) }
+        ensures no_memory { IfErr result (λ _. MayGrow self.old.most self.old.places.items
+            × (self.new.places.items ≡ self.old.places.items)) }
+    {
+        let Some(place) = self.place(talk.arrival.group, round, log)? else {
+            talk.give_up(log, GIVEN_UP);
+            return Ok(None);
+        };
+        self.put(place, talk);
+        Ok(Some(place))
+    }
+
+    /// Closes those whose time is over; returns how many of them had had no turn.
+    pub fn end_late<E: Write>(&mut self, now: Instant, log: &mut E) -> usize
+        ensures freed { self.new.places.items ≡ freed (is_late now) self.old.places.items }
+        ensures count { result ≡ count_of (is_unheard now) self.old.places.items }
+    {
+        end_all_late(&mut self.places, now, log)
+    }
+
+    /// Closes those whose request isn't whole.
+    pub fn end_unheard(&mut self)
+        ensures { self.new.places.items ≡ freed is_reading self.old.places.items }
+    {
+        end_all_unheard(&mut self.places);
+    }
+}

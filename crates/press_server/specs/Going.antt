@@ -1,0 +1,28 @@
+-- What waits to go out to a member (own).
+use Rattle.std.specs.Prelude.{ℕ, ◌-◌, ◌&&◌, ◌||◌, Bool, true, false, List, [], ◌∷◌, drop, length, nat_le, nat_lt, if◌then◌else◌}
+use Rattle.press_wire.specs.declared.message.Body.{Body}
+use Rattle.press_wire.specs.declared.message.Body.TheVariants.{Prepare, Promise, Nack, Accept, Accepted, Query}
+use Rattle.press_server.specs.declared.lanes.Lane.{Lane}
+use Rattle.press_server.specs.declared.lanes.Waiting.{Waiting}
+
+-- a question for a vote
+abbrev pub is_question : Body → Bool
+is_question (Prepare round) = false
+is_question (Promise ballot votes) = false
+is_question (Nack refused promised) = false
+is_question (Accept round value) = false
+is_question (Accepted vote) = false
+is_question Query = true
+
+-- fewer than 8 requests are on their way, and something waits
+abbrev pub is_ready : Lane → Bool
+is_ready lane = nat_lt lane.«open» 8 && (nat_lt 0 lane.looks || nat_lt 0 (length lane.waiting.items))
+
+-- the oldest makes room where 3,333 wait
+abbrev pub with_room : List Waiting → List Waiting
+with_room waiting = if nat_le 3333 (length waiting) then drop 1 waiting else waiting
+
+-- the oldest has waited for more than two seconds
+abbrev pub is_stale : ℕ → List Waiting → Bool
+is_stale now [] = false
+is_stale now (first ∷ rest) = nat_lt 2000 (now - first.since)

@@ -1,0 +1,34 @@
+-- What a server sees of a request before its node does (own).
+use Rattle.std.specs.Prelude.{◌≡◌, ◌≢◌, ◌⊎◌, Bool, true, bytes_eq, codes, take, List, ℕ, Option, Some, Result, Ok, Err}
+use Rattle.press_http.specs.declared.asked.Asked.{Asked}
+use Rattle.press_http.specs.declared.asked.Asked.TheVariants as asked
+use Rattle.press_http.specs.declared.fault.HttpFault.{HttpFault}
+use Rattle.press_http.specs.declared.fault.HttpFault.TheVariants.{NoMemory}
+use Rattle.std.specs.Io.KnownBytes.{Consumes}
+use Rattle.press_node.specs.Serving.{AsksFor}
+use Rattle.press_server.specs.declared.screen.Sort.{Sort}
+use Rattle.press_server.specs.declared.screen.Sort.TheVariants.{Ready, Editor, Peer, Command, Page, Other}
+
+abbrev pub sort_named : Asked → Sort
+sort_named (asked.Peer message) = Peer
+sort_named (asked.Command stamped) = Command stamped.at
+sort_named (asked.Page target) = Page
+
+-- what is refused is of no sort
+abbrev pub sort_by : Result Asked HttpFault → Sort
+sort_by (Ok what) = sort_named what
+sort_by (Err fault) = Other
+
+-- the request line begins with one of the server's own paths
+abbrev pub asks_ready : List ℕ → Bool
+asks_ready bytes = bytes_eq (take 11 bytes) (codes "GET /ready ")
+
+abbrev pub asks_editor : List ℕ → Bool
+asks_editor bytes = bytes_eq (take 12 bytes) (codes "GET /editor ")
+
+-- the bytes ask for one of the server's own paths, or it is the sort of what they ask for, and not of want of memory
+abbrev pub IsOfSort : List ℕ → Sort → Type 0
+IsOfSort bytes sort =
+    ((sort ≡ Ready) × (asks_ready bytes ≡ true)) ⊎ ((sort ≡ Editor) × (asks_editor bytes ≡ true))
+    ⊎ ((seen : List ℕ) × (left : Option (List ℕ)) × Consumes (Some bytes) left seen × (meant : Result Asked HttpFault) × AsksFor seen left meant
+    × (meant ≢ Err NoMemory) × (sort ≡ sort_by meant))

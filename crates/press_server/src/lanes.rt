@@ -1,0 +1,233 @@
+//! What waits to go out to each member.
+
+ghost use Rattle.std.specs.Prelude.{◌≡◌, ◌≤◌, ◌⊎◌, [], ◌∷◌, ◌++◌, IfSome, IsTrue, drop, length, slice_get};
+ghost use Rattle.press_server.specs.Going.{is_question, is_ready, is_stale, with_room};
+
+use crate::peers::place_of;
+use press_batch::{BatchFault, BatchWriter, Report};
+use press_wire::{Body, Message, Node as Member};
+use std::alloc::{AllocError, Global};
+use std::collections::VecDeque;
+
+// The most messages that wait for one member: where one more comes, the oldest is lost, as a message may be.
+const MOST_WAITING: usize = 3_333;
+
+// The most requests that are on their way to one member. What comes then waits, and goes out together.
+const MOST_OPEN: u32 = 8;
+
+// A message that waited for longer than so many milliseconds is lost.
+const OLDEST: u64 = 2_000;
+
+fn is_question(message: &Message) -> bool
+    ensures { result ≡ is_question message.now.body }
+{
+    matches!(message.body, Body::Query)
+}
+
+// A message that waits, and since when.
+#[derive(Drop)]
+struct Waiting {
+    message: Message,
+    since: u64,
+}
+
+/// A batch that goes out, and how many looks and questions end with it.
+#[derive(Drop)]
+pub struct Parcel {
+    pub batch: BatchWriter,
+    pub asked: u32,
+}
+
+/// What a batch is written with.
+#[derive(Clone, Copy)]
+pub struct Sender {
+    pub alloc: Global,
+    pub from: Member,
+    pub report: Report,
+    pub now: u64,
+}
+
+// What waits for one member.
+#[derive(Drop)]
+struct Lane {
+    waiting: VecDeque<Waiting>,
+    // How many looks at how far it is wait.
+    looks: u32,
+    // How many questions were lost before they went out.
+    lost: u32,
+    // How many requests are on their way.
+    open: u32,
+}
+
+impl Lane {
+    fn is_ready(&self) -> bool
+        ensures { result ≡ is_ready self.now }
+    {
+        self.open < MOST_OPEN && (self.looks > 0 || !self.waiting.is_empty())
+    }
+
+    // The oldest that waits is lost.
+    fn lose(&mut self)
+        ensures { self.new.waiting.items ≡ drop 1 self.old.waiting.items }
+    {
+        if let Some(waiting) = self.waiting.pop_front() {
+            let count = u32::from(is_question(&waiting.message));
+            self.lost = self.lost.saturating_add(count);
+        }
+    }
+
+    // A message waits behind all others, or is lost for want of memory.
+    fn put(&mut self, message: Message, now: u64)
+        ensures puts { (self.new.waiting.items ≡ with_room self.old.waiting.items
+            ++ (record { message = message; since = now }) ∷ [])
+            ⊎ (self.new.waiting.items ≡ with_room self.old.waiting.items) }
+        ensures most { length self.old.waiting.items ≤ 3333 →
+            length self.new.waiting.items ≤ 3333 }
+    {
+        if self.waiting.len() >= MOST_WAITING {
+            self.lose();
+        }
+        let count = u32::from(is_question(&message));
+        let waiting = Waiting {
+            message,
+            since: now,
+        };
+        if self.waiting.push_back(waiting).is_err() {
+            self.lost = self.lost.saturating_add(count);
+        }
+    }
+
+    // Whether the oldest that waits is too old.
+    fn is_stale(&self, now: u64) -> bool
+        ensures { result ≡ is_stale now self.now.waiting.items }
+    {
+        match self.waiting.front() {
+            Some(waiting) => now.saturating_sub(waiting.since) > OLDEST,
+            None => false,
+        }
+    }
+
+    fn lose_stale(&mut self, now: u64) {
+        for _ in 0..self.waiting.len() {
+            if !self.is_stale(now) {
+                return;
+            }
+            self.lose();
+        }
+    }
+
+    // Puts the oldest that waits into a batch; how many questions that is. None where none waits, or for want of room or
+    // memory. One that no batch takes is lost.
+    fn move_one(&mut self, batch: &mut BatchWriter) -> Option<u32> {
+        let waiting = self.waiting.front()?;
+        let count = u32::from(is_question(&waiting.message));
+        let is_in = match batch.push(&waiting.message) {
+            Err(BatchFault::NoMemory) => return None,
+            Err(_) => false,
+            Ok(is_in) => is_in,
+        };
+        if !is_in && batch.count() > 0 {
+            return None;
+        }
+        self.waiting.pop_front();
+        Some(count)
+    }
+
+    // A request has ended that never went out.
+    fn give_up(&mut self, asked: u32) {
+        self.open = self.open.saturating_sub(1);
+        self.lost = self.lost.saturating_add(asked);
+    }
+
+    // What waits goes out, as much as a batch takes.
+    fn pack(&mut self, sender: Sender) -> Result<Parcel, BatchFault> {
+        let mut batch = BatchWriter::new(sender.alloc, sender.from, &sender.report)?;
+        let mut asked = self.looks.saturating_add(self.lost);
+        for _ in 0..self.waiting.len() {
+            let Some(count) = self.move_one(&mut batch) else {
+                break;
+            };
+            asked = asked.saturating_add(count);
+        }
+        self.looks = 0;
+        self.lost = 0;
+        self.open = self.open.saturating_add(1);
+        Ok(Parcel { batch, asked })
+    }
+}
+
+/// What waits to go out, by member.
+#[derive(Drop)]
+pub struct Lanes {
+    all: Vec<Lane>,
+}
+
+impl Lanes {
+    /// Nothing waits for any of so many members.
+    pub fn new(alloc: Global, count: usize) -> Result<Lanes, AllocError> {
+        let mut all = Vec::new(alloc);
+        for _ in 0..count {
+            all.push(Lane {
+                waiting: VecDeque::new(alloc),
+                looks: 0,
+                lost: 0,
+                open: 0,
+            })?;
+        }
+        Ok(Lanes { all })
+    }
+
+    /// A message is to go out.
+    pub fn put(&mut self, message: Message, now: u64) {
+        if let Some(lane) = self.all.get_mut(place_of(message.to)) {
+            lane.put(message, now);
+        }
+    }
+
+    /// A member is to say how far it is.
+    pub fn look(&mut self, to: Member) {
+        if let Some(lane) = self.all.get_mut(place_of(to)) {
+            lane.looks = lane.looks.saturating_add(1);
+        }
+    }
+
+    /// Whether something may go out.
+    pub fn is_ready(&self) -> bool {
+        self.all.iter().any(|lane| lane.is_ready())
+    }
+
+    /// The first member to whom something may go out, by its place. What is too old is lost.
+    pub fn ready(&mut self, now: u64) -> Option<usize>
+        ensures { IfSome result (λ place. IfSome (slice_get self.new.all.items place)
+            (λ lane. IsTrue (is_ready lane))) }
+    {
+        for place in 0..self.all.len() {
+            if let Some(lane) = self.all.get_mut(place) {
+                lane.lose_stale(now);
+                if lane.is_ready() {
+                    return Some(place);
+                }
+            }
+        }
+        None
+    }
+
+    /// What goes out to the member at a place. None without memory.
+    pub fn pack(&mut self, place: usize, sender: Sender) -> Option<Parcel> {
+        self.all.get_mut(place)?.pack(sender).ok()
+    }
+
+    /// What was to go out to the member at a place is lost.
+    pub fn give_up(&mut self, place: usize, asked: u32) {
+        if let Some(lane) = self.all.get_mut(place) {
+            lane.give_up(asked);
+        }
+    }
+
+    /// A request that was on its way to the member at a place has ended.
+    pub fn end(&mut self, place: usize) {
+        if let Some(lane) = self.all.get_mut(place) {
+            lane.open = lane.open.saturating_sub(1);
+        }
+    }
+}

@@ -1,0 +1,241 @@
+//! What a server does with a request before its node sees it.
+
+ghost use Rattle.std.specs.Prelude.{◌≡◌, ◌≢◌, IfOk, MatchResult, Some};
+ghost use Rattle.std.specs.Io.KnownBytes.{Appends};
+ghost use Rattle.press_http.specs.Replies.{fault_bytes};
+ghost use Rattle.press_server.specs.Screening.{IsOfSort, asks_editor, asks_ready, sort_by, sort_named};
+
+use press_batch::Report;
+use press_http::{Asked, HttpFault, read_request, route, write_fault, write_reply};
+use press_page::{ContentKind, Reply};
+use press_text::{Text, write_once};
+use std::alloc::{AllocError, Global};
+
+/// What a request asks for.
+#[derive(Clone, Copy, PartialEq, Eq)]
+pub enum Sort {
+    /// Whether the node is ready.
+    Ready,
+    /// The page for editors.
+    Editor,
+    /// That a message of a peer be taken.
+    Peer,
+    /// That a command be taken, with its time in seconds.
+    Command(u64),
+    /// A page of the site, or a reply in JSON.
+    Page,
+    /// It isn't whole, or is refused.
+    Other,
+}
+
+fn sort_of_asked(asked: &Asked) -> Sort
+    ensures { result ≡ sort_named asked.now }
+{
+    match asked {
+        Asked::Peer(_) => Sort::Peer,
+        Asked::Command(stamped) => Sort::Command(stamped.at.seconds()),
+        Asked::Page(_) => Sort::Page,
+    }
+}
+
+// A request that is refused is of no sort; where there was no memory, nothing is known of it.
+fn sort_refused(fault: HttpFault) -> Result<Sort, HttpFault>
+    ensures { MatchResult result (λ sort. (sort ≡ Sort.Other) × (fault ≢ HttpFault.NoMemory))
+        (λ e. (e ≡ HttpFault.NoMemory) × (fault ≡ HttpFault.NoMemory)) }
+{
+    match fault {
+        HttpFault::NoMemory => Err(fault),
+        _ => Ok(Sort::Other),
+    }
+}
+
+fn asks_ready(bytes: &[u8]) -> bool
+    ensures { result ≡ asks_ready bytes.now }
+{
+    bytes.starts_with(b"GET /ready ")
+}
+
+fn asks_editor(bytes: &[u8]) -> bool
+    ensures { result ≡ asks_editor bytes.now }
+{
+    bytes.starts_with(b"GET /editor ")
+}
+
+/// What a request asks for. Its only fault is that there is no memory to see it.
+pub fn sort_of(alloc: Global, bytes: &[u8]) -> Result<Sort, HttpFault>
+    ensures { MatchResult result (IsOfSort bytes.now) (λ e. e ≡ HttpFault.NoMemory) }
+{
+    let mut rest = bytes;
+    let request = match read_request(alloc, &mut rest) {
+        Ok(request) => request,
+        Err(fault) => return sort_refused(fault),
+    };
+    if asks_ready(bytes) {
+        return Ok(Sort::Ready);
+    }
+    if asks_editor(bytes) {
+        return Ok(Sort::Editor);
+    }
+    match route(alloc, &request) {
+        Ok(asked) => Ok(sort_of_asked(&asked)),
+        Err(fault) => sort_refused(fault),
+    }
+}
+
+/// What an operator asked for: a page for editors, and how far ahead of the machine's clock a command may be, in seconds.
+pub struct Screen {
+    editor: Option<Text>,
+    ahead: Option<u64>,
+}
+
+impl Drop for Screen {
+    fn drop(self) {
+        let Screen {
+            editor: _,
+            ahead: _,
+        } = self;
+    }
+}
+
+impl Screen {
+    /// The page for editors, and the most seconds that a command may be ahead; None asks for none.
+    pub fn new(editor: Option<Text>, ahead: Option<u64>) -> Screen {
+        Screen { editor, ahead }
+    }
+
+    /// What a request asks for, where that matters for what an operator asked for.
+    pub fn sort_of(&self, alloc: Global, bytes: &[u8]) -> Result<Sort, HttpFault> {
+        if self.editor.is_none() && self.ahead.is_none() {
+            return Ok(Sort::Other);
+        }
+        sort_of(alloc, bytes)
+    }
+
+    /// Whether there is a page for editors.
+    pub fn has_editor(&self) -> bool {
+        self.editor.is_some()
+    }
+
+    /// Whether a command of such a time is too far ahead.
+    pub fn is_ahead(&self, at: u64, now: u64) -> bool {
+        match self.ahead {
+            Some(most) => at > now.saturating_add(most),
+            None => false,
+        }
+    }
+
+    /// The page for editors.
+    pub fn show_editor(&self, alloc: Global, told: &mut Vec<u8>) -> Result<u16, HttpFault> {
+        let Some(page) = &self.editor else {
+            return not_found(told);
+        };
+        let reply = Reply {
+            status: 200,
+            kind: ContentKind::Html,
+            body: page.copy(alloc)?,
+        };
+        write_reply(alloc, told, &reply)?;
+        Ok(200)
+    }
+}
+
+/// A command is too far ahead.
+pub fn refuse_form(told: &mut Vec<u8>) -> Result<u16, HttpFault> {
+    write_fault(told, 400)?;
+    Ok(400)
+}
+
+/// There is nothing at this path.
+pub fn not_found(told: &mut Vec<u8>) -> Result<u16, HttpFault> {
+    write_fault(told, 404)?;
+    Ok(404)
+}
+
+/// There was no memory to see what was asked, or for the reply.
+pub fn refuse_without_memory(told: &mut Vec<u8>) -> Result<u16, HttpFault>
+    ensures { IfOk result (λ status. (status ≡ 503)
+        × Appends (Some told.old.items) (Some told.new.items) (fault_bytes 503)) }
+{
+    write_fault(told, 503)?;
+    Ok(503)
+}
+
+fn tell(told: &mut Vec<u8>, line: &[u8]) -> Result<(), HttpFault> {
+    match write_once(told, line) {
+        Ok(()) => Ok(()),
+        Err(_) => Err(HttpFault::WriteFault),
+    }
+}
+
+const LATER: &str =
+    "HTTP/1.1 503 Service Unavailable\r\nContent-Type: text/plain; charset=UTF-8\r\nContent-Length: 14\r\nRetry-After: 1\r\nConnection: close\r\n\r\nnot ready yet\n";
+
+/// The node isn't ready yet.
+pub fn refuse_for_now(told: &mut Vec<u8>) -> Result<u16, HttpFault> {
+    tell(told, LATER.as_bytes())?;
+    Ok(503)
+}
+
+fn ready_head(alloc: Global, is_ready: bool, count: usize) -> Result<String, AllocError> {
+    let (first, retry) = if is_ready {
+        ("200 OK", "")
+    } else {
+        ("503 Service Unavailable", "Retry-After: 1\r\n")
+    };
+    format!(in alloc;
+        "HTTP/1.1 {first}\r\nContent-Type: application/json; charset=UTF-8\r\nContent-Length: {count}\r\n{retry}Connection: close\r\n\r\n"
+    )
+}
+
+/// How a member stands.
+#[derive(Clone, Copy)]
+pub struct Standing<'a> {
+    pub is_ready: bool,
+    /// How far it is.
+    pub report: Report,
+    /// The numbers of the members that answered lately.
+    pub near: &'a [usize],
+    /// Those that count other members, or run another kit.
+    pub foreign: &'a [usize],
+}
+
+// Numbers with commas between.
+fn list_of(alloc: Global, numbers: &[usize]) -> Result<String, AllocError> {
+    let mut text = String::new(alloc);
+    for number in numbers {
+        if !text.is_empty() {
+            text.push(',')?;
+        }
+        let digits = format!(in alloc; "{number}")?;
+        text.push_str(&digits)?;
+    }
+    Ok(text)
+}
+
+fn ready_body(alloc: Global, standing: Standing<'_>) -> Result<String, AllocError> {
+    let Standing {
+        is_ready,
+        report,
+        near,
+        foreign,
+    } = standing;
+    let (applied, chosen) = (report.applied, report.chosen);
+    let near = list_of(alloc, near)?;
+    let foreign = list_of(alloc, foreign)?;
+    format!(in alloc;
+        "{{\"ready\":{is_ready},\"applied\":{applied},\"chosen\":{chosen},\"members\":[{near}],\"foreign\":[{foreign}]}}\n"
+    )
+}
+
+/// How far the node is.
+pub fn show_ready(
+    alloc: Global,
+    standing: Standing<'_>,
+    told: &mut Vec<u8>,
+) -> Result<u16, HttpFault> {
+    let body = ready_body(alloc, standing)?;
+    let head = ready_head(alloc, standing.is_ready, body.len())?;
+    tell(told, head.as_bytes())?;
+    tell(told, body.as_bytes())?;
+    Ok(if standing.is_ready { 200 } else { 503 })
+}

@@ -1,7 +1,0 @@
-use Rattle.std.proofs.Common.{◌≡◌, drop}
-use Rattle.std.specs.Prelude.{None}
-use Rattle.press_sockets.specs.Files.{number_from}
-use Rattle.press_sockets.proofs.files.number_in.Given as goal
-
-abbrev pub invariant-loop-byte : goal.invariant-loop-byte
-invariant-loop-byte l = number_from l.found (drop l.byte-index l.text) ≡ number_from None l.text

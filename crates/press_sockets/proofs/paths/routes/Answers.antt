@@ -1,9 +1,0 @@
-use Rattle.press_sockets.specs.Paths.{table}
-use Rattle.press_sockets.proofs.paths.routes.Goals as goal
-
-pub returns : goal.returns
-unfolding table
-returns c =
-    let first = c.in_ok-add.ensures in
-    let second = c.in_ok-add-2.ensures in
-    rw (second, first, c.new-router.ensures) at c.in_ok-add-3.ensures
