@@ -4,8 +4,8 @@ use crate::lines::{block_line, fault_line};
 use crate::numbered::{promise_of, vote_of};
 use crate::words::number_behind;
 use press_acceptor::{PromiseStore, StoreFault};
-use press_store::SqlStore;
-use press_wire::{Round, Slot};
+use press_store::{Owner, SqlStore, Tie};
+use press_wire::{Node, Round, Slot};
 use sqlite::Alter;
 use std::alloc::{AllocError, Global};
 use std::io::Write;
@@ -22,6 +22,22 @@ enum Ask {
     Promise(u32, u64),
     // A vote of that round is saved for the slot.
     Save(u32, u64),
+    // A member asks for the file, or a node by itself.
+    Tie(Option<Owner>),
+}
+
+// The member of that number, count and digest; `none` is a node by itself.
+fn asking_in(word: &str) -> Option<Option<Owner>> {
+    if word == "none" {
+        return Some(None);
+    }
+    let (number, rest) = word.split_once(':')?;
+    let (members, peers) = rest.split_once(':')?;
+    Some(Some(Owner {
+        number: Node::new(number.parse().ok()?)?,
+        members: members.parse().ok()?,
+        peers: peers.parse().ok()?,
+    }))
 }
 
 // The numbers of a slot and a round.
@@ -43,6 +59,9 @@ impl Ask {
         }
         if let Some(number) = number_behind("load=", word) {
             return Some(Ask::Load(number));
+        }
+        if let Some(rest) = word.strip_prefix("own=") {
+            return Some(Ask::Tie(asking_in(rest)?));
         }
         if let Some(rest) = word.strip_prefix("promise=") {
             let (slot, round) = numbers_in(rest)?;
@@ -96,6 +115,14 @@ fn vote_line(alloc: Global, last: Option<Slot>) -> Result<String, AllocError> {
     }
 }
 
+fn tie_line(alloc: Global, tie: Tie) -> Result<String, AllocError> {
+    match tie {
+        Tie::Own => format!(in alloc; "the file is its own\n"),
+        Tie::Taken => format!(in alloc; "the file is taken\n"),
+        Tie::Foreign => format!(in alloc; "the file is another's\n"),
+    }
+}
+
 // The line of the answer.
 fn asked<D: Alter>(alloc: Global, store: &mut SqlStore<D>, ask: Ask) -> Result<String, AllocError> {
     match ask {
@@ -116,6 +143,10 @@ fn asked<D: Alter>(alloc: Global, store: &mut SqlStore<D>, ask: Ask) -> Result<S
             Ok(()) => format!(in alloc; "the block of slot {slot} is promised\n"),
             Err(fault) => fault_line(alloc, fault),
         },
+        Ask::Tie(asking) => match store.tie(asking) {
+            Ok(tie) => tie_line(alloc, tie),
+            Err(fault) => fault_line(alloc, fault),
+        },
         Ask::Save(slot, round) => match save(store, slot, round) {
             Ok(()) => format!(in alloc; "slot {slot} is saved\n"),
             Err(fault) => fault_line(alloc, fault),
@@ -123,7 +154,8 @@ fn asked<D: Alter>(alloc: Global, store: &mut SqlStore<D>, ask: Ask) -> Result<S
     }
 }
 
-/// Asks by each word in turn: `last`, `vote`, `round=N`, `load=SLOT`, `promise=SLOT:ROUND`, `save=SLOT:ROUND`.
+/// Asks by each word in turn: `last`, `vote`, `round=N`, `load=SLOT`, `promise=SLOT:ROUND`, `save=SLOT:ROUND`,
+/// `own=NUMBER:MEMBERS:PEERS`, `own=none`.
 pub fn ask_all<D: Alter>(
     rt: &HostRuntime,
     store: &mut SqlStore<D>,

@@ -16,6 +16,7 @@ mod Marked
 mod Moves
 mod Onward
 mod Outside
+mod OwnerRows
 mod PromiseRows
 mod Put
 mod Puts
@@ -28,6 +29,7 @@ mod Schemas
 mod SlotRows
 mod Standing
 mod Texts
+mod Ties
 mod Told
 mod Turned
 mod Versions

@@ -17,6 +17,7 @@ use Rattle.sqlite.proofs.Callers.{IsPlain, command_of, reads_as, never_commits, 
 use Rattle.press_store.specs.Tables.{Layout, schema_of}
 use Rattle.press_store.specs.Attempt.{Queries, AreTables, Ready, IsReady, Looked, Stays}
 use Rattle.press_store.specs.Adopting.{OnlyLooks}
+use Rattle.press_store.specs.Tying.{IsUntouched}
 use Rattle.press_store.proofs.Texts.{IsQuery}
 use Rattle.press_store.proofs.Saved.{not_run, same_kept, same_ready, after_same}
 
@@ -38,6 +39,13 @@ fewer a b h clean db may = elim (h.crash clean db may) [ inl was ↦ was | inr n
 
 showing : (sql : List ℕ) (params : Row) (a b : State) → IsPlain (understood a.now.schema sql) → Survives a b (CommitsShowing sql params a) → HasCleanDisk b → (db : Trees) → b.may_leave db → a.may_leave db
 showing sql params a b plainly h clean db may = elim (h.crash clean db may) [ inl was ↦ was | inr by ↦ absurd (never_commits sql params a db plainly by) ]
+
+pub same_committed : (a b : State) → Stays a b → IsTrue b.is_open → IsTrue a.is_open × (b.committed ≡ a.committed)
+same_committed a b (inl h) is = (h.0.was_open, h.0.committed_is)
+same_committed a b (inr h) is = (h.was_open is, (h.undone is).1)
+
+as_untouched : (a b : State) → Stays a b → ((db : Trees) → b.may_leave db → a.may_leave db) → IsUntouched a b
+as_untouched a b stays crash = record { same = same_committed a b stays; crash = crash }
 
 -- ---- over one schema, whatever its rows are
 
@@ -126,6 +134,21 @@ module _ {S : Type 0} (g : Ghosts S) (sql : List ℕ) (params : Row) (command : 
             (λ db may. fewer (state g old) (state g h.mid) h.quiet was db (showing sql params (state g h.mid) (state g new) plainly h.left clean db may)),
         (h.same.0.was_open, t.0, subst (AreTables t.0) h.same.0.now_is t.1, subst (λ (d : Database). Reads (command t.0) d params rows.items) h.same.0.now_is read),
       )
+
+  pub untouched : (old new : Held S) (result : Result (Vec Row Global) Error) → HasCleanDisk (state g new) → IsReady g old → Queries g old new sql params result → IsUntouched (state g old) (state g new)
+  untouched old new result clean ready (inr h) = as_untouched (state g old) (state g new) (not_run (state g old) (state g new) sql h.given h.error h.why) (fewer (state g old) (state g new) h.quiet clean)
+  untouched old new (Err e) clean ready (inl h) =
+      let was : HasCleanDisk (state g h.mid) = omega (arith, h.left.clean, clean) in
+      let t = (same_ready (state g old) (state g h.mid) (ready (omega (arith, h.quiet.clean, was))) h.quiet.limit (inl h.same)).tables h.same.0.is_open in
+      let plainly = tables_at t.0 (state g h.mid) t.1.schema in
+      as_untouched (state g old) (state g new) (after_same (state g old) (state g h.mid) (state g new) h.same (fails_stay sql params (state g h.mid) (state g new) e plainly h.err))
+      (λ db may. fewer (state g old) (state g h.mid) h.quiet was db (showing sql params (state g h.mid) (state g new) plainly h.left clean db may))
+  untouched old new (Ok rows) clean ready (inl h) =
+      let was : HasCleanDisk (state g h.mid) = omega (arith, h.left.clean, clean) in
+      let t = (same_ready (state g old) (state g h.mid) (ready (omega (arith, h.quiet.clean, was))) h.quiet.limit (inl h.same)).tables h.same.0.is_open in
+      let plainly = tables_at t.0 (state g h.mid) t.1.schema in
+      as_untouched (state g old) (state g new) (inl (unchanged_then (state g old) (state g h.mid) (state g new) h.same (shown_same sql params (state g h.mid) (state g new) rows.items plainly h.ok)))
+      (λ db may. fewer (state g old) (state g h.mid) h.quiet was db (showing sql params (state g h.mid) (state g new) plainly h.left clean db may))
 
   -- where it was answered, the connection is open
   pub opens : (old new : Held S) (result : Result (Vec Row Global) Error) → HasCleanDisk (state g new) → IsReady g old → Queries g old new sql params result → OnOk result (IsTrue (state g new).is_open)

@@ -64,11 +64,11 @@ in_range n small = rw (leb-zero n, le-leb n most_rounds small)
 
 -- ---- the save
 
-meta_work : (l : Layout) (tree : ℕ) (keys : Keys) (olds news : List Row) → works (schema_of l) keys 0 tree olds news ≡ []
+pub meta_work : (l : Layout) (tree : ℕ) (keys : Keys) (olds news : List Row) → works (schema_of l) keys 0 tree olds news ≡ []
 meta_work Fresh tree keys olds news = refl
 meta_work Moved tree keys olds news = refl
 
-meta_found : (l : Layout) → slice_get (schema_of l).tables (meta_place l) ≡ Some (meta_on (meta_tree l))
+pub meta_found : (l : Layout) → slice_get (schema_of l).tables (meta_place l) ≡ Some (meta_on (meta_tree l))
 meta_found Fresh = refl
 meta_found Moved = refl
 

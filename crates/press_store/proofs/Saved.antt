@@ -44,7 +44,7 @@ run_back : (a b : State) (sql : List ℕ) (c : Compiled) (params : Row) (e : Err
 run_back a b sql c params e (inl x) = inl x.1
 run_back a b sql c params e (inr x) = inr x.3
 
-refused : (a b : State) (sql : List ℕ) (params : Row) (e : Error) → Executes sql params a b (Err e) → Stays a b
+pub refused : (a b : State) (sql : List ℕ) (params : Row) (e : Error) → Executes sql params a b (Err e) → Stays a b
 unfolding ExecutesIn
 refused a b sql params e (inl h) = not_run a b sql params e h
 refused a b sql params e (inr h) = elim (cases_Bool (shows_rows false h.0)) [

@@ -2,7 +2,7 @@
 use Rattle.std.proofs.Common.{◌≡◌, ℕ, pos, negsuc, List, [], ◌∷◌, codes, true, false, None, Ok, refl}
 use Rattle.sqlite.specs.Compile.{table_defined_by}
 use Rattle.sqlite.specs.Command.{Command}
-use Rattle.sqlite.specs.Command.TheVariants.{Select, Update, Delete, InsertOr}
+use Rattle.sqlite.specs.Command.TheVariants.{Select, Insert, Update, Delete, InsertOr}
 use Rattle.sqlite.specs.Source.TheVariants.{Values}
 use Rattle.sqlite_schema.specs.declared.command.Conflict.TheVariants.{Replace}
 use Rattle.sqlite_sql.specs.declared.ops.BinaryOp.TheVariants as by
@@ -17,7 +17,7 @@ use Rattle.sqlite.proofs.Callers.{IsPlain, command_of}
 use Rattle.sqlite.specs.Change.{created}
 use Rattle.press_store.specs.Tables.{Layout, Fresh, Moved, schema_of, no_schema, block_tree, vote_tree, meta_tree, block_place, vote_place, meta_place, block_on, vote_on, meta_on}
 use Rattle.press_store.specs.Tables.{make_block, make_vote, make_meta, promise_text, save_promise_text, votes_text, save_vote_text, last_vote_text, round_text, save_round_text, check_text, version_query_text, left_text}
-use Rattle.press_store.specs.Tables.{slot_text, last_slot_text, outside_text, clear_text, number_text, set_version_text}
+use Rattle.press_store.specs.Tables.{slot_text, last_slot_text, outside_text, clear_text, number_text, set_version_text, entry_text, owner_text}
 
 pub tables_defined : (table_defined_by make_block ≡ Ok (block_on 0)) × (table_defined_by make_vote ≡ Ok (vote_on 0)) × (table_defined_by make_meta ≡ Ok (meta_on 0))
 unfolding understood everything
@@ -81,6 +81,9 @@ check_query l = named_query (codes "last_round") (col 1 0 ∷ col 1 2 ∷ []) (m
 abbrev pub version_query : Layout → Query
 version_query l = named_query (codes "version") (col 1 2 ∷ []) (meta_tree l)
 
+abbrev pub entry_query : Layout → Query
+entry_query l = picks (meta_tree l) (is_equal_to (col 1 1) (col 0 0) ∷ []) (col 1 2 ∷ [])
+
 abbrev pub left_query : Query
 left_query = record (picks 0 [] (col 1 0 ∷ [])) { limit = lit (Int (pos 1)) }
 
@@ -118,6 +121,15 @@ promise_insert l = InsertOr (block_place l) Replace (Values promise_terms 4) []
 
 abbrev pub vote_insert : Layout → Command
 vote_insert l = InsertOr (vote_place l) Replace (Values vote_terms 5) []
+
+abbrev pub entry_select : Layout → Command
+entry_select l = select (entry_query l) (codes "n" ∷ [])
+
+abbrev pub owner_terms : List Term
+owner_terms = lit Null ∷ lit (Text (codes "member")) ∷ col 0 0 ∷ lit Null ∷ lit (Text (codes "members")) ∷ col 0 1 ∷ lit Null ∷ lit (Text (codes "peers")) ∷ col 0 2 ∷ []
+
+abbrev pub owner_insert : Layout → Command
+owner_insert l = Insert (meta_place l) (Values owner_terms 3)
 
 abbrev pub round_update : Layout → Command
 round_update l = Update (meta_place l) (record { lets = []; body = update_query (meta_tree l) })
@@ -159,6 +171,16 @@ pub version_query_means : IsQuery version_query_text version_select
 unfolding understood everything
 version_query_means Fresh = (refl, (refl, refl), refl)
 version_query_means Moved = (refl, (refl, refl), refl)
+
+pub entry_means : IsQuery entry_text entry_select
+unfolding understood everything
+entry_means Fresh = (refl, (refl, refl), refl)
+entry_means Moved = (refl, (refl, refl), refl)
+
+pub owner_means : IsWrite owner_text owner_insert
+unfolding understood everything
+owner_means Fresh = (refl, (refl, refl))
+owner_means Moved = (refl, (refl, refl))
 
 pub save_promise_means : IsWrite save_promise_text promise_insert
 unfolding understood everything

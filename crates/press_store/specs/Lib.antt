@@ -8,10 +8,12 @@ pub mod Migrated
 pub mod Moving
 pub mod Named
 pub mod Opened
+pub mod Owned
 pub mod Saving
 pub mod Shown
 pub mod Slots
 pub mod Stands
 pub mod Steps
 pub mod Tables
+pub mod Tying
 pub mod Voted

@@ -69,6 +69,12 @@ number_text = codes "SELECT rowid, n FROM meta WHERE name = ?1"
 abbrev pub set_version_text : List ℕ
 set_version_text = codes "UPDATE meta SET n = 2 WHERE name = 'version'"
 
+abbrev pub entry_text : List ℕ
+entry_text = codes "SELECT n FROM meta WHERE name = ?1"
+
+abbrev pub owner_text : List ℕ
+owner_text = codes "INSERT INTO meta (name, n) VALUES ('member', ?1), ('members', ?2), ('peers', ?3)"
+
 -- ---- tables
 
 abbrev pub column_of : List ℕ → Kind → Bool → Column

@@ -13,11 +13,14 @@ mod meta;
 mod migrate;
 mod moving;
 mod ours;
+mod owner;
 mod rows;
 mod save;
 mod slots;
 mod sql_store;
 mod statement;
+mod tying;
 mod vote;
 
+pub use owner::{Owner, Tie};
 pub use sql_store::SqlStore;

@@ -15,7 +15,7 @@ use crate::slots::damaged;
 use sqlite::types::ValueRef;
 use sqlite::{Alter, Error, Row as Shown, Transaction};
 
-fn name_value(name: &[u8]) -> ValueRef<'_>
+pub fn name_value(name: &[u8]) -> ValueRef<'_>
     ensures { owned result ≡ Text name.now }
 {
     ValueRef::Text(name)

@@ -1,8 +1,9 @@
 //! The values of rows.
 
-ghost use Rattle.std.specs.Prelude.{◌≡◌, ◌≤◌, ◌^◌, pos};
+ghost use Rattle.std.specs.Prelude.{◌≡◌, ◌<◌, ◌≤◌, ◌^◌, pos};
 ghost use Rattle.sqlite.specs.Value.{owned};
 ghost use Rattle.sqlite.specs.declared.types.Value.TheVariants.{Int, Blob};
+ghost use Rattle.press_store.specs.Owned as spec;
 ghost use Rattle.press_store.specs.Shown.{ballot_in, most_rounds, number_in};
 
 use press_wire::{Ballot, Node, Round, Slot};
@@ -36,6 +37,41 @@ pub fn node_value<'a>(node: Node) -> ValueRef<'a>
     ValueRef::Int(i64::from(node.number()))
 }
 
+pub fn small_value<'a>(n: u8) -> ValueRef<'a>
+    ensures value { owned result ≡ Int (pos n) }
+    ensures range { n ≤ 255 }
+{
+    ValueRef::Int(i64::from(n))
+}
+
+fn signed(n: u64) -> i64
+    ensures { result ≡ spec.signed n }
+{
+    if n < 1 << 63 {
+        n as i64
+    } else {
+        -1 - (u64::MAX - n) as i64
+    }
+}
+
+/// The number of the same 64 bits.
+pub fn unsigned(n: i64) -> u64
+    ensures { result ≡ spec.unsigned n }
+{
+    if n < 0 {
+        u64::MAX - (-1 - n) as u64
+    } else {
+        n as u64
+    }
+}
+
+pub fn digest_value<'a>(digest: u64) -> ValueRef<'a>
+    ensures value { owned result ≡ Int (spec.signed digest) }
+    ensures range { digest < 2 ^ 64 }
+{
+    ValueRef::Int(signed(digest))
+}
+
 pub fn bytes_value(bytes: &[u8]) -> ValueRef<'_>
     ensures { owned result ≡ Blob bytes.now }
 {
@@ -64,6 +100,22 @@ fn round(value: ValueRef<'_>) -> Option<Round>
         return None;
     };
     if n < 0 { None } else { Round::new(n as u64) }
+}
+
+pub fn member_number(n: i64) -> Option<Node>
+    ensures { result ≡ number_in 1 7 (Int n) }
+{
+    node(ValueRef::Int(n))
+}
+
+pub fn member_count(n: i64) -> Option<u8>
+    ensures { result ≡ number_in 0 255 (Int n) }
+{
+    if n < 0 || n > 255 {
+        None
+    } else {
+        Some(n as u8)
+    }
 }
 
 fn node(value: ValueRef<'_>) -> Option<Node>

@@ -1,6 +1,6 @@
 //! The store over a connection.
 
-ghost use Rattle.std.specs.Prelude.{◌≡◌, ◌<◌, ◌≤◌, true, Err, IsTrue, IfOk, IfErr};
+ghost use Rattle.std.specs.Prelude.{◌≡◌, ◌<◌, ◌≤◌, true, Some, Err, IsTrue, IfOk, IfErr, OnOk, OnErr};
 ghost use Rattle.sqlite.specs.State.{HasCleanDisk};
 ghost use Rattle.sqlite.specs.Held.{state};
 ghost use Rattle.sqlite.specs.Files.{file_state};
@@ -11,6 +11,9 @@ ghost use Rattle.press_store.specs.Faults.{told};
 ghost use Rattle.press_store.specs.Opened.{Begins, Finds, HoldsServed, IsUp, WereSound};
 ghost use Rattle.press_store.specs.Attempt.{IsReady};
 ghost use Rattle.press_store.specs.Kept.{seen_of};
+ghost use Rattle.press_store.specs.Owned.{tie_of};
+ghost use Rattle.press_store.specs.Tying.{said_by, GivesFile, IsFree, IsOwned, IsUntouched};
+ghost use Rattle.press_store.specs.Tying.{LeavesTied, Same, VersionStays};
 ghost use Rattle.press_store.specs.Voted.{IsLastVote};
 ghost use Rattle.press_acceptor.specs.Seen.{Counts, Looks, fault_in};
 
@@ -20,7 +23,9 @@ use crate::fault::fault_of;
 use crate::last::read_last;
 use crate::load::read_block;
 use crate::meta::{put_round, read_round};
+use crate::owner::{Owner, Tie};
 use crate::save::put_vote;
+use crate::tying::tie_file;
 use press_acceptor::{Block, PromiseStore, StoreFault};
 use press_wire::{Ballot, Round, Slot, Vote, WireFault, encode_cmd};
 use sqlite::{Alter, Connection, Error, File, FileFrom, FileStore, Start, Unknown};
@@ -108,6 +113,38 @@ impl<D: Alter> SqlStore<D> {
     {
         match read_last(&mut self.conn) {
             Ok(Some(last)) => Ok(last),
+            Ok(None) => Err(StoreFault::Damaged),
+            Err(error) => Err(counted(&mut self.faults, error)),
+        }
+    }
+
+    /// What the file is to the member that asks for it, or to a node by itself, which is None. Nobody's file is the member's from then
+    /// on. The first start of a member asks before anything is saved for it.
+    pub fn tie(&mut self, asked: Option<Owner>) -> Result<Tie, StoreFault>
+        ensures honest { (seen_of D.Store self.new).is_honest →
+            (seen_of D.Store self.old).is_honest }
+        ensures counts { Counts (seen_of D.Store self.old) (seen_of D.Store self.new)
+            (fault_in result) }
+        ensures opened { (seen_of D.Store self.new).is_honest →
+            OnOk result (IsTrue (seen_of D.Store self.new).is_open) }
+        ensures looks { (seen_of D.Store self.new).is_honest →
+            Looks (seen_of D.Store self.old) (seen_of D.Store self.new) }
+        ensures answer { (seen_of D.Store self.new).is_honest →
+            IfOk result (λ tie. tie_of (said_by (state D.Store self.old.conn)) asked ≡ Some tie) }
+        ensures untouched { (seen_of D.Store self.new).is_honest →
+            ¬ IsFree (state D.Store self.old.conn) asked →
+            IsUntouched (state D.Store self.old.conn) (state D.Store self.new.conn) }
+        ensures owned { (seen_of D.Store self.new).is_honest →
+            IfOk result (λ tie. GivesFile tie → IsOwned asked (state D.Store self.new.conn)) }
+        ensures failed { (seen_of D.Store self.new).is_honest →
+            OnErr result (Same (state D.Store self.old.conn) (state D.Store self.new.conn)) }
+        ensures stopped { (seen_of D.Store self.new).is_honest →
+            LeavesTied asked (state D.Store self.old.conn) (state D.Store self.new.conn) }
+        ensures version { (seen_of D.Store self.new).is_honest →
+            VersionStays (state D.Store self.old.conn) (state D.Store self.new.conn) }
+    {
+        match tie_file(&mut self.conn, asked) {
+            Ok(Some(tie)) => Ok(tie),
             Ok(None) => Err(StoreFault::Damaged),
             Err(error) => Err(counted(&mut self.faults, error)),
         }
