@@ -1,5 +1,5 @@
 -- Deeds of a member are moves of the members.
-use Rattle.std.proofs.Common.{ℕ, zero, suc, ◌+◌, ◌≡◌, ◌⊎◌, ◌==◌, inl, inr, not, Bool, true, false, cond, IsTrue, List, [], ◌∷◌, ◌++◌, slice_get, drop, Option, None, Some, Result, Ok, Err, refl, sym, subst, ap, ◌∙◌, append-nil, append_assoc, arith}
+use Rattle.std.proofs.Common.{ℕ, zero, suc, ◌+◌, ◌≡◌, ◌≢◌, ◌⊎◌, ◌==◌, inl, inr, not, Bool, true, false, cond, IsTrue, List, [], ◌∷◌, ◌++◌, slice_get, drop, Option, None, Some, Result, Ok, Err, is_ok, refl, sym, subst, ap, ◌∙◌, append-nil, append_assoc, arith}
 use Rattle.std.specs.List.{filter}
 use Rattle.std.proofs.lemmas.List.Elements.{filter-append}
 use Rattle.std.specs.declared.alloc.AllocError.{AllocError}
@@ -18,7 +18,7 @@ use Rattle.press_node.specs.States.{NodeState, running_in}
 use Rattle.press_node.specs.declared.event.Event.{Event}
 use Rattle.press_node.specs.declared.event.Event.TheVariants as event
 use Rattle.press_node.specs.declared.fault.NodeFault.{NodeFault}
-use Rattle.press_member.specs.Acts.{Acts, Has, View}
+use Rattle.press_member.specs.Acts.{Acts, Has, Submits, View}
 use Rattle.press_member.specs.Among.{AreBy, AreSent, IsAmong, IsIn}
 use Rattle.press_member.specs.Coming.{AreItsMoves, ComesTo, heard_in}
 use Rattle.press_member.specs.Deeds.{Cause, Deed, Does, IsCause, IsFront, for_others, for_self, kept_by_all, own_after, own_after_all}
@@ -27,11 +27,12 @@ use Rattle.press_member.specs.Deeds.Deed.{Plays as Playing, Asks as Asking}
 use Rattle.press_member.specs.Members.{AreMoves, Comes, IsSent, Members, Move, WhileUp, after, after_all, out_of, question}
 use Rattle.press_member.specs.Members.Holding.{Over}
 use Rattle.press_member.specs.Members.Move.{Acts as Moving, Asks}
-use Rattle.press_member.specs.Turns.{AreOwn, Brings}
+use Rattle.press_member.specs.Turns.{AreFor, AreQuestions, Brings, HearsFirst, MayWake}
 use Rattle.press_member.specs.declared.input.Input.{Input}
 use Rattle.press_member.specs.declared.input.Input.TheVariants as input
 use Rattle.press_member.specs.declared.output.Outputs.{Outputs}
-use Rattle.press_member.proofs.Lists.{get_front, set_here}
+use Rattle.press_member.proofs.Lists.{set_here}
+use Rattle.press_member.proofs.Mailing.{sent_first, still_sent}
 use Rattle.press_member.proofs.Opening.{stays_open}
 
 -- ---- messages in lists
@@ -69,17 +70,9 @@ in_filter test (x ∷ xs) m h = go (test x) (in_filter test xs m) h
 
 -- ---- what was sent
 
-sent_first : (ms : List Message) (m : Message) → IsIn ms m → IsSent ms m
-sent_first [] m h = absurd h
-sent_first (x ∷ xs) m (inl e) = (zero, ap Some e)
-sent_first (x ∷ xs) m (inr h) = let k = sent_first xs m h in (suc k.0, k.1)
-
 sent_behind : (xs ys : List Message) (m : Message) → IsSent ys m → IsSent (xs ++ ys) m
 sent_behind [] ys m h = h
 sent_behind (x ∷ xs) ys m h = let k = sent_behind xs ys m h in (suc k.0, k.1)
-
-still_sent : (sent out ms : List Message) → AreSent sent ms → AreSent (sent ++ out) ms
-still_sent sent out ms a = λ m h. let k = a m h in (k.0, get_front sent out k.0 m k.1)
 
 -- what was there was sent, and what is kept of what is sent now
 with_kept : (test : Message → Bool) (sent out kept ms : List Message) → IsFront kept out → AreSent sent ms → AreSent (sent ++ out) (ms ++ filter test kept)
@@ -133,16 +126,32 @@ AreBrought heard [] = Unit {0}
 AreBrought heard (Playing cause e o kept next ∷ ds) = IsBroughtBy heard cause e × AreBrought heard ds
 AreBrought heard (Asking to slot kept ∷ ds) = AreBrought heard ds
 
-own_brought : {N : Type 0} (heard : List Message) (ds : List (Deed N)) → AreOwn ds → AreBrought heard ds
-own_brought heard [] h = tt
-own_brought heard (Playing Brought e o kept next ∷ ds) h = absurd h.0
-own_brought heard (Playing Heard e o kept next ∷ ds) h = (tt, own_brought heard ds h.1)
-own_brought heard (Playing Due e o kept next ∷ ds) h = (tt, own_brought heard ds h.1)
-own_brought heard (Asking to slot kept ∷ ds) h = own_brought heard ds h.1
+own_brought : {N : Type 0} (heard : List Message) (cause : Option Cause) (ds : List (Deed N)) → (cause ≢ Some Brought) → AreFor cause ds → AreBrought heard ds
+own_brought heard cause [] other h = tt
+own_brought heard cause (Playing Brought e o kept next ∷ ds) other h = absurd (other (sym h.0))
+own_brought heard cause (Playing Heard e o kept next ∷ ds) other h = (tt, own_brought heard cause ds other h.1)
+own_brought heard cause (Playing Due e o kept next ∷ ds) other h = (tt, own_brought heard cause ds other h.1)
+own_brought heard cause (Asking to slot kept ∷ ds) other h = own_brought heard cause ds other h.1
+
+wake_brought : {N : Type 0} (heard : List Message) (ds : List (Deed N)) → MayWake ds → AreBrought heard ds
+wake_brought heard ds h = own_brought heard (Some Due) ds (λ e. let f = e in cc) h.are
+
+brought_then : {N : Type 0} (heard : List Message) (ds es : List (Deed N)) → AreBrought heard ds → AreBrought heard es → AreBrought heard (ds ++ es)
+brought_then heard [] es h k = k
+brought_then heard (Playing cause e o kept next ∷ ds) es h k = (h.0, brought_then heard ds es h.1 k)
+brought_then heard (Asking to slot kept ∷ ds) es h k = brought_then heard ds es h k
+
+own_first : {N : Type 0} (heard : List Message) (id : ℕ) (Whole : Type 0) (own : List Message) (ds : List (Deed N)) → HearsFirst id Whole own ds → AreBrought heard ds
+own_first heard id Whole own ds h =
+    subst (AreBrought heard) (sym h.are) (brought_then heard h.heard h.more (own_brought heard (Some Heard) h.heard (λ e. let f = e in cc) h.hears.are) (wake_brought heard h.more h.wakes))
+
+due_brought : {N : Type 0} (heard : List Message) (ds : List (Deed N)) → (MayWake ds ⊎ AreQuestions ds) → AreBrought heard ds
+due_brought heard ds (inl h) = wake_brought heard ds h
+due_brought heard ds (inr h) = own_brought heard None ds (λ e. let f = e in cc) h
 
 first_brought : {N : Type 0} (heard : List Message) (e : Event) (refused : Option NodeFault) (ds : List (Deed N)) → IsBrought heard e → Brings e refused ds → AreBrought heard ds
 first_brought heard e refused [] is h = absurd h
-first_brought heard e refused (Playing Brought f o kept next ∷ ds) is h = (subst (IsBrought heard) (sym h.0) is, own_brought heard ds h.2)
+first_brought heard e refused (Playing Brought f o kept next ∷ ds) is h = (subst (IsBrought heard) (sym h.0) is, wake_brought heard ds h.2)
 first_brought heard e refused (Playing Heard f o kept next ∷ ds) is h = absurd h
 first_brought heard e refused (Playing Due f o kept next ∷ ds) is h = absurd h
 first_brought heard e refused (Asking to slot kept ∷ ds) is h = absurd h
@@ -150,15 +159,18 @@ first_brought heard e refused (Asking to slot kept ∷ ds) is h = absurd h
 none_brought : {N : Type 0} (heard : List Message) (ds : List (Deed N)) → ds ≡ [] → AreBrought heard ds
 none_brought heard ds e = subst (AreBrought heard) (sym e) tt
 
-has_brought : {N : Type 0} (is_open : Bool) (i : Input) (refused : Option NodeFault) (ds : List (Deed N)) → Has is_open i refused ds → AreBrought (heard_in i) ds
-has_brought true (input.Form command) refused ds h = first_brought [] (event.Submit command) refused ds tt h
-has_brought false (input.Form command) refused ds h = none_brought [] ds h
-has_brought is_open (input.Page target) refused ds h = none_brought [] ds h
-has_brought is_open (input.Message message) refused ds h = first_brought (message ∷ []) (event.Deliver message) refused ds (inl refl) h
-has_brought is_open (input.Report from report) refused ds h = none_brought [] ds h
-has_brought is_open (input.Ended to asked is_taken) refused ds h = none_brought [] ds h
-has_brought is_open input.Sent refused ds h = own_brought [] ds h
-has_brought is_open (input.Time now) refused ds h = own_brought [] ds h
+form_brought : {N : Type 0} (is_open : Bool) (e : Event) (refused : Option NodeFault) (ds : List (Deed N)) → IsBrought [] e → Submits is_open e refused ds → AreBrought [] ds
+form_brought true e refused ds is h = first_brought [] e refused ds is h
+form_brought false e refused ds is h = none_brought [] ds h
+
+has_brought : {N : Type 0} (old : View N) (Whole : Type 0) (i : Input) (refused : Option NodeFault) (ds : List (Deed N)) → Has old Whole i refused ds → AreBrought (heard_in i) ds
+has_brought old Whole (input.Form command) refused ds h = form_brought old.is_open (event.Submit command) refused ds tt h
+has_brought old Whole (input.Page target) refused ds h = none_brought [] ds h
+has_brought old Whole (input.Message message) refused ds h = first_brought (message ∷ []) (event.Deliver message) refused ds (inl refl) h
+has_brought old Whole (input.Report from report) refused ds h = none_brought [] ds h
+has_brought old Whole (input.Ended to asked is_taken) refused ds h = none_brought [] ds h
+has_brought old Whole input.Sent refused ds h = own_first [] old.id Whole old.own ds h
+has_brought old Whole (input.Time now) refused ds h = due_brought [] ds h
 
 comes : (sent own heard : List Message) (cause : Cause) (e : Event) → AreSent sent own → AreSent sent heard → IsCause own cause e → IsBroughtBy heard cause e → Comes sent e
 comes sent own heard Brought (event.Submit command) a b c i = tt
@@ -275,5 +287,5 @@ module _ {S N : Type 0} (seen : S → Seen) (node_moves : N → N → NodeMove) 
       let member : IsMember old.members (index + 1) = (omega arith, omega (arith, few)) in (
         acts.out,
         acts.sent,
-        comes_to seen node_moves store state is old.members index member (heard_in i) t.deeds w old.node new.node old.own new.own acts.out among does (has_brought old.is_open i acts.refused t.deeds t.kind) own_is out_is honest,
+        comes_to seen node_moves store state is old.members index member (heard_in i) t.deeds w old.node new.node old.own new.own acts.out among does (has_brought old (IsTrue (is_ok result)) i acts.refused t.deeds t.kind) own_is out_is honest,
       )

@@ -3,10 +3,14 @@ mod Coming
 mod Directed
 mod Inputs
 mod Lists
+mod Living
+mod Mailing
 mod Moving
 mod Opening
 mod Others
 mod Sorting
 mod Standing
+mod Starting
+mod Stopping
 mod Turning
 mod Wholes

@@ -13,7 +13,7 @@ use Rattle.press_node.specs.Refusals.{refusal_up}
 use Rattle.press_node.specs.States.{NodeState, running_in}
 use Rattle.press_member.specs.Members.{WhileUp}
 
-while_any : (r : Option Running) (P : Type 0) → P → WhileUp r P
+pub while_any : (r : Option Running) (P : Type 0) → P → WhileUp r P
 while_any None P p = tt
 while_any (Some node) P p = p
 

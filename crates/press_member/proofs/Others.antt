@@ -3,13 +3,11 @@ use Rattle.std.proofs.Common.{ℕ, ◌≡◌, ◌≢◌, List, [], ◌∷◌, �
 use Rattle.press_wire.specs.declared.message.Message.{Message}
 use Rattle.press_acceptor.specs.Seen.{Seen}
 use Rattle.press_node.specs.States.{NodeState}
-use Rattle.press_member.specs.Among.{AreBy, AreSent, IsAmong, IsBy, Letters}
+use Rattle.press_member.specs.Among.{AreBy, IsAmong, IsBy, Letters}
 use Rattle.press_member.specs.Members.{AreMoves, Member, Members, Move, after, after_all, out_of, question}
 use Rattle.press_member.specs.Members.Move.{Acts, Breaks, Starts, Asks}
-use Rattle.press_member.proofs.Lists.{get_front, set_other}
-
-still_sent : (sent out ms : List Message) → AreSent sent ms → AreSent (sent ++ out) ms
-still_sent sent out ms a = λ m h. let k = a m h in (k.0, get_front sent out k.0 m k.1)
+use Rattle.press_member.proofs.Lists.{set_other}
+use Rattle.press_member.proofs.Mailing.{still_sent}
 
 module _ {S : Type 0} (seen : S → Seen) (index other : ℕ) (apart : index ≢ other) (store : S) (state : NodeState) (mail : Letters) (heard : List Message) where
   moved_on : (w : Members S) (j : ℕ) (x : Member S) (out : List Message) → j ≡ other → IsAmong seen w index store state mail heard → IsAmong seen (record { all = slice_set w.all j x; sent = w.sent ++ out }) index store state mail heard
@@ -21,7 +19,7 @@ module _ {S : Type 0} (seen : S → Seen) (index other : ℕ) (apart : index ≢
     heard_of = still_sent w.sent out heard a.heard_of;
   }
 
-  stays : (w : Members S) (m : Move S) → IsBy other m → IsAmong seen w index store state mail heard → IsAmong seen (after w m) index store state mail heard
+  pub stays : (w : Members S) (m : Move S) → IsBy other m → IsAmong seen w index store state mail heard → IsAmong seen (after w m) index store state mail heard
   stays w (Acts j e o t s) by a = moved_on w j _ (out_of o) by a
   stays w (Breaks j e left out s) by a = moved_on w j _ out by a
   stays w (Starts j t s) by a = record { at = set_other w.all j _ index (λ e. apart (e ∙ by)) ∙ a.at; is_open = a.is_open; own = a.own; out = a.out; heard_of = a.heard_of }

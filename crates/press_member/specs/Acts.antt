@@ -1,36 +1,44 @@
 -- *Acts*: what an input does to a member, and what it brings (own).
-use Rattle.std.specs.Prelude.{ℕ, ◌≡◌, ◌⊎◌, Bool, true, false, nat_lt, Option, None, Some, List, [], length, Result, IfOk, IsTrue, is_ok}
+use Rattle.std.specs.Prelude.{ℕ, ◌≡◌, ◌≢◌, ◌⊎◌, Bool, true, false, nat_lt, Option, None, Some, List, [], length, Result, IfOk, IfErr, IsTrue, is_ok, is_some}
 use Rattle.std.specs.declared.alloc.AllocError.{AllocError}
 use Rattle.press_callbacks.specs.Kits.{KitView}
 use Rattle.press_page.specs.declared.reply.Reply.{Reply}
 use Rattle.press_page.specs.declared.reply.Target.{Target}
 use Rattle.press_wire.specs.declared.message.Message.{Message}
+use Rattle.press_acceptor.specs.declared.fault.StoreFault.{StoreFault}
 use Rattle.press_node.specs.Nodes.{IsPageAt, NodeMove}
 use Rattle.press_node.specs.declared.kept.Node.{Node}
-use Rattle.press_node.specs.States.{Up, is_down_where}
+use Rattle.press_node.specs.States.{NodeState, Up, is_down, is_down_where}
 use Rattle.press_node.specs.declared.event.Event.{Event}
 use Rattle.press_node.specs.declared.event.Event.TheVariants as event
 use Rattle.press_node.specs.declared.fault.NodeFault.{NodeFault}
 use Rattle.press_node.specs.declared.fault.NodeFault.TheVariants.{Down, NoMemory}
 use Rattle.press_member.specs.Deeds.{Deed}
-use Rattle.press_member.specs.Turns.{AreOwn, Brings, Turned}
+use Rattle.press_member.specs.Turns.{AreQuestions, Brings, HearsFirst, MayWake, Moment, Turned}
 use Rattle.press_batch.specs.declared.report.Digests.{Digests}
 use Rattle.press_member.specs.declared.input.Input.{Input}
 use Rattle.press_member.specs.declared.input.Input.TheVariants.{Form, Page, Message as Letter, Report, Ended, Sent, Time}
 use Rattle.press_member.specs.declared.output.Answer.{Answer}
 use Rattle.press_member.specs.declared.output.Answer.TheVariants as answer
 use Rattle.press_member.specs.declared.output.Outputs.{Outputs}
+use Rattle.press_member.specs.declared.member.Beginning.{Beginning}
 use Rattle.press_member.specs.declared.member.Member.{Member}
 
--- a member: its node, what it has sent to itself and not heard yet, and what it knows of the cluster
+-- A member: its node, what it has sent to itself and not heard yet, and what it knows of the cluster.
 pub record View (N : Type 0) : Type 0 where
   pub id : ℕ
   pub members : ℕ
   pub digests : Digests
   pub node : N
   pub own : List Message
+  -- what stopped its node last
+  pub stop : Option StoreFault
   -- it takes commands and shows pages
   pub is_open : Bool
+
+-- what a turn may change of it
+abbrev pub moment : {N : Type 0} → View N → Moment N
+moment view = record { node = view.node; own = view.own; stop = view.stop }
 
 -- a form has its command submitted where the member is open, and nothing done else
 abbrev pub Submits : {N : Type 0} → Bool → Event → Option NodeFault → List (Deed N) → Type 0
@@ -38,14 +46,24 @@ Submits true event refused deeds = Brings event refused deeds
 Submits false event refused deeds = deeds ≡ []
 
 -- which deeds an input has a member do, where an event that it brings is refused so
-abbrev pub Has : {N : Type 0} → Bool → Input → Option NodeFault → List (Deed N) → Type 0
-Has is_open (Form command) refused deeds = Submits is_open (event.Submit command) refused deeds
-Has is_open (Letter message) refused deeds = Brings (event.Deliver message) refused deeds
-Has is_open Sent refused deeds = AreOwn deeds
-Has is_open (Time now) refused deeds = AreOwn deeds
-Has is_open (Page target) refused deeds = deeds ≡ []
-Has is_open (Report from report) refused deeds = deeds ≡ []
-Has is_open (Ended to asked is_taken) refused deeds = deeds ≡ []
+abbrev pub Has : {N : Type 0} → View N → Type 0 → Input → Option NodeFault → List (Deed N) → Type 0
+Has old Whole (Form command) refused deeds = Submits old.is_open (event.Submit command) refused deeds
+Has old Whole (Letter message) refused deeds = Brings (event.Deliver message) refused deeds
+Has old Whole Sent refused deeds = HearsFirst old.id Whole old.own deeds
+Has old Whole (Time now) refused deeds = MayWake deeds ⊎ AreQuestions deeds
+Has old Whole (Page target) refused deeds = deeds ≡ []
+Has old Whole (Report from report) refused deeds = deeds ≡ []
+Has old Whole (Ended to asked is_taken) refused deeds = deeds ≡ []
+
+-- an input for which memory may be wanting
+abbrev pub TakesMemory : {N : Type 0} → View N → Input → Type 0
+TakesMemory old (Form command) = IsTrue old.is_open
+TakesMemory old (Letter message) = Unit {0}
+TakesMemory old Sent = Unit {0}
+TakesMemory old (Time now) = Unit {0}
+TakesMemory old (Page target) = ⊥
+TakesMemory old (Report from report) = ⊥
+TakesMemory old (Ended to asked is_taken) = ⊥
 
 abbrev pub taken : Option NodeFault → Answer
 taken None = answer.Taken
@@ -62,18 +80,23 @@ Shows true kit up target given =
     ⊎ ((given ≡ answer.Refused Down) × (is_down_where up ≡ true)) ⊎ (given ≡ answer.Refused NoMemory)
 Shows false kit up target given = given ≡ answer.NotYet
 
+-- a report is taken from who counts the same members and runs the same kit
+abbrev pub Hears : Digests → Digests → Answer → Type 0
+Hears own theirs given = ((given ≡ answer.Taken) × (theirs ≡ own)) ⊎ ((given ≡ answer.Foreign) × (theirs ≢ own))
+
 -- what is answered to an input
-abbrev pub Answers : Bool → KitView → Option Up → Input → Option NodeFault → Answer → Type 0
-Answers is_open kit up (Form command) refused given = given ≡ taken_if is_open refused
-Answers is_open kit up (Letter message) refused given = given ≡ taken refused
-Answers is_open kit up (Page target) refused given = Shows is_open kit up target given
-Answers is_open kit up (Report from report) refused given = (given ≡ answer.Taken) ⊎ (given ≡ answer.Foreign)
-Answers is_open kit up (Ended to asked is_taken) refused given = given ≡ answer.Nothing
-Answers is_open kit up Sent refused given = given ≡ answer.Nothing
-Answers is_open kit up (Time now) refused given = given ≡ answer.Nothing
+abbrev pub Answers : {N : Type 0} → View N → KitView → Option Up → Input → Option NodeFault → Answer → Type 0
+Answers old kit up (Form command) refused given = given ≡ taken_if old.is_open refused
+Answers old kit up (Letter message) refused given = given ≡ taken refused
+Answers old kit up (Page target) refused given = Shows old.is_open kit up target given
+Answers old kit up (Report from report) refused given = Hears old.digests report.digests given
+Answers old kit up (Ended to asked is_taken) refused given = given ≡ answer.Nothing
+Answers old kit up Sent refused given = given ≡ answer.Nothing
+Answers old kit up (Time now) refused given = given ≡ answer.Nothing
 
 -- A member before and after an input: its node moved by the deeds that the input has it do, each by *Plays*; it heard nothing but what the input brought and, in their order
--- and each once, the messages that it had sent to itself; and what it sent to others goes out, in its order. Where there is memory nothing of that is lost.
+-- and each once, the messages that it had sent to itself; what stopped its node is told; and what it sent to others goes out, in its order. Where there is memory nothing of
+-- that is lost.
 pub record Acts {N : Type 0} (moved : N → N → NodeMove) (input : Input) (old new : View N) (result : Result Outputs AllocError) : Type 0 where
   pub id : new.id ≡ old.id
   pub members : new.members ≡ old.members
@@ -81,9 +104,10 @@ pub record Acts {N : Type 0} (moved : N → N → NodeMove) (input : Input) (old
   pub kit : (moved new.node new.node).kit ≡ (moved old.node old.node).kit
   pub refused : Option NodeFault
   pub out : List Message
-  pub turned : Turned moved old.members old.id (Has old.is_open input refused) (IsTrue (is_ok result)) old.own old.node new.own new.node [] out
+  pub turned : Turned moved old.members old.id (Has old (IsTrue (is_ok result)) input refused) (IsTrue (is_ok result)) (moment old) (moment new) [] out
   pub sent : IfOk result (λ outputs. outputs.messages.items ≡ out)
-  pub answered : IfOk result (λ outputs. Answers old.is_open (moved old.node old.node).kit (moved old.node old.node).up input refused outputs.answer)
+  pub answered : IfOk result (λ outputs. Answers old (moved old.node old.node).kit (moved old.node old.node).up input refused outputs.answer)
+  pub memory : IfErr result (λ fault. TakesMemory old input)
 
 abbrev pub view_of : {S : _} {t : _} {F : _} {g : _} → Member S t F g → View (Node S t F g)
 view_of member = record {
@@ -92,11 +116,31 @@ view_of member = record {
   digests = member.peers.digests;
   node = member.player.node;
   own = member.player.own.items;
+  stop = member.player.stopped_by;
   is_open = member.player.pace.is_settled;
+}
+
+-- one that begins with this node
+abbrev pub begun : {N : Type 0} → Beginning → N → View N
+begun beginning node = record {
+  id = beginning.id;
+  members = beginning.members;
+  digests = beginning.digests;
+  node = node;
+  own = [];
+  stop = None;
+  is_open = false;
 }
 
 abbrev pub is_open : {N : Type 0} → View N → Bool
 is_open view = view.is_open
+
+-- where its node was down just where something is told to have stopped it, that is so after it too, while the store keeps its word
+abbrev pub TellsStop : {N : Type 0} → (N → Type 0) → (N → NodeState) → View N → View N → Type 0
+TellsStop trusted state old new = trusted new.node → is_down (state old.node) ≡ is_some old.stop → is_down (state new.node) ≡ is_some new.stop
+
+abbrev pub stop_in : {N : Type 0} → View N → Option StoreFault
+stop_in view = view.stop
 
 abbrev pub node_in : {N : Type 0} → View N → N
 node_in view = view.node

@@ -1,11 +1,14 @@
 -- A turn of a member: a list of deeds, each an event of its node or a question, with what there was memory for of what it sent (own).
-use Rattle.std.specs.Prelude.{ℕ, ◌≡◌, ◌==◌, not, List, [], ◌∷◌, ◌++◌, filter, drop, slice_get, Some, Result}
+use Rattle.std.specs.Prelude.{ℕ, ◌≡◌, ◌==◌, not, List, [], ◌∷◌, ◌++◌, filter, drop, slice_get, Option, None, Some, Result, Ok, Err}
 use Rattle.press_wire.specs.declared.message.Message.{Message}
 use Rattle.press_acceptor.specs.Trace.{IsMember}
+use Rattle.press_acceptor.specs.declared.fault.StoreFault.{StoreFault}
+use Rattle.press_acceptor.specs.declared.fault.StoreFault.TheVariants as store_fault
 use Rattle.press_node.specs.Nodes.{NodeMove}
 use Rattle.press_node.specs.declared.event.Event.{Event}
 use Rattle.press_node.specs.declared.event.Event.TheVariants as event
 use Rattle.press_node.specs.declared.fault.NodeFault.{NodeFault}
+use Rattle.press_node.specs.declared.fault.NodeFault.TheVariants as fault
 use Rattle.press_member.specs.Members.{out_of, question}
 
 -- of what the member with this number sends, what goes to itself, and what to others, in the order in which it was sent
@@ -24,11 +27,46 @@ pub data Cause : Type 0 where
   -- a wake is due
   Due : Cause
 
+-- what stops a node by a fault; none where that is a refusal
+abbrev pub stop_of : NodeFault → Option StoreFault
+stop_of fault.NoMemory = Some store_fault.NoMemory
+stop_of fault.Disk = Some store_fault.Disk
+stop_of fault.Damaged = Some store_fault.Damaged
+stop_of fault.Down = None
+stop_of fault.TooLong = None
+stop_of fault.Full = None
+stop_of fault.SlotsUsedUp = None
+stop_of fault.RoundsUsedUp = None
+
+-- the later stop
+abbrev pub later : Option StoreFault → Option StoreFault → Option StoreFault
+later stop None = stop
+later stop (Some by) = Some by
+
+-- what stopped the node last, behind an event with this outcome
+abbrev pub stop_behind : Option StoreFault → Result (List Message) NodeFault → Option StoreFault
+stop_behind stop (Ok out) = stop
+stop_behind stop (Err fault) = later stop (stop_of fault)
+
 pub data Deed (N : Type 0) : Type 0 where
   -- the node plays an event, with this outcome, and is this node then; these of its messages are kept
   Plays : (cause : Cause) (event : Event) (outcome : Result (List Message) NodeFault) (kept : List Message) (after : N) → Deed N
   -- a member is asked about a slot
   Asks : (to slot : ℕ) (kept : List Message) → Deed N
+
+-- why it is done; none of a question
+abbrev pub cause_of : {N : Type 0} → Deed N → Option Cause
+cause_of (Plays cause event outcome kept after) = Some cause
+cause_of (Asks to slot kept) = None
+
+-- and what stopped the node last, behind deeds
+abbrev pub stop_after : {N : Type 0} → Option StoreFault → Deed N → Option StoreFault
+stop_after stop (Plays cause event outcome kept after) = stop_behind stop outcome
+stop_after stop (Asks to slot kept) = stop
+
+abbrev pub stop_after_all : {N : Type 0} → Option StoreFault → List (Deed N) → Option StoreFault
+stop_after_all stop [] = stop
+stop_after_all stop (d ∷ deeds) = stop_after_all (stop_after stop d) deeds
 
 -- the messages of a deed for which there was memory
 abbrev pub kept_by : {N : Type 0} → Deed N → List Message

@@ -4,10 +4,12 @@ pub mod Among
 pub mod Coming
 pub mod Deeds
 pub mod Holds
+pub mod Lives
 pub mod Members
 pub mod Moving
 pub mod Parts
 pub mod Played
 pub mod Readiness
 pub mod Ready
+pub mod Starting
 pub mod Turns

@@ -1,5 +1,6 @@
--- Whether a member answers for the site as well as any (own).
+-- Whether a member answers for the site as well as any, and how far it says it is (own).
 use Rattle.std.specs.Prelude.{◌+◌, ◌&&◌, not, Bool, nat_le, max, length}
+use Rattle.press_batch.specs.declared.report.Report.{Report}
 use Rattle.press_node.specs.States.{applied_count, is_down}
 use Rattle.press_node.specs.Nodes.{state_of}
 use Rattle.press_member.specs.Ready.{borne_out, is_heard, is_majority, others}
@@ -11,3 +12,11 @@ is_ready member =
     member.player.pace.is_settled && (not (is_down (state_of member.player.node))
     && (is_majority (length member.peers.all.items) (others (is_heard member.time) member.peers + 1)
     && nat_le (borne_out member.peers (max member.player.pace.newest member.player.pace.applied) member.time) (applied_count (state_of member.player.node) + 64)))
+
+-- how far it is: what it has applied, and what it knows to be chosen
+abbrev pub report_of : {S : _} {t : _} {F : _} {g : _} → Member S t F g → Report
+report_of member = record {
+  applied = applied_count (state_of member.player.node);
+  chosen = max member.player.pace.newest member.player.pace.applied;
+  digests = member.peers.digests;
+}

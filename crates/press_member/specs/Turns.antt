@@ -1,45 +1,72 @@
 -- A turn of a member: deeds of one kind, and what is sent (own).
-use Rattle.std.specs.Prelude.{ℕ, ◌≡◌, Option, None, Some, List, [], ◌∷◌, ◌++◌, Result, Ok, Err}
+use Rattle.std.specs.Prelude.{ℕ, ◌≡◌, ◌≤◌, ◌⊎◌, Option, None, Some, List, [], ◌∷◌, ◌++◌, length, Result, Ok, Err}
 use Rattle.std.specs.List.{AllByRecursion}
 use Rattle.press_wire.specs.declared.message.Message.{Message}
+use Rattle.press_acceptor.specs.declared.fault.StoreFault.{StoreFault}
 use Rattle.press_node.specs.Nodes.{NodeMove}
 use Rattle.press_node.specs.declared.event.Event.{Event}
 use Rattle.press_node.specs.declared.fault.NodeFault.{NodeFault}
-use Rattle.press_member.specs.Deeds.{Deed, Does, IsFront, KeepsAll, for_others, for_self, kept_by_all, own_after_all}
+use Rattle.press_member.specs.Deeds.{Cause, Deed, Does, IsFront, KeepsAll, cause_of, for_others, for_self, kept_by_all, own_after_all, stop_after_all, stop_behind}
 use Rattle.press_member.specs.Members.{out_of}
 use Rattle.press_member.specs.Deeds.Cause.{Brought, Heard, Due}
 use Rattle.press_member.specs.Deeds.Deed.{Plays, Asks}
 
--- the member's own deed, which no input brings
-abbrev pub IsOwn : {N : Type 0} → Deed N → Type 0
-IsOwn (Plays Brought e outcome kept after) = ⊥
-IsOwn (Plays Heard e outcome kept after) = Unit {0}
-IsOwn (Plays Due e outcome kept after) = Unit {0}
-IsOwn (Asks to slot kept) = Unit {0}
+-- each is done for this cause
+abbrev pub AreFor : {N : Type 0} → Option Cause → List (Deed N) → Type 0
+AreFor cause = AllByRecursion (λ d. cause_of d ≡ cause)
 
-abbrev pub AreOwn : {N : Type 0} → List (Deed N) → Type 0
-AreOwn = AllByRecursion IsOwn
+-- questions, and nothing else
+abbrev pub AreQuestions : {N : Type 0} → List (Deed N) → Type 0
+AreQuestions = AreFor None
+
+-- at most one wake, and nothing else
+pub record MayWake {N : Type 0} (deeds : List (Deed N)) : Type 0 where
+  pub are : AreFor (Some Due) deeds
+  pub few : length deeds ≤ 1
+
+-- the most that a member hears of itself in one turn
+unfoldable pub most_own : ℕ
+most_own = 1000
+
+-- What the member with this number has sent to itself is heard, until nothing waits or it has heard the most.
+pub record HearsAll {N : Type 0} (id : ℕ) (Whole : Type 0) (own : List Message) (deeds : List (Deed N)) : Type 0 where
+  pub are : AreFor (Some Heard) deeds
+  pub all : Whole → (own_after_all id own deeds ≡ []) ⊎ (length deeds ≡ most_own)
+
+-- and then a wake may be due
+pub record HearsFirst {N : Type 0} (id : ℕ) (Whole : Type 0) (own : List Message) (deeds : List (Deed N)) : Type 0 where
+  pub heard : List (Deed N)
+  pub more : List (Deed N)
+  pub are : deeds ≡ heard ++ more
+  pub hears : HearsAll id Whole own heard
+  pub wakes : MayWake more
 
 -- why an event was refused
 abbrev pub refused_by : Result (List Message) NodeFault → Option NodeFault
 refused_by (Ok out) = None
 refused_by (Err fault) = Some fault
 
--- the event is played first, once, and refused so; what follows are the member's own deeds
+-- the event is played first, and refused so; then a wake may be due
 abbrev pub Brings : {N : Type 0} → Event → Option NodeFault → List (Deed N) → Type 0
 Brings event refused [] = ⊥
-Brings event refused (Plays Brought e outcome kept after ∷ deeds) = (e ≡ event) × (refused_by outcome ≡ refused) × AreOwn deeds
+Brings event refused (Plays Brought e outcome kept after ∷ deeds) = (e ≡ event) × (refused_by outcome ≡ refused) × MayWake deeds
 Brings event refused (Plays Heard e outcome kept after ∷ deeds) = ⊥
 Brings event refused (Plays Due e outcome kept after ∷ deeds) = ⊥
 Brings event refused (Asks to slot kept ∷ deeds) = ⊥
 
+-- What a turn changes of a member: its node, what it has sent to itself and not heard yet, and what stopped the node last.
+pub record Moment (N : Type 0) : Type 0 where
+  pub node : N
+  pub own : List Message
+  pub stop : Option StoreFault
+
 module _ {N : Type 0} (moved : N → N → NodeMove) (n id : ℕ) where
-  -- A turn, from a node and what it had to hear of itself, to a node and what it has to hear then: deeds of this kind, and what they send to others goes out in their
-  -- order. Where there was memory nothing is lost.
-  pub record Turned (Kind : List (Deed N) → Type 0) (Whole : Type 0) (own : List Message) (node : N) (own' : List Message) (node' : N) (out out' : List Message) : Type 0 where
+  -- A turn, from one moment to another: deeds of this kind, and what they send to others goes out in their order. Where there was memory nothing is lost.
+  pub record Turned (Kind : List (Deed N) → Type 0) (Whole : Type 0) (old new : Moment N) (out out' : List Message) : Type 0 where
     pub deeds : List (Deed N)
-    pub does : Does moved n id own node deeds node'
-    pub own_is : own' ≡ own_after_all id own deeds
+    pub does : Does moved n id old.own old.node deeds new.node
+    pub own_is : new.own ≡ own_after_all id old.own deeds
+    pub stop_is : new.stop ≡ stop_after_all old.stop deeds
     pub out_is : out' ≡ out ++ for_others id (kept_by_all deeds)
     pub kind : Kind deeds
     pub whole : Whole → KeepsAll id deeds
@@ -53,8 +80,9 @@ pub record IsSorted (id : ℕ) (sent : List Message) (Whole : Type 0) (own own' 
   pub whole : Whole → kept ≡ sent
 
 -- one event was played
-pub record IsDeed {N : Type 0} (moved : N → N → NodeMove) (id : ℕ) (event : Event) (refused : Option NodeFault → Type 0) (Whole : Type 0) (node node' : N) (own own' out out' : List Message) : Type 0 where
+pub record IsDeed {N : Type 0} (moved : N → N → NodeMove) (id : ℕ) (event : Event) (refused : Option NodeFault → Type 0) (Whole : Type 0) (old new : Moment N) (out out' : List Message) : Type 0 where
   pub outcome : Result (List Message) NodeFault
-  pub plays : (moved node node').plays event outcome
-  pub sorted : IsSorted id (out_of outcome) Whole own own' out out'
+  pub plays : (moved old.node new.node).plays event outcome
+  pub sorted : IsSorted id (out_of outcome) Whole old.own new.own out out'
+  pub stop_is : new.stop ≡ stop_behind old.stop outcome
   pub refused_so : refused (refused_by outcome)

@@ -1,18 +1,22 @@
 //! Laws of members.
 
-ghost use Rattle.std.specs.Prelude.{ℕ, ◌≡◌, ◌≢◌, ◌++◌, [], IsTrue, List, Result};
+ghost use Rattle.std.specs.Prelude.{ℕ, ◌≡◌, ◌≢◌, ◌+◌, ◌<◌, ◌++◌, [], IsTrue, List, Result};
 ghost use Rattle.press_wire.specs.declared.message.Message.{Message};
 ghost use Rattle.press_acceptor.specs.Trace.{Fact};
 ghost use Rattle.press_acceptor.specs.Turned.{moved};
+ghost use Rattle.press_node.specs.Nodes.{node_moved, state_of, store_of};
 ghost use Rattle.press_node.specs.Plays.{Plays, state_moved};
 ghost use Rattle.press_node.specs.States.{NodeState, running_in};
 ghost use Rattle.press_node.specs.declared.event.Event.{Event};
 ghost use Rattle.press_node.specs.declared.fault.NodeFault.{NodeFault};
 ghost use Rattle.press_member.specs.Acting.{ActsIn, IsSettled};
+ghost use Rattle.press_member.specs.Acts.{View, node_in, view_of};
 ghost use Rattle.press_member.specs.Among.{AreBy, IsAmong, Letters};
 ghost use Rattle.press_member.specs.Holds.{Holds, HoldsOn, ShowsAlike};
+ghost use Rattle.press_member.specs.Lives.{Lives, LivesAmong, Step};
 ghost use Rattle.press_member.specs.Members.{AreMoves, Members, Move, WhileUp, after_all, new_members};
 
+use crate::member::Member;
 use press_acceptor::{PromiseStore, at_most_one_value_chosen};
 use press_world::each_step_agrees;
 
@@ -67,4 +71,28 @@ pub fn turns_interleave<S: PromiseStore>()
         AreMoves S.seen n w first → AreMoves S.seen n (after_all w first) last →
         AreMoves S.seen n w (first ++ last)
         × (after_all w (first ++ last) ≡ after_all (after_all w first) last) }
+{}
+
+/// A member's life is a chain of inputs, as each of them says what it does: none leaves it as it is, and two lives after
+/// each other are one. Among others, whatever they do between its inputs, all of it is moves.
+pub fn lives_among<S: PromiseStore>(member: &Member<S>)
+    ensures rests { Lives S.seen (λ a b. node_moved S.seen a b) (λ node. store_of node)
+        (λ node. state_of node) [] (view_of member.now) (view_of member.now) }
+    ensures joined { (first last : List (Step _)) (mid new : View _) →
+        Lives S.seen (λ a b. node_moved S.seen a b) (λ node. store_of node)
+        (λ node. state_of node) first (view_of member.now) mid →
+        Lives S.seen (λ a b. node_moved S.seen a b) (λ node. store_of node)
+        (λ node. state_of node) last mid new →
+        Lives S.seen (λ a b. node_moved S.seen a b) (λ node. store_of node)
+        (λ node. state_of node) (first ++ last) (view_of member.now) new }
+    ensures among { (index : ℕ) (w : Members S) (steps : List (Step _)) (new : View _)
+        (out : List Message) → (view_of member.now).id ≡ index + 1 →
+        index < (view_of member.now).members →
+        IsAmong S.seen w index (store_of (node_in (view_of member.now)))
+        (state_of (node_in (view_of member.now)))
+        (record { own = (view_of member.now).own; out = out }) [] →
+        Lives S.seen (λ a b. node_moved S.seen a b) (λ node. store_of node)
+        (λ node. state_of node) steps (view_of member.now) new →
+        LivesAmong S.seen (λ a b. node_moved S.seen a b) (λ node. store_of node)
+        (λ node. state_of node) (view_of member.now).members index steps w }
 {}

@@ -14,6 +14,6 @@ mod signs;
 
 pub use example::start_and_play;
 pub use input::Input;
-pub use laws::{any_moves, any_store_acts, any_store_stays_open, turns_interleave};
+pub use laws::{any_moves, any_store_acts, any_store_stays_open, lives_among, turns_interleave};
 pub use member::{Beginning, Member};
 pub use output::{Answer, Outputs};

@@ -1,12 +1,16 @@
 //! A member: its node, and what it has beside it.
 
-ghost use Rattle.std.specs.Prelude.{◌≡◌, ◌<◌, ◌≤◌, false, Ok, None, [], IfOk, IsTrue, is_ok, length, max};
+ghost use Rattle.std.specs.Prelude.{◌≡◌, ◌<◌, ◌≤◌, false, Ok, None, [], IfOk, IsTrue, MatchResult, is_ok, length, max};
 ghost use Rattle.press_node.specs.States.{is_down};
 ghost use Rattle.press_node.specs.Nodes.{kit_of, node_moved, state_of, store_of};
-ghost use Rattle.press_member.specs.Acts.{Acts, Answers, has_more, is_open, node_in, view_of};
+ghost use Rattle.press_member.specs.Acts.{Acts, Shows, TellsStop, begun, has_more, is_open, node_in, stop_in, view_of};
 ghost use Rattle.press_member.specs.Coming.{AreItsMoves};
-ghost use Rattle.press_member.specs.Readiness.{is_ready};
-ghost use Rattle.press_member.specs.Parts.{BringsEvent, IsSame, TurnsOwn};
+ghost use Rattle.press_member.specs.Readiness.{is_ready, report_of};
+ghost use Rattle.press_member.specs.Parts.{BringsEvent, IsDue, IsSame, Turns};
+ghost use Rattle.press_member.specs.Played.{moment_of};
+ghost use Rattle.press_member.specs.Starting.{IsItsStart};
+ghost use Rattle.press_member.specs.Turns.{AreQuestions, MayWake};
+ghost use Rattle.press_callbacks.specs.Kits.{kit_view};
 ghost use Rattle.press_member.specs.declared.input.Input.TheVariants as input;
 
 use crate::input::Input;
@@ -15,10 +19,11 @@ use crate::pace::{Due, Pace};
 use crate::peers::{Peers, id_at};
 use crate::player::Player;
 use crate::signs::proposed_in;
-use press_acceptor::PromiseStore;
+use press_acceptor::{PromiseStore, StoreFault};
 use press_apply::Stamped;
 use press_batch::{Digests, Report};
-use press_node::{Event, Node};
+use press_callbacks::Kit;
+use press_node::{Event, Node, StartFault};
 use press_page::Target;
 use press_wire::{Message, Node as Id};
 use std::alloc::{AllocError, Global};
@@ -67,33 +72,93 @@ impl<S: PromiseStore + Drop> Member<S> {
           digests = beginning.digests;
           node = node;
           own = [];
+          stop = None;
           is_open = false;
         }) }
     {
         let Beginning {
             id,
             members,
-            tick,
             digests,
-            chosen,
+            ..
         } = beginning;
         let peers = Peers::new(alloc, id, members, digests)?;
+        Ok(Member::begin(alloc, node, peers, beginning))
+    }
+
+    /// Starts one over its store, of which its node asks the last round. Of members of whom it may have left what the
+    /// store shows that is a move.
+    pub fn start(
+        alloc: Global,
+        kit: Kit,
+        store: S,
+        beginning: Beginning,
+    ) -> Result<Member<S>, StartFault<S>>
+        requires few { beginning.members ≤ 7 }
+        requires member { beginning.id ≤ beginning.members }
+        ensures begins { IfOk result
+            (λ member. view_of member ≡ begun beginning (node_in (view_of member))) }
+        ensures kit { MatchResult result
+            (λ member. kit_of (node_in (view_of member)) ≡ kit_view kit)
+            (λ e. kit_view e.kit ≡ kit_view kit) }
+        ensures starts { IfOk result (λ member. IsItsStart S.seen (λ node. store_of node)
+            (λ node. state_of node) store (view_of member)) }
+    {
+        let Beginning {
+            id,
+            members,
+            digests,
+            ..
+        } = beginning;
+        match Peers::new(alloc, id, members, digests) {
+            Err(_) => Err(StartFault {
+                fault: StoreFault::NoMemory,
+                kit,
+                store,
+            }),
+            Ok(peers) => match Node::start(alloc, id, members, kit, store) {
+                Ok(node) => Ok(Member::begin(alloc, node, peers, beginning)),
+                Err(fault) => Err(fault),
+            },
+        }
+    }
+}
+
+impl<S> Member<S> {
+    // One that hasn't heard of any of these.
+    fn begin(alloc: Global, node: Node<S>, peers: Peers, beginning: Beginning) -> Member<S>
+        ensures { view_of result ≡ record {
+          id = beginning.id;
+          members = length peers.all.items;
+          digests = peers.digests;
+          node = node;
+          own = [];
+          stop = None;
+          is_open = false;
+        } }
+    {
+        let Beginning {
+            id,
+            tick,
+            chosen,
+            ..
+        } = beginning;
         let mut pace = Pace::new(peers.place(), peers.count(), u64::from(tick));
         pace.prove(chosen);
-        let own = VecDeque::new(alloc);
         let player = Player {
             alloc,
             id,
             node,
-            own,
+            stopped_by: None,
+            own: VecDeque::new(alloc),
             pace,
         };
-        Ok(Member {
+        Member {
             alloc,
             player,
             peers,
             time: 0,
-        })
+        }
     }
 }
 
@@ -110,6 +175,13 @@ impl<S: PromiseStore> Member<S> {
         ensures { result ≡ is_down (state_of (node_in (view_of self.now))) }
     {
         self.player.node.is_down()
+    }
+
+    /// What stopped its node; None as long as it is up.
+    pub fn stopped_by(&self) -> Option<StoreFault>
+        ensures { result ≡ stop_in (view_of self.now) }
+    {
+        self.player.stopped_by
     }
 
     /// Ends it, and returns its node.
@@ -147,7 +219,9 @@ impl<S: PromiseStore> Member<S> {
     }
 
     /// How far it is, as it says to others.
-    pub fn report(&self) -> Report {
+    pub fn report(&self) -> Report
+        ensures { result ≡ report_of self.now }
+    {
         Report {
             applied: self.player.node.applied(),
             chosen: self.chosen(),
@@ -186,6 +260,8 @@ impl<S: PromiseStore> Member<S> {
         requires always { Unit {0} }
         ensures acts { Acts (λ a b. node_moved S.seen a b) input (view_of self.old)
             (view_of self.new) result }
+        ensures stops { TellsStop (λ node. (S.seen (store_of node)).is_honest)
+            (λ node. state_of node) (view_of self.old) (view_of self.new) }
         ensures moves { AreItsMoves S.seen (λ node. store_of node) (λ node. state_of node) input
             (view_of self.old) (view_of self.new) result }
     {
@@ -244,6 +320,7 @@ impl<S: PromiseStore> Member<S> {
         }
         let mut messages = Vec::new(self.alloc);
         let answer = self.bring(Event::Submit(command), &mut messages)?;
+        self.peers.begin_all(&messages);
         Ok(Outputs::with(self.alloc, answer, messages))
     }
 
@@ -261,17 +338,19 @@ impl<S: PromiseStore> Member<S> {
             (view_of self.old) (view_of self.new) result }
     {
         let from = message.from;
+        let to = message.to;
         let proposed = self.proposed_in(&message);
         let mut messages = Vec::new(self.alloc);
         let answer = self.bring(Event::Deliver(message), &mut messages)?;
-        self.peers.hear(from, self.time);
+        self.peers.hear(from, to, self.time);
         self.player.pace.hear_of(proposed, answer.is_taken());
+        self.peers.begin_all(&messages);
         Ok(Outputs::with(self.alloc, answer, messages))
     }
 
     fn answer_to(&self, target: &Target) -> Answer
-        ensures { Answers self.now.player.pace.is_settled (kit_of self.now.player.node)
-            (state_of self.now.player.node).up (input.Page target.now) None result }
+        ensures { Shows self.now.player.pace.is_settled (kit_of self.now.player.node)
+            (state_of self.now.player.node).up target.now result }
     {
         if !self.is_open() {
             return Answer::NotYet;
@@ -304,8 +383,7 @@ impl<S: PromiseStore> Member<S> {
     // What others say of how far they are.
     fn note_reports(&mut self)
         ensures same { IsSame (λ a b. node_moved S.seen a b) (view_of self.old) (view_of self.new) }
-        ensures node { self.new.player.node ≡ self.old.player.node }
-        ensures own { self.new.player.own ≡ self.old.player.own }
+        ensures moment { moment_of self.new.player ≡ moment_of self.old.player }
     {
         let borne_out = self.peers.borne_out(self.player.pace.chosen(), self.time);
         let claim = self.peers.claim(self.time);
@@ -329,6 +407,7 @@ impl<S: PromiseStore> Member<S> {
         let mut messages = Vec::new(self.alloc);
         self.player.hear_own(&mut messages)?;
         self.player.follow(&mut messages)?;
+        self.peers.begin_all(&messages);
         Ok(Outputs::with(self.alloc, Answer::Nothing, messages))
     }
 
@@ -336,8 +415,8 @@ impl<S: PromiseStore> Member<S> {
     fn ask_one(&mut self, place: usize, end: u64, out: &mut Vec<Message>) -> Result<(), AllocError>
         requires { place < length self.now.peers.all.items }
         ensures same { IsSame (λ a b. node_moved S.seen a b) (view_of self.old) (view_of self.new) }
-        ensures turned { TurnsOwn (λ a b. node_moved S.seen a b) (view_of self.old)
-            (view_of self.new) out.old.items out.new.items (IsTrue (is_ok result)) }
+        ensures turned { Turns (λ a b. node_moved S.seen a b) (view_of self.old) (view_of self.new)
+            AreQuestions out.old.items out.new.items (IsTrue (is_ok result)) }
     {
         let Some(to) = id_at(place) else {
             return Ok(());
@@ -346,17 +425,15 @@ impl<S: PromiseStore> Member<S> {
             return Ok(());
         }
         let next = self.player.node.applied().saturating_add(1);
-        let count = self.player.ask_from(to, next, end, out)?;
-        self.peers.begin_asking(to, count);
-        Ok(())
+        self.player.ask_from(to, next, end, out)
     }
 
     // Asks each member for the slots that are not applied, up to the one after this: a vote there is the gap that has
     // this one proposed again, where too few members voted.
     fn ask(&mut self, last: u64, out: &mut Vec<Message>) -> Result<(), AllocError>
         ensures same { IsSame (λ a b. node_moved S.seen a b) (view_of self.old) (view_of self.new) }
-        ensures turned { TurnsOwn (λ a b. node_moved S.seen a b) (view_of self.old)
-            (view_of self.new) out.old.items out.new.items (IsTrue (is_ok result)) }
+        ensures turned { Turns (λ a b. node_moved S.seen a b) (view_of self.old) (view_of self.new)
+            AreQuestions out.old.items out.new.items (IsTrue (is_ok result)) }
     {
         let end = last.saturating_add(2);
         for place in 0..self.peers.count() {
@@ -369,8 +446,8 @@ impl<S: PromiseStore> Member<S> {
     fn look(&mut self, messages: &mut Vec<Message>, looks: &mut Vec<Id>) -> Result<(), AllocError>
         requires always { Unit {0} }
         ensures same { IsSame (λ a b. node_moved S.seen a b) (view_of self.old) (view_of self.new) }
-        ensures turned { TurnsOwn (λ a b. node_moved S.seen a b) (view_of self.old)
-            (view_of self.new) messages.old.items messages.new.items (IsTrue (is_ok result)) }
+        ensures turned { Turns (λ a b. node_moved S.seen a b) (view_of self.old) (view_of self.new)
+            MayWake messages.old.items messages.new.items (IsTrue (is_ok result)) }
     {
         self.peers.look(looks)?;
         self.note_reports();
@@ -388,8 +465,8 @@ impl<S: PromiseStore> Member<S> {
     ) -> Result<(), AllocError>
         requires always { Unit {0} }
         ensures same { IsSame (λ a b. node_moved S.seen a b) (view_of self.old) (view_of self.new) }
-        ensures turned { TurnsOwn (λ a b. node_moved S.seen a b) (view_of self.old)
-            (view_of self.new) messages.old.items messages.new.items (IsTrue (is_ok result)) }
+        ensures turned { Turns (λ a b. node_moved S.seen a b) (view_of self.old) (view_of self.new)
+            IsDue messages.old.items messages.new.items (IsTrue (is_ok result)) }
     {
         match due {
             Due::Nothing => Ok(()),
@@ -413,6 +490,7 @@ impl<S: PromiseStore> Member<S> {
         let mut looks = Vec::new(self.alloc);
         let due = self.player.pace.pass(now);
         self.do_due(due, &mut messages, &mut looks)?;
+        self.peers.begin_all(&messages);
         Ok(Outputs {
             answer: Answer::Nothing,
             messages,

@@ -27,7 +27,7 @@ const BLOCK: u64 = 16;
 // How long answers may be on their way before it asks again, at first.
 const ON_ITS_WAY: u64 = 100;
 
-// How long what others say holds a member up that hasn't applied it: so long, and a millisecond for each slot, at most a minute.
+// How long what others say holds a member up that applies none of it, and how long one that does.
 const UNPROVED: u64 = 2_000;
 
 const MOST_UNPROVED: u64 = 60_000;
@@ -90,12 +90,13 @@ pub struct Pace {
     look_at: u64,
     // How many slots are chosen, by votes and by what a majority said.
     newest: u64,
-    // The most that another says lately, and until when that holds this member up.
+    // The most that another says lately, and since when that is more than this member has.
     claim: u64,
-    claim_until: Option<u64>,
+    claimed_at: Option<u64>,
     // Whether a majority has said how far it is.
     is_known: bool,
-    // The last slot that it asked for, when it asks again, and how often it has asked for nothing new.
+    // What was applied when it asked last, the last slot that it asked for, when it asks again, and how often it has asked for the same.
+    asked_from: u64,
     asked_to: u64,
     ask_at: u64,
     asks: u32,
@@ -127,8 +128,9 @@ impl Pace {
             look_at: 0,
             newest: 0,
             claim: 0,
-            claim_until: None,
+            claimed_at: None,
             is_known: false,
+            asked_from: 0,
             asked_to: 0,
             ask_at: 0,
             asks: 0,
@@ -312,24 +314,31 @@ impl Pace {
         }
     }
 
-    // Whether it has applied what is known to be chosen, and what others say that is chosen, or has waited long enough for
-    // that.
-    fn has_all(&self) -> bool {
-        let is_held_up = match self.claim_until {
-            Some(until) => self.applied < self.claim && self.time < until,
+    // Whether what others say holds it up: it hasn't applied that, and goes on applying some of it.
+    fn is_held_up(&self) -> bool {
+        match self.claimed_at {
+            Some(since) => {
+                let moved_at = since.max(self.applied_at);
+                self.applied < self.claim
+                    && self.time < moved_at.saturating_add(UNPROVED)
+                    && self.time < since.saturating_add(MOST_UNPROVED)
+            }
             None => false,
-        };
-        self.is_known && self.applied >= self.newest && !is_held_up
+        }
+    }
+
+    // Whether it has applied what is known to be chosen, and what others say that is chosen, as far as that comes.
+    fn has_all(&self) -> bool {
+        self.is_known && self.applied >= self.newest && !self.is_held_up()
     }
 
     // Others say that so many slots are chosen.
     fn hear_claim(&mut self, claim: u64) {
         self.claim = claim;
         if claim <= self.applied {
-            self.claim_until = None;
-        } else if self.claim_until.is_none() {
-            let wait = UNPROVED.saturating_add(claim - self.applied);
-            self.claim_until = Some(self.time.saturating_add(wait.min(MOST_UNPROVED)));
+            self.claimed_at = None;
+        } else if self.claimed_at.is_none() {
+            self.claimed_at = Some(self.time);
         }
     }
 
@@ -417,14 +426,16 @@ impl Pace {
         self.wanted() > self.applied && (self.applied >= self.asked_to || self.ask_at <= self.time)
     }
 
-    // Asks for what is missing. The wait for answers is doubled each time that nothing came of it.
+    // Asks for what is missing. The wait for answers is doubled each time that little came of it.
     fn ask(&mut self) -> Due {
-        let is_new = self.applied >= self.asked_to;
+        let is_new = self.applied >= self.asked_to
+            || self.applied >= self.asked_from.saturating_add(SLACK);
         self.asks = if is_new {
             0
         } else {
             self.asks.saturating_add(1)
         };
+        self.asked_from = self.applied;
         self.asked_to = self.wanted().min(self.applied.saturating_add(WINDOW));
         self.ask_at = self
             .time

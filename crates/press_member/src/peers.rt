@@ -1,11 +1,12 @@
 //! The members of a cluster, by what they say and whether they answer.
 
-ghost use Rattle.std.specs.Prelude.{◌≡◌, ◌+◌, ◌-◌, IfOk, IfSome, length};
+ghost use Rattle.std.specs.Prelude.{◌≡◌, ◌≢◌, true, false, ◌+◌, ◌-◌, IfOk, IfSome, length};
 ghost use Rattle.press_member.specs.Parts.{AreSame};
 ghost use Rattle.press_member.specs.Ready.{borne_out, claim, if_borne, is_heard, is_lately, is_majority, others, says};
 
+use crate::signs::is_question;
 use press_batch::{Digests, Report};
-use press_wire::Node as Id;
+use press_wire::{Message, Node as Id};
 use std::alloc::{AllocError, Global};
 
 // Who was heard within this many milliseconds was heard lately.
@@ -56,6 +57,13 @@ impl Peer {
         match self.heard {
             Some(at) => is_lately(at, now),
             None => false,
+        }
+    }
+
+    // It was heard, which counts unless it is foreign by its last report.
+    fn hear(&mut self, now: u64) {
+        if !self.is_foreign {
+            self.heard = Some(now);
         }
     }
 
@@ -137,19 +145,24 @@ impl Peers {
         self.digests
     }
 
-    /// A member was heard.
-    pub fn hear(&mut self, member: Id, now: u64)
+    /// A message of a member came: that was heard, if the message is for this one.
+    pub fn hear(&mut self, from: Id, to: Id, now: u64)
         ensures { AreSame self.old self.new }
     {
-        let place = place_of(member);
+        if to != self.own {
+            return;
+        }
+        let place = place_of(from);
         if let Some(peer) = self.all.get_mut(place) {
-            peer.heard = Some(now);
+            peer.hear(now);
         }
     }
 
     /// A member says how far it is; whether it is heard.
     pub fn take_report(&mut self, member: Id, report: Report, now: u64) -> bool
-        ensures { AreSame self.old self.new }
+        ensures same { AreSame self.old self.new }
+        ensures taken { result ≡ true → report.digests ≡ self.old.digests }
+        ensures foreign { result ≡ false → report.digests ≢ self.old.digests }
     {
         let is_foreign = report.digests != self.digests;
         let place = place_of(member);
@@ -159,16 +172,24 @@ impl Peers {
         !is_foreign
     }
 
-    /// So many looks and questions go to a member.
-    pub fn begin_asking(&mut self, member: Id, count: u32)
+    // A look or a question goes to a member.
+    fn begin_asking(&mut self, member: Id)
         ensures { AreSame self.old self.new }
     {
         let place = place_of(member);
-        if place == self.place() {
-            return;
-        }
         if let Some(peer) = self.all.get_mut(place) {
-            peer.asked = peer.asked.saturating_add(count);
+            peer.asked = peer.asked.saturating_add(1);
+        }
+    }
+
+    /// These go out to others: each question among them is on its way.
+    pub fn begin_all(&mut self, messages: &[Message])
+        ensures { AreSame self.old self.new }
+    {
+        for message in messages {
+            if is_question(message) {
+                self.begin_asking(message.to);
+            }
         }
     }
 
@@ -180,7 +201,7 @@ impl Peers {
         if let Some(peer) = self.all.get_mut(place) {
             peer.asked = peer.asked.saturating_sub(count);
             if is_taken {
-                peer.heard = Some(now);
+                peer.hear(now);
             }
         }
     }
@@ -196,7 +217,7 @@ impl Peers {
             return Ok(());
         };
         looks.push(to)?;
-        self.begin_asking(to, 1);
+        self.begin_asking(to);
         Ok(())
     }
 

@@ -1,18 +1,19 @@
 //! What a member's turns change, and what each deed of a turn does to it.
 
-ghost use Rattle.std.specs.Prelude.{◌≡◌, ℕ, IsTrue, IfOk, is_ok};
+ghost use Rattle.std.specs.Prelude.{◌≡◌, ℕ, IsTrue, is_ok};
 ghost use Rattle.press_acceptor.specs.Trace.{IsMember};
 ghost use Rattle.press_node.specs.Nodes.{kit_of, node_moved};
 ghost use Rattle.press_node.specs.Plays.{sent};
-ghost use Rattle.press_member.specs.Turns.{AreOwn, IsDeed, Turned};
-ghost use Rattle.press_member.specs.Played.{SaysRefused, refusal_in};
+ghost use Rattle.press_member.specs.Deeds.{later, stop_of};
+ghost use Rattle.press_member.specs.Turns.{AreQuestions, HearsAll, IsDeed, MayWake, Turned};
+ghost use Rattle.press_member.specs.Played.{SaysRefused, moment_of, refusal_in};
 ghost use Rattle.press_member.specs.Acts.{taken};
 
 use crate::letters::put_all;
 use crate::output::Answer;
 use crate::pace::Pace;
 use crate::signs::is_question;
-use press_acceptor::PromiseStore;
+use press_acceptor::{PromiseStore, StoreFault};
 use press_node::{Event, Node, NodeFault};
 use press_wire::{Body, Message, Node as Id, Slot};
 use std::alloc::{AllocError, Global};
@@ -21,11 +22,12 @@ use std::collections::VecDeque;
 // The most messages that it hears of itself in one turn.
 const MOST_OWN: u32 = 1_000;
 
-/// A node, what it has sent to itself and not heard yet, the oldest first, and its pace.
+/// A node, why it has stopped if it has, what it has sent to itself and not heard yet, the oldest first, and its pace.
 pub struct Player<S> {
     pub alloc: Global,
     pub id: Id,
     pub node: Node<S>,
+    pub stopped_by: Option<StoreFault>,
     pub own: VecDeque<Message>,
     pub pace: Pace,
 }
@@ -36,6 +38,7 @@ impl<S: Drop> Drop for Player<S> {
             alloc: _,
             id: _,
             node: _,
+            stopped_by: _,
             own: _,
             pace: _,
         } = self;
@@ -59,6 +62,7 @@ impl<S> Player<S> {
             alloc: _,
             id: _,
             node,
+            stopped_by: _,
             own: _,
             pace: _,
         } = self;
@@ -100,6 +104,22 @@ fn play_event<S: PromiseStore>(node: &mut Node<S>, event: Event) -> Result<Vec<M
     }
 }
 
+// What stopped a node last, behind an event that ended with this fault.
+fn stop_behind(stop: Option<StoreFault>, fault: NodeFault) -> Option<StoreFault>
+    ensures { result ≡ later stop (stop_of fault) }
+{
+    match fault {
+        NodeFault::NoMemory => Some(StoreFault::NoMemory),
+        NodeFault::Disk => Some(StoreFault::Disk),
+        NodeFault::Damaged => Some(StoreFault::Damaged),
+        NodeFault::Down
+        | NodeFault::TooLong
+        | NodeFault::Full
+        | NodeFault::SlotsUsedUp
+        | NodeFault::RoundsUsedUp => stop,
+    }
+}
+
 impl<S: PromiseStore> Player<S> {
     /// Plays an event, and puts what it sends where it goes.
     pub fn play(&mut self, event: Event, out: &mut Vec<Message>) -> Result<Played, AllocError>
@@ -107,11 +127,14 @@ impl<S: PromiseStore> Player<S> {
         ensures id { self.new.id ≡ self.old.id }
         ensures kit { kit_of self.new.node ≡ kit_of self.old.node }
         ensures deed { IsDeed (λ a b. node_moved S.seen a b) self.old.id event
-            (SaysRefused result) (IsTrue (is_ok result)) self.old.node self.new.node
-            self.old.own.items self.new.own.items out.old.items out.new.items }
+            (SaysRefused result) (IsTrue (is_ok result)) (moment_of self.old)
+            (moment_of self.new) out.old.items out.new.items }
     {
         match play_event(&mut self.node, event) {
-            Err(fault) => Ok(Played::Refused(fault)),
+            Err(fault) => {
+                self.stopped_by = stop_behind(self.stopped_by, fault);
+                Ok(Played::Refused(fault))
+            }
             Ok(sent) => {
                 let asks = sent.iter().any(is_question);
                 self.pace.note_all(&sent, self.id);
@@ -126,9 +149,9 @@ impl<S: PromiseStore> Player<S> {
         requires always { Unit {0} }
         ensures id { self.new.id ≡ self.old.id }
         ensures kit { kit_of self.new.node ≡ kit_of self.old.node }
-        ensures turned { (n : ℕ) → Turned (λ a b. node_moved S.seen a b) n self.old.id AreOwn
-            (IsTrue (is_ok result)) self.old.own.items self.old.node self.new.own.items
-            self.new.node out.old.items out.new.items }
+        ensures turned { (n : ℕ) → Turned (λ a b. node_moved S.seen a b) n self.old.id MayWake
+            (IsTrue (is_ok result)) (moment_of self.old) (moment_of self.new) out.old.items
+            out.new.items }
     {
         let is_filling = !self.node.is_waiting();
         let played = self.play(Event::Wake, out)?;
@@ -141,9 +164,9 @@ impl<S: PromiseStore> Player<S> {
         requires always { Unit {0} }
         ensures id { self.new.id ≡ self.old.id }
         ensures kit { kit_of self.new.node ≡ kit_of self.old.node }
-        ensures turned { (n : ℕ) → Turned (λ a b. node_moved S.seen a b) n self.old.id AreOwn
-            (IsTrue (is_ok result)) self.old.own.items self.old.node self.new.own.items
-            self.new.node out.old.items out.new.items }
+        ensures turned { (n : ℕ) → Turned (λ a b. node_moved S.seen a b) n self.old.id MayWake
+            (IsTrue (is_ok result)) (moment_of self.old) (moment_of self.new) out.old.items
+            out.new.items }
     {
         let applied = self.node.applied();
         let waits = self.node.is_waiting();
@@ -159,9 +182,10 @@ impl<S: PromiseStore> Player<S> {
         requires always { Unit {0} }
         ensures id { self.new.id ≡ self.old.id }
         ensures kit { kit_of self.new.node ≡ kit_of self.old.node }
-        ensures turned { (n : ℕ) → Turned (λ a b. node_moved S.seen a b) n self.old.id AreOwn
-            (IsTrue (is_ok result)) self.old.own.items self.old.node self.new.own.items
-            self.new.node out.old.items out.new.items }
+        ensures turned { (n : ℕ) → Turned (λ a b. node_moved S.seen a b) n self.old.id
+            (HearsAll self.old.id (IsTrue (is_ok result)) self.old.own.items)
+            (IsTrue (is_ok result)) (moment_of self.old) (moment_of self.new) out.old.items
+            out.new.items }
     {
         for count in 0..MOST_OWN {
             match self.own.pop_front() {
@@ -178,9 +202,9 @@ impl<S: PromiseStore> Player<S> {
     fn ask(&mut self, to: Id, slot: Slot, out: &mut Vec<Message>) -> Result<(), AllocError>
         ensures node { self.new.node ≡ self.old.node }
         ensures id { self.new.id ≡ self.old.id }
-        ensures turned { (n : ℕ) → IsMember n to → Turned (λ a b. node_moved S.seen a b) n self.old.id
-            AreOwn (IsTrue (is_ok result)) self.old.own.items self.old.node self.new.own.items
-            self.new.node out.old.items out.new.items }
+        ensures turned { (n : ℕ) → IsMember n to → Turned (λ a b. node_moved S.seen a b) n
+            self.old.id AreQuestions (IsTrue (is_ok result)) (moment_of self.old)
+            (moment_of self.new) out.old.items out.new.items }
     {
         let from = self.id;
         let body = Body::Query;
@@ -194,43 +218,38 @@ impl<S: PromiseStore> Player<S> {
         put_all(from, sent, &mut self.own, out)
     }
 
-    // Asks a member for its vote for the slot of a number, if it is one; for how many it asked.
-    fn ask_for(&mut self, to: Id, number: u64, out: &mut Vec<Message>) -> Result<u32, AllocError>
+    // Asks a member for its vote for the slot of a number, if it is one.
+    fn ask_for(&mut self, to: Id, number: u64, out: &mut Vec<Message>) -> Result<(), AllocError>
         ensures node { self.new.node ≡ self.old.node }
         ensures id { self.new.id ≡ self.old.id }
-        ensures turned { (n : ℕ) → IsMember n to → Turned (λ a b. node_moved S.seen a b) n self.old.id
-            AreOwn (IsTrue (is_ok result)) self.old.own.items self.old.node self.new.own.items
-            self.new.node out.old.items out.new.items }
+        ensures turned { (n : ℕ) → IsMember n to → Turned (λ a b. node_moved S.seen a b) n
+            self.old.id AreQuestions (IsTrue (is_ok result)) (moment_of self.old)
+            (moment_of self.new) out.old.items out.new.items }
     {
         let number = u32::try_from(number).unwrap_or(u32::MAX);
         match Slot::new(number) {
-            None => Ok(0),
-            Some(slot) => {
-                self.ask(to, slot, out)?;
-                Ok(1)
-            }
+            None => Ok(()),
+            Some(slot) => self.ask(to, slot, out),
         }
     }
 
-    /// Asks a member for its votes for the slots from one to before another; for how many it asked.
+    /// Asks a member for its votes for the slots from one to before another.
     pub fn ask_from(
         &mut self,
         to: Id,
         next: u64,
         end: u64,
         out: &mut Vec<Message>,
-    ) -> Result<u32, AllocError>
+    ) -> Result<(), AllocError>
         ensures node { self.new.node ≡ self.old.node }
         ensures id { self.new.id ≡ self.old.id }
-        ensures turned { (n : ℕ) → IsMember n to → Turned (λ a b. node_moved S.seen a b) n self.old.id
-            AreOwn (IsTrue (is_ok result)) self.old.own.items self.old.node self.new.own.items
-            self.new.node out.old.items out.new.items }
+        ensures turned { (n : ℕ) → IsMember n to → Turned (λ a b. node_moved S.seen a b) n
+            self.old.id AreQuestions (IsTrue (is_ok result)) (moment_of self.old)
+            (moment_of self.new) out.old.items out.new.items }
     {
-        let mut count: u32 = 0;
         for number in next..end {
-            let one = self.ask_for(to, number, out)?;
-            count = count.saturating_add(one);
+            self.ask_for(to, number, out)?;
         }
-        Ok(count)
+        Ok(())
     }
 }

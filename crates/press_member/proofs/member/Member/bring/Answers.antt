@@ -1,9 +1,10 @@
 use Rattle.std.proofs.Common.{◌∙◌, ap, refl, length, IsTrue, true, false}
 use Rattle.std.proofs.lemmas.Result.{err_from_is_err_and}
 use Rattle.press_member.specs.Acts.{taken}
+use Rattle.press_member.specs.Played.{moment_of}
 use Rattle.press_member.specs.Turns.{refused_by}
 use Rattle.press_node.specs.Nodes.{node_moved}
-use Rattle.press_member.proofs.Turning.{brings_turns, brought}
+use Rattle.press_member.proofs.Turning.{brings_turn, brought}
 use Rattle.press_member.proofs.member.Member.bring.Goals as goal
 
 pub returns-in_err-played-clause-brings : goal.returns-in_err-played-clause-brings
@@ -12,7 +13,7 @@ returns-in_err-played-clause-brings g c =
     let d = c.in_err-played.ensures.deed in
     rw (p.1) (
       refused_by d.outcome,
-      brought (λ a b. node_moved g.S.PromiseStore.seen a b) (length c.args.self.now.peers.all.items) c.args.self.now.player.id c.args.event (refused_by d.outcome) _ (IsTrue false) c.args.self.now.player.own.items c.play.new.self.own.items c.args.self.now.player.node c.play.new.self.node c.args.out.now.items c.play.new.out.items d refl,
+      brought (λ a b. node_moved g.S.PromiseStore.seen a b) (length c.args.self.now.peers.all.items) c.args.self.now.player.id c.args.event _ (IsTrue false) (moment_of c.args.self.now.player) (moment_of c.play.new.self) c.args.out.now.items c.play.new.out.items d,
       tt,
     )
 
@@ -20,22 +21,20 @@ pub returns-in_err-follow-clause-brings : goal.returns-in_err-follow-clause-brin
 returns-in_err-follow-clause-brings g c =
     let p = err_from_is_err_and c.from_residual-in_err-follow.result c.from_residual-in_err-follow.ensures.1 in
     let d = c.in_ok-played.ensures.deed in
-    let n = length c.args.self.now.peers.all.items in
+    let n = (length c.args.self.now.peers.all.items) in
     rw (p.1) (
       refused_by d.outcome,
-      brings_turns (λ a b. node_moved g.S.PromiseStore.seen a b) n c.args.self.now.player.id c.args.event (refused_by d.outcome) (IsTrue true) (IsTrue false) (IsTrue false) c.args.self.now.player.own.items c.play.new.self.own.items c.follow.new.self.own.items c.args.self.now.player.node c.play.new.self.node c.follow.new.self.node c.args.out.now.items c.play.new.out.items c.follow.new.out.items
-          (brought (λ a b. node_moved g.S.PromiseStore.seen a b) n c.args.self.now.player.id c.args.event (refused_by d.outcome) _ (IsTrue true) c.args.self.now.player.own.items c.play.new.self.own.items c.args.self.now.player.node c.play.new.self.node c.args.out.now.items c.play.new.out.items d refl)
-          c.play.new.self.id c.in_ok-played.ensures.id (c.in_err-follow.ensures.turned n) (λ w. refl) (λ w. w),
+      brings_turn (λ a b. node_moved g.S.PromiseStore.seen a b) n c.args.self.now.player.id c.args.event _ (IsTrue true) (IsTrue false) (IsTrue false) (moment_of c.args.self.now.player) (moment_of c.play.new.self) (moment_of c.follow.new.self) c.args.out.now.items c.play.new.out.items c.follow.new.out.items
+          d c.play.new.self.id c.in_ok-played.ensures.id (c.in_err-follow.ensures.turned n) (λ w. refl) (λ w. w),
       tt,
     )
 
 pub returns-clause-brings : goal.returns-clause-brings
 returns-clause-brings g c =
     let d = c.in_ok-played.ensures.deed in
-    let n = length c.args.self.now.peers.all.items in (
+    let n = (length c.args.self.now.peers.all.items) in (
       refused_by d.outcome,
-      brings_turns (λ a b. node_moved g.S.PromiseStore.seen a b) n c.args.self.now.player.id c.args.event (refused_by d.outcome) (IsTrue true) (IsTrue true) (IsTrue true) c.args.self.now.player.own.items c.play.new.self.own.items c.follow.new.self.own.items c.args.self.now.player.node c.play.new.self.node c.follow.new.self.node c.args.out.now.items c.play.new.out.items c.follow.new.out.items
-          (brought (λ a b. node_moved g.S.PromiseStore.seen a b) n c.args.self.now.player.id c.args.event (refused_by d.outcome) _ (IsTrue true) c.args.self.now.player.own.items c.play.new.self.own.items c.args.self.now.player.node c.play.new.self.node c.args.out.now.items c.play.new.out.items d refl)
-          c.play.new.self.id c.in_ok-played.ensures.id (c.in_ok-follow.ensures.turned n) (λ w. w) (λ w. w),
+      brings_turn (λ a b. node_moved g.S.PromiseStore.seen a b) n c.args.self.now.player.id c.args.event _ (IsTrue true) (IsTrue true) (IsTrue true) (moment_of c.args.self.now.player) (moment_of c.play.new.self) (moment_of c.follow.new.self) c.args.out.now.items c.play.new.out.items c.follow.new.out.items
+          d c.play.new.self.id c.in_ok-played.ensures.id (c.in_ok-follow.ensures.turned n) (λ w. w) (λ w. w),
       c.answer.ensures ∙ ap taken d.refused_so,
     )

@@ -1,14 +1,13 @@
 use Rattle.std.proofs.Common.{refl, sym, subst}
 use Rattle.press_member.specs.declared.input.Input.TheVariants as input
 use Rattle.press_member.specs.Acts.{Shows}
-use Rattle.press_node.specs.Nodes.{kit_of, state_of}
-use Rattle.press_node.specs.Nodes.{node_moved}
+use Rattle.press_node.specs.Nodes.{kit_of, node_moved, state_of}
 use Rattle.press_member.proofs.Inputs.{rests}
 use Rattle.press_member.proofs.member.Member.on_page.Goals as goal
 
 pub returns : goal.returns
 returns g c =
     record {
-      acts = rests (λ a b. node_moved g.S.PromiseStore.seen a b) (input.Page c.args.target.now) _ _ c.only.result (record { id = refl; members = refl; digests = refl; kit = refl }) refl refl c.only.ensures.messages refl
+      acts = rests (λ a b. node_moved g.S.PromiseStore.seen a b) (input.Page c.args.target.now) _ _ c.only.result (record { id = refl; members = refl; digests = refl; kit = refl }) refl c.only.ensures.messages refl
           (subst (Shows c.args.self.now.player.pace.is_settled (kit_of c.args.self.now.player.node) (state_of c.args.self.now.player.node).up c.args.target.now) (sym c.only.ensures.answer) c.answer_to-answer.ensures);
     }

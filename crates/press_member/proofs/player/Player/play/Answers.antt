@@ -7,5 +7,6 @@ returns-in-Err-clause-deed g c = record {
   outcome = Err c.in-Err.fault;
   plays = c.in-Err.ensures.plays;
   sorted = none_sorted c.args.self.now.id c.args.self.now.own.items c.args.out.now.items _;
+  stop_is = c.stop_behind-self.ensures;
   refused_so = refl;
 }
