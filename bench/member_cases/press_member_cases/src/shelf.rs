@@ -1,6 +1,6 @@
-//! Stores that members of a run stand on, and what their disks keep when a member ends.
+//! Stores that members stand on, and what their disks keep when a member ends.
 
-use press_acceptor::{MemoryStore, PromiseStore};
+use press_acceptor::PromiseStore;
 use std::alloc::Global;
 
 /// A store that is opened over what a disk kept, and leaves that again.

@@ -4,7 +4,7 @@ use crate::dice::Dice;
 use std::alloc::{AllocError, Global};
 
 /// How long requests take, and how many of a thousand are lost and come twice.
-#[derive(Clone, Copy, Debug)]
+#[derive(Clone, Copy, Drop)]
 pub struct Wire {
     pub least: u64,
     pub most: u64,
@@ -25,7 +25,7 @@ impl Wire {
 }
 
 /// What happens to a member or to the network. Members are named by their places, from 0.
-#[derive(Clone, Copy, Debug)]
+#[derive(Clone, Copy, Drop)]
 pub enum Fault {
     Kill(usize),
     /// It starts over what its disk kept; the save of that number from then on fails.
@@ -51,13 +51,13 @@ pub enum Fault {
     Outage,
 }
 
-#[derive(Clone, Copy, Debug)]
+#[derive(Clone, Copy, Drop)]
 pub struct Step {
     pub at: u64,
     pub fault: Fault,
 }
 
-#[derive(Debug, Drop)]
+#[derive(Drop)]
 pub struct Scenario {
     pub seed: u64,
     pub members: u8,
@@ -69,6 +69,8 @@ pub struct Scenario {
     /// Milliseconds from one form to the next, and from one page; 0 for none.
     pub forms: u64,
     pub pages: u64,
+    /// How many forms come to each member at once at the end.
+    pub rush: u64,
     /// When faults end.
     pub calm: u64,
     pub steps: Vec<Step>,
@@ -196,6 +198,20 @@ fn drawn_fault(dice: &mut Dice, members: u64) -> Fault {
     }
 }
 
+// Fewer forms come, since a database of simulated files takes its time.
+fn ease(scenario: &mut Scenario) {
+    scenario.rush = 5;
+    if scenario.forms > 0 {
+        scenario.forms = scenario.forms.max(150);
+    }
+    for step in scenario.steps.iter_mut() {
+        if let Fault::Burst { place, count } = step.fault {
+            let count = count.min(20);
+            step.fault = Fault::Burst { place, count };
+        }
+    }
+}
+
 /// The scenario of that number.
 pub fn drawn(alloc: Global, seed: u64) -> Result<Scenario, AllocError> {
     let mut dice = Dice::new(seed);
@@ -211,16 +227,22 @@ pub fn drawn(alloc: Global, seed: u64) -> Result<Scenario, AllocError> {
         let fault = drawn_fault(&mut dice, u64::from(members));
         steps.push(Step { at, fault })?;
     }
-    Ok(Scenario {
+    let tick = u32::try_from(dice.between(50, 1_000)).unwrap_or(1_000);
+    let mut scenario = Scenario {
         seed,
         members,
-        tick: dice.between(50, 1_000) as u32,
+        tick,
         is_sql: seed % 20 == 19,
         wire,
         rest,
         forms: every(&mut dice),
         pages: every(&mut dice),
+        rush: 20,
         calm: at.saturating_add(dice.between(1, 500)),
         steps,
-    })
+    };
+    if scenario.is_sql {
+        ease(&mut scenario);
+    }
+    Ok(scenario)
 }

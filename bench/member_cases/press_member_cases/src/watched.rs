@@ -1,10 +1,21 @@
 //! A store whose votes are noted as they are saved.
 
-use crate::note::Note;
+use crate::forms::digest_of_value;
 use crate::shelf::Shelf;
 use press_acceptor::{Block, PromiseStore, StoreFault};
+use press_simulation::Note;
 use press_wire::{Ballot, Round, Slot, Vote, is_first};
 use std::alloc::Global;
+
+// What is noted of a vote for a slot.
+fn note_of(alloc: Global, slot: Slot, vote: &Vote) -> Note {
+    Note {
+        slot: slot.number(),
+        round: vote.ballot.round.number(),
+        node: vote.ballot.node.number(),
+        value: digest_of_value(alloc, &vote.value),
+    }
+}
 
 /// A store, and the votes that it saved.
 pub struct Watched<S> {
@@ -74,21 +85,25 @@ impl<S: Shelf> Watched<S> {
         }
     }
 
+    // The vote for a slot, as the disk has it.
+    fn vote(&mut self, slot: Slot) -> Option<Note> {
+        let first = slot.first();
+        if !is_first(first) {
+            return None;
+        }
+        let block = self.inner.load(first).ok()?;
+        let vote = block.votes.get(slot)?;
+        Some(note_of(self.alloc, slot, vote))
+    }
+
     /// Notes the vote if the disk has it.
     pub fn look_for(&mut self, perhaps: Note) {
         let Some(slot) = Slot::new(perhaps.slot) else {
             return;
         };
-        let first = slot.first();
-        if !is_first(first) {
-            return;
-        }
-        if let Ok(block) = self.inner.load(first) {
-            if let Some(vote) = block.votes.get(slot) {
-                let note = Note::of(self.alloc, slot, vote);
-                if note == perhaps {
-                    let _ = self.notes.push(note);
-                }
+        if let Some(note) = self.vote(slot) {
+            if note.is(&perhaps) {
+                let _ = self.notes.push(note);
             }
         }
     }
@@ -117,7 +132,7 @@ impl<S: PromiseStore> PromiseStore for Watched<S> {
     }
 
     fn save_vote(&mut self, slot: Slot, vote: &Vote) -> Result<(), StoreFault> {
-        let note = Note::of(self.alloc, slot, vote);
+        let note = note_of(self.alloc, slot, vote);
         let saved = self.inner.save_vote(slot, vote);
         if saved.is_ok() {
             let _ = self.notes.push(note);

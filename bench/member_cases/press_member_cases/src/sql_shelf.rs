@@ -2,7 +2,7 @@
 
 use crate::shelf::Shelf;
 use press_store::SqlStore;
-use sqlite::{Connection, FileStore, Files, Options};
+use sqlite::{Alter, Connection, FileStore, Files, Options};
 use sqlite_disk::{Crash, Disk, Fuse, Memory};
 use std::alloc::Global;
 
@@ -42,6 +42,43 @@ fn crashed(files: Files<Device>) -> Files<Device> {
     files
 }
 
+// A store on an open database, with how many slots are chosen by its votes; the database, if it is none.
+fn store_on<D: Alter>(
+    alloc: Global,
+    conn: Connection<D>,
+) -> Result<(SqlStore<D>, u64), Connection<D>> {
+    let mut store = match SqlStore::adopt(alloc, conn) {
+        Ok(store) => store,
+        Err((_, conn)) => return Err(conn),
+    };
+    match store.last_vote() {
+        Ok(Some(slot)) => Ok((store, u64::from(slot.number()).saturating_sub(1))),
+        Ok(None) => Ok((store, 0)),
+        Err(_) => Err(store.into_connection()),
+    }
+}
+
+// The same over files.
+fn store_in<D: Disk + Drop>(
+    alloc: Global,
+    files: Files<D>,
+) -> Result<(SqlStore<FileStore<D>>, u64), Files<D>> {
+    if !files.may_be_used() {
+        return Err(files);
+    }
+    match Connection::open_files(alloc, files, Options::new(1)) {
+        Ok(conn) => match store_on(alloc, conn) {
+            Ok(opened) => Ok(opened),
+            Err(conn) => Err(conn.into_store().close()),
+        },
+        Err((_, left)) => Err(left.into_files()),
+    }
+}
+
+fn files_of<D: Disk + Drop>(store: SqlStore<FileStore<D>>) -> Files<D> {
+    store.into_connection().into_store().close()
+}
+
 impl Shelf for SqlStore<FileStore<Device>> {
     type Kept = Files<Device>;
 
@@ -60,26 +97,14 @@ impl Shelf for SqlStore<FileStore<Device>> {
         let Some(files) = fused(alloc, &kept, fails) else {
             return Err(kept);
         };
-        if !files.may_be_used() {
-            return Err(kept);
-        }
         drop(kept);
-        let conn = match Connection::open_files(alloc, files, Options::new(1)) {
-            Ok(conn) => conn,
-            Err((_, left)) => return Err(crashed(left.into_files())),
-        };
-        let mut store = match SqlStore::adopt(alloc, conn) {
-            Ok(store) => store,
-            Err((_, conn)) => return Err(crashed(conn.into_store().close())),
-        };
-        match store.last_vote() {
-            Ok(Some(slot)) => Ok((store, u64::from(slot.number()).saturating_sub(1))),
-            Ok(None) => Ok((store, 0)),
-            Err(_) => Err(store.close()),
+        match store_in(alloc, files) {
+            Ok(opened) => Ok(opened),
+            Err(files) => Err(crashed(files)),
         }
     }
 
     fn close(self) -> Files<Device> {
-        crashed(self.into_connection().into_store().close())
+        crashed(files_of(self))
     }
 }

@@ -1,7 +1,7 @@
 //! Numbers by chance, the same for the same seed (SplitMix64).
 
 /// What the next number comes of.
-#[derive(Clone, Copy, Debug)]
+#[derive(Clone, Copy, Drop)]
 pub struct Dice {
     state: u64,
 }

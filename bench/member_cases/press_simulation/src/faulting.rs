@@ -1,0 +1,157 @@
+//! Faults as they happen.
+
+use crate::actor::{Actor, Begins};
+use crate::scenario::{Fault, Wire};
+use crate::world::World;
+use std::alloc::AllocError;
+
+impl<A: Actor> World<A> {
+    fn kill(&mut self, place: usize) -> Result<(), AllocError>
+        requires always { Unit {0} }
+    {
+        self.note(place)?;
+        if self.liar == Some(place) {
+            self.changed = self.now;
+        }
+        match self.seats.get_mut(place) {
+            Some(seat) => seat.stop(),
+            None => Ok(()),
+        }
+    }
+
+    fn open(&mut self, place: usize, fails: Option<u64>, is_foreign: bool) -> Result<(), AllocError>
+        requires always { Unit {0} }
+    {
+        self.kill(place)?;
+        let begins = Begins {
+            fails,
+            cluster: 0,
+            tick: self.tick,
+        };
+        let clock = self.network.draw(0, 999_999);
+        let again = self.now.saturating_add(100);
+        if let Some(seat) = self.seats.get_mut(place) {
+            if !seat.start(clock, is_foreign, begins) {
+                seat.start_at(again);
+            }
+        }
+        self.tally.starts = self.tally.starts.saturating_add(1);
+        self.heard.forget(place);
+        self.changed = self.now;
+        Ok(())
+    }
+
+    /// A member starts anew.
+    pub fn start(&mut self, place: usize) -> Result<(), AllocError>
+        requires always { Unit {0} }
+    {
+        self.open(place, None, false)
+    }
+
+    fn lie(&mut self, place: usize, more: u64) {
+        let is_other = match self.liar {
+            Some(liar) => liar != place,
+            None => false,
+        };
+        if self.count() < 3 || is_other {
+            return;
+        }
+        self.liar = Some(place);
+        if let Some(seat) = self.seats.get_mut(place) {
+            seat.lie(more);
+        }
+    }
+
+    fn start_at(&mut self, place: usize, at: u64) {
+        if let Some(seat) = self.seats.get_mut(place) {
+            seat.start_at(at);
+        }
+    }
+
+    // All members end, and start again soon.
+    fn stop_all(&mut self) -> Result<(), AllocError>
+        requires always { Unit {0} }
+    {
+        for place in 0..self.count() {
+            self.kill(place)?;
+            let wait = self.network.draw(1, 1_500);
+            self.start_at(place, self.now.saturating_add(wait));
+        }
+        Ok(())
+    }
+
+    fn pause(&mut self, place: usize, millis: u64) {
+        let until = self.now.saturating_add(millis);
+        if let Some(seat) = self.seats.get_mut(place) {
+            seat.pause(until);
+        }
+    }
+
+    fn jump(&mut self, place: usize, millis: u64) {
+        self.heard.forget_told(place);
+        if let Some(seat) = self.seats.get_mut(place) {
+            seat.jump(millis);
+        }
+    }
+
+    // A fault of the network, of a clock, or of what is said happens, if it is one.
+    fn happen_between(&mut self, fault: Fault) {
+        let members = self.count();
+        match fault {
+            Fault::Cut { from, to } => self.network.cut(from, to),
+            Fault::Part(side) => self.network.part(side, members),
+            Fault::Heal => self.network.heal(),
+            Fault::Pause { place, millis } => self.pause(place, millis),
+            Fault::Jump { place, millis } => self.jump(place, millis),
+            Fault::Lie { place, more } => self.lie(place, more),
+            _ => {}
+        }
+    }
+
+    /// A fault happens.
+    pub fn happen(&mut self, fault: Fault) -> Result<(), AllocError>
+        requires always { Unit {0} }
+    {
+        self.changed = self.now;
+        match fault {
+            Fault::Kill(place) => self.kill(place),
+            Fault::Start { place, fails } => self.open(place, fails, false),
+            Fault::Foreign(place) => self.open(place, None, true),
+            Fault::Burst { place, count } => self.submit_often(place, count),
+            Fault::Outage => self.stop_all(),
+            Fault::Everywhere => self.submit_everywhere(),
+            _ => {
+                self.happen_between(fault);
+                Ok(())
+            }
+        }
+    }
+
+    // Faults of a member end; whether it runs, and its store is not to fail.
+    fn mend(&mut self, place: usize) -> bool {
+        let now = self.now;
+        match self.seats.get_mut(place) {
+            Some(seat) => {
+                seat.go_on(now);
+                seat.lie(0);
+                let standing = seat.standing();
+                standing.is_running && !standing.is_down && !seat.is_foreign() && !seat.is_armed()
+            }
+            None => true,
+        }
+    }
+
+    /// Faults end: all run, and the network is that good.
+    pub fn calm(&mut self, rest: Wire) -> Result<(), AllocError>
+        requires always { Unit {0} }
+    {
+        self.network.be(rest);
+        self.changed = self.now;
+        for place in 0..self.count() {
+            if !self.mend(place) {
+                self.start(place)?;
+            }
+        }
+        Ok(())
+    }
+}
