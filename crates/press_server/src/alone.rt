@@ -4,8 +4,8 @@ use crate::screen::{Screen, Sort, refuse_form, refuse_without_memory};
 use crate::turn::serve_turn;
 use press_acceptor::PromiseStore;
 use press_http::HttpFault;
-use press_node::Node;
 use press_net::{Answers, Errand, Outgoing, Time};
+use press_node::Node;
 use std::alloc::Global;
 use std::net::{IpAddr, SocketAddr};
 
