@@ -18,15 +18,10 @@ def ask(port, text, seconds=5, source=None):
         with socket.create_connection(("127.0.0.1", port), timeout=seconds, source_address=source and (source, 0)) as conn:
             conn.settimeout(seconds)
             conn.sendall(text)
-            reply = b""
-            while piece := conn.recv(65536):
-                reply += piece
+            reply = read_whole(conn)
     except OSError:
         raise Gone from None
-    head, split, body = reply.partition(b"\r\n\r\n")
-    length = next((int(it.split(b":")[1]) for it in head.split(b"\r\n") if it.lower().startswith(b"content-length:")), None)
-    if not split or length != len(body):
-        raise Gone
+    head, _, body = reply.partition(b"\r\n\r\n")
     return int(head.split(b" ")[1]), body
 
 
@@ -66,7 +61,7 @@ def digest_of(text):
 
 
 def read_whole(conn):
-    """A request, by its length."""
+    """A request or a reply, by its length."""
     asked, count = b"", None
     while count is None or len(asked) < count:
         piece = conn.recv(65536)
@@ -81,8 +76,9 @@ def read_whole(conn):
 
 
 def prepares_in(asked):
-    """How many of the messages of a batch are prepares."""
-    rest, count = asked.partition(b"\r\n\r\n")[2][REPORT:], 0
+    """How many of the messages of a batch, or of the reply to one, are prepares."""
+    body, count = asked.partition(b"\r\n\r\n")[2], 0
+    rest = body[REPORT:] if body[:1] == bytes([1]) else b""
     while rest:
         count += rest[4] == PREPARE
         rest = rest[4 + int.from_bytes(rest[:4], "big") :]
@@ -120,28 +116,29 @@ class Relay:
 
     def carry(self, conn):
         with conn:
-            if self.chance.random() < self.cut:
-                return
-            if self.chance.random() < self.hold:
-                time.sleep(self.chance.uniform(0, 0.3))
-            conn.settimeout(3)
+            conn.settimeout(15)
             try:
-                asked = read_whole(conn)
                 with socket.create_connection(("127.0.0.1", self.target), timeout=3) as other:
-                    # A reply that is cut leaves messages that came, and of which their sender knows nothing.
-                    mute = self.chance.random() < self.cut
-                    other.sendall(with_digest(asked, self.digests[1]))
-                    self.prepares += prepares_in(asked)
-                    reply = b""
-                    while piece := other.recv(65536):
-                        reply += piece
-                if not mute:
-                    conn.sendall(with_digest(reply, self.digests[0]))
-                conn.shutdown(socket.SHUT_WR)
-                while conn.recv(65536):
-                    pass
+                    while self.carry_one(conn, other):
+                        pass
             except OSError:
                 return
+
+    def carry_one(self, conn, other):
+        """Carries a request and its reply; whether another may follow."""
+        asked = read_whole(conn)
+        if self.chance.random() < self.cut:
+            return False
+        if self.chance.random() < self.hold:
+            time.sleep(self.chance.uniform(0, 0.3))
+        # A reply that is cut leaves messages that came, and of which their sender knows nothing.
+        mute = self.chance.random() < self.cut
+        other.sendall(with_digest(asked, self.digests[1]))
+        reply = read_whole(other)
+        self.prepares += prepares_in(asked) + prepares_in(reply)
+        if not mute:
+            conn.sendall(with_digest(reply, self.digests[0]))
+        return not mute and reply.startswith(b"HTTP/1.1 200 ")
 
 
 class Cluster:

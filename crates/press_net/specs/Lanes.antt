@@ -6,6 +6,7 @@ use Rattle.std.specs.Time.{instant_nanos}
 use Rattle.std.specs.declared.time.Instant.{Instant}
 use Rattle.press_net.specs.Answering.{Credit, credit}
 use Rattle.press_net.specs.declared.answers.Errand.{Errand}
+use Rattle.mio.specs.declared.net.stream.TcpStream.{TcpStream}
 use Rattle.press_net.specs.declared.call.Call.{Call}
 use Rattle.press_net.specs.declared.call.Course.{Course}
 use Rattle.press_net.specs.declared.call.Course.TheVariants.{Goes, Whole, Lost}
@@ -22,6 +23,10 @@ queue_of lane = record { waiting = lane.waiting.items; «open» = lane.«open» 
 
 abbrev pub queues : Calls → List Queue
 queues calls = map queue_of calls.lanes.items
+
+-- the connection to the member at a place that stays open
+abbrev pub kept_at : Calls → ℕ → Option TcpStream
+kept_at calls place = option_and_then (λ lane. lane.kept) (slice_get calls.lanes.items place)
 
 -- the queues with the one at a place changed
 abbrev pub changed_at : (Queue → Queue) → ℕ → List Queue → List Queue

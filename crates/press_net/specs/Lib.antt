@@ -1,3 +1,4 @@
+pub mod Addresses
 pub mod Lanes
 pub mod Talking
 pub mod Turning

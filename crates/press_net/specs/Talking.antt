@@ -1,5 +1,5 @@
 -- The open connections (own).
-use Rattle.std.specs.Prelude.{ℕ, ◌≡◌, ◌≤◌, ◌<◌, ◌⊎◌, ◌-◌, ◌+◌, ◌/◌, ◌&&◌, ◌||◌, Bool, true, false, List, [], ◌∷◌, ◌++◌, map, Option, Some, None, IsSome, Result, Ok, Err, not, option_and_then, unwrap_or, option_map, is_none, slice_get, slice_set, length, nat_le, nat_lt, bytes_eq, position, if◌then◌else◌}
+use Rattle.std.specs.Prelude.{ℕ, ◌≡◌, ◌≤◌, ◌<◌, ◌⊎◌, ◌-◌, ◌+◌, ◌/◌, ◌==◌, ◌&&◌, ◌||◌, Bool, true, false, List, [], ◌∷◌, ◌++◌, map, Option, Some, None, IsSome, Result, Ok, Err, not, option_and_then, unwrap_or, option_map, is_none, slice_get, slice_set, length, nat_le, nat_lt, bytes_eq, position, if◌then◌else◌}
 use Rattle.std.specs.Time.{instant_nanos}
 use Rattle.press_http.specs.declared.fault.HttpFault.{HttpFault}
 use Rattle.press_http.specs.declared.fault.HttpFault.TheVariants as fault
@@ -45,6 +45,18 @@ abbrev pub is_member : Group → Bool
 is_member Surplus = false
 is_member Within = false
 is_member Member = true
+
+-- it may stay open behind a reply: a member's, with status 200, and whose input goes on
+abbrev pub may_stay : Bool → ℕ → Group → Bool
+may_stay ended status group = not ended && (status == 200) && is_member group
+
+-- it stayed open, and no other request has begun
+abbrev pub is_resting : Talk → Bool
+is_resting talk = talk.is_kept && (length talk.came.bytes.items == 0)
+
+-- behind a reply another request may come, or nothing is heard any more
+abbrev pub phase_behind : Bool → Phase
+phase_behind kept = if kept then Reading else Ending
 
 -- it is no member's
 abbrev pub is_stranger : Talk → Bool

@@ -19,7 +19,8 @@ call_of = Call
 abbrev pub KeepsAllButCalls : Server → Server → Type 0
 KeepsAllButCalls new old =
     (new.talks ≡ old.talks) × (new.came ≡ old.came) × (new.left ≡ old.left) × (new.is_behind ≡ old.is_behind) × (new.is_timed ≡ old.is_timed)
-    × (new.begun ≡ old.begun) × (new.now ≡ old.now) × (new.poll ≡ old.poll) × (new.listener ≡ old.listener) × (new.held ≡ old.held) × (new.last_out ≡ old.last_out)
+    × (new.begun ≡ old.begun) × (new.now ≡ old.now) × (new.poll ≡ old.poll) × (new.listener ≡ old.listener) × (new.addr ≡ old.addr) × (new.held ≡ old.held) × (new.last_out ≡ old.last_out)
+    × (new.waits_since ≡ old.waits_since)
 
 -- so many connections are still to have their turn
 abbrev pub ends_at : ℕ → Option ℕ → Bool

@@ -1,9 +1,10 @@
 //! One request that goes out to a member, from its begin to its end.
 
-ghost use Rattle.std.specs.Prelude.{◌≡◌, ◌++◌, ◌-◌, ◌<◌, ◌≤◌, IfOk, IsFalse, IsTrue, length, option_map, take};
+ghost use Rattle.std.specs.Prelude.{◌≡◌, ◌++◌, ◌-◌, ◌<◌, ◌≤◌, IfOk, IsFalse, IsTrue, None, Some, false, if◌then◌else◌, length, option_map, take};
 ghost use Rattle.press_net.specs.Lanes.{HasSameAim, asked_by, is_call_late, is_out, reply_in, request_of};
 
 use crate::answers::{Errand, Outgoing};
+use crate::reply::is_whole;
 use crate::sending::Sending;
 use mio::net::TcpStream;
 use std::alloc::{AllocError, Global};
@@ -11,13 +12,13 @@ use std::io;
 use std::io::{ErrorKind, Read};
 use std::time::{Duration, Instant};
 
-const PIECE: usize = 1024;
+const PIECE: usize = 8192;
 
-// The most pieces of a reply that are drained at once.
-const MOST_AWAY: u32 = 16;
+// The most pieces of a reply that are drained at once: more than are looked at.
+const MOST_AWAY: u32 = 160;
 
-// How many bytes of a reply are looked at.
-const LONGEST: usize = 512;
+// How many bytes of a reply are looked at: a batch, and a head.
+const LONGEST: usize = 1_049_088;
 
 // Its time limit.
 const SECONDS: u64 = 2;
@@ -44,6 +45,8 @@ pub struct Call {
     reply: Vec<u8>,
     begun: Instant,
     course: Course,
+    // Whether its reply is whole by what its head says, so that its connection may take another request.
+    is_kept: bool,
 }
 
 impl Drop for Call {
@@ -56,6 +59,7 @@ impl Drop for Call {
             reply: _,
             begun: _,
             course: _,
+            is_kept: _,
         } = self;
     }
 }
@@ -66,10 +70,10 @@ impl Call {
         ensures request { request_of result ≡ asked_by outgoing }
         ensures begun { result.begun ≡ begun }
         ensures stream { result.stream ≡ stream }
+        ensures kept { result.is_kept ≡ false }
     {
         let Outgoing {
             place,
-            addr: _,
             bytes,
             errand,
         } = outgoing;
@@ -81,7 +85,28 @@ impl Call {
             reply: Vec::new(alloc),
             begun,
             course: Course::Goes,
+            is_kept: false,
         }
+    }
+
+    /// Ends it, and returns its connection, if another request may go over that.
+    pub fn into_kept(self) -> Option<TcpStream>
+        ensures { result ≡ (if self.is_kept then Some self.stream else None) }
+    {
+        let Call {
+            stream,
+            place: _,
+            errand: _,
+            request: _,
+            reply: _,
+            begun: _,
+            course: _,
+            is_kept,
+        } = self;
+        if is_kept {
+            return Some(stream);
+        }
+        None
     }
 
     /// Its socket, for the poll.
@@ -142,8 +167,8 @@ impl Call {
         Duration::from_secs(SECONDS) <= now.duration_since(self.begun)
     }
 
-    // Sends the request as far as the socket takes it: none of it before it is connected. Returns whether it is out.
-    fn send(&mut self) -> io::Result<bool>
+    /// Sends the request as far as the socket takes it: none of it before it is connected. Returns whether it is out.
+    pub fn send(&mut self) -> io::Result<bool>
         ensures whole { IfOk result (λ whole. IsTrue whole →
             length self.new.request.bytes.items ≤ self.new.request.sent) }
         ensures left { IfOk result (λ whole. IsFalse whole →
@@ -158,7 +183,7 @@ impl Call {
 
     fn hear(&mut self, piece: &[u8]) -> Result<(), AllocError>
         ensures heard { IfOk result (λ _. self.new.reply.items ≡
-            self.old.reply.items ++ take (512 - length self.old.reply.items) piece.now) }
+            self.old.reply.items ++ take (1049088 - length self.old.reply.items) piece.now) }
         ensures same { HasSameAim self.new self.old }
     {
         let room = LONGEST.saturating_sub(self.reply.len());
@@ -166,7 +191,7 @@ impl Call {
         self.reply.extend_from_slice(front)
     }
 
-    // Drains the reply, until it ends.
+    // Drains the reply, until it ends, or is whole.
     fn read_away(&mut self) -> io::Result<()>
         ensures { HasSameAim self.new self.old }
     {
@@ -180,6 +205,11 @@ impl Call {
                 Ok(n) => self.hear(&piece[..n])?,
                 Err(e) if e.kind() == ErrorKind::WouldBlock => return Ok(()),
                 Err(e) => return Err(e),
+            }
+            if is_whole(&self.reply) {
+                self.is_kept = true;
+                self.course = Course::Whole;
+                return Ok(());
             }
         }
         Ok(())

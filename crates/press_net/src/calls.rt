@@ -2,10 +2,11 @@
 
 ghost use Rattle.std.specs.Prelude.{◌≡◌, [], if◌then◌else◌, ◌+◌, ◌<◌, ◌≤◌, ◌⊎◌, IfErr, IfOk, IfSome, IsFalse, IsTrue, MatchOption, None, Some, false, is_none, length, option_and_then, option_map, position, slice_get, slice_set, unwrap_or};
 ghost use Rattle.std.specs.VecDeque.{deque_capacity, deque_len};
-ghost use Rattle.press_net.specs.Lanes.{IsGrown, MakesRoom, are_out, call_at, changed_at, ended, front_at, is_call_late, is_out_at, is_ready, queue_of, queues, ready, sent, with_lanes, with_last};
+ghost use Rattle.press_net.specs.Lanes.{IsGrown, MakesRoom, are_out, call_at, changed_at, ended, front_at, is_call_late, is_out_at, is_ready, kept_at, queue_of, queues, ready, sent, with_lanes, with_last};
 
 use crate::answers::Outgoing;
 use crate::call::Call;
+use mio::net::TcpStream;
 use std::alloc::{AllocError, Global};
 use std::collections::VecDeque;
 use std::time::Instant;
@@ -20,6 +21,8 @@ const MOST_WAITING: usize = 4_096;
 struct Lane {
     waiting: VecDeque<Outgoing>,
     open: usize,
+    // A connection over which a request went, and its whole reply came.
+    kept: Option<TcpStream>,
 }
 
 impl Lane {
@@ -51,6 +54,7 @@ impl Drop for Lane {
         let Lane {
             waiting: _,
             open: _,
+            kept: _,
         } = self;
     }
 }
@@ -107,6 +111,7 @@ impl Calls {
             self.lanes.push(Lane {
                 waiting: VecDeque::new(self.alloc),
                 open: 0,
+                kept: None,
             })?;
         }
         Ok(())
@@ -220,6 +225,46 @@ impl Calls {
         if let Some(call) = slot.take() {
             self.close_lane(call.place());
         }
+    }
+
+    /// Takes one from its place, whose reply came: another may go over its connection, where that stays open.
+    pub fn keep(&mut self, place: usize)
+        ensures free { self.new.places.items ≡ slice_set self.old.places.items place None }
+        ensures lane { MatchOption (call_at self.old place) (self.new.lanes ≡ self.old.lanes)
+            (λ call. queues self.new ≡ changed_at ended call.place (queues self.old)) }
+    {
+        let Some(slot) = self.places.get_mut(place) else {
+            return;
+        };
+        let Some(call) = slot.take() else {
+            return;
+        };
+        let to = call.place();
+        self.close_lane(to);
+        self.keep_stream(to, call.into_kept());
+    }
+
+    // A connection to the member at a place stays open.
+    fn keep_stream(&mut self, place: usize, stream: Option<TcpStream>)
+        ensures keeps { MatchOption stream (kept_at self.new place ≡ kept_at self.old place)
+            (λ stream. place < length self.old.lanes.items →
+            kept_at self.new place ≡ Some stream) }
+        ensures lanes { queues self.new ≡ queues self.old }
+        ensures same { self.new.places ≡ self.old.places }
+    {
+        if let (Some(lane), Some(stream)) = (self.lanes.get_mut(place), stream) {
+            lane.kept = Some(stream);
+        }
+    }
+
+    /// The connection to the member at a place that stayed open, if one did: it is the caller's now.
+    pub fn take_kept(&mut self, place: usize) -> Option<TcpStream>
+        ensures takes { result ≡ kept_at self.old place }
+        ensures gone { kept_at self.new place ≡ None }
+        ensures lanes { queues self.new ≡ queues self.old }
+        ensures same { self.new.places ≡ self.old.places }
+    {
+        self.lanes.get_mut(place)?.kept.take()
     }
 
     /// How many places there are.

@@ -12,7 +12,8 @@ ghost use Rattle.press_net.specs.Turning.{KeepsAllButCalls, call_of, ends_at, ho
 use crate::answers::{Answers, Outgoing, Time};
 use crate::call::Call;
 use crate::calls::Calls;
-use crate::talk::{Arrival, Group, Phase, Talk, log_closed};
+use crate::dial::connect_from;
+use crate::talk::{Arrival, Group, Phase, Talk, log_closed, log_line};
 use crate::talks::{Round, Talks};
 use mio::net::{TcpListener, TcpStream};
 use mio::{Events, Interest, Poll, Token};
@@ -34,6 +35,9 @@ const MOST_TAKEN: u32 = 256;
 
 // The most requests that go out before others have their turn.
 const MOST_CALLED: u32 = 256;
+
+// The most lines of its own that what is served has before others have their turn.
+const MOST_LINES: u32 = 16;
 
 // How long may pass before late connections are looked for.
 const MILLISECONDS: u64 = 100;
@@ -107,6 +111,15 @@ fn miss_of(error: &io::Error) -> Miss
     }
 }
 
+// Whether a connection over which nothing is to come is still open.
+fn is_open(stream: &TcpStream) -> bool {
+    let mut byte = [0u8; 1];
+    match stream.peek(&mut byte) {
+        Err(e) => e.kind() == io::ErrorKind::WouldBlock,
+        Ok(_) => false,
+    }
+}
+
 // Seconds since 1970. Before that, and by a clock that can't be read, it is 1970.
 pub fn seconds_of(since: io::Result<Duration>) -> u64
     ensures { MatchResult since (λ past. result ≡ as_nanos past / 1000000000) (λ _. result ≡ 0) }
@@ -114,6 +127,18 @@ pub fn seconds_of(since: io::Result<Duration>) -> u64
     match since {
         Ok(past) => past.as_secs(),
         Err(_) => 0,
+    }
+}
+
+// What is served has its own lines written.
+fn write_lines<A: Answers, E: Write>(answers: &mut A, log: &mut E)
+    ensures { A.becomes answers.old answers.new }
+{
+    for _ in 0..MOST_LINES {
+        match answers.next_line() {
+            Some(line) => log_line(log, &line),
+            None => return,
+        }
     }
 }
 
@@ -133,7 +158,8 @@ fn group_of(is_member: bool, is_crowded: bool) -> Group
 /// What a server is to do.
 #[derive(Clone, Copy)]
 pub struct Task {
-    /// After how many connections it ends; without it, when it is ended.
+    /// After how many connections it ends, one that stays open counted for each of its requests; without it, when it is
+    /// ended.
     pub turns: Option<u32>,
     /// The most connections that are open at once.
     pub most: usize,
@@ -152,11 +178,15 @@ struct Held {
 pub struct Server {
     poll: Poll,
     listener: TcpListener,
+    // Where it listens, from where requests go out too.
+    addr: SocketAddr,
     talks: Talks,
     calls: Calls,
     // Those whose replies are held, the oldest first, and when one was last let out.
     held: VecDeque<Held>,
     last_out: Instant,
+    // Since when what waits for nothing else waits for requests to be out.
+    waits_since: Option<Instant>,
     // How many connections came.
     came: u64,
     // Whether some may wait of whom nothing more will be told.
@@ -176,10 +206,12 @@ impl Drop for Server {
         let Server {
             poll: _,
             listener: _,
+            addr: _,
             talks: _,
             calls: _,
             held: _,
             last_out: _,
+            waits_since: _,
             came: _,
             is_behind: _,
             left: _,
@@ -211,10 +243,12 @@ impl Server {
         Ok(Server {
             poll,
             listener,
+            addr,
             talks: Talks::new(rt.alloc(), most),
             calls: Calls::new(rt.alloc()),
             held: VecDeque::new(rt.alloc()),
             last_out: now,
+            waits_since: None,
             came: 0,
             is_behind: false,
             left: turns,
@@ -362,6 +396,7 @@ impl Server {
     // A connection's socket is ready.
     fn step<A: Answers, E: Write>(&mut self, answers: &mut A, place: usize, log: &mut E)
         requires always { Unit {0} }
+        ensures { A.becomes answers.old answers.new }
     {
         let now = self.now;
         let Some(talk) = self.talks.get_mut(place) else {
@@ -436,6 +471,7 @@ impl Server {
         ensures credits { MatchOption (call_at self.old.calls place) (answers.new ≡ answers.old)
             (λ call. IsCredited A.hears call answers.old answers.new) }
         ensures rest { KeepsAllButCalls self.new self.old }
+        ensures becomes { A.becomes answers.old answers.new }
     {
         let Some(call) = self.calls.get_mut(place) else {
             return;
@@ -445,13 +481,14 @@ impl Server {
             return;
         };
         answers.called(call.place(), call.errand(), reply);
-        self.calls.leave(place);
+        self.calls.keep(place);
     }
 
     // Gives up a request that goes out.
     fn lose<A: Answers>(&mut self, answers: &mut A, place: usize)
         ensures loses { MatchOption (call_at self.old.calls place) (answers.new ≡ answers.old)
             (λ call. A.hears answers.old (credit call.place call.errand []) answers.new) }
+        ensures becomes { A.becomes answers.old answers.new }
     {
         if let Some(call) = self.calls.get_mut(place) {
             answers.called(call.place(), call.errand(), &[]);
@@ -461,10 +498,31 @@ impl Server {
 
     // A request goes out, at the time when it does. One that can't is lost, as a message may be.
     fn call<R: Net + Clock>(&mut self, rt: &R, outgoing: Outgoing) -> io::Result<()> {
+        let Some(addr) = outgoing.errand.addr else {
+            return Err(io::ErrorKind::AddrNotAvailable.into());
+        };
         let now = self.look_at_clock(rt);
-        let stream = TcpStream::connect(rt, outgoing.addr)?;
-        let mut call = Call::new(self.alloc, stream, outgoing, now);
         let place = self.calls.free_place()?;
+        let call = match self.calls.take_kept(outgoing.place) {
+            Some(stream) if is_open(&stream) => {
+                let call = Call::new(self.alloc, stream, outgoing, now);
+                self.call_again(place, call)?
+            }
+            _ => {
+                let stream = connect_from(rt, self.addr, addr)?;
+                let call = Call::new(self.alloc, stream, outgoing, now);
+                self.call_first(place, call)?
+            }
+        };
+        self.calls.enter(place, call);
+        Ok(())
+    }
+
+    // A request begins at a place, on a connection of which the poll hasn't heard.
+    fn call_first(&mut self, place: usize, call: Call) -> io::Result<Call> {
+        let mut call = call;
+        // A batch is written at once, so nothing is to be gathered by the socket.
+        let _ = call.stream().set_nodelay(true);
         self.poll.registry().register(
             call.stream(),
             token_of_call(place),
@@ -472,12 +530,27 @@ impl Server {
         )?;
         // Where the member is near, it is connected already.
         call.step();
-        self.calls.enter(place, call);
-        Ok(())
+        Ok(call)
+    }
+
+    // A request begins at a place, on a connection that stayed open. What came for it meanwhile the poll tells at once.
+    fn call_again(&mut self, place: usize, call: Call) -> io::Result<Call> {
+        let mut call = call;
+        let interest = if call.send()? {
+            Interest::READABLE
+        } else {
+            Interest::READABLE | Interest::WRITABLE
+        };
+        self.poll
+            .registry()
+            .reregister(call.stream(), token_of_call(place), interest)?;
+        Ok(call)
     }
 
     // Sends what waits, as far as there is room.
-    fn call_all<R: Net + Clock, A: Answers>(&mut self, rt: &R, answers: &mut A) {
+    fn call_all<R: Net + Clock, A: Answers>(&mut self, rt: &R, answers: &mut A)
+        ensures { A.becomes answers.old answers.new }
+    {
         for _ in 0..u64::MAX {
             let Some(outgoing) = answers.next_call() else {
                 break;
@@ -499,6 +572,44 @@ impl Server {
         }
     }
 
+    // Whether it may be done now what waits for nothing else: the requests are out, or others that came since have kept it
+    // waiting for two milliseconds.
+    fn may_go_on(&mut self, has_more: bool) -> bool {
+        let since = self.waits_since.take().unwrap_or(self.now);
+        if self.calls.are_out(self.now) {
+            return true;
+        }
+        if has_more && self.now.duration_since(since) < Duration::from_millis(PAUSE) {
+            self.waits_since = Some(since);
+            return false;
+        }
+        has_more
+    }
+
+    // Sends what waits; once that is out, what waits for nothing else may be done.
+    fn send_all<R: Net + Clock, A: Answers>(&mut self, rt: &R, answers: &mut A)
+        requires always { Unit {0} }
+        ensures { A.becomes answers.old answers.new }
+    {
+        self.call_all(rt, answers);
+        if self.may_go_on(answers.has_more()) {
+            answers.go_on();
+        }
+    }
+
+    // Hears the replies that came to requests that went out.
+    fn hear_calls<A: Answers>(&mut self, answers: &mut A, events: &Events<Global>)
+        requires always { Unit {0} }
+        ensures { A.becomes answers.old answers.new }
+    {
+        for event in events.iter() {
+            match holder_of(event.token()) {
+                Holder::Call(place) => self.step_call(answers, place),
+                Holder::Talk(_) | Holder::Listener => {}
+            }
+        }
+    }
+
     // How long it may wait for a socket: not at all where there is something to do.
     fn limit(&self, has_more: bool) -> Option<Duration> {
         if has_more && self.calls.are_out(self.now) {
@@ -514,7 +625,7 @@ impl Server {
         }
     }
 
-    // Does what the sockets are ready for. The listener is last, so that what has come is heard before any gives way.
+    // Does what the sockets of connections are ready for. The listener is last, so that what has come is heard before any gives way.
     fn round<C: Clock, A: Answers, E: Write>(
         &mut self,
         clock: &C,
@@ -523,12 +634,13 @@ impl Server {
         log: &mut E,
     )
         requires always { Unit {0} }
+        ensures { A.becomes answers.old answers.new }
     {
         let mut some_may_wait = self.is_behind;
         for event in events.iter() {
             match holder_of(event.token()) {
                 Holder::Talk(place) => self.step(answers, place, log),
-                Holder::Call(place) => self.step_call(answers, place),
+                Holder::Call(_) => {}
                 Holder::Listener => some_may_wait = true,
             }
         }
@@ -538,7 +650,9 @@ impl Server {
     }
 
     // Ends what is late at a time up to which all that came was looked at.
-    fn end_late<A: Answers, E: Write>(&mut self, answers: &mut A, now: Instant, log: &mut E) {
+    fn end_late<A: Answers, E: Write>(&mut self, answers: &mut A, now: Instant, log: &mut E)
+        ensures { A.becomes answers.old answers.new }
+    {
         for _ in 0..self.talks.end_late(now, log) {
             if self.is_open() {
                 self.had_turn();
@@ -561,32 +675,36 @@ impl Server {
     }
 
     /// Serves until all its connections had their turn and the last reply is out, until nothing is answered any more, or
-    /// until it is ended. A connection has its turn when its request is served, or it is closed without a reply.
-    pub fn serve<R: Net + Clock, A: Answers, E: Write>(
+    /// until it is ended. A connection has its turn when its request is served, or it is closed without a reply, and one
+    /// that stays open has one for each request.
+    pub fn serve<A: Answers, E: Write>(
         &mut self,
-        rt: &R,
+        rt: &HostRuntime,
         answers: &mut A,
         log: &mut E,
     ) -> io::Result<()>
         requires always { Unit {0} }
+        ensures { A.becomes answers.old answers.new }
     {
         let mut events = Events::with_capacity(self.alloc, EVENTS)?;
         for _ in 0..u64::MAX {
             if answers.is_over() || (!self.is_open() && self.talks.is_empty()) {
                 return Ok(());
             }
-            self.call_all(rt, answers);
-            if self.calls.are_out(self.now) {
-                answers.go_on();
-            }
+            answers.look_up(rt);
+            self.send_all(rt, answers);
             let limit = self.limit(answers.has_more());
             self.poll.poll(&mut events, limit)?;
             let now = self.look_at_clock(rt);
             let time = self.time(rt, now);
             answers.pass(time);
+            // What a reply brings goes out first: whoever is to answer that is at it while others are served here.
+            self.hear_calls(answers, &events);
+            self.send_all(rt, answers);
             self.round(rt, answers, &events, log);
             self.let_some_out();
             self.end_late(answers, now, log);
+            write_lines(answers, log);
         }
         Ok(())
     }

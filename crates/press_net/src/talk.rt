@@ -1,8 +1,8 @@
 //! One connection, from its beginning to its end.
 
-ghost use Rattle.std.specs.Prelude.{◌≡◌, ◌≢◌, ◌≤◌, ◌⊎◌, ◌||◌, [], IfOk, IsFalse, IsTrue, if◌then◌else◌, length, nat_lt};
+ghost use Rattle.std.specs.Prelude.{◌≡◌, ◌≢◌, ◌≤◌, ◌⊎◌, ◌||◌, [], IfOk, IsFalse, IsTrue, if◌then◌else◌, length, nat_le, nat_lt};
 ghost use Rattle.press_net.specs.declared.talk.Phase.TheVariants.{Ending, Reading, Writing};
-ghost use Rattle.press_net.specs.Talking.{IsAnswered, is_due, is_late, is_member, is_stalled};
+ghost use Rattle.press_net.specs.Talking.{IsAnswered, is_due, is_late, is_member, is_resting, is_stalled, may_stay, phase_behind};
 
 use crate::answers::Answers;
 use crate::gathered::Gathered;
@@ -32,6 +32,9 @@ const STALLED: u64 = 1;
 
 // The status of a reply that has a client come again later.
 const LATER: u16 = 503;
+
+// The status of a reply to what was taken.
+const TAKEN: u16 = 200;
 
 // The status of a reply to bytes that are no message.
 const MISUNDERSTOOD: u16 = 400;
@@ -81,7 +84,7 @@ pub struct Arrival {
     pub group: Group,
 }
 
-/// A connection to a client: its request so far, then its reply.
+/// A connection to a client: its request so far, then its reply. One of a member may have another request behind that.
 pub struct Talk {
     stream: TcpStream,
     pub arrival: Arrival,
@@ -94,6 +97,8 @@ pub struct Talk {
     taken: Instant,
     // Whether its reply waits until it is let out.
     is_held: bool,
+    // Whether it stays open behind a reply, for another request: a member's does, whose batch was taken.
+    is_kept: bool,
     alloc: Global,
 }
 
@@ -108,15 +113,21 @@ impl Drop for Talk {
             has_more: _,
             taken: _,
             is_held: _,
+            is_kept: _,
             alloc: _,
         } = self;
     }
 }
 
-// Writes the line of a connection; one that can't be written is dropped.
+/// Writes a line; one that can't be written is dropped.
+pub fn log_line<E: Write>(log: &mut E, line: &str) {
+    let _ = write_once(log, line.as_bytes());
+}
+
+// Writes the line of a connection, where there was memory for it.
 fn write_line<E: Write>(log: &mut E, line: Result<String, AllocError>) {
     if let Ok(line) = line {
-        let _ = write_once(log, line.as_bytes());
+        log_line(log, &line);
     }
 }
 
@@ -141,6 +152,7 @@ impl Talk {
             has_more: false,
             taken: arrival.begun,
             is_held: false,
+            is_kept: false,
             alloc,
         }
     }
@@ -231,6 +243,24 @@ impl Talk {
         method == "POST" && (target == "/members" || target == "/peer")
     }
 
+    // Whether it stays open behind a reply of that status.
+    fn stays_open(&self, ended: bool, status: u16) -> bool
+        ensures { IsTrue result → IsTrue (may_stay ended status self.now.arrival.group) }
+    {
+        !ended
+            && status == TAKEN
+            && self.group().is_member()
+            && self.came.asked() == ("POST", "/members")
+    }
+
+    // Of a connection that stays open the first reply alone gets a line.
+    fn log_reply<E: Write>(&self, log: &mut E, status: u16, is_kept: bool) {
+        if !(self.is_kept && is_kept) {
+            self.log_served(log, status);
+        }
+        self.log_misunderstood(log, status);
+    }
+
     // A member's message that isn't understood gets a line: a program of another version may have sent it.
     fn log_misunderstood<E: Write>(&self, log: &mut E, status: u16) {
         if status == MISUNDERSTOOD && self.is_message() && self.group().is_member() {
@@ -278,6 +308,10 @@ impl Talk {
             × (self.new.told.bytes ≡ self.old.told.bytes) × (self.new.phase ≡ self.old.phase) }
         ensures arrival { self.new.arrival ≡ self.old.arrival }
         ensures made { self.old.phase ≢ Writing → self.new.phase ≡ Writing → self.new.taken ≡ now }
+        // Nobody else's connection is ever to stay open.
+        ensures kept { IsTrue self.new.is_kept → IsTrue self.old.is_kept
+            ⊎ IsTrue (is_member self.old.arrival.group) }
+        ensures becomes { A.becomes answers.old answers.new }
     {
         if !ended && !self.came.is_due() {
             return false;
@@ -288,8 +322,9 @@ impl Talk {
             &mut self.told.bytes,
         ) {
             Ok(status) => {
-                self.log_served(log, status);
-                self.log_misunderstood(log, status);
+                let is_kept = self.stays_open(ended, status);
+                self.log_reply(log, status, is_kept);
+                self.is_kept = is_kept;
                 self.phase = Phase::Writing;
                 self.taken = now;
                 self.is_held = status == LATER && self.came.asked() == ("POST", "/command");
@@ -309,8 +344,13 @@ impl Talk {
 
     fn hear<A: Answers, E: Write>(&mut self, answers: &mut A, now: Instant, log: &mut E) -> bool
         requires always { Unit {0} }
+        ensures { A.becomes answers.old answers.new }
     {
         match self.gather() {
+            Ok(true) if self.is_resting() => {
+                self.phase = Phase::Over;
+                false
+            }
             Ok(ended) => self.look(answers, ended, now, log),
             Err(_) => {
                 self.log_fault(log, HttpFault::ReadFault);
@@ -320,26 +360,59 @@ impl Talk {
         }
     }
 
-    // Sends the reply as far as the socket takes it; once all is out the write side is shut.
-    fn send(&mut self, now: Instant) -> io::Result<()>
-        ensures whole { self.new.phase ≡ self.old.phase ⊎
-            length self.new.told.bytes.items ≤ self.new.told.sent }
-        ensures over { IfOk result (λ _.
-            length self.new.told.bytes.items ≤ self.new.told.sent → self.new.phase ≡ Ending) }
+    // Sends the reply as far as the socket takes it; returns whether all is out.
+    fn send(&mut self, now: Instant) -> io::Result<bool>
+        ensures phase { self.new.phase ≡ self.old.phase }
+        ensures whole { IfOk result (λ whole.
+            whole ≡ nat_le (length self.new.told.bytes.items) self.new.told.sent) }
         ensures same { self.new.told.bytes ≡ self.old.told.bytes }
+        ensures kept { self.new.is_kept ≡ self.old.is_kept }
         ensures taken { self.new.taken ≡ (if nat_lt self.old.told.sent self.new.told.sent
             then now else self.old.taken) }
     {
         let before = self.told.sent();
-        let sent = self.told.send(&mut self.stream);
+        let is_out = self.told.send(&mut self.stream);
         if before < self.told.sent() {
             self.taken = now;
         }
-        if sent? {
-            self.stream.shutdown(Shutdown::Write)?;
-            self.phase = Phase::Ending;
+        is_out
+    }
+
+    // Another request may come, with a time of its own. What came behind the last one is lost: nothing was to come.
+    fn begin_again(&mut self, now: Instant)
+        ensures reads { self.new.phase ≡ Reading }
+        ensures none { (self.new.came.bytes.items ≡ []) × (self.new.told.bytes.items ≡ []) }
+        ensures sent { self.new.told.sent ≡ 0 }
+        ensures begun { self.new.arrival.begun ≡ now }
+        ensures whose { (self.new.arrival.from ≡ self.old.arrival.from)
+            × (self.new.arrival.number ≡ self.old.arrival.number)
+            × (self.new.arrival.group ≡ self.old.arrival.group) }
+    {
+        self.came = Gathered::new(self.alloc);
+        self.told = Sending::new(Vec::new(self.alloc));
+        self.arrival.begun = now;
+        self.phase = Phase::Reading;
+    }
+
+    // Behind a reply that is out another request may come, or the write side is shut.
+    fn finish(&mut self, now: Instant) -> io::Result<()>
+        ensures behind { IfOk result (λ _. self.new.phase ≡ phase_behind self.old.is_kept) }
+        ensures group { self.new.arrival.group ≡ self.old.arrival.group }
+    {
+        if self.is_kept {
+            self.begin_again(now);
+            return Ok(());
         }
+        self.stream.shutdown(Shutdown::Write)?;
+        self.phase = Phase::Ending;
         Ok(())
+    }
+
+    // Whether it stayed open, and no other request has begun.
+    fn is_resting(&self) -> bool
+        ensures { result ≡ is_resting self.now }
+    {
+        self.is_kept && self.came.as_slice().is_empty()
     }
 
     // Drains what still comes.
@@ -371,8 +444,8 @@ impl Talk {
 
     // What is left to do after a look.
     fn reply(&mut self, now: Instant) -> io::Result<()> {
-        if self.phase == Phase::Writing && !self.is_held {
-            self.send(now)?;
+        if self.phase == Phase::Writing && !self.is_held && self.send(now)? {
+            self.finish(now)?;
         }
         if self.phase == Phase::Ending {
             self.read_away()?;
@@ -381,9 +454,10 @@ impl Talk {
     }
 
     /// Does what its socket is ready for; returns whether the connection had its turn by that: a reply was made, or it
-    /// was closed without one.
+    /// was closed within a request.
     pub fn step<A: Answers, E: Write>(&mut self, answers: &mut A, now: Instant, log: &mut E) -> bool
         requires always { Unit {0} }
+        ensures { A.becomes answers.old answers.new }
     {
         self.has_more = false;
         let had_turn = self.phase == Phase::Reading && self.hear(answers, now, log);

@@ -30,6 +30,7 @@ fn serve_line(fault: ServeFault) -> &'static [u8] {
         ServeFault::NoMemory => b"press: fault 0\n",
         ServeFault::NoConnections | ServeFault::ReadFault => b"press: fault 40\n",
         ServeFault::WriteFault => b"press: fault 42\n",
+        ServeFault::Foreign => b"press: the store is another member's\n",
         ServeFault::Disk => b"press: fault 50\n",
         ServeFault::Damaged => b"press: fault 51\n",
     }

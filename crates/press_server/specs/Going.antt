@@ -1,5 +1,5 @@
 -- What waits to go out to a member (own).
-use Rattle.std.specs.Prelude.{ℕ, ◌-◌, ◌&&◌, ◌||◌, Bool, true, false, List, [], ◌∷◌, drop, length, nat_le, nat_lt, if◌then◌else◌}
+use Rattle.std.specs.Prelude.{ℕ, ◌≡◌, ◌-◌, ◌==◌, ◌&&◌, ◌||◌, Bool, true, false, List, [], ◌∷◌, drop, length, nat_le, nat_lt, if◌then◌else◌}
 use Rattle.press_wire.specs.declared.message.Body.{Body}
 use Rattle.press_wire.specs.declared.message.Body.TheVariants.{Prepare, Promise, Nack, Accept, Accepted, Query}
 use Rattle.press_server.specs.declared.lanes.Lane.{Lane}
@@ -14,13 +14,26 @@ is_question (Accept round value) = false
 is_question (Accepted vote) = false
 is_question Query = true
 
--- fewer than 8 requests are on their way, and something waits
-abbrev pub is_ready : Lane → Bool
-is_ready lane = nat_lt lane.«open» 8 && (nat_lt 0 lane.looks || nat_lt 0 (length lane.waiting.items))
+-- no request is on its way, or fewer than 8 are and the last has been for 20 milliseconds
+abbrev pub is_free : ℕ → Lane → Bool
+is_free now lane = (lane.«open» == 0) || (nat_lt lane.«open» 8 && nat_le 20 (now - lane.since))
+
+-- another may go out, and something waits
+abbrev pub is_ready : ℕ → Lane → Bool
+is_ready now lane = is_free now lane && (nat_lt 0 lane.looks || nat_lt 0 (length lane.waiting.items))
+
+-- as many requests are on their way, since the same time, and as many looks wait
+abbrev pub HasSameWay : Lane → Lane → Type 0
+HasSameWay new old = (new.«open» ≡ old.«open») × (new.since ≡ old.since) × (new.looks ≡ old.looks)
 
 -- the oldest makes room where 3,333 wait
 abbrev pub with_room : List Waiting → List Waiting
 with_room waiting = if nat_le 3333 (length waiting) then drop 1 waiting else waiting
+
+-- the oldest is a question
+abbrev pub asks_first : List Waiting → Bool
+asks_first [] = false
+asks_first (first ∷ rest) = is_question first.message.body
 
 -- the oldest has waited for more than two seconds
 abbrev pub is_stale : ℕ → List Waiting → Bool

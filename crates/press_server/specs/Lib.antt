@@ -2,6 +2,7 @@ pub mod Digests
 pub mod Files
 pub mod Going
 pub mod Listening
+pub mod Living
 pub mod Members
 pub mod Paths
 pub mod Turns

@@ -1,5 +1,8 @@
 -- The members of a cluster (own).
-use Rattle.std.specs.Prelude.{ℕ, Option, None, Some}
+use Rattle.std.specs.Prelude.{ℕ, ◌-◌, ◌==◌, ◌&&◌, Bool, not, Option, None, Some}
+use Rattle.std.specs.declared.net.ip_addr.IpAddr.{IpAddr}
+use Rattle.press_net.specs.Addresses.{has_ip, sockets_at}
+use Rattle.press_server.specs.declared.peers.Peers.{Peers}
 use Rattle.press_server.specs.declared.setup.Place.{Place}
 use Rattle.press_server.specs.declared.setup.Place.TheVariants.{Alone, Member}
 
@@ -7,3 +10,7 @@ use Rattle.press_server.specs.declared.setup.Place.TheVariants.{Alone, Member}
 abbrev pub number_of : Place → Option ℕ
 number_of (Alone port) = None
 number_of (Member id peers tick) = Some id
+
+-- it is another member, which has that address
+abbrev pub is_other_at : Peers → ℕ → IpAddr → Bool
+is_other_at peers member ip = not (member == peers.own) && has_ip ip (sockets_at peers.book (member - 1))

@@ -1,5 +1,5 @@
 -- What a server sees of a request before its node does (own).
-use Rattle.std.specs.Prelude.{◌≡◌, ◌≢◌, ◌⊎◌, Bool, true, bytes_eq, codes, take, List, ℕ, Option, Some, Result, Ok, Err}
+use Rattle.std.specs.Prelude.{◌≡◌, ◌≢◌, ◌⊎◌, ◌+◌, Bool, true, false, bytes_eq, codes, take, min, nat_lt, List, ℕ, Option, None, Some, Result, Ok, Err}
 use Rattle.press_http.specs.declared.asked.Asked.{Asked}
 use Rattle.press_http.specs.declared.asked.Asked.TheVariants as asked
 use Rattle.press_http.specs.declared.fault.HttpFault.{HttpFault}
@@ -32,3 +32,8 @@ IsOfSort bytes sort =
     ((sort ≡ Ready) × (asks_ready bytes ≡ true)) ⊎ ((sort ≡ Editor) × (asks_editor bytes ≡ true))
     ⊎ ((seen : List ℕ) × (left : Option (List ℕ)) × Consumes (Some bytes) left seen × (meant : Result Asked HttpFault) × AsksFor seen left meant
     × (meant ≢ Err NoMemory) × (sort ≡ sort_by meant))
+
+-- a time is more seconds ahead than an operator allows
+abbrev pub is_ahead : Option ℕ → ℕ → ℕ → Bool
+is_ahead None at now = false
+is_ahead (Some most) at now = nat_lt (min (now + most) 18446744073709551615) at

@@ -1,5 +1,7 @@
 //! A node by itself behind a server: it has nobody to call.
 
+ghost use Rattle.press_server.specs.Living.{NodeLives};
+
 use crate::screen::{Screen, Sort, refuse_form, refuse_without_memory};
 use crate::turn::serve_turn;
 use press_acceptor::PromiseStore;
@@ -48,8 +50,10 @@ impl<'s, S: PromiseStore> Alone<'s, S> {
 }
 
 impl<S: PromiseStore> Alone<'_, S> {
+    #[tactic(auto, using(crate::specs::Living::stays))]
     fn reply(&mut self, request: &[u8], told: &mut Vec<u8>) -> Result<u16, HttpFault>
         requires always { Unit {0} }
+        ensures { NodeLives S.seen self.old.node self.new.node }
     {
         match self.screen.sort_of(self.alloc, request)? {
             Sort::Editor if self.screen.has_editor() => self.screen.show_editor(self.alloc, told),
@@ -63,9 +67,13 @@ impl<S: PromiseStore> Alone<'_, S> {
 }
 
 impl<S: PromiseStore> Answers for Alone<'_, S> {
+    ghost use Rattle.press_server.specs.Living.{NodeLives, joined, stays};
+
     ghost answers = { λ _ _ _. Unit {0} };
 
     ghost hears = { λ _ _ _. Unit {0} };
+
+    ghost becomes = { λ old new. NodeLives S.seen old.node new.node };
 
     fn addr(&self) -> SocketAddr {
         self.addr
@@ -75,6 +83,7 @@ impl<S: PromiseStore> Answers for Alone<'_, S> {
         false
     }
 
+    #[tactic(auto, using(crate::specs::Living::stays))]
     fn answer(
         &mut self,
         _from: IpAddr,
@@ -82,6 +91,7 @@ impl<S: PromiseStore> Answers for Alone<'_, S> {
         told: &mut Vec<u8>,
     ) -> Result<u16, HttpFault>
         requires always { Unit {0} }
+        ensures { NodeLives S.seen self.old.node self.new.node }
     {
         match self.reply(request, told) {
             Err(HttpFault::NoMemory) => refuse_without_memory(told),
@@ -89,6 +99,7 @@ impl<S: PromiseStore> Answers for Alone<'_, S> {
         }
     }
 
+    #[tactic(auto, using(crate::specs::Living::stays))]
     fn next_call(&mut self) -> Option<Outgoing> {
         None
     }
@@ -101,15 +112,35 @@ impl<S: PromiseStore> Answers for Alone<'_, S> {
         false
     }
 
+    #[tactic(auto, using(crate::specs::Living::stays))]
     fn go_on(&mut self)
         requires always { Unit {0} }
+        ensures { NodeLives S.seen self.old.node self.new.node }
     {}
 
+    #[tactic(auto, using(crate::specs::Living::stays))]
     fn called(&mut self, _place: usize, _errand: Errand, _reply: &[u8]) {}
 
+    #[tactic(auto, using(crate::specs::Living::stays))]
+    fn next_line(&mut self) -> Option<String> {
+        None
+    }
+
+    #[tactic(auto, using(crate::specs::Living::stays))]
+    fn look_up(&mut self, _net: &HostRuntime)
+        requires always { Unit {0} }
+        ensures { NodeLives S.seen self.old.node self.new.node }
+    {}
+
+    #[tactic(auto, using(crate::specs::Living::stays))]
     fn pass(&mut self, time: Time)
         requires always { Unit {0} }
+        ensures { NodeLives S.seen self.old.node self.new.node }
     {
         self.time = time;
     }
+
+    ghost rests = { λ a. stays a.node };
+
+    ghost goes_on = { λ a b c. joined a.node b.node c.node };
 }

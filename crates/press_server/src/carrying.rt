@@ -1,13 +1,13 @@
-//! How a batch goes over a connection: the request that brings it, and the reply, which says how far its receiver is.
+//! How a batch goes over a connection: in the request that brings it, and in the reply to that, which is a batch as well.
 
-ghost use Rattle.std.specs.Prelude.{◌≤◌, All, length};
+ghost use Rattle.std.specs.Prelude.{◌≡◌, ◌≤◌, All, IfSome, length};
 ghost use Rattle.httparse.specs.Spans.{IsHeaderWithin};
 
 use httparse::spans::{EMPTY_HEADER_SPAN, HeaderSpan, parse_request};
 use httparse::{Error, Status};
-use press_batch::{MOST_BATCH_BYTES, Report, decode_report, encode_report};
+use press_batch::{Batch, MOST_BATCH_BYTES, decode_batch};
 use press_http::HttpFault;
-use press_text::{dec_u64, write_once};
+use press_text::dec_u64;
 use press_wire::Node as Member;
 use std::alloc::{AllocError, Global};
 use std::str::from_utf8;
@@ -16,10 +16,6 @@ use std::str::from_utf8;
 const MOST_FIELDS: usize = 32;
 
 const LONGEST_HEAD: usize = 8192;
-
-// What stands before a report, in the reply to a batch.
-const TAKEN: &[u8] =
-    b"HTTP/1.1 200 OK\r\nContent-Type: application/octet-stream\r\nContent-Length: 34\r\nConnection: close\r\n\r\n";
 
 // How the reply to a request begins that is done, and what ends a head.
 const DONE: &[u8] = b"HTTP/1.1 200 ";
@@ -105,21 +101,17 @@ pub fn body_in(request: &[u8]) -> Result<&[u8], HttpFault> {
     }
 }
 
-/// Writes the reply to a batch.
-pub fn tell_report(
-    alloc: Global,
-    from: Member,
-    report: &Report,
-    told: &mut Vec<u8>,
-) -> Result<u16, HttpFault> {
-    let Ok(bytes) = encode_report(alloc, from, report) else {
-        return Err(HttpFault::NoMemory);
-    };
-    for part in [TAKEN, bytes.as_slice()] {
-        if write_once(told, part).is_err() {
-            return Err(HttpFault::WriteFault);
-        }
-    }
+fn head_of_done(alloc: Global, count: usize) -> Result<String, AllocError> {
+    format!(in alloc;
+        "HTTP/1.1 200 OK\r\nContent-Type: application/octet-stream\r\nContent-Length: {count}\r\n\r\n"
+    )
+}
+
+/// Writes the reply to a batch: another one.
+pub fn tell_batch(alloc: Global, batch: &[u8], told: &mut Vec<u8>) -> Result<u16, HttpFault> {
+    let mut reply = head_of_done(alloc, batch.len())?.into_bytes();
+    reply.extend_from_slice(batch)?;
+    told.extend_from_slice(&reply)?;
     Ok(200)
 }
 
@@ -132,10 +124,12 @@ fn body_of_done(reply: &[u8]) -> Option<&[u8]> {
     reply.get(head.saturating_add(END.len())..)
 }
 
-/// How far a member is, by its reply to a batch.
-pub fn report_in(from: Member, reply: &[u8]) -> Option<Report> {
-    match decode_report(body_of_done(reply)?) {
-        Ok((teller, report)) if teller == from => Some(report),
+/// The batch of a member in its reply to another.
+pub fn batch_by(alloc: Global, member: Member, reply: &[u8]) -> Option<Batch>
+    ensures { IfSome result (λ batch. batch.from ≡ member) }
+{
+    match decode_batch(alloc, body_of_done(reply)?) {
+        Ok(batch) if batch.from == member => Some(batch),
         _ => None,
     }
 }

@@ -1,21 +1,25 @@
 //! A member of a cluster behind a server: what comes over sockets is given to it, and what it sends goes out.
 
-ghost use Rattle.std.specs.Prelude.{◌≡◌, IfOk};
+ghost use Rattle.std.specs.Prelude.{◌≡◌, ℕ, ◌&&◌, IfOk, None, false, if◌then◌else◌};
+ghost use Rattle.press_member.specs.Acts.{is_open, stop_in, view_of};
+ghost use Rattle.press_server.specs.Living.{MemberLives};
+ghost use Rattle.press_server.specs.Members.{is_other_at};
+ghost use Rattle.press_server.specs.Screening.{is_ahead};
 
-use crate::carrying::{body_in, report_in, request_of, tell_report};
+use crate::carrying::{batch_by, body_in, request_of, tell_batch};
 use crate::lanes::{Lanes, Parcel, Sender};
 use crate::paths::{Own, Paths};
-use crate::peers::{Peers, member_at};
+use crate::peers::{Peers, member_at, place_of};
 use crate::replies::{queued, refuse, refuse_by, taken, tell_answer};
 use crate::screen::{Screen, Standing, not_found, refuse_form, refuse_without_memory, show_ready};
-use crate::turn::stop_of;
+use crate::strangers::Strangers;
 use press_acceptor::{PromiseStore, StoreFault};
 use press_batch::{Batch, BatchFault, decode_batch};
 use press_http::{Asked, HttpFault, read_request, route};
 use press_member::{Answer, Input, Member, Outputs};
 use press_net::{Answers, Errand, Outgoing, Time, words_of};
 use press_node::NodeFault;
-use press_wire::Node as Id;
+use press_wire::{Message, Node as Id};
 use std::alloc::{AllocError, Global};
 use std::net::{IpAddr, Ipv4Addr, SocketAddr};
 
@@ -36,10 +40,9 @@ pub struct Clustered<'s, S: PromiseStore> {
     screen: &'s Screen,
     paths: Paths,
     lanes: Lanes,
+    strangers: Strangers,
     time: Time,
     stays: bool,
-    // What the member said last of why its node has stopped, if it did.
-    stopped_by: Option<StoreFault>,
 }
 
 impl<S: PromiseStore + Drop> Drop for Clustered<'_, S> {
@@ -51,9 +54,9 @@ impl<S: PromiseStore + Drop> Drop for Clustered<'_, S> {
             screen: _,
             paths: _,
             lanes: _,
+            strangers: _,
             time: _,
             stays: _,
-            stopped_by: _,
         } = self;
     }
 }
@@ -78,6 +81,7 @@ impl<'s, S: PromiseStore + Drop> Clustered<'s, S> {
         };
         let paths = Paths::new(alloc)?;
         let lanes = Lanes::new(alloc, peers.count())?;
+        let strangers = Strangers::new(alloc, peers.count())?;
         Ok(Clustered {
             alloc,
             member,
@@ -85,34 +89,28 @@ impl<'s, S: PromiseStore + Drop> Clustered<'s, S> {
             screen,
             paths,
             lanes,
+            strangers,
             time,
             stays,
-            stopped_by: None,
         })
     }
 }
 
 impl<S: PromiseStore> Clustered<'_, S> {
     /// Why its server ends before its time: its node has stopped, and it isn't to stay.
-    pub fn stop(&self) -> Option<StoreFault> {
-        if self.stays || !self.member.node().is_down() {
+    pub fn stop(&self) -> Option<StoreFault>
+        ensures { result ≡ (if self.now.stays then None else stop_in (view_of self.now.member)) }
+    {
+        if self.stays {
             return None;
         }
-        // Where nobody was told, it was one of its own saves.
-        Some(self.stopped_by.unwrap_or(StoreFault::Disk))
-    }
-
-    fn note_stop(&mut self, answer: &Answer) {
-        if let Answer::Refused(fault) = answer {
-            if let Some(stop) = stop_of(*fault) {
-                self.stopped_by = Some(stop);
-            }
-        }
+        self.member.stopped_by()
     }
 
     // What happens to the member: what it sends waits to go out, and what it answers is returned.
     fn play(&mut self, input: Input) -> Result<Answer, AllocError>
         requires always { Unit {0} }
+        ensures { MemberLives S.seen self.old.member self.new.member }
     {
         let Outputs {
             answer,
@@ -125,32 +123,53 @@ impl<S: PromiseStore> Clustered<'_, S> {
         for to in looks {
             self.lanes.look(to);
         }
-        self.note_stop(&answer);
         Ok(answer)
     }
 
     // What nobody waits for. Without memory it is lost, as a message may be.
     fn note(&mut self, input: Input)
         requires always { Unit {0} }
+        ensures { MemberLives S.seen self.old.member self.new.member }
     {
         let _ = self.play(input);
     }
 
     // A command that is too far ahead is refused, once the member takes any.
-    fn is_refused(&self, at: u64) -> bool {
+    fn is_refused(&self, at: u64) -> bool
+        ensures { result ≡ (is_open (view_of self.now.member)
+            && is_ahead self.now.screen.now.ahead at self.now.time.seconds) }
+    {
         self.member.is_open() && self.screen.is_ahead(at, self.time.seconds)
     }
 
-    // What a request that is one of a site's, or a member's message, is answered.
-    fn ask(&mut self, is_member: bool, asked: Asked, told: &mut Vec<u8>) -> Result<u16, HttpFault>
+    // A single message comes from an address: it is heard where its sender has that.
+    #[tactic(auto, using(crate::specs::Living::none_comes))]
+    fn hear_one(
+        &mut self,
+        from: IpAddr,
+        message: Message,
+        told: &mut Vec<u8>,
+    ) -> Result<u16, HttpFault>
         requires always { Unit {0} }
+        ensures lives { MemberLives S.seen self.old.member self.new.member }
+        ensures stranger { is_other_at self.old.peers message.from from ≡ false →
+            self.new.member ≡ self.old.member }
+    {
+        if !self.peers.is_other_at(message.from, from) {
+            return not_found(told);
+        }
+        let answer = self.play(Input::Message(message))?;
+        tell_answer(self.alloc, &taken(self.alloc), &answer, told)
+    }
+
+    // What a request that is one of a site's, or a member's message, is answered.
+    #[tactic(auto, using(crate::specs::Living::none_comes))]
+    fn ask(&mut self, from: IpAddr, asked: Asked, told: &mut Vec<u8>) -> Result<u16, HttpFault>
+        requires always { Unit {0} }
+        ensures { MemberLives S.seen self.old.member self.new.member }
     {
         match asked {
-            Asked::Peer(_) if !is_member => not_found(told),
-            Asked::Peer(message) => {
-                let answer = self.play(Input::Message(message))?;
-                tell_answer(self.alloc, &taken(self.alloc), &answer, told)
-            }
+            Asked::Peer(message) => self.hear_one(from, message, told),
             Asked::Command(stamped) => {
                 if self.is_refused(stamped.at.seconds()) {
                     return refuse_form(told);
@@ -165,9 +184,10 @@ impl<S: PromiseStore> Clustered<'_, S> {
         }
     }
 
-    // The messages of a member, which are heard where it counts the same members and runs the same kit.
-    fn hear(&mut self, batch: Batch) -> Result<(), AllocError>
+    // The messages of a member, which are heard where it counts the same members and runs the same kit; whether they are.
+    fn hear(&mut self, batch: Batch) -> Result<bool, AllocError>
         requires always { Unit {0} }
+        ensures { MemberLives S.seen self.old.member self.new.member }
     {
         let Batch {
             from,
@@ -175,19 +195,44 @@ impl<S: PromiseStore> Clustered<'_, S> {
             messages,
         } = batch;
         if let Answer::Foreign = self.play(Input::Report { from, report })? {
-            return Ok(());
+            return Ok(false);
         }
         for message in messages {
             if message.from == from {
                 self.play(Input::Message(message))?;
             }
         }
-        Ok(())
+        Ok(true)
+    }
+
+    // What a batch is written with.
+    fn sender(&self) -> Sender {
+        Sender {
+            alloc: self.alloc,
+            from: self.peers.own(),
+            report: self.member.report(),
+            now: self.time.millis,
+        }
+    }
+
+    // What waits for a member goes out with the reply to its batch.
+    fn tell_back(&mut self, to: Id, told: &mut Vec<u8>) -> Result<u16, HttpFault>
+        ensures { self.new.member ≡ self.old.member }
+    {
+        let sender = self.sender();
+        match self.lanes.pack_reply(place_of(to), sender) {
+            Some(batch) => tell_batch(self.alloc, &batch.into_bytes(), told),
+            None => Err(HttpFault::NoMemory),
+        }
     }
 
     // A batch comes from an address.
+    #[tactic(auto, using(crate::specs::Living::none_comes))]
     fn take(&mut self, from: IpAddr, body: &[u8], told: &mut Vec<u8>) -> Result<u16, HttpFault>
         requires always { Unit {0} }
+        ensures lives { MemberLives S.seen self.old.member self.new.member }
+        ensures stranger { ((other : ℕ) → is_other_at self.old.peers other from ≡ false) →
+            self.new.member ≡ self.old.member }
     {
         let batch = match decode_batch(self.alloc, body) {
             Ok(batch) => batch,
@@ -200,8 +245,9 @@ impl<S: PromiseStore> Clustered<'_, S> {
         if self.member.node().is_down() {
             return refuse_by(NodeFault::Down, told);
         }
+        let to = batch.from;
         self.hear(batch)?;
-        tell_report(self.alloc, self.peers.own(), &self.member.report(), told)
+        self.tell_back(to, told)
     }
 
     fn show_ready(&self, told: &mut Vec<u8>) -> Result<u16, HttpFault> {
@@ -226,14 +272,16 @@ impl<S: PromiseStore> Clustered<'_, S> {
     }
 
     // A path of a site, or one for single messages: the request is read whole first.
+    #[tactic(auto, using(crate::specs::Living::none_comes))]
     fn reply_to_site(
         &mut self,
         own: Option<Own>,
-        is_member: bool,
+        from: IpAddr,
         request: &[u8],
         told: &mut Vec<u8>,
     ) -> Result<u16, HttpFault>
         requires always { Unit {0} }
+        ensures { MemberLives S.seen self.old.member self.new.member }
     {
         let mut rest = request;
         let request = match read_request(self.alloc, &mut rest) {
@@ -248,42 +296,39 @@ impl<S: PromiseStore> Clustered<'_, S> {
             _ => {}
         }
         match route(self.alloc, &request) {
-            Ok(asked) => self.ask(is_member, asked, told),
+            Ok(asked) => self.ask(from, asked, told),
             Err(fault) => refuse(fault, told),
         }
     }
 
+    #[tactic(auto, using(crate::specs::Living::none_comes))]
     fn reply(&mut self, from: IpAddr, request: &[u8], told: &mut Vec<u8>) -> Result<u16, HttpFault>
         requires always { Unit {0} }
+        ensures { MemberLives S.seen self.old.member self.new.member }
     {
-        let is_member = self.peers.has(from);
         let (method, target) = words_of(request);
         match self.paths.at(method, target) {
-            Some(Own::Members) if !is_member => not_found(told),
+            Some(Own::Members) if !self.peers.has(from) => not_found(told),
             Some(Own::Members) => match body_in(request) {
                 Ok(body) => self.take(from, body, told),
                 Err(fault) => refuse(fault, told),
             },
-            own => self.reply_to_site(own, is_member, request, told),
+            own => self.reply_to_site(own, from, request, told),
         }
     }
 
     // A batch for the member at a place. None without memory.
-    fn outgoing(&mut self, place: usize) -> Option<Outgoing> {
-        let sender = Sender {
-            alloc: self.alloc,
-            from: self.peers.own(),
-            report: self.member.report(),
-            now: self.time.millis,
-        };
-        let addr = self.peers.addr(place)?;
+    fn outgoing(&mut self, place: usize) -> Option<Outgoing>
+        ensures { self.new.member ≡ self.old.member }
+    {
+        let sender = self.sender();
+        let addr = self.peers.addr(place);
         let Parcel { batch, asked } = self.lanes.pack(place, sender)?;
         match request_of(self.alloc, &batch.into_bytes()) {
             Some(bytes) => Some(Outgoing {
                 place,
-                addr,
                 bytes,
-                errand: Errand { asked },
+                errand: Errand { addr, asked },
             }),
             None => {
                 self.lanes.give_up(place, asked);
@@ -292,23 +337,28 @@ impl<S: PromiseStore> Clustered<'_, S> {
         }
     }
 
-    // A member says how far it is; whether it counts the same members, and runs the same kit.
-    fn hear_reply(&mut self, from: Id, reply: &[u8]) -> bool
+    // What a member said back, if it did; whether it counts the same members, and runs the same kit.
+    #[tactic(auto, using(crate::specs::Living::none_comes))]
+    fn hear_back(&mut self, said: Option<Batch>) -> bool
         requires always { Unit {0} }
+        ensures { MemberLives S.seen self.old.member self.new.member }
     {
-        match report_in(from, reply) {
-            Some(report) => {
-                matches!(self.play(Input::Report { from, report }), Ok(Answer::Taken))
-            }
+        match said {
+            Some(batch) => matches!(self.hear(batch), Ok(true)),
             None => false,
         }
     }
 }
 
 impl<S: PromiseStore> Answers for Clustered<'_, S> {
+    ghost use Rattle.press_member.specs.Acts.{view_of};
+    ghost use Rattle.press_server.specs.Living.{MemberLives, more_come, none_comes};
+
     ghost answers = { λ _ _ _. Unit {0} };
 
     ghost hears = { λ _ _ _. Unit {0} };
+
+    ghost becomes = { λ old new. MemberLives S.seen old.member new.member };
 
     fn addr(&self) -> SocketAddr {
         match self.peers.own_addr() {
@@ -323,6 +373,7 @@ impl<S: PromiseStore> Answers for Clustered<'_, S> {
 
     fn answer(&mut self, from: IpAddr, request: &[u8], told: &mut Vec<u8>) -> Result<u16, HttpFault>
         requires always { Unit {0} }
+        ensures { MemberLives S.seen self.old.member self.new.member }
     {
         match self.reply(from, request, told) {
             Err(HttpFault::NoMemory) => refuse_without_memory(told),
@@ -330,13 +381,14 @@ impl<S: PromiseStore> Answers for Clustered<'_, S> {
         }
     }
 
+    #[tactic(auto, using(crate::specs::Living::none_comes))]
     fn next_call(&mut self) -> Option<Outgoing> {
         let place = self.lanes.ready(self.time.millis)?;
         self.outgoing(place)
     }
 
     fn has_more(&self) -> bool {
-        self.member.has_more() || self.lanes.is_ready()
+        self.member.has_more() || self.lanes.is_ready(self.time.millis)
     }
 
     fn is_over(&self) -> bool {
@@ -345,18 +397,25 @@ impl<S: PromiseStore> Answers for Clustered<'_, S> {
 
     fn go_on(&mut self)
         requires always { Unit {0} }
+        ensures { MemberLives S.seen self.old.member self.new.member }
     {
         self.note(Input::Sent);
     }
 
+    #[tactic(auto, using(crate::specs::Living::none_comes))]
     fn called(&mut self, place: usize, errand: Errand, reply: &[u8])
         requires always { Unit {0} }
+        ensures { MemberLives S.seen self.old.member self.new.member }
     {
         self.lanes.end(place);
         let Some(to) = member_at(place) else {
             return;
         };
-        let is_taken = self.hear_reply(to, reply);
+        let said = batch_by(self.alloc, to, reply);
+        if said.is_none() {
+            self.peers.lose(place, errand.addr);
+        }
+        let is_taken = self.hear_back(said);
         self.note(Input::Ended {
             to,
             asked: errand.asked,
@@ -364,10 +423,28 @@ impl<S: PromiseStore> Answers for Clustered<'_, S> {
         });
     }
 
+    #[tactic(auto, using(crate::specs::Living::none_comes))]
+    fn next_line(&mut self) -> Option<String> {
+        self.strangers.next_line(self.alloc, &self.member)
+    }
+
+    #[tactic(auto, using(crate::specs::Living::none_comes))]
+    fn look_up(&mut self, net: &HostRuntime)
+        requires always { Unit {0} }
+        ensures { MemberLives S.seen self.old.member self.new.member }
+    {
+        self.peers.look_up(net, self.time.millis);
+    }
+
     fn pass(&mut self, time: Time)
         requires always { Unit {0} }
+        ensures { MemberLives S.seen self.old.member self.new.member }
     {
         self.time = time;
         self.note(Input::Time(time.millis));
     }
+
+    ghost rests = { λ a. none_comes (view_of a.member) };
+
+    ghost goes_on = { λ a b c. more_come (view_of a.member) (view_of b.member) (view_of c.member) };
 }

@@ -1,14 +1,17 @@
 //! What a member of a cluster begins with: its peers, its store, and how many slots it knows to be chosen.
 
-ghost use Rattle.std.specs.Prelude.{◌≡◌, ◌≢◌, IfOk, length, option_map};
+ghost use Rattle.std.specs.Prelude.{◌≡◌, ◌≢◌, IfOk, MatchResult, option_map};
 ghost use Rattle.press_callbacks.specs.Kits.{kit_view};
+ghost use Rattle.press_member.specs.Acts.{node_in, view_of};
+ghost use Rattle.press_member.specs.Starting.{IsItsStart};
+ghost use Rattle.press_net.specs.Addresses.{listed};
 ghost use Rattle.press_node.specs.Nodes.{kit_of, node_moved, state_of, store_of};
 ghost use Rattle.press_node.specs.States.{applied_count, started_at};
 ghost use Rattle.press_server.specs.Members.{number_of};
 ghost use Rattle.press_server.specs.Turns.{HasCaughtUp};
 
 use crate::clustered::{Clustered, Party};
-use crate::peers::Peers;
+use crate::peers::{Peers, PeersFault};
 use crate::screen::Screen;
 use crate::serve_fault::ServeFault;
 use crate::setup::{Place, Setup};
@@ -18,9 +21,11 @@ use press_batch::Digests;
 use press_callbacks::Kit;
 use press_member::{Beginning, Member};
 use press_node::{Node, StartFault};
-use press_store::SqlStore;
+use press_store::{Owner, SqlStore, Tie};
+use press_text::write_once;
 use sqlite::Alter;
-use std::alloc::Global;
+use std::alloc::{AllocError, Global};
+use std::io::Write;
 
 /// A member's place: its peers, the milliseconds of its tick, the digest of its kit, and whether it stays where its node
 /// has stopped.
@@ -33,11 +38,31 @@ pub struct Seat {
 }
 
 impl Seat {
+    fn members(&self) -> Result<u8, ServeFault>
+        ensures { IfOk result (λ members. members ≡ listed self.now.peers.book) }
+    {
+        match u8::try_from(self.peers.count()) {
+            Ok(members) => Ok(members),
+            Err(_) => Err(ServeFault::BadPeers),
+        }
+    }
+
+    // Whose its file is.
+    fn owner(&self) -> Result<Owner, ServeFault>
+        ensures number { IfOk result (λ owner. owner.number ≡ self.now.peers.own) }
+        ensures members { IfOk result (λ owner. owner.members ≡ listed self.now.peers.book) }
+        ensures peers { IfOk result (λ owner. owner.peers ≡ self.now.peers.digest) }
+    {
+        Ok(Owner {
+            number: self.peers.own(),
+            members: self.members()?,
+            peers: self.peers.digest(),
+        })
+    }
+
     // What the member begins with beside its node, where so many slots are chosen.
     fn beginning(&self, chosen: u64) -> Result<Beginning, ServeFault> {
-        let Ok(members) = u8::try_from(self.peers.count()) else {
-            return Err(ServeFault::BadPeers);
-        };
+        let members = self.members()?;
         let digests = Digests {
             peers: self.peers.digest(),
             kit: self.kit,
@@ -52,8 +77,28 @@ impl Seat {
     }
 }
 
+fn missing_line(alloc: Global, name: &str) -> Result<String, AllocError> {
+    format!(in alloc; "press: {name} isn't found yet\n")
+}
+
+// Tells whose name isn't found.
+fn tell_missing<E: Write>(alloc: Global, peers: &Peers, error: &mut E) {
+    for place in 0..peers.count() {
+        let Some(name) = peers.missing(place) else {
+            continue;
+        };
+        if let Ok(line) = missing_line(alloc, name) {
+            let _ = write_once(error, line.as_bytes());
+        }
+    }
+}
+
 /// The place of the member that a server is to be, which wants a file for its store. None for a node by itself.
-pub fn seat_of(rt: &HostRuntime, setup: &Setup<'_>) -> Result<Option<Seat>, ServeFault>
+pub fn seat_of<E: Write>(
+    rt: &HostRuntime,
+    setup: &Setup<'_>,
+    error: &mut E,
+) -> Result<Option<Seat>, ServeFault>
     ensures { IfOk result (λ seat. option_map (λ seat. seat.peers.own) seat
         ≡ number_of setup.now.place) }
 {
@@ -64,12 +109,36 @@ pub fn seat_of(rt: &HostRuntime, setup: &Setup<'_>) -> Result<Option<Seat>, Serv
         return Err(ServeFault::BadPeers);
     }
     let peers = Peers::read(rt.alloc(), rt, id, peers)?;
+    if peers.own_addr().is_none() {
+        return Err(PeersFault::NotFound.into());
+    }
+    tell_missing(rt.alloc(), &peers, error);
     Ok(Some(Seat {
         peers,
         tick,
         kit: setup.kit,
         stays: setup.stay,
     }))
+}
+
+// Another's file is not served.
+fn admit(tie: Tie) -> Result<(), ServeFault>
+    ensures { MatchResult result (λ _. tie ≢ Tie.Foreign)
+        (λ fault. (fault ≡ ServeFault.Foreign) × (tie ≡ Tie.Foreign)) }
+{
+    match tie {
+        Tie::Own | Tie::Taken => Ok(()),
+        Tie::Foreign => Err(ServeFault::Foreign),
+    }
+}
+
+/// Ties a store to the member that has this place, or sees that it is no member's where there is none.
+pub fn tie<D: Alter>(store: &mut SqlStore<D>, seat: &Option<Seat>) -> Result<(), ServeFault> {
+    let owner = match seat {
+        Some(seat) => Some(seat.owner()?),
+        None => None,
+    };
+    admit(store.tie(owner)?)
 }
 
 // How many slots are chosen, by what the store keeps: who proposes for a slot has applied those before it, so these are
@@ -81,7 +150,7 @@ fn chosen_by<D: Alter>(store: &mut SqlStore<D>) -> Result<u64, StoreFault> {
     }
 }
 
-// A member of a cluster begins over its store.
+// The node of a member begins over its store.
 fn begin_member<S: PromiseStore + Drop>(
     alloc: Global,
     peers: &Peers,
@@ -90,7 +159,7 @@ fn begin_member<S: PromiseStore + Drop>(
 ) -> Result<Node<S>, ServeFault>
     ensures kit { IfOk result (λ node. kit_of node ≡ kit_view kit) }
     ensures joins { IfOk result (λ node. (S.seen (store_of node)).is_honest → state_of node
-        ≡ started_at peers.now.own (length peers.now.all.items) (S.seen store).kept.last_round) }
+        ≡ started_at peers.now.own (listed peers.now.book) (S.seen store).kept.last_round) }
 {
     let member = peers.own();
     let Ok(count) = u8::try_from(peers.count()) else {
@@ -105,7 +174,7 @@ fn begin_member<S: PromiseStore + Drop>(
     }
 }
 
-// The same member, which has caught up with its store where it is the only one.
+// The only member of its cluster, which has caught up with its store.
 fn begin_caught_up<S: PromiseStore + Drop>(
     alloc: Global,
     peers: &Peers,
@@ -114,21 +183,62 @@ fn begin_caught_up<S: PromiseStore + Drop>(
 ) -> Result<Node<S>, ServeFault>
     requires always { Unit {0} }
     ensures kit { IfOk result (λ node. kit_of node ≡ kit_view kit) }
-    ensures joins { length peers.now.all.items ≢ 1 → IfOk result
-        (λ node. (S.seen (store_of node)).is_honest → state_of node
-        ≡ started_at peers.now.own (length peers.now.all.items) (S.seen store).kept.last_round) }
-    ensures caught_up { length peers.now.all.items ≡ 1 → IfOk result
-        (λ node. HasCaughtUp (λ a b. node_moved S.seen a b) (λ n. applied_count (state_of n))
+    ensures caught_up { IfOk result (λ node. HasCaughtUp (λ a b. node_moved S.seen a b)
+        (λ n. applied_count (state_of n))
         (λ n. (S.seen (store_of n)).is_honest → state_of n
-        ≡ started_at peers.now.own (length peers.now.all.items) (S.seen store).kept.last_round)
-        node) }
+        ≡ started_at peers.now.own (listed peers.now.book) (S.seen store).kept.last_round) node) }
 {
     let mut node = begin_member(alloc, peers, kit, store)?;
-    if peers.count() != 1 {
-        return Ok(node);
-    }
     catch_up(alloc, &mut node)?;
     Ok(node)
+}
+
+// A member among others starts over its store, which is a move of it.
+fn start_member<S: PromiseStore + Drop>(
+    alloc: Global,
+    kit: Kit,
+    store: S,
+    beginning: Beginning,
+) -> Result<Member<S>, ServeFault>
+    ensures kit { IfOk result (λ member. kit_of (node_in (view_of member)) ≡ kit_view kit) }
+    ensures starts { IfOk result (λ member. IsItsStart S.seen (λ node. store_of node)
+        (λ node. state_of node) store (view_of member)) }
+{
+    if beginning.members > 7 || beginning.id.number() > beginning.members {
+        return Err(ServeFault::BadPeers);
+    }
+    match Member::start(alloc, kit, store, beginning) {
+        Ok(member) => Ok(member),
+        Err(StartFault { fault, .. }) => Err(fault.into()),
+    }
+}
+
+impl Seat {
+    // The member begins over its store; the only one of its cluster has caught up with that.
+    fn begin<S: PromiseStore + Drop>(
+        &self,
+        alloc: Global,
+        kit: Kit,
+        store: S,
+        beginning: Beginning,
+    ) -> Result<Member<S>, ServeFault>
+        requires always { Unit {0} }
+        ensures kit { IfOk result (λ member. kit_of (node_in (view_of member)) ≡ kit_view kit) }
+        ensures alone { listed self.now.peers.book ≡ 1 → IfOk result
+            (λ member. HasCaughtUp (λ a b. node_moved S.seen a b)
+            (λ n. applied_count (state_of n)) (λ n. (S.seen (store_of n)).is_honest → state_of n
+            ≡ started_at self.now.peers.own (listed self.now.peers.book)
+            (S.seen store).kept.last_round) (node_in (view_of member))) }
+        ensures among { listed self.now.peers.book ≢ 1 → IfOk result
+            (λ member. IsItsStart S.seen (λ node. store_of node) (λ node. state_of node) store
+            (view_of member)) }
+    {
+        if self.peers.count() != 1 {
+            return start_member(alloc, kit, store, beginning);
+        }
+        let node = begin_caught_up(alloc, &self.peers, kit, store)?;
+        Ok(Member::new(alloc, node, beginning)?)
+    }
 }
 
 /// Who is to be a member: its place, and what its operator asked for.
@@ -150,8 +260,7 @@ pub fn join<'s, D: Alter + Drop>(
     let Joiner { seat, screen } = joiner;
     let mut store = store;
     let beginning = seat.beginning(chosen_by(&mut store)?)?;
-    let node = begin_caught_up(alloc, &seat.peers, kit, store)?;
-    let member = Member::new(alloc, node, beginning)?;
+    let member = seat.begin(alloc, kit, store, beginning)?;
     let Seat { peers, stays, .. } = seat;
     let party = Party {
         peers,

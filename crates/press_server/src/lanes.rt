@@ -1,7 +1,7 @@
 //! What waits to go out to each member.
 
-ghost use Rattle.std.specs.Prelude.{◌≡◌, ◌≤◌, ◌⊎◌, [], ◌∷◌, ◌++◌, IfSome, IsTrue, drop, length, slice_get};
-ghost use Rattle.press_server.specs.Going.{is_question, is_ready, is_stale, with_room};
+ghost use Rattle.std.specs.Prelude.{◌≡◌, ◌≤◌, ◌⊎◌, [], ◌∷◌, ◌+◌, ◌++◌, IfOk, IfSome, IsTrue, None, drop, length, slice_get};
+ghost use Rattle.press_server.specs.Going.{HasSameWay, asks_first, is_free, is_question, is_ready, is_stale, with_room};
 
 use crate::peers::place_of;
 use press_batch::{BatchFault, BatchWriter, Report};
@@ -12,8 +12,11 @@ use std::collections::VecDeque;
 // The most messages that wait for one member: where one more comes, the oldest is lost, as a message may be.
 const MOST_WAITING: usize = 3_333;
 
-// The most requests that are on their way to one member. What comes then waits, and goes out together.
+// The most requests that are on their way to one member.
 const MOST_OPEN: u32 = 8;
+
+// How many milliseconds what waits leaves to the request before it: it goes out together then, and often with a reply.
+const SHORT: u64 = 20;
 
 // A message that waited for longer than so many milliseconds is lost.
 const OLDEST: u64 = 2_000;
@@ -55,20 +58,29 @@ struct Lane {
     looks: u32,
     // How many questions were lost before they went out.
     lost: u32,
-    // How many requests are on their way.
+    // How many requests are on their way, and when the last went out.
     open: u32,
+    since: u64,
 }
 
 impl Lane {
-    fn is_ready(&self) -> bool
-        ensures { result ≡ is_ready self.now }
+    // Whether another request may go out: none is on its way, or the last has been for a while.
+    fn is_free(&self, now: u64) -> bool
+        ensures { result ≡ is_free now self.now }
     {
-        self.open < MOST_OPEN && (self.looks > 0 || !self.waiting.is_empty())
+        self.open == 0 || (self.open < MOST_OPEN && SHORT <= now.saturating_sub(self.since))
+    }
+
+    fn is_ready(&self, now: u64) -> bool
+        ensures { result ≡ is_ready now self.now }
+    {
+        self.is_free(now) && (self.looks > 0 || !self.waiting.is_empty())
     }
 
     // The oldest that waits is lost.
     fn lose(&mut self)
-        ensures { self.new.waiting.items ≡ drop 1 self.old.waiting.items }
+        ensures lost { self.new.waiting.items ≡ drop 1 self.old.waiting.items }
+        ensures same { HasSameWay self.new self.old }
     {
         if let Some(waiting) = self.waiting.pop_front() {
             let count = u32::from(is_question(&waiting.message));
@@ -107,7 +119,9 @@ impl Lane {
         }
     }
 
-    fn lose_stale(&mut self, now: u64) {
+    fn lose_stale(&mut self, now: u64)
+        ensures { HasSameWay self.new self.old }
+    {
         for _ in 0..self.waiting.len() {
             if !self.is_stale(now) {
                 return;
@@ -118,7 +132,14 @@ impl Lane {
 
     // Puts the oldest that waits into a batch; how many questions that is. None where none waits, or for want of room or
     // memory. One that no batch takes is lost.
-    fn move_one(&mut self, batch: &mut BatchWriter) -> Option<u32> {
+    fn move_one(&mut self, batch: &mut BatchWriter) -> Option<u32>
+        ensures way { HasSameWay self.new self.old }
+        ensures stays { result ≡ None → self.new.waiting.items ≡ self.old.waiting.items }
+        ensures goes { IfSome result (λ _.
+            self.new.waiting.items ≡ drop 1 self.old.waiting.items) }
+        ensures fits { IfSome result (λ _. (batch.new.count ≡ batch.old.count + 1)
+            ⊎ (batch.old.count ≡ 0)) }
+    {
         let waiting = self.waiting.front()?;
         let count = u32::from(is_question(&waiting.message));
         let is_in = match batch.push(&waiting.message) {
@@ -139,20 +160,64 @@ impl Lane {
         self.lost = self.lost.saturating_add(asked);
     }
 
-    // What waits goes out, as much as a batch takes.
-    fn pack(&mut self, sender: Sender) -> Result<Parcel, BatchFault> {
-        let mut batch = BatchWriter::new(sender.alloc, sender.from, &sender.report)?;
-        let mut asked = self.looks.saturating_add(self.lost);
+    // Puts what waits into a batch, the oldest first, as much as it takes; how many questions that is.
+    fn move_all(&mut self, batch: &mut BatchWriter) -> u32
+        ensures { HasSameWay self.new self.old }
+    {
+        let mut asked: u32 = 0;
         for _ in 0..self.waiting.len() {
-            let Some(count) = self.move_one(&mut batch) else {
+            let Some(count) = self.move_one(batch) else {
                 break;
             };
             asked = asked.saturating_add(count);
         }
+        asked
+    }
+
+    // What waits goes out, as much as a batch takes.
+    fn pack(&mut self, sender: Sender) -> Result<Parcel, BatchFault>
+        ensures since { IfOk result (λ _. self.new.since ≡ sender.now) }
+        ensures looks { IfOk result (λ _. self.new.looks ≡ 0) }
+    {
+        let mut batch = BatchWriter::new(sender.alloc, sender.from, &sender.report)?;
+        let asked = self.move_all(&mut batch);
+        let asked = asked.saturating_add(self.looks).saturating_add(self.lost);
         self.looks = 0;
         self.lost = 0;
         self.open = self.open.saturating_add(1);
+        self.since = sender.now;
         Ok(Parcel { batch, asked })
+    }
+
+    // Whether the oldest that waits is a question.
+    fn asks_first(&self) -> bool
+        ensures { result ≡ asks_first self.now.waiting.items }
+    {
+        match self.waiting.front() {
+            Some(waiting) => is_question(&waiting.message),
+            None => false,
+        }
+    }
+
+    // Puts what waits before the first question into a batch, as much as it takes.
+    fn move_said(&mut self, batch: &mut BatchWriter)
+        ensures { HasSameWay self.new self.old }
+    {
+        for _ in 0..self.waiting.len() {
+            if self.asks_first() || self.move_one(batch).is_none() {
+                return;
+            }
+        }
+    }
+
+    // What waits before the first question goes out with a reply. Questions go with requests, whose ends are told.
+    fn pack_reply(&mut self, sender: Sender) -> Result<BatchWriter, BatchFault>
+        ensures { HasSameWay self.new self.old }
+    {
+        let mut batch = BatchWriter::new(sender.alloc, sender.from, &sender.report)?;
+        self.lose_stale(sender.now);
+        self.move_said(&mut batch);
+        Ok(batch)
     }
 }
 
@@ -172,6 +237,7 @@ impl Lanes {
                 looks: 0,
                 lost: 0,
                 open: 0,
+                since: 0,
             })?;
         }
         Ok(Lanes { all })
@@ -192,19 +258,19 @@ impl Lanes {
     }
 
     /// Whether something may go out.
-    pub fn is_ready(&self) -> bool {
-        self.all.iter().any(|lane| lane.is_ready())
+    pub fn is_ready(&self, now: u64) -> bool {
+        self.all.iter().any(|lane| lane.is_ready(now))
     }
 
     /// The first member to whom something may go out, by its place. What is too old is lost.
     pub fn ready(&mut self, now: u64) -> Option<usize>
         ensures { IfSome result (λ place. IfSome (slice_get self.new.all.items place)
-            (λ lane. IsTrue (is_ready lane))) }
+            (λ lane. IsTrue (is_ready now lane))) }
     {
         for place in 0..self.all.len() {
             if let Some(lane) = self.all.get_mut(place) {
                 lane.lose_stale(now);
-                if lane.is_ready() {
+                if lane.is_ready(now) {
                     return Some(place);
                 }
             }
@@ -215,6 +281,11 @@ impl Lanes {
     /// What goes out to the member at a place. None without memory.
     pub fn pack(&mut self, place: usize, sender: Sender) -> Option<Parcel> {
         self.all.get_mut(place)?.pack(sender).ok()
+    }
+
+    /// What goes out with the reply to the member at a place. None without memory.
+    pub fn pack_reply(&mut self, place: usize, sender: Sender) -> Option<BatchWriter> {
+        self.all.get_mut(place)?.pack_reply(sender).ok()
     }
 
     /// What was to go out to the member at a place is lost.

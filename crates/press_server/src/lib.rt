@@ -15,6 +15,7 @@ mod screen;
 mod serve_fault;
 mod serving;
 mod setup;
+mod strangers;
 mod turn;
 
 pub use digest::digest_of;

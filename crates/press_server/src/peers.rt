@@ -1,12 +1,16 @@
 //! The members of a cluster, by their addresses.
 
-ghost use Rattle.std.specs.Prelude.{◌≡◌, ◌-◌, ◌≤◌, IfOk, length};
+ghost use Rattle.std.specs.Prelude.{◌≡◌, ◌-◌, ◌≤◌, IfOk};
+ghost use Rattle.press_net.specs.Addresses.{first_at, listed};
+ghost use Rattle.press_server.specs.Digests.{digest_of};
+ghost use Rattle.press_server.specs.Members.{is_other_at};
 ghost use Rattle.press_server.specs.declared.peers.PeersFault.TheVariants.{NoMemory};
 
 use crate::digest::digest_of;
+use press_net::{AddressBook, Listed};
 use press_wire::Node as Member;
-use std::alloc::{AllocFailed, Global};
-use std::net::{IpAddr, Net, SocketAddr, ToSocketAddrs};
+use std::alloc::{AllocError, Global};
+use std::net::{IpAddr, Net, SocketAddr};
 use thiserror::Error;
 
 // The members of a cluster are few.
@@ -14,7 +18,7 @@ const MOST: usize = 7;
 
 /// The members, of which one is this node.
 pub struct Peers {
-    all: Vec<SocketAddr>,
+    book: AddressBook,
     own: Member,
     digest: u64,
 }
@@ -22,7 +26,7 @@ pub struct Peers {
 impl Drop for Peers {
     fn drop(self) {
         let Peers {
-            all: _,
+            book: _,
             own: _,
             digest: _,
         } = self;
@@ -34,56 +38,48 @@ impl Drop for Peers {
 pub enum PeersFault {
     #[error("no memory")]
     NoMemory,
-    /// The text names no members, or too many, or not this one; or an address can't be found.
+    /// The text names no members, or too many, or not this one; or what it names is none.
     #[error("no such peers")]
     Unknown,
+    /// The name of this one can't be found.
+    #[error("no address of its own")]
+    NotFound,
 }
 
-impl<T: Drop> From<AllocFailed<T>> for PeersFault {
-    fn from(_e: AllocFailed<T>) -> PeersFault
+impl From<AllocError> for PeersFault {
+    fn from(_e: AllocError) -> PeersFault
         ensures { result ≡ NoMemory }
     {
         PeersFault::NoMemory
     }
 }
 
-fn addr_in<N: Net>(net: &N, text: &str) -> Option<SocketAddr> {
-    let mut found = text.to_socket_addrs(net).ok()?;
-    found.next()
-}
-
-fn has_addr(all: &[SocketAddr], addr: SocketAddr) -> bool {
-    all.iter().any(|other| *other == addr)
-}
-
 impl Peers {
-    /// The members whose addresses are in the text, with commas between; the node's number is its place there, from 1.
+    /// The members whose addresses or names are in the text, with commas between; the node's number is its place there, from
+    /// 1. The name of another may be found later.
     pub fn read<N: Net>(alloc: Global, net: &N, number: u8, text: &str) -> Result<Peers, PeersFault>
         ensures own { IfOk result (λ peers. peers.own ≡ number) }
-        ensures among { IfOk result (λ peers. peers.own ≤ length peers.all.items) }
+        ensures among { IfOk result (λ peers. peers.own ≤ listed peers.book) }
+        ensures digest { IfOk result (λ peers. peers.digest ≡ digest_of text.now) }
     {
-        let mut all = Vec::new(alloc);
+        let mut book = AddressBook::new(alloc);
         for part in text.split(',') {
-            let Some(addr) = addr_in(net, part) else {
-                return Err(PeersFault::Unknown);
-            };
-            if all.len() >= MOST || has_addr(&all, addr) {
+            if book.len() >= MOST || book.add(net, part)? == Listed::Never || book.is_doubled() {
                 return Err(PeersFault::Unknown);
             }
-            all.push(addr)?;
         }
         let digest = digest_of(text.as_bytes());
         match Member::new(number) {
-            Some(own) if usize::from(number) <= all.len() => Ok(Peers { all, own, digest }),
+            Some(own) if usize::from(number) <= book.len() => Ok(Peers { book, own, digest }),
             _ => Err(PeersFault::Unknown),
         }
     }
 
     /// How many there are: at most 7.
     pub fn count(&self) -> usize
-        ensures { result ≡ length self.now.all.items }
+        ensures { result ≡ listed self.now.book }
     {
-        self.all.len()
+        self.book.len()
     }
 
     /// This node.
@@ -105,22 +101,41 @@ impl Peers {
         self.addr(place_of(self.own))
     }
 
-    /// The address of a member.
-    pub fn addr(&self, place: usize) -> Option<SocketAddr> {
-        self.all.get(place).copied()
+    /// Where the next request to a member goes; none as long as its name isn't found.
+    pub fn addr(&self, place: usize) -> Option<SocketAddr>
+        ensures { result ≡ first_at self.now.book place }
+    {
+        self.book.first(place)
+    }
+
+    /// The name of a member that isn't found.
+    pub fn missing(&self, place: usize) -> Option<&str> {
+        self.book.missing(place)
     }
 
     /// Whether a member has that address.
     pub fn has(&self, ip: IpAddr) -> bool {
-        self.all.iter().any(|addr| addr.ip() == ip)
+        self.book.has(ip)
     }
 
     /// Whether that is another member, which has that address.
-    pub fn is_other_at(&self, member: Member, ip: IpAddr) -> bool {
-        match self.addr(place_of(member)) {
-            Some(addr) => member != self.own && addr.ip() == ip,
-            None => false,
-        }
+    pub fn is_other_at(&self, member: Member, ip: IpAddr) -> bool
+        ensures { result ≡ is_other_at self.now member ip }
+    {
+        member != self.own && self.book.is_at(place_of(member), ip)
+    }
+
+    /// A request to a member, which went there, was lost.
+    pub fn lose(&mut self, place: usize, tried: Option<SocketAddr>)
+        ensures own { self.new.own ≡ self.old.own }
+        ensures count { listed self.new.book ≡ listed self.old.book }
+    {
+        self.book.lose(place, tried);
+    }
+
+    /// At that time, in milliseconds, the name of one to whom a request was lost may be looked up again.
+    pub fn look_up<N: Net>(&mut self, net: &N, now: u64) {
+        self.book.look_up(net, now);
     }
 }
 

@@ -3,7 +3,7 @@
 ghost use Rattle.std.specs.Prelude.{◌≡◌, ◌≢◌, IfOk, MatchResult, Some};
 ghost use Rattle.std.specs.Io.KnownBytes.{Appends};
 ghost use Rattle.press_http.specs.Replies.{fault_bytes};
-ghost use Rattle.press_server.specs.Screening.{IsOfSort, asks_editor, asks_ready, sort_by, sort_named};
+ghost use Rattle.press_server.specs.Screening.{IsOfSort, asks_editor, asks_ready, is_ahead, sort_by, sort_named};
 
 use press_batch::Report;
 use press_http::{Asked, HttpFault, read_request, route, write_fault, write_reply};
@@ -117,7 +117,9 @@ impl Screen {
     }
 
     /// Whether a command of such a time is too far ahead.
-    pub fn is_ahead(&self, at: u64, now: u64) -> bool {
+    pub fn is_ahead(&self, at: u64, now: u64) -> bool
+        ensures { result ≡ is_ahead self.now.ahead at now }
+    {
         match self.ahead {
             Some(most) => at > now.saturating_add(most),
             None => false,

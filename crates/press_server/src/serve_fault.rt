@@ -22,6 +22,9 @@ pub enum ServeFault {
     BadPeers,
     #[error("the line that it listens could not be written")]
     WriteFault,
+    /// The file is that of a member with another number, or of other peers; or a member's, and the node is by itself.
+    #[error("the store is another member's")]
+    Foreign,
     #[error("the disk failed")]
     Disk,
     #[error("what is stored is damaged")]
@@ -65,6 +68,7 @@ impl From<PeersFault> for ServeFault {
         match fault {
             PeersFault::NoMemory => ServeFault::NoMemory,
             PeersFault::Unknown => ServeFault::BadPeers,
+            PeersFault::NotFound => ServeFault::NoConnections,
         }
     }
 }

@@ -11,7 +11,7 @@ ghost use Rattle.press_server.specs.Turns.{HasCaughtUp};
 
 use crate::alone::Alone;
 use crate::files::{FEWEST, OWN, most_connections, open_files};
-use crate::joining::{Joiner, Seat, join, seat_of};
+use crate::joining::{Joiner, Seat, join, seat_of, tie};
 use crate::screen::Screen;
 use crate::serve_fault::ServeFault;
 use crate::setup::{Place, Setup};
@@ -134,8 +134,9 @@ fn serve_over<A: Answers, W: Write, E: Write>(
     error: &mut E,
 ) -> Result<(), ServeFault>
     requires always { Unit {0} }
-    ensures { AppendsFront (W.contents writer.old) (W.contents writer.new)
+    ensures listens { AppendsFront (W.contents writer.old) (W.contents writer.new)
         (listening_line (where_of start.entry.setup.now.place)) }
+    ensures becomes { A.becomes answers.old answers.new }
 {
     let Start { rt, setup, most } = start;
     let task = Task {
@@ -243,7 +244,8 @@ fn serve_stored<D: Alter + Drop, W: Write, E: Write>(
     ensures { AppendsFront (W.contents writer.old) (W.contents writer.new)
         (listening_line (where_of beside.entry.start.setup.now.place)) }
 {
-    let mut beside = beside;
+    let (mut beside, mut store) = (beside, store);
+    tie(&mut store, &beside.seat)?;
     let Some(seat) = beside.seat.take() else {
         return serve_alone(beside, store, writer, error);
     };
@@ -281,7 +283,7 @@ impl Setup<'_> {
         ensures { AppendsFront (W.contents writer.old) (W.contents writer.new)
             (listening_line (where_of self.now.place)) }
     {
-        let seat = seat_of(rt, self)?;
+        let seat = seat_of(rt, self, error)?;
         let most = most_open(rt, error)?;
         let start = Start {
             rt,

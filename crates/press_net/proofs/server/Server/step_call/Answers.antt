@@ -7,7 +7,7 @@ pub returns-in_default-told : goal.returns-in_default-told
 returns-in_default-told g c =
     let is : call_at c.args.self.now.calls c.args.place ≡ Some c.in-Some.call.now = search rules in
     let none : None ≡ reply_in c.step.new.self.course c.step.new.self.reply.items = search rules in
-    record { credits = credited g.A.Answers.hears _ c.in-Some.call.now c.step.new.self None _ _ is c.step.ensures none refl; rest = search rules }
+    record { credits = credited g.A.Answers.hears _ c.in-Some.call.now c.step.new.self None _ _ is c.step.ensures none refl; rest = search rules; becomes = g.met.A.Answers.rests _ }
 
 pub returns : goal.returns
 returns g c =
@@ -19,4 +19,5 @@ returns g c =
       credits = credited g.A.Answers.hears _ c.in-Some.call.now c.step.new.self (Some c.in-Some-told.reply.now) _ _ is c.step.ensures some
           (named g.A.Answers.hears c.place.result _ c.errand.result _ c.in-Some-told.reply.now _ _ place errand c.called.ensures.hears);
       rest = search rules;
+      becomes = c.called.ensures.becomes;
     }

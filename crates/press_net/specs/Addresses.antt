@@ -1,0 +1,62 @@
+-- Where requests go: the addresses of those who are listed, by place (own).
+use Rattle.std.specs.Prelude.{ℕ, ◌==◌, ◌&&◌, ◌++◌, ◌*◌, Bool, false, not, min, max, List, [], ◌∷◌, drop, take, filter, length, nat_eq, Option, Some, None, option_map, unwrap_or, slice_get, bytes_eq, if◌then◌else◌}
+use Rattle.std.specs.List.{list_any}
+use Rattle.std.specs.Net.Socket.{socket_ip}
+use Rattle.std.specs.declared.net.ip_addr.IpAddr.{IpAddr}
+use Rattle.std.specs.declared.net.socket_addr.SocketAddr.{SocketAddr}
+use Rattle.std.specs.declared.net.socket_addr.SocketAddr.TheVariants.{V4, V6}
+use Rattle.press_net.specs.Talking.{is_same}
+use Rattle.press_net.specs.declared.addresses.AddressBook.{AddressBook}
+
+-- how many are listed
+abbrev pub listed : AddressBook → ℕ
+listed book = length book.all.items
+
+-- one of these sockets is at that address
+abbrev pub has_ip : IpAddr → List SocketAddr → Bool
+has_ip address sockets = list_any (λ socket. is_same address (socket_ip socket)) sockets
+
+-- the sockets of the one at a place, the one that requests go to first
+abbrev pub sockets_at : AddressBook → ℕ → List SocketAddr
+sockets_at book place = unwrap_or (option_map (λ entry. entry.sockets.items) (slice_get book.all.items place)) []
+
+abbrev pub first_at : AddressBook → ℕ → Option SocketAddr
+first_at book place = slice_get (sockets_at book place) 0
+
+-- two sockets are the same
+abbrev pub is_same_socket : SocketAddr → SocketAddr → Bool
+is_same_socket (V4 one) (V4 other) = bytes_eq one.ip.octets other.ip.octets && (one.port == other.port)
+is_same_socket (V6 one) (V6 other) =
+    bytes_eq one.ip.segments other.ip.segments && (one.port == other.port) && (one.flowinfo == other.flowinfo) && (one.scope_id == other.scope_id)
+is_same_socket (V4 one) (V6 other) = false
+is_same_socket (V6 one) (V4 other) = false
+
+abbrev pub has_socket : List SocketAddr → SocketAddr → Bool
+has_socket sockets socket = list_any (λ other. is_same_socket other socket) sockets
+
+-- a request went to the first
+abbrev pub went_first : Option SocketAddr → List SocketAddr → Bool
+went_first None sockets = false
+went_first (Some tried) [] = false
+went_first (Some tried) (first ∷ rest) = is_same_socket first tried
+
+-- behind a request that was lost: where it went to the first, that one goes behind the others
+abbrev pub behind_loss : Option SocketAddr → List SocketAddr → List SocketAddr
+behind_loss tried sockets = if went_first tried sockets then drop 1 sockets ++ take 1 sockets else sockets
+
+-- those that were known and are found again
+abbrev pub still : List SocketAddr → List SocketAddr → List SocketAddr
+still known found = filter (has_socket found) known
+
+-- those that are found, but were not known
+abbrev pub fresh : List SocketAddr → List SocketAddr → List SocketAddr
+fresh known found = filter (λ socket. not (has_socket known socket)) found
+
+-- behind a lookup: first those that are new, and then those that are found again; all that were known where nothing is found
+abbrev pub with_found : List SocketAddr → List SocketAddr → List SocketAddr
+with_found known found =
+    if nat_eq (length found) 0 then known else fresh (still known found) found ++ still known found
+
+-- milliseconds behind a lookup that took so long
+abbrev pub pause : ℕ → ℕ
+pause took = max 1000 (min (took * 30) 18446744073709551615)

@@ -1,0 +1,8 @@
+use Rattle.press_server.specs.Living.{MemberLives}
+use Rattle.press_server.proofs.clustered.Clustered.play.Given as goal
+
+abbrev pub invariant-loop-message : goal.invariant-loop-message
+invariant-loop-message g l = MemberLives g.S.PromiseStore.seen l.fn.self.member l.self.member
+
+abbrev pub invariant-loop-to : goal.invariant-loop-to
+invariant-loop-to g l = MemberLives g.S.PromiseStore.seen l.fn.self.member l.self.member

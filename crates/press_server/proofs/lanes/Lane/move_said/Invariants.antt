@@ -1,0 +1,5 @@
+use Rattle.press_server.specs.Going.{HasSameWay}
+use Rattle.press_server.proofs.lanes.Lane.move_said.Given as goal
+
+abbrev pub invariant-loop : goal.invariant-loop
+invariant-loop l = HasSameWay l.self l.initial.self

@@ -1,0 +1,81 @@
+-- What becomes of a node, or of a member, that a server serves: a chain of turns (own).
+use Rattle.std.specs.Prelude.{ℕ, ◌≡◌, List, [], ◌∷◌, ◌++◌, Some, Result, refl}
+use Rattle.std.proofs.Common.{subst}
+use Rattle.std.specs.declared.alloc.AllocError.{AllocError}
+use Rattle.press_acceptor.specs.Seen.{Seen}
+use Rattle.press_http.specs.declared.fault.HttpFault.{HttpFault}
+use Rattle.press_node.specs.Nodes.{NodeMove, node_moved, state_of, store_of}
+use Rattle.press_node.specs.States.{NodeState}
+use Rattle.press_node.specs.declared.kept.Node.{Node}
+use Rattle.press_member.specs.Acts.{Acts, View, view_of}
+use Rattle.press_member.specs.Coming.{AreItsMoves}
+use Rattle.press_member.specs.Lives.{Lives, Step}
+use Rattle.press_member.specs.declared.input.Input.{Input}
+use Rattle.press_member.specs.declared.member.Member.{Member}
+use Rattle.press_member.specs.declared.output.Outputs.{Outputs}
+use Rattle.press_server.specs.Turns.{ServesTurn}
+
+-- any number of steps
+pub data Chain {T : Type 0} (Step : T → T → Type 0) : T → T → Type 0 where
+  rests : (only : T) → Chain Step only only
+  goes_on : (old next new : T) → Step old next → Chain Step next new → Chain Step old new
+
+-- none
+pub stays : {T : Type 0} {Step : T → T → Type 0} (only : T) → Chain Step only only
+stays only = rests only
+
+-- one
+pub single : {T : Type 0} {Step : T → T → Type 0} (old new : T) → Step old new → Chain Step old new
+single old new step = goes_on old new new step (rests new)
+
+-- some, and then some
+pub joined : {T : Type 0} {Step : T → T → Type 0} (old next new : T) → Chain Step old next → Chain Step next new → Chain Step old new
+joined old next new (rests only) rest = rest
+joined old next new (goes_on first second last step chain) rest = goes_on first second new step (joined second last new chain rest)
+
+-- a connection is served to these bytes, by a node over the same kit
+pub record HasTurn {N : Type 0} (moved : N → N → NodeMove) (old new : N) : Type 0 where
+  pub kit : (moved new new).kit ≡ (moved old old).kit
+  pub request : List ℕ
+  pub left : List ℕ
+  pub before : List ℕ
+  pub told : List ℕ
+  pub result : Result ℕ HttpFault
+  pub turn : ServesTurn moved old new (Some request) (Some left) (Some before) (Some told) result
+
+-- what becomes of a node by itself: turns
+abbrev pub NodeLives : {S : Type 0} {t : _} {F : _} {g : _} → (S → Seen) → Node S t F g → Node S t F g → Type 0
+NodeLives seen = Chain (HasTurn (λ a b. node_moved seen a b))
+
+-- what becomes of a member, as a view: a life, by its inputs
+pub record IsLife {S N : Type 0} (seen : S → Seen) (moved : N → N → NodeMove) (store : N → S) (state : N → NodeState) (old new : View N) : Type 0 where
+  pub steps : List (Step N)
+  pub lives : Lives seen moved store state steps old new
+
+-- no input comes
+pub none_comes : {S N : Type 0} {seen : S → Seen} {moved : N → N → NodeMove} {store : N → S} {state : N → NodeState} (only : View N) → IsLife seen moved store state only only
+none_comes only = record { steps = []; lives = refl }
+
+-- one comes
+pub one_comes : {S N : Type 0} {seen : S → Seen} {moved : N → N → NodeMove} {store : N → S} {state : N → NodeState} (old new : View N) (input : Input) (result : Result Outputs AllocError)
+    → Acts moved input old new result → AreItsMoves seen store state input old new result → IsLife seen moved store state old new
+one_comes old new input result acts moves = record {
+  steps = record { input = input; result = result; next = new } ∷ [];
+  lives = (acts, moves, refl);
+}
+
+lives_then : {S N : Type 0} (seen : S → Seen) (moved : N → N → NodeMove) (store : N → S) (state : N → NodeState) (first last : List (Step N)) (old next new : View N)
+    → Lives seen moved store state first old next → Lives seen moved store state last next new → Lives seen moved store state (first ++ last) old new
+lives_then seen moved store state [] last old next new early late = subst (λ v. Lives seen moved store state last v new) early late
+lives_then seen moved store state (s ∷ first) last old next new early late = (early.0, early.1, lives_then seen moved store state first last s.next next new early.2 late)
+
+-- some come, and then some
+pub more_come : {S N : Type 0} {seen : S → Seen} {moved : N → N → NodeMove} {store : N → S} {state : N → NodeState} (old next new : View N)
+    → IsLife seen moved store state old next → IsLife seen moved store state next new → IsLife seen moved store state old new
+more_come {seen = seen} {moved = moved} {store = store} {state = state} old next new early late = record {
+  steps = early.steps ++ late.steps;
+  lives = lives_then seen moved store state early.steps late.steps old next new early.lives late.lives;
+}
+
+abbrev pub MemberLives : {S : Type 0} {t : _} {F : _} {g : _} → (S → Seen) → Member S t F g → Member S t F g → Type 0
+MemberLives seen old new = IsLife seen (λ a b. node_moved seen a b) (λ node. store_of node) (λ node. state_of node) (view_of old) (view_of new)
