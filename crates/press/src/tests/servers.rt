@@ -9,9 +9,9 @@ const FRONT: &[u8] = b"GET / HTTP/1.1\r\nHost: a\r\n\r\n";
 
 const READY: &[u8] = b"GET /ready HTTP/1.1\r\nHost: a\r\n\r\n";
 
-// A question for the vote of slot 1, from member 1 to itself.
+// A question for the vote of slot 1, from member 2 to member 1.
 const QUESTION: &[u8] =
-    b"POST /peer HTTP/1.1\r\nHost: a\r\nContent-Length: 7\r\n\r\n\x06\x01\x01\x00\x00\x00\x01";
+    b"POST /peer HTTP/1.1\r\nHost: a\r\nContent-Length: 7\r\n\r\n\x06\x02\x01\x00\x00\x00\x01";
 
 // A port of that address at which nothing listens.
 fn free_addr(rt: &HostRuntime, ip: &str) -> Result<SocketAddr, Fail> {
@@ -85,7 +85,7 @@ fn a_long_request_is_read_to_its_end(rt: HostRuntime) -> Result<(), Fail> {
     Ok(())
 }
 
-// A client of this machine has the address 127.0.0.1.
+// A client of this machine has the address 127.0.0.1. The other member, in whose name it asks, is at that of the server.
 #[test]
 fn a_message_of_a_stranger_is_not_taken(rt: HostRuntime) -> Result<(), Fail> {
     for (ip, status) in [
@@ -93,7 +93,7 @@ fn a_message_of_a_stranger_is_not_taken(rt: HostRuntime) -> Result<(), Fail> {
         ("127.0.0.2", "HTTP/1.1 404 "),
     ] {
         let addr = free_addr(&rt, ip)?;
-        let peers = format!(in rt.alloc(); "{addr}")?;
+        let peers = format!(in rt.alloc(); "{addr},{ip}:1")?;
         let reply = replied_by_member(&rt, addr, &peers, QUESTION)?;
         assert!(rt; reply.starts_with(status.as_bytes()), "at {ip}");
     }
