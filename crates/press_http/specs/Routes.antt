@@ -1,6 +1,6 @@
 -- Route: what a request asks for, by its path, then its method, then what it carries (paths and their parameters: the kit's `matchit`;
 -- path and query: RFC 3986, 3.3 and 3.4; methods: RFC 9110, 9; `GET /wp-json/wp/v2/posts/{id}`: REST API Handbook, Posts; the other paths are own).
-use Rattle.std.specs.Prelude.{ℕ, zero, suc, List, [], ◌==◌, bytes_eq, Option, Some, None, Result, Ok, Err, IsOk, codes, if◌then◌else◌}
+use Rattle.std.specs.Prelude.{ℕ, zero, suc, ◌≡◌, List, [], ◌==◌, bytes_eq, Option, Some, None, Result, Ok, Err, IsOk, codes, if◌then◌else◌}
 use Rattle.std.specs.List.{before_first, after_first}
 use Rattle.matchit.specs.Rows.{RowsOf}
 use Rattle.matchit.specs.Seek.{first}
@@ -147,3 +147,7 @@ TakesMemory place.Post t body = ⊥
 TakesMemory place.Outcome t body = IsOk (first_in (behind 2 (path_of t)))
 TakesMemory place.Commands t body = LacksPlainly (codes "editor") body → ⊥
 TakesMemory place.Peers t body = IsOk (editor_of_message body)
+
+-- whether what a request carries may take memory: where its path is served by its method, and that takes some
+abbrev pub MayTakeMemory : List ℕ → List ℕ → List ℕ → Type 0
+MayTakeMemory method t body = (at : Place) × ((place_at (path_of t) >>= allowed method) ≡ Ok at) × TakesMemory at t body

@@ -22,6 +22,7 @@ pub use asked::Asked;
 pub use fault::HttpFault;
 pub use form::form_command;
 pub use pieces::Pieces;
+pub use place::Routes;
 pub use reading::{read_pieces, read_request};
 pub use reply::{write_fault, write_reply};
 pub use request::Request;

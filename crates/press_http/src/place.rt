@@ -1,14 +1,12 @@
 //! The paths that are served, and what each is for.
 
-ghost use Rattle.std.specs.Prelude.{◌≡◌, [], IfOk, IfErr, OnOk};
+ghost use Rattle.std.specs.Prelude.{◌≡◌, ◌≢◌, [], Err, IfOk, OnOk};
 ghost use Rattle.matchit.specs.Seek.{first};
-ghost use Rattle.press_text.specs.Gives.{Gives};
-ghost use Rattle.press_http.specs.Meanings.{Refuses};
 ghost use Rattle.press_http.specs.Routes.{method_at, pages, place_at, place_in, table, with_route};
 
 use crate::fault::HttpFault;
 use matchit::Router;
-use std::alloc::Global;
+use std::alloc::{AllocError, Global};
 
 /// What a path is for.
 #[derive(Clone, Copy, Debug, PartialEq, Eq)]
@@ -21,15 +19,6 @@ pub(crate) enum Place {
 }
 
 impl Place {
-    /// What that path is for. The router takes memory.
-    #[tactic(auto, unfolding(crate::specs::Routes::place_at))]
-    pub fn at(alloc: Global, path: &str) -> Result<Place, HttpFault>
-        ensures { Gives Refuses Ok result (place_at path.now) }
-    {
-        let routes = routes(alloc)?;
-        found(&routes, path)
-    }
-
     /// The one method that is served there.
     pub fn method(self) -> &'static str
         ensures { result.now ≡ method_at self }
@@ -43,7 +32,8 @@ impl Place {
 
 // What the table has at that path. No memory is taken.
 fn found(routes: &Router<Place>, path: &str) -> Result<Place, HttpFault>
-    ensures { result ≡ place_in (first routes.now path.now) }
+    ensures place { result ≡ place_in (first routes.now path.now) }
+    ensures memory { result ≢ Err HttpFault.NoMemory }
 {
     match routes.at(path) {
         Ok(found) => Ok(*found.value),
@@ -53,20 +43,18 @@ fn found(routes: &Router<Place>, path: &str) -> Result<Place, HttpFault>
 
 // A router refuses these paths only when out of memory.
 #[tactic(auto, using(crate::proofs::Tables::inserted), unfolding(crate::specs::Routes::with_route))]
-fn add(router: &mut Router<Place>, path: &str, place: Place) -> Result<(), HttpFault>
-    ensures ok { OnOk result (router.new ≡ with_route path.now place router.old) }
-    ensures err { IfErr result (λ e. e ≡ HttpFault.NoMemory) }
+fn add(router: &mut Router<Place>, path: &str, place: Place) -> Result<(), AllocError>
+    ensures { OnOk result (router.new ≡ with_route path.now place router.old) }
 {
     match router.insert(path, place) {
         Ok(()) => Ok(()),
-        Err(_) => Err(HttpFault::NoMemory),
+        Err(_) => Err(AllocError),
     }
 }
 
 #[tactic(auto, unfolding(crate::specs::Routes::pages))]
-fn pages(alloc: Global) -> Result<Router<Place>, HttpFault>
-    ensures ok { IfOk result (λ r. r ≡ pages) }
-    ensures err { IfErr result (λ e. e ≡ HttpFault.NoMemory) }
+fn pages(alloc: Global) -> Result<Router<Place>, AllocError>
+    ensures { IfOk result (λ r. r ≡ pages) }
 {
     let mut router = Router::new(alloc);
     add(&mut router, "/", Place::Front)?;
@@ -76,12 +64,36 @@ fn pages(alloc: Global) -> Result<Router<Place>, HttpFault>
 }
 
 #[tactic(auto, unfolding(crate::specs::Routes::table))]
-fn routes(alloc: Global) -> Result<Router<Place>, HttpFault>
-    ensures ok { IfOk result (λ r. r ≡ table) }
-    ensures err { IfErr result (λ e. e ≡ HttpFault.NoMemory) }
+fn all_routes(alloc: Global) -> Result<Router<Place>, AllocError>
+    ensures { IfOk result (λ r. r ≡ table) }
 {
     let mut router = pages(alloc)?;
     add(&mut router, "/command", Place::Commands)?;
     add(&mut router, "/peer", Place::Peers)?;
     Ok(router)
+}
+
+/// The table of the paths that are served.
+#[derive(Drop)]
+pub struct Routes {
+    router: Router<Place>,
+    ghost whole: { router ≡ table },
+}
+
+impl Routes {
+    /// The table, which takes memory.
+    pub fn new(alloc: Global) -> Result<Routes, AllocError> {
+        Ok(Routes {
+            router: all_routes(alloc)?,
+        })
+    }
+
+    // What that path is for. No memory is taken.
+    #[tactic(auto, unfolding(crate::specs::Routes::place_at))]
+    pub(crate) fn at(&self, path: &str) -> Result<Place, HttpFault>
+        ensures place { result ≡ place_at path.now }
+        ensures memory { result ≢ Err HttpFault.NoMemory }
+    {
+        found(&self.router, path)
+    }
 }

@@ -11,7 +11,7 @@ ghost use Rattle.press_wire.specs.Memory.{editor_of_message};
 use crate::asked::Asked;
 use crate::fault::HttpFault;
 use crate::form::{first_value, form_command};
-use crate::place::Place;
+use crate::place::{Place, Routes};
 use crate::request::Request;
 use press_page::Target;
 use press_site::Token;
@@ -159,16 +159,28 @@ fn allowed(method: &str, place: Place) -> Result<Place, HttpFault>
     }
 }
 
-/// What a request asks for: by its path, then its method, then what it carries. NotFound for a path that is not served,
-/// or whose id, editor or number doesn't read; NotAllowed for another method; BadForm and BadPeer for what a command or
-/// a message can't be read from.
-#[tactic(auto, unfolding(crate::specs::Routes::asked))]
+impl Routes {
+    /// What a request asks for: by its path, then its method, then what it carries. NotFound for a path that is not
+    /// served, or whose id, editor or number doesn't read; NotAllowed for another method; BadForm and BadPeer for what a
+    /// command or a message can't be read from.
+    #[tactic(auto, unfolding(crate::specs::Routes::asked))]
+    pub fn route(&self, alloc: Global, request: &Request) -> Result<Asked, HttpFault>
+        ensures asked { Gives Refuses Ok result (spec.asked request.now.method request.now.target
+            request.now.body) }
+        ensures memory { result ≡ Err HttpFault.NoMemory → spec.MayTakeMemory
+            request.now.method request.now.target request.now.body }
+    {
+        let target = request.target.as_str();
+        let place = self.at(path(target))?;
+        let place = allowed(request.method.as_str(), place)?;
+        asked_at(alloc, place, target, request.body.as_slice())
+    }
+}
+
+/// The same by a table of its own, which takes memory.
 pub fn route(alloc: Global, request: &Request) -> Result<Asked, HttpFault>
     ensures { Gives Refuses Ok result (spec.asked request.now.method request.now.target
         request.now.body) }
 {
-    let target = request.target.as_str();
-    let place = Place::at(alloc, path(target))?;
-    let place = allowed(request.method.as_str(), place)?;
-    asked_at(alloc, place, target, request.body.as_slice())
+    Routes::new(alloc)?.route(alloc, request)
 }

@@ -45,8 +45,11 @@ const MILLISECONDS: u64 = 100;
 // How long may pass where requests go out by time.
 const STEP: u64 = 2;
 
+// For how many milliseconds others keep it from what waits for nothing else.
+const BEHIND: u64 = 2;
+
 // Milliseconds from one reply that has a client come again later to the next one: many clients that come again at once take a small part of its time.
-const PAUSE: u64 = 2;
+const PAUSE: u64 = 5;
 
 // The most of them that go out at once.
 const MOST_LET_OUT: u128 = 32;
@@ -450,7 +453,7 @@ impl Server {
         }
     }
 
-    // Lets the oldest held replies out: one for each two milliseconds that passed, or as many where no connection is still to have its turn.
+    // Lets the oldest held replies out: one for each five milliseconds that passed, or as many where no connection is still to have its turn.
     fn let_some_out(&mut self) {
         let passed = self.now.duration_since(self.last_out);
         if self.is_open() && passed < Duration::from_millis(PAUSE) {
@@ -579,7 +582,7 @@ impl Server {
         if self.calls.are_out(self.now) {
             return true;
         }
-        if has_more && self.now.duration_since(since) < Duration::from_millis(PAUSE) {
+        if has_more && self.now.duration_since(since) < Duration::from_millis(BEHIND) {
             self.waits_since = Some(since);
             return false;
         }
@@ -614,10 +617,12 @@ impl Server {
     fn limit(&self, has_more: bool) -> Option<Duration> {
         if has_more && self.calls.are_out(self.now) {
             Some(Duration::from_millis(0))
-        } else if has_more || !self.held.is_empty() {
-            Some(Duration::from_millis(PAUSE))
+        } else if has_more {
+            Some(Duration::from_millis(BEHIND))
         } else if self.is_timed {
             Some(Duration::from_millis(STEP))
+        } else if !self.held.is_empty() {
+            Some(Duration::from_millis(PAUSE))
         } else if self.talks.is_empty() && !self.is_behind {
             None
         } else {

@@ -274,7 +274,13 @@ impl Talk {
         }
     }
 
-    // Reads what has come of the request; returns whether the input has ended.
+    // Whether what came is to be looked at before more is read: a request mostly comes at once, and behind one that is
+    // whole only a member's connection stays open.
+    fn is_enough(&self) -> bool {
+        self.came.is_due() && !self.is_message()
+    }
+
+    // Reads what has come of the request, as far as it is to be looked at; returns whether the input has ended.
     fn gather(&mut self) -> io::Result<bool> {
         let mut piece = [0u8; PIECE];
         for _ in 0..MOST_PIECES {
@@ -283,6 +289,9 @@ impl Talk {
                 Ok(n) => self.came.add(&piece[..n])?,
                 Err(e) if e.kind() == ErrorKind::WouldBlock => return Ok(false),
                 Err(e) => return Err(e),
+            }
+            if self.is_enough() {
+                break;
             }
         }
         self.has_more = true;
@@ -351,7 +360,12 @@ impl Talk {
                 self.phase = Phase::Over;
                 false
             }
-            Ok(ended) => self.look(answers, ended, now, log),
+            Ok(ended) => {
+                let had_turn = self.look(answers, ended, now, log);
+                // What still comes behind that is drained once the reply is out.
+                self.has_more &= !had_turn;
+                had_turn
+            }
             Err(_) => {
                 self.log_fault(log, HttpFault::ReadFault);
                 self.phase = Phase::Over;

@@ -1,17 +1,21 @@
 -- What becomes of a node, or of a member, that a server serves: a chain of turns (own).
-use Rattle.std.specs.Prelude.{ℕ, ◌≡◌, List, [], ◌∷◌, ◌++◌, Some, Result, refl}
+use Rattle.std.specs.Prelude.{ℕ, ◌≡◌, List, [], ◌∷◌, ◌++◌, Option, Some, Result, refl}
 use Rattle.std.proofs.Common.{subst}
 use Rattle.std.specs.declared.alloc.AllocError.{AllocError}
 use Rattle.press_acceptor.specs.Seen.{Seen}
 use Rattle.press_http.specs.declared.fault.HttpFault.{HttpFault}
 use Rattle.press_node.specs.Nodes.{NodeMove, node_moved, state_of, store_of}
-use Rattle.press_node.specs.States.{NodeState}
+use Rattle.press_node.specs.States.{NodeState, Up}
+use Rattle.press_node.specs.declared.fault.NodeFault.{NodeFault}
+use Rattle.press_callbacks.specs.Kits.{KitView}
 use Rattle.press_node.specs.declared.kept.Node.{Node}
-use Rattle.press_member.specs.Acts.{Acts, View, view_of}
+use Rattle.press_member.specs.Acts.{Acts, Answers, Hears, View, view_of}
 use Rattle.press_member.specs.Coming.{AreItsMoves}
 use Rattle.press_member.specs.Lives.{Lives, Step}
 use Rattle.press_member.specs.declared.input.Input.{Input}
+use Rattle.press_member.specs.declared.input.Input.TheVariants.{Form, Page, Message as Letter, Report, Ended, Sent, Time}
 use Rattle.press_member.specs.declared.member.Member.{Member}
+use Rattle.press_member.specs.declared.output.Answer.{Answer}
 use Rattle.press_member.specs.declared.output.Outputs.{Outputs}
 use Rattle.press_server.specs.Turns.{ServesTurn}
 
@@ -79,3 +83,23 @@ more_come {seen = seen} {moved = moved} {store = store} {state = state} old next
 
 abbrev pub MemberLives : {S : Type 0} {t : _} {F : _} {g : _} → (S → Seen) → Member S t F g → Member S t F g → Type 0
 MemberLives seen old new = IsLife seen (λ a b. node_moved seen a b) (λ node. store_of node) (λ node. state_of node) (view_of old) (view_of new)
+
+-- what is answered to a report: whether it is of the same members and the same kit
+abbrev pub Compares : {N : Type 0} → View N → Input → Answer → Type 0
+Compares member (Report from report) given = Hears member.digests report.digests given
+Compares member (Form command) given = Unit {0}
+Compares member (Page target) given = Unit {0}
+Compares member (Letter message) given = Unit {0}
+Compares member (Ended to asked is_taken) given = Unit {0}
+Compares member Sent given = Unit {0}
+Compares member (Time now) given = Unit {0}
+
+-- by what is answered to an input
+pub compared : {N : Type 0} (member : View N) (kit : KitView) (up : Option Up) (input : Input) (refused : Option NodeFault) (given : Answer) → Answers member kit up input refused given → Compares member input given
+compared member kit up (Report from report) refused given answers = answers
+compared member kit up (Form command) refused given answers = tt
+compared member kit up (Page target) refused given answers = tt
+compared member kit up (Letter message) refused given answers = tt
+compared member kit up (Ended to asked is_taken) refused given answers = tt
+compared member kit up Sent refused given answers = tt
+compared member kit up (Time now) refused given answers = tt

@@ -1,21 +1,21 @@
 //! A member of a cluster behind a server: what comes over sockets is given to it, and what it sends goes out.
 
-ghost use Rattle.std.specs.Prelude.{◌≡◌, ℕ, ◌&&◌, IfOk, None, false, if◌then◌else◌};
+ghost use Rattle.std.specs.Prelude.{◌≡◌, ◌≢◌, ℕ, ◌&&◌, IfOk, MatchBool, None, false, if◌then◌else◌};
 ghost use Rattle.press_member.specs.Acts.{is_open, stop_in, view_of};
-ghost use Rattle.press_server.specs.Living.{MemberLives};
+ghost use Rattle.press_server.specs.Living.{MemberLives, Compares};
 ghost use Rattle.press_server.specs.Members.{is_other_at};
 ghost use Rattle.press_server.specs.Screening.{is_ahead};
 
 use crate::carrying::{batch_by, body_in, request_of, tell_batch};
+use crate::foreign::ForeignLines;
 use crate::lanes::{Lanes, Parcel, Sender};
 use crate::paths::{Own, Paths};
 use crate::peers::{Peers, member_at, place_of};
 use crate::replies::{queued, refuse, refuse_by, taken, tell_answer};
 use crate::screen::{Screen, Standing, not_found, refuse_form, refuse_without_memory, show_ready};
-use crate::strangers::Strangers;
 use press_acceptor::{PromiseStore, StoreFault};
-use press_batch::{Batch, BatchFault, decode_batch};
-use press_http::{Asked, HttpFault, read_request, route};
+use press_batch::{Batch, BatchFault, Report, decode_batch};
+use press_http::{Asked, HttpFault, Routes, read_request};
 use press_member::{Answer, Input, Member, Outputs};
 use press_net::{Answers, Errand, Outgoing, Time, words_of};
 use press_node::NodeFault;
@@ -39,8 +39,9 @@ pub struct Clustered<'s, S: PromiseStore> {
     peers: Peers,
     screen: &'s Screen,
     paths: Paths,
+    routes: Routes,
     lanes: Lanes,
-    strangers: Strangers,
+    foreign: ForeignLines,
     time: Time,
     stays: bool,
 }
@@ -53,8 +54,9 @@ impl<S: PromiseStore + Drop> Drop for Clustered<'_, S> {
             peers: _,
             screen: _,
             paths: _,
+            routes: _,
             lanes: _,
-            strangers: _,
+            foreign: _,
             time: _,
             stays: _,
         } = self;
@@ -80,16 +82,18 @@ impl<'s, S: PromiseStore + Drop> Clustered<'s, S> {
             seconds: 0,
         };
         let paths = Paths::new(alloc)?;
+        let routes = Routes::new(alloc)?;
         let lanes = Lanes::new(alloc, peers.count())?;
-        let strangers = Strangers::new(alloc, peers.count())?;
+        let foreign = ForeignLines::new(alloc, peers.count())?;
         Ok(Clustered {
             alloc,
             member,
             peers,
             screen,
             paths,
+            routes,
             lanes,
-            strangers,
+            foreign,
             time,
             stays,
         })
@@ -110,7 +114,8 @@ impl<S: PromiseStore> Clustered<'_, S> {
     // What happens to the member: what it sends waits to go out, and what it answers is returned.
     fn play(&mut self, input: Input) -> Result<Answer, AllocError>
         requires always { Unit {0} }
-        ensures { MemberLives S.seen self.old.member self.new.member }
+        ensures lives { MemberLives S.seen self.old.member self.new.member }
+        ensures compares { IfOk result (λ answer. Compares (view_of self.old.member) input answer) }
     {
         let Outputs {
             answer,
@@ -184,17 +189,32 @@ impl<S: PromiseStore> Clustered<'_, S> {
         }
     }
 
+    // How far a member is, as it says; whether it counts the same members and runs the same kit.
+    fn hear_report(&mut self, from: Id, report: Report) -> Result<bool, AllocError>
+        requires always { Unit {0} }
+        ensures lives { MemberLives S.seen self.old.member self.new.member }
+        ensures same { IfOk result (λ is_same. MatchBool is_same
+            (report.digests ≡ (view_of self.old.member).digests)
+            (report.digests ≢ (view_of self.old.member).digests)) }
+    {
+        let answer = self.play(Input::Report { from, report })?;
+        Ok(!matches!(answer, Answer::Foreign))
+    }
+
     // The messages of a member, which are heard where it counts the same members and runs the same kit; whether they are.
     fn hear(&mut self, batch: Batch) -> Result<bool, AllocError>
         requires always { Unit {0} }
-        ensures { MemberLives S.seen self.old.member self.new.member }
+        ensures lives { MemberLives S.seen self.old.member self.new.member }
+        ensures same { IfOk result (λ is_heard. MatchBool is_heard
+            (batch.report.digests ≡ (view_of self.old.member).digests)
+            (batch.report.digests ≢ (view_of self.old.member).digests)) }
     {
         let Batch {
             from,
             report,
             messages,
         } = batch;
-        if let Answer::Foreign = self.play(Input::Report { from, report })? {
+        if !self.hear_report(from, report)? {
             return Ok(false);
         }
         for message in messages {
@@ -295,7 +315,7 @@ impl<S: PromiseStore> Clustered<'_, S> {
             }
             _ => {}
         }
-        match route(self.alloc, &request) {
+        match self.routes.route(self.alloc, &request) {
             Ok(asked) => self.ask(from, asked, told),
             Err(fault) => refuse(fault, told),
         }
@@ -425,7 +445,7 @@ impl<S: PromiseStore> Answers for Clustered<'_, S> {
 
     #[tactic(auto, using(crate::specs::Living::none_comes))]
     fn next_line(&mut self) -> Option<String> {
-        self.strangers.next_line(self.alloc, &self.member)
+        self.foreign.next_line(self.alloc, &self.member)
     }
 
     #[tactic(auto, using(crate::specs::Living::none_comes))]

@@ -2,7 +2,7 @@
 
 ghost use Rattle.std.specs.Prelude.{◌≡◌, ◌≢◌, IfOk, MatchResult, option_map};
 ghost use Rattle.press_callbacks.specs.Kits.{kit_view};
-ghost use Rattle.press_member.specs.Acts.{node_in, view_of};
+ghost use Rattle.press_member.specs.Acts.{begun, node_in, view_of};
 ghost use Rattle.press_member.specs.Starting.{IsItsStart};
 ghost use Rattle.press_net.specs.Addresses.{listed};
 ghost use Rattle.press_node.specs.Nodes.{kit_of, node_moved, state_of, store_of};
@@ -61,7 +61,11 @@ impl Seat {
     }
 
     // What the member begins with beside its node, where so many slots are chosen.
-    fn beginning(&self, chosen: u64) -> Result<Beginning, ServeFault> {
+    fn beginning(&self, chosen: u64) -> Result<Beginning, ServeFault>
+        ensures id { IfOk result (λ beginning. beginning.id ≡ self.now.peers.own) }
+        ensures members { IfOk result
+            (λ beginning. beginning.members ≡ listed self.now.peers.book) }
+    {
         let members = self.members()?;
         let digests = Digests {
             peers: self.peers.digest(),
@@ -201,6 +205,8 @@ fn start_member<S: PromiseStore + Drop>(
     beginning: Beginning,
 ) -> Result<Member<S>, ServeFault>
     ensures kit { IfOk result (λ member. kit_of (node_in (view_of member)) ≡ kit_view kit) }
+    ensures begins { IfOk result
+        (λ member. view_of member ≡ begun beginning (node_in (view_of member))) }
     ensures starts { IfOk result (λ member. IsItsStart S.seen (λ node. store_of node)
         (λ node. state_of node) store (view_of member)) }
 {
@@ -224,6 +230,8 @@ impl Seat {
     ) -> Result<Member<S>, ServeFault>
         requires always { Unit {0} }
         ensures kit { IfOk result (λ member. kit_of (node_in (view_of member)) ≡ kit_view kit) }
+        ensures begins { IfOk result
+            (λ member. view_of member ≡ begun beginning (node_in (view_of member))) }
         ensures alone { listed self.now.peers.book ≡ 1 → IfOk result
             (λ member. HasCaughtUp (λ a b. node_moved S.seen a b)
             (λ n. applied_count (state_of n)) (λ n. (S.seen (store_of n)).is_honest → state_of n

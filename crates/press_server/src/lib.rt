@@ -6,6 +6,7 @@ mod carrying;
 mod clustered;
 mod digest;
 mod files;
+mod foreign;
 mod joining;
 mod lanes;
 mod paths;
@@ -15,7 +16,6 @@ mod screen;
 mod serve_fault;
 mod serving;
 mod setup;
-mod strangers;
 mod turn;
 
 pub use digest::digest_of;

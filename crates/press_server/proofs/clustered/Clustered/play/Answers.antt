@@ -1,9 +1,13 @@
 use Rattle.press_member.specs.Acts.{view_of}
-use Rattle.press_server.specs.Living.{one_comes}
+use Rattle.press_server.specs.Living.{compared, one_comes}
 use Rattle.press_server.proofs.clustered.Clustered.play.Goals as goal
 
-pub returns-in_err-answer : goal.returns-in_err-answer
-returns-in_err-answer g c = one_comes (view_of c.args.self.now.member) (view_of c.on.new.self) c.args.input c.on.result c.on.ensures.acts c.on.ensures.moves
+pub returns-in_err-answer-clause-lives : goal.returns-in_err-answer-clause-lives
+returns-in_err-answer-clause-lives g c = one_comes (view_of c.args.self.now.member) (view_of c.on.new.self) c.args.input c.on.result c.on.ensures.acts c.on.ensures.moves
 
 pub loop-message-init : goal.loop-message-init
 loop-message-init g c = one_comes (view_of c.args.self.now.member) (view_of c.on.new.self) c.args.input c.on.result c.on.ensures.acts c.on.ensures.moves
+
+pub returns-clause-compares : goal.returns-clause-compares
+returns-clause-compares g c = compared (view_of c.args.self.now.member) _ _ c.args.input c.in_ok-answer.ensures.acts.refused c.in_ok-answer.field-0.answer
+    c.in_ok-answer.ensures.acts.answered
