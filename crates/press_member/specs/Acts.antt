@@ -22,7 +22,7 @@ use Rattle.press_member.specs.declared.output.Answer.{Answer}
 use Rattle.press_member.specs.declared.output.Answer.TheVariants as answer
 use Rattle.press_member.specs.declared.output.Outputs.{Outputs}
 use Rattle.press_member.specs.declared.member.Beginning.{Beginning}
-use Rattle.press_member.specs.declared.member.Member.{Member}
+use Rattle.press_member.specs.declared.kept.Member.{Member}
 
 -- A member: its node, what it has sent to itself and not heard yet, and what it knows of the cluster.
 pub record View (N : Type 0) : Type 0 where

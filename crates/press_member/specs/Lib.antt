@@ -11,5 +11,6 @@ pub mod Parts
 pub mod Played
 pub mod Readiness
 pub mod Ready
+pub mod Shown
 pub mod Starting
 pub mod Turns

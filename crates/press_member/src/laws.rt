@@ -16,7 +16,7 @@ ghost use Rattle.press_member.specs.Holds.{Holds, HoldsOn, ShowsAlike};
 ghost use Rattle.press_member.specs.Lives.{Lives, LivesAmong, Step};
 ghost use Rattle.press_member.specs.Members.{AreMoves, Members, Move, WhileUp, after_all, new_members};
 
-use crate::member::Member;
+use crate::kept::Member;
 use press_acceptor::{PromiseStore, at_most_one_value_chosen};
 use press_world::each_step_agrees;
 

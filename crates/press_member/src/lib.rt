@@ -3,6 +3,7 @@
 
 mod example;
 mod input;
+mod kept;
 mod laws;
 mod letters;
 mod member;
@@ -14,6 +15,7 @@ mod signs;
 
 pub use example::start_and_play;
 pub use input::Input;
+pub use kept::Member;
 pub use laws::{any_moves, any_store_acts, any_store_stays_open, lives_among, turns_interleave};
-pub use member::{Beginning, Member};
+pub use member::Beginning;
 pub use output::{Answer, Outputs};

@@ -1,6 +1,6 @@
 //! A member: its node, and what it has beside it.
 
-ghost use Rattle.std.specs.Prelude.{◌≡◌, ◌<◌, ◌≤◌, false, Ok, None, [], IfOk, IsTrue, MatchResult, is_ok, length, max};
+ghost use Rattle.std.specs.Prelude.{◌≡◌, ◌<◌, ◌≤◌, false, Ok, None, [], IfErr, IfOk, IsTrue, MatchResult, is_ok, length, max};
 ghost use Rattle.press_node.specs.States.{is_down};
 ghost use Rattle.press_node.specs.Nodes.{kit_of, node_moved, state_of, store_of};
 ghost use Rattle.press_member.specs.Acts.{Acts, Shows, TellsStop, begun, has_more, is_open, node_in, stop_in, view_of};
@@ -8,12 +8,14 @@ ghost use Rattle.press_member.specs.Coming.{AreItsMoves};
 ghost use Rattle.press_member.specs.Readiness.{is_ready, report_of};
 ghost use Rattle.press_member.specs.Parts.{BringsEvent, IsDue, IsSame, Turns};
 ghost use Rattle.press_member.specs.Played.{moment_of};
+ghost use Rattle.press_member.specs.Shown.{Gets};
 ghost use Rattle.press_member.specs.Starting.{IsItsStart};
 ghost use Rattle.press_member.specs.Turns.{AreQuestions, MayWake};
 ghost use Rattle.press_callbacks.specs.Kits.{kit_view};
 ghost use Rattle.press_member.specs.declared.input.Input.TheVariants as input;
 
 use crate::input::Input;
+use crate::kept::Member;
 use crate::output::{Answer, Outputs};
 use crate::pace::{Due, Pace};
 use crate::peers::{Peers, id_at};
@@ -23,8 +25,8 @@ use press_acceptor::{PromiseStore, StoreFault};
 use press_apply::Stamped;
 use press_batch::{Digests, Report};
 use press_callbacks::Kit;
-use press_node::{Event, Node, StartFault};
-use press_page::Target;
+use press_node::{Event, Node, NodeFault, StartFault};
+use press_page::{Reply, Target};
 use press_wire::{Message, Node as Id};
 use std::alloc::{AllocError, Global};
 use std::collections::VecDeque;
@@ -44,22 +46,17 @@ pub struct Beginning {
     pub chosen: u64,
 }
 
-/// A node with what it has beside it.
-pub struct Member<S> {
-    alloc: Global,
-    player: Player<S>,
-    peers: Peers,
-    time: u64,
-}
-
-impl<S: Drop> Drop for Member<S> {
-    fn drop(self) {
-        let Member {
-            alloc: _,
-            player: _,
-            peers: _,
-            time: _,
-        } = self;
+fn copy_of(alloc: Global, reply: &Reply) -> Result<Reply, NodeFault>
+    ensures same { IfOk result (λ copy. copy ≡ reply.now) }
+    ensures fault { IfErr result (λ fault. fault ≡ NodeFault.NoMemory) }
+{
+    match reply.body.copy(alloc) {
+        Ok(body) => Ok(Reply {
+            status: reply.status,
+            kind: reply.kind,
+            body,
+        }),
+        Err(_) => Err(NodeFault::NoMemory),
     }
 }
 
@@ -158,6 +155,7 @@ impl<S> Member<S> {
             player,
             peers,
             time: 0,
+            front: None,
         }
     }
 }
@@ -188,12 +186,7 @@ impl<S: PromiseStore> Member<S> {
     pub fn into_node(self) -> Node<S>
         ensures { result ≡ node_in (view_of self) }
     {
-        let Member {
-            alloc: _,
-            player,
-            peers: _,
-            time: _,
-        } = self;
+        let Member { player, .. } = self;
         player.into_node()
     }
 
@@ -302,6 +295,7 @@ impl<S: PromiseStore> Member<S> {
             (view_of self.new) event out.old.items out.new.items result }
     {
         let is_command = matches!(event, Event::Submit(_));
+        self.front = None;
         let played = self.player.play(event, out)?;
         self.player
             .pace
@@ -348,14 +342,40 @@ impl<S: PromiseStore> Member<S> {
         Ok(Outputs::with(self.alloc, answer, messages))
     }
 
-    fn answer_to(&self, target: &Target) -> Answer
-        ensures { Shows self.now.player.pace.is_settled (kit_of self.now.player.node)
-            (state_of self.now.player.node).up target.now result }
+    // The front page, which is kept as long as the node doesn't change.
+    fn show_front(&mut self) -> Result<Reply, NodeFault>
+        ensures same { view_of self.new ≡ view_of self.old }
+        ensures shows { Gets (kit_of self.old.player.node) (state_of self.old.player.node).up
+            Target.Front result }
+    {
+        if let Some(reply) = &self.front {
+            return copy_of(self.alloc, reply);
+        }
+        let reply = self.player.node.get(&Target::Front)?;
+        self.front = copy_of(self.alloc, &reply).ok();
+        Ok(reply)
+    }
+
+    fn get(&mut self, target: &Target) -> Result<Reply, NodeFault>
+        ensures same { view_of self.new ≡ view_of self.old }
+        ensures shows { Gets (kit_of self.old.player.node) (state_of self.old.player.node).up
+            target.now result }
+    {
+        match target {
+            Target::Front => self.show_front(),
+            _ => self.player.node.get(target),
+        }
+    }
+
+    fn answer_to(&mut self, target: &Target) -> Answer
+        ensures same { view_of self.new ≡ view_of self.old }
+        ensures shows { Shows self.old.player.pace.is_settled (kit_of self.old.player.node)
+            (state_of self.old.player.node).up target.now result }
     {
         if !self.is_open() {
             return Answer::NotYet;
         }
-        match self.player.node.get(target) {
+        match self.get(target) {
             Ok(reply) => Answer::Page(reply),
             Err(fault) => Answer::Refused(fault),
         }
@@ -405,6 +425,7 @@ impl<S: PromiseStore> Member<S> {
             (view_of self.old) (view_of self.new) result }
     {
         let mut messages = Vec::new(self.alloc);
+        self.front = None;
         self.player.hear_own(&mut messages)?;
         self.player.follow(&mut messages)?;
         self.peers.begin_all(&messages);
@@ -454,6 +475,7 @@ impl<S: PromiseStore> Member<S> {
         if self.player.pace.is_busy() {
             return Ok(());
         }
+        self.front = None;
         self.player.wake(messages)
     }
 
@@ -470,7 +492,10 @@ impl<S: PromiseStore> Member<S> {
     {
         match due {
             Due::Nothing => Ok(()),
-            Due::Wake => self.player.wake(messages),
+            Due::Wake => {
+                self.front = None;
+                self.player.wake(messages)
+            }
             Due::Look => self.look(messages, looks),
             Due::Ask(last) => self.ask(last, messages),
         }

@@ -26,10 +26,8 @@ mod watched;
 
 use crate::memory_shelf::MemoryShelf;
 use crate::place::Place;
-use crate::sql_shelf::Device;
+use crate::sql_shelf::OnFiles;
 use press_simulation::{Outcome, Scenario, Telling, drawn, play, read, text_of};
-use press_store::SqlStore;
-use sqlite::FileStore;
 use std::alloc::{AllocError, Global};
 use std::process::ExitCode;
 use std::str::from_utf8;
@@ -64,7 +62,7 @@ fn outcome_of(alloc: Global, scenario: &Scenario, telling: Telling) -> Result<Ou
     requires always { Unit {0} }
 {
     if scenario.is_sql {
-        play::<Place<SqlStore<FileStore<Device>>>>(alloc, scenario, telling)
+        play::<Place<OnFiles>>(alloc, scenario, telling)
     } else {
         play::<Place<MemoryShelf>>(alloc, scenario, telling)
     }

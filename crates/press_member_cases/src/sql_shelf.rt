@@ -1,9 +1,14 @@
 //! A store on a database over two simulated files, which stop or are full at a write.
 
+ghost use Rattle.std.specs.Prelude.{◌≡◌, ◌≢◌, ◌<◌, ◌≤◌};
+ghost use Rattle.press_acceptor.specs.declared.fault.StoreFault.TheVariants.{Disk};
+
 use crate::limited::{Budget, Limited};
 use crate::shelf::Shelf;
+use press_acceptor::{Block, PromiseStore, StoreFault};
 use press_simulation::Condition;
 use press_store::{Owner, SqlStore, Tie};
+use press_wire::{Ballot, Round, Slot, Vote};
 use sqlite::{Alter, Connection, FileStore, Files, Options};
 use sqlite_disk::{Crash, Disk, Memory};
 use std::alloc::Global;
@@ -95,7 +100,89 @@ fn files_of<D: Disk + Drop>(store: SqlStore<FileStore<D>>) -> Files<D> {
     store.into_connection().into_store().close()
 }
 
-impl Shelf for SqlStore<FileStore<Device>> {
+/// The store over such files. Its contract promises nothing of what it keeps, which the cases look at; that of `SqlStore`
+/// does. (By that type, of which each part has a type of its own, a run is too long for the checker.)
+#[derive(Drop)]
+pub struct OnFiles {
+    store: SqlStore<FileStore<Device>>,
+    faults: u64,
+}
+
+impl OnFiles {
+    // A call has failed. A failure past the greatest count is told as damage.
+    fn count(&mut self, fault: StoreFault) -> StoreFault
+        ensures disk { result ≡ Disk → self.old.faults < self.new.faults }
+        ensures counts { self.old.faults ≤ self.new.faults }
+    {
+        if fault != StoreFault::Disk {
+            return fault;
+        }
+        match self.faults.checked_add(1) {
+            Some(faults) => {
+                self.faults = faults;
+                fault
+            }
+            None => StoreFault::Damaged,
+        }
+    }
+}
+
+impl PromiseStore for OnFiles {
+    ghost use Rattle.std.specs.Prelude.{false};
+    ghost use Rattle.press_acceptor.specs.StoreMap.{new_store};
+
+    ghost seen = { λ s. record {
+      is_honest = ⊥;
+      is_open = false;
+      kept = new_store;
+      may_leave = λ left. Unit {0};
+      faults = s.faults;
+      ends = λ call fault. Unit {0};
+    } };
+
+    fn faults(&self) -> u64 {
+        self.faults
+    }
+
+    fn load(&mut self, first: Slot) -> Result<Block, StoreFault> {
+        match self.store.load(first) {
+            Ok(block) => Ok(block),
+            Err(fault) => Err(self.count(fault)),
+        }
+    }
+
+    fn save_promise(&mut self, first: Slot, ballot: Ballot) -> Result<(), StoreFault> {
+        match self.store.save_promise(first, ballot) {
+            Ok(()) => Ok(()),
+            Err(fault) => Err(self.count(fault)),
+        }
+    }
+
+    fn save_vote(&mut self, slot: Slot, vote: &Vote) -> Result<(), StoreFault> {
+        match self.store.save_vote(slot, vote) {
+            Ok(()) => Ok(()),
+            Err(fault) => Err(self.count(fault)),
+        }
+    }
+
+    fn last_round(&mut self) -> Result<u64, StoreFault> {
+        match self.store.last_round() {
+            Ok(round) => Ok(round),
+            Err(fault) => Err(self.count(fault)),
+        }
+    }
+
+    fn save_round(&mut self, round: Round) -> Result<(), StoreFault> {
+        match self.store.save_round(round) {
+            Ok(()) => Ok(()),
+            Err(fault) => Err(self.count(fault)),
+        }
+    }
+
+    ghost shows = { λ store honest is_open. absurd honest };
+}
+
+impl Shelf for OnFiles {
     type Kept = Files<Device>;
 
     fn empty(alloc: Global) -> Files<Device> {
@@ -110,18 +197,19 @@ impl Shelf for SqlStore<FileStore<Device>> {
         kept: Files<Device>,
         disk: Condition,
         owner: Owner,
-    ) -> Result<(SqlStore<FileStore<Device>>, u64), Files<Device>> {
+    ) -> Result<(OnFiles, u64), Files<Device>> {
         let Some(files) = limited(alloc, &kept, disk) else {
             return Err(kept);
         };
         drop(kept);
         match store_in(alloc, files, owner) {
-            Ok(opened) => Ok(opened),
+            Ok((store, chosen)) => Ok((OnFiles { store, faults: 0 }, chosen)),
             Err(files) => Err(crashed(files)),
         }
     }
 
     fn close(self) -> Files<Device> {
-        crashed(files_of(self))
+        let OnFiles { store, faults: _ } = self;
+        crashed(files_of(store))
     }
 }

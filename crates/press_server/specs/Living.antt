@@ -14,7 +14,7 @@ use Rattle.press_member.specs.Coming.{AreItsMoves}
 use Rattle.press_member.specs.Lives.{Lives, Step}
 use Rattle.press_member.specs.declared.input.Input.{Input}
 use Rattle.press_member.specs.declared.input.Input.TheVariants.{Form, Page, Message as Letter, Report, Ended, Sent, Time}
-use Rattle.press_member.specs.declared.member.Member.{Member}
+use Rattle.press_member.specs.declared.kept.Member.{Member}
 use Rattle.press_member.specs.declared.output.Answer.{Answer}
 use Rattle.press_member.specs.declared.output.Outputs.{Outputs}
 use Rattle.press_server.specs.Turns.{ServesTurn}
