@@ -1,5 +1,5 @@
 -- Deeds of a member, one after the other.
-use Rattle.std.proofs.Common.{ℕ, suc, ◌+◌, ◌≡◌, ◌==◌, not, List, [], ◌∷◌, ◌++◌, Option, None, Some, inl, inr, IsTrue, true, false, drop, length, slice_get, refl, sym, subst, ap, ◌∙◌, append-nil, append_assoc, arith}
+use Rattle.std.proofs.Common.{ℕ, suc, ◌+◌, ◌≡◌, ◌==◌, not, List, [], ◌∷◌, ◌++◌, Option, Some, inl, inr, IsTrue, true, false, drop, length, slice_get, refl, sym, subst, ap, ◌∙◌, append-nil, append_assoc, arith}
 use Rattle.std.proofs.lemmas.List.{length-append}
 use Rattle.std.proofs.lemmas.List.Elements.{filter-append}
 use Rattle.press_wire.specs.declared.message.Message.{Message}

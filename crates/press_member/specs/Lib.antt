@@ -3,6 +3,7 @@ pub mod Acts
 pub mod Among
 pub mod Coming
 pub mod Deeds
+pub mod Hearing
 pub mod Holds
 pub mod Lives
 pub mod Members

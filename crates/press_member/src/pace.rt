@@ -1,7 +1,7 @@
 //! When a member wakes, when it looks how far the others are, and when it asks what it has missed. It is a matter of
 //! time alone: what the cluster agrees on doesn't depend on it.
 
-ghost use Rattle.std.specs.Prelude.{◌≡◌, false, max};
+ghost use Rattle.std.specs.Prelude.{◌≡◌, ◌≤◌, ◌+◌, true, false, max};
 
 use crate::signs::{Sign, sign_of};
 use press_wire::{Message, Node as Id};
@@ -328,7 +328,10 @@ impl Pace {
     }
 
     // Whether it has applied what is known to be chosen, and what others say that is chosen, as far as that comes.
-    fn has_all(&self) -> bool {
+    fn has_all(&self) -> bool
+        ensures known { result ≡ true → self.now.is_known ≡ true }
+        ensures applied { result ≡ true → self.now.newest ≤ self.now.applied }
+    {
         self.is_known && self.applied >= self.newest && !self.is_held_up()
     }
 
@@ -377,7 +380,8 @@ impl Pace {
 
     /// This many slots are chosen, by votes or by what a majority said.
     pub fn prove(&mut self, chosen: u64)
-        ensures { self.new.is_settled ≡ self.old.is_settled }
+        ensures settled { self.new.is_settled ≡ self.old.is_settled }
+        ensures newest { self.new.newest ≡ max self.old.newest chosen }
     {
         self.newest = self.newest.max(chosen);
     }
@@ -427,7 +431,9 @@ impl Pace {
     }
 
     // Asks for what is missing. The wait for answers is doubled each time that little came of it.
-    fn ask(&mut self) -> Due {
+    fn ask(&mut self) -> Due
+        ensures { self.new.asked_to ≤ self.old.applied + 64 }
+    {
         let is_new = self.applied >= self.asked_to
             || self.applied >= self.asked_from.saturating_add(SLACK);
         self.asks = if is_new {

@@ -1,5 +1,8 @@
 //! What a member's own messages say of who proposes.
 
+ghost use Rattle.std.specs.Prelude.{◌≡◌};
+ghost use Rattle.press_member.specs.Hearing.{proposed_in};
+
 use press_wire::{Body, Message, Node as Id};
 
 /// What a message that a node sends says of who proposes.
@@ -40,7 +43,9 @@ pub fn is_question(message: &Message) -> bool {
 
 /// The slots before this one are chosen, by a message about it: who proposes for a slot has applied those before it. A
 /// question and a refusal say nothing of that.
-pub fn proposed_in(message: &Message) -> Option<u64> {
+pub fn proposed_in(message: &Message) -> Option<u64>
+    ensures { result ≡ proposed_in message.now.body message.now.slot }
+{
     match message.body {
         Body::Prepare { .. } | Body::Accept { .. } | Body::Accepted { .. } => {
             Some(u64::from(message.slot.number()))
