@@ -3,6 +3,7 @@ use Rattle.std.proofs.Common.{ℕ, zero, suc, ◌+◌, ◌≡◌, ◌≢◌, ◌
 use Rattle.std.specs.List.{filter}
 use Rattle.std.proofs.lemmas.List.Elements.{filter-append}
 use Rattle.std.specs.declared.alloc.AllocError.{AllocError}
+use Rattle.press_apply.specs.declared.command.Stamped.{Stamped}
 use Rattle.press_wire.specs.declared.message.Message.{Message}
 use Rattle.press_acceptor.specs.Seen.{Call, Seen}
 use Rattle.press_acceptor.specs.StoreMap.{StoreMap, Save}
@@ -27,7 +28,7 @@ use Rattle.press_member.specs.Deeds.Deed.{Plays as Playing, Asks as Asking}
 use Rattle.press_member.specs.Members.{AreMoves, Comes, IsSent, Members, Move, WhileUp, after, after_all, out_of, question}
 use Rattle.press_member.specs.Members.Holding.{Over}
 use Rattle.press_member.specs.Members.Move.{Acts as Moving, Asks}
-use Rattle.press_member.specs.Turns.{AreFor, AreQuestions, Brings, HearsFirst, MayWake}
+use Rattle.press_member.specs.Turns.{AreFor, AreQuestions, Brings, Delivers, HearsFirst, MaySubmit, MayWake, voted_in}
 use Rattle.press_member.specs.declared.input.Input.{Input}
 use Rattle.press_member.specs.declared.input.Input.TheVariants as input
 use Rattle.press_member.specs.declared.output.Outputs.{Outputs}
@@ -156,6 +157,16 @@ first_brought heard e refused (Playing Heard f o kept next ∷ ds) is h = absurd
 first_brought heard e refused (Playing Due f o kept next ∷ ds) is h = absurd h
 first_brought heard e refused (Asking to slot kept ∷ ds) is h = absurd h
 
+submit_brought : {N : Type 0} (heard : List Message) (command : Option Stamped) (ds : List (Deed N)) → MaySubmit command ds → AreBrought heard ds
+submit_brought heard None ds h = subst (AreBrought heard) (sym h) tt
+submit_brought heard (Some command) ds (inl h) = subst (AreBrought heard) (sym h) tt
+submit_brought heard (Some command) ds (inr h) = first_brought heard (event.Submit command) h.0 ds tt h.1
+
+delivery_brought : {N : Type 0} (heard : List Message) (message : Message) (refused : Option NodeFault) (ds : List (Deed N)) → IsIn heard message → Delivers message refused ds → AreBrought heard ds
+delivery_brought heard message refused ds is h =
+    subst (AreBrought heard) (sym h.are)
+    (brought_then heard h.first h.more (first_brought heard (event.Deliver message) refused h.first is h.brings) (submit_brought heard (voted_in message.body) h.more h.submits))
+
 none_brought : {N : Type 0} (heard : List Message) (ds : List (Deed N)) → ds ≡ [] → AreBrought heard ds
 none_brought heard ds e = subst (AreBrought heard) (sym e) tt
 
@@ -166,7 +177,7 @@ form_brought false e refused ds is h = none_brought [] ds h
 has_brought : {N : Type 0} (old : View N) (Whole : Type 0) (i : Input) (refused : Option NodeFault) (ds : List (Deed N)) → Has old Whole i refused ds → AreBrought (heard_in i) ds
 has_brought old Whole (input.Form command) refused ds h = form_brought old.is_open (event.Submit command) refused ds tt h
 has_brought old Whole (input.Page target) refused ds h = none_brought [] ds h
-has_brought old Whole (input.Message message) refused ds h = first_brought (message ∷ []) (event.Deliver message) refused ds (inl refl) h
+has_brought old Whole (input.Message message) refused ds h = delivery_brought (message ∷ []) message refused ds (inl refl) h
 has_brought old Whole (input.Report from report) refused ds h = none_brought [] ds h
 has_brought old Whole (input.Ended to asked is_taken) refused ds h = none_brought [] ds h
 has_brought old Whole input.Sent refused ds h = own_first [] old.id Whole old.own ds h

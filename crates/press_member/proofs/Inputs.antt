@@ -1,16 +1,19 @@
 -- What an input does to a member, from its parts.
-use Rattle.std.proofs.Common.{Bool, ◌≡◌, List, [], ◌++◌, Option, None, Result, Ok, IfOk, IfErr, IsTrue, is_ok, true, false, refl, sym, subst, ◌∙◌}
+use Rattle.std.proofs.Common.{Bool, ◌≡◌, inl, List, [], ◌++◌, Option, None, Some, Result, Ok, IfOk, IfErr, IfSome, IsTrue, is_ok, true, false, refl, sym, subst, ◌∙◌, append-nil}
 use Rattle.std.specs.declared.alloc.AllocError.{AllocError}
+use Rattle.press_apply.specs.declared.command.Stamped.{Stamped}
+use Rattle.press_wire.specs.declared.message.Body.{Body}
 use Rattle.press_wire.specs.declared.message.Message.{Message}
 use Rattle.press_node.specs.Nodes.{NodeMove}
 use Rattle.press_node.specs.declared.fault.NodeFault.{NodeFault}
 use Rattle.press_member.specs.Acts.{Acts, Answers, Has, Submits, TakesMemory, View, moment, taken, taken_if}
 use Rattle.press_member.specs.Deeds.{Deed}
 use Rattle.press_node.specs.declared.event.Event.{Event}
+use Rattle.press_node.specs.declared.event.Event.TheVariants as event
 use Rattle.press_member.specs.declared.output.Answer.{Answer}
 use Rattle.press_member.specs.declared.output.Answer.TheVariants as answer
 use Rattle.press_member.specs.Parts.{IsSame, Turns}
-use Rattle.press_member.specs.Turns.{Brings, Turned}
+use Rattle.press_member.specs.Turns.{Brings, Delivers, MaySubmit, Turned, voted_in}
 use Rattle.press_member.specs.declared.input.Input.{Input}
 use Rattle.press_member.specs.declared.output.Outputs.{Outputs}
 use Rattle.press_member.proofs.Turning.{still, turns_on}
@@ -31,6 +34,28 @@ opened_answer false refused given is e = absurd (let f = is in cc)
 pub closed_answer : (b r : Bool) (given : Answer) → r ≡ b → r ≡ false → given ≡ answer.NotYet → given ≡ taken_if b None
 closed_answer true r given is shut e = absurd (let f = sym is ∙ shut in cc)
 closed_answer false r given is shut e = e
+
+-- ---- a message, and what may be submitted behind it
+
+none_voted : {N : Type 0} (v : Option Stamped) (ds : List (Deed N)) → ds ≡ [] → MaySubmit v ds
+none_voted None ds h = h
+none_voted (Some c) ds h = inl h
+
+-- what is submitted is voted for by the message
+voted : {N : Type 0} (body : Body) (command : Option Stamped) → IfSome command (λ c. voted_in body ≡ Some c) → (ds : List (Deed N)) → MaySubmit command ds → MaySubmit (voted_in body) ds
+voted body None is ds h = none_voted (voted_in body) ds h
+voted body (Some command) is ds h = subst (λ v. MaySubmit v ds) (sym is) h
+
+pub delivers : {N : Type 0} (message : Message) (refused : Option NodeFault) (command : Option Stamped) → IfSome command (λ c. voted_in message.body ≡ Some c) →
+    (ds es : List (Deed N)) → Brings (event.Deliver message) refused ds → MaySubmit command es → Delivers message refused (ds ++ es)
+delivers message refused command is ds es h k = record { first = ds; more = es; are = refl; brings = h; submits = voted message.body command is es k }
+
+pub none_more : (N : Type 0) (v : Option Stamped) → MaySubmit {N = N} v []
+none_more N None = refl
+none_more N (Some c) = inl refl
+
+pub delivers_only : {N : Type 0} (message : Message) (refused : Option NodeFault) (ds : List (Deed N)) → Brings (event.Deliver message) refused ds → Delivers message refused ds
+delivers_only message refused ds h = record { first = ds; more = []; are = sym (append-nil ds); brings = h; submits = none_more _ (voted_in message.body) }
 
 module _ {N : Type 0} (moved : N → N → NodeMove) where
   pub same_then : (old mid new : View N) → IsSame moved old mid → IsSame moved mid new → IsSame moved old new

@@ -14,7 +14,7 @@ use Rattle.press_node.specs.declared.event.Event.TheVariants as event
 use Rattle.press_node.specs.declared.fault.NodeFault.{NodeFault}
 use Rattle.press_node.specs.declared.fault.NodeFault.TheVariants.{Down, NoMemory}
 use Rattle.press_member.specs.Deeds.{Deed}
-use Rattle.press_member.specs.Turns.{AreQuestions, Brings, HearsFirst, MayWake, Moment, Turned}
+use Rattle.press_member.specs.Turns.{AreQuestions, Brings, Delivers, HearsFirst, MayWake, Moment, Turned}
 use Rattle.press_batch.specs.declared.report.Digests.{Digests}
 use Rattle.press_member.specs.declared.input.Input.{Input}
 use Rattle.press_member.specs.declared.input.Input.TheVariants.{Form, Page, Message as Letter, Report, Ended, Sent, Time}
@@ -48,7 +48,7 @@ Submits false event refused deeds = deeds ≡ []
 -- which deeds an input has a member do, where an event that it brings is refused so
 abbrev pub Has : {N : Type 0} → View N → Type 0 → Input → Option NodeFault → List (Deed N) → Type 0
 Has old Whole (Form command) refused deeds = Submits old.is_open (event.Submit command) refused deeds
-Has old Whole (Letter message) refused deeds = Brings (event.Deliver message) refused deeds
+Has old Whole (Letter message) refused deeds = Delivers message refused deeds
 Has old Whole Sent refused deeds = HearsFirst old.id Whole old.own deeds
 Has old Whole (Time now) refused deeds = MayWake deeds ⊎ AreQuestions deeds
 Has old Whole (Page target) refused deeds = deeds ≡ []

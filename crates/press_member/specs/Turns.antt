@@ -1,10 +1,16 @@
 -- A turn of a member: deeds of one kind, and what is sent (own).
 use Rattle.std.specs.Prelude.{ℕ, ◌≡◌, ◌≤◌, ◌⊎◌, Option, None, Some, List, [], ◌∷◌, ◌++◌, length, Result, Ok, Err}
 use Rattle.std.specs.List.{AllByRecursion}
+use Rattle.press_apply.specs.declared.command.Stamped.{Stamped}
+use Rattle.press_apply.specs.declared.value.Value.{Value}
+use Rattle.press_apply.specs.declared.value.Value.TheVariants.{Noop, Cmd}
+use Rattle.press_wire.specs.declared.message.Body.{Body}
+use Rattle.press_wire.specs.declared.message.Body.TheVariants.{Prepare, Promise, Nack, Accept, Accepted, Query}
 use Rattle.press_wire.specs.declared.message.Message.{Message}
 use Rattle.press_acceptor.specs.declared.fault.StoreFault.{StoreFault}
 use Rattle.press_node.specs.Nodes.{NodeMove}
 use Rattle.press_node.specs.declared.event.Event.{Event}
+use Rattle.press_node.specs.declared.event.Event.TheVariants.{Deliver, Submit}
 use Rattle.press_node.specs.declared.fault.NodeFault.{NodeFault}
 use Rattle.press_member.specs.Deeds.{Cause, Deed, Does, IsFront, KeepsAll, cause_of, for_others, for_self, kept_by_all, own_after_all, stop_after_all, stop_behind}
 use Rattle.press_member.specs.Members.{out_of}
@@ -53,6 +59,33 @@ Brings event refused (Plays Brought e outcome kept after ∷ deeds) = (e ≡ eve
 Brings event refused (Plays Heard e outcome kept after ∷ deeds) = ⊥
 Brings event refused (Plays Due e outcome kept after ∷ deeds) = ⊥
 Brings event refused (Asks to slot kept ∷ deeds) = ⊥
+
+-- the command of a value
+abbrev pub command_of : Value → Option Stamped
+command_of (Noop at) = None
+command_of (Cmd command) = Some command
+
+-- the command of the vote that a message tells of
+abbrev pub voted_in : Body → Option Stamped
+voted_in (Accepted vote) = command_of vote.value
+voted_in (Prepare round) = None
+voted_in (Promise ballot votes) = None
+voted_in (Nack refused promised) = None
+voted_in (Accept round value) = None
+voted_in Query = None
+
+-- a command that is voted for may be submitted; then a wake may be due
+abbrev pub MaySubmit : {N : Type 0} → Option Stamped → List (Deed N) → Type 0
+MaySubmit None deeds = deeds ≡ []
+MaySubmit (Some command) deeds = (deeds ≡ []) ⊎ ((refused : Option NodeFault) × Brings (Submit command) refused deeds)
+
+-- A message is delivered first, and refused so; then the command of the vote that it tells of may be submitted.
+pub record Delivers {N : Type 0} (message : Message) (refused : Option NodeFault) (deeds : List (Deed N)) : Type 0 where
+  pub first : List (Deed N)
+  pub more : List (Deed N)
+  pub are : deeds ≡ first ++ more
+  pub brings : Brings (Deliver message) refused first
+  pub submits : MaySubmit (voted_in message.body) more
 
 -- What a turn changes of a member: its node, what it has sent to itself and not heard yet, and what stopped the node last.
 pub record Moment (N : Type 0) : Type 0 where

@@ -1,6 +1,6 @@
 //! A member: its node, and what it has beside it.
 
-ghost use Rattle.std.specs.Prelude.{◌≡◌, ◌<◌, ◌≤◌, false, Ok, None, [], IfErr, IfOk, IsTrue, MatchResult, is_ok, length, max};
+ghost use Rattle.std.specs.Prelude.{◌≡◌, ◌<◌, ◌≤◌, false, Ok, None, Some, [], IfErr, IfOk, IfSome, IsTrue, MatchResult, is_ok, length, max};
 ghost use Rattle.press_node.specs.States.{is_down};
 ghost use Rattle.press_node.specs.Nodes.{kit_of, node_moved, state_of, store_of};
 ghost use Rattle.press_member.specs.Acts.{Acts, Shows, TellsStop, begun, has_more, is_open, node_in, stop_in, view_of};
@@ -10,7 +10,7 @@ ghost use Rattle.press_member.specs.Parts.{BringsEvent, IsDue, IsSame, Turns};
 ghost use Rattle.press_member.specs.Played.{moment_of};
 ghost use Rattle.press_member.specs.Shown.{Gets};
 ghost use Rattle.press_member.specs.Starting.{IsItsStart};
-ghost use Rattle.press_member.specs.Turns.{AreQuestions, MayWake};
+ghost use Rattle.press_member.specs.Turns.{AreQuestions, MaySubmit, MayWake, voted_in};
 ghost use Rattle.press_callbacks.specs.Kits.{kit_view};
 ghost use Rattle.press_member.specs.declared.input.Input.TheVariants as input;
 
@@ -20,7 +20,7 @@ use crate::output::{Answer, Outputs};
 use crate::pace::{Due, Pace};
 use crate::peers::{Peers, id_at};
 use crate::player::Player;
-use crate::signs::proposed_in;
+use crate::signs::{proposed_in, voted_in};
 use press_acceptor::{PromiseStore, StoreFault};
 use press_apply::Stamped;
 use press_batch::{Digests, Report};
@@ -318,12 +318,53 @@ impl<S: PromiseStore> Member<S> {
         Ok(Outputs::with(self.alloc, answer, messages))
     }
 
+    // Whether a message is one of a member to this one.
+    fn is_for_it(&self, message: &Message) -> bool {
+        message.to == self.player.id && self.peers.counts(message.from)
+    }
+
     // The slot for which somebody proposes, by a message of a member to this one.
     fn proposed_in(&self, message: &Message) -> Option<u64> {
-        if message.to != self.player.id || !self.peers.counts(message.from) {
-            return None;
+        if self.is_for_it(message) {
+            proposed_in(message)
+        } else {
+            None
         }
-        proposed_in(message)
+    }
+
+    // The command of the vote that a message tells of, where nobody proposes any more for its slot, which is the next.
+    fn stuck_in(&self, message: &Message) -> Option<Stamped>
+        ensures { IfSome result (λ command. voted_in message.now.body ≡ Some command) }
+    {
+        let slot = u64::from(message.slot.number());
+        if self.is_for_it(message) && self.player.pace.is_stuck(slot) {
+            voted_in(self.alloc, message)
+        } else {
+            None
+        }
+    }
+
+    // Submits what is voted for in the next slot, unless it has been applied by now, or this member proposes anyway. It is applied
+    // once, whether or not it is chosen there.
+    fn submit_stuck(
+        &mut self,
+        voted: Option<Stamped>,
+        out: &mut Vec<Message>,
+    ) -> Result<(), AllocError>
+        requires always { Unit {0} }
+        ensures same { IsSame (λ a b. node_moved S.seen a b) (view_of self.old) (view_of self.new) }
+        ensures turned { Turns (λ a b. node_moved S.seen a b) (view_of self.old) (view_of self.new)
+            (MaySubmit voted) out.old.items out.new.items (IsTrue (is_ok result)) }
+    {
+        let Some(command) = voted else {
+            return Ok(());
+        };
+        let next = self.player.node.applied().saturating_add(1);
+        if self.player.node.is_waiting() || !self.player.pace.is_stuck(next) {
+            return Ok(());
+        }
+        self.bring(Event::Submit(command), out)?;
+        Ok(())
     }
 
     fn on_message(&mut self, message: Message) -> Result<Outputs, AllocError>
@@ -334,10 +375,12 @@ impl<S: PromiseStore> Member<S> {
         let from = message.from;
         let to = message.to;
         let proposed = self.proposed_in(&message);
+        let voted = self.stuck_in(&message);
         let mut messages = Vec::new(self.alloc);
         let answer = self.bring(Event::Deliver(message), &mut messages)?;
         self.peers.hear(from, to, self.time);
         self.player.pace.hear_of(proposed, answer.is_taken());
+        self.submit_stuck(voted, &mut messages)?;
         self.peers.begin_all(&messages);
         Ok(Outputs::with(self.alloc, answer, messages))
     }

@@ -44,6 +44,9 @@ const WINDOW: u64 = 64;
 // How many slots a member may be behind what others are about before it asks for them: half of those that a node keeps votes for.
 const SLACK: u64 = 32;
 
+// How long the next slot may have been proposed for before this member proposes what it hears voted for there.
+const STUCK: u64 = 2_000;
+
 /// What is due.
 #[derive(Clone, Copy, PartialEq, Eq)]
 pub enum Due {
@@ -88,6 +91,9 @@ pub struct Pace {
     tries: u32,
     // When it looks again.
     look_at: u64,
+    // The slot behind the applied ones for which it heard a proposal first, and when that was.
+    proposed: u64,
+    proposed_at: u64,
     // How many slots are chosen, by votes and by what a majority said.
     newest: u64,
     // The most that another says lately, and since when that is more than this member has.
@@ -126,6 +132,8 @@ impl Pace {
             waiting_at: 0,
             tries: 0,
             look_at: 0,
+            proposed: 0,
+            proposed_at: 0,
             newest: 0,
             claim: 0,
             claimed_at: None,
@@ -193,7 +201,7 @@ impl Pace {
     }
 
     // A wait that is doubled so often.
-    fn doubled(&self, wait: u64, times: u32) -> u64 {
+    fn double_wait(&self, wait: u64, times: u32) -> u64 {
         let mut wait = wait;
         for _ in 0..times.min(DOUBLINGS) {
             wait = wait.saturating_mul(2);
@@ -203,7 +211,7 @@ impl Pace {
 
     // How long a proposal has: longer after each of its own that came to nothing, since an answer takes as long as it takes.
     fn patience(&self) -> u64 {
-        self.doubled(SILENT, self.tries.saturating_sub(1))
+        self.double_wait(SILENT, self.tries.saturating_sub(1))
     }
 
     /// A command was taken, or not.
@@ -216,7 +224,7 @@ impl Pace {
     }
 
     /// The node was woken: whether it proposes, and whether it does so for a gap, where no command waits.
-    pub fn woken(&mut self, is_filling: bool, proposes: bool) {
+    pub fn note_wake(&mut self, is_filling: bool, proposes: bool) {
         if proposes {
             self.tries = self.tries.saturating_add(1);
             self.is_filling = is_filling;
@@ -351,7 +359,7 @@ impl Pace {
 
     /// This many slots are applied; whether a command still waits. With a block that is over one that has waited long is proposed at once. What it fills
     /// goes on until a wake has nothing to propose.
-    pub fn moved(&mut self, applied: u64, waits: bool) {
+    pub fn note_applied(&mut self, applied: u64, waits: bool) {
         if applied <= self.applied {
             return;
         }
@@ -386,12 +394,29 @@ impl Pace {
         self.newest = self.newest.max(chosen);
     }
 
-    /// Somebody proposes for this slot: those before it are chosen. Votes that are on their way close a small distance.
+    /// Somebody proposed for this slot: those before it are chosen. Votes that are on their way close a small distance.
     pub fn hear_of(&mut self, proposed: Option<u64>, is_taken: bool) {
         let slot = proposed.unwrap_or(0);
         if is_taken && slot > self.applied.saturating_add(SLACK) {
             self.prove(slot.saturating_sub(1));
         }
+        if is_taken && slot == self.next() && slot != self.proposed {
+            self.proposed = slot;
+            self.proposed_at = self.time;
+        }
+    }
+
+    // The slot behind the applied ones.
+    fn next(&self) -> u64 {
+        self.applied.saturating_add(1)
+    }
+
+    /// Whether somebody proposed for this slot, the next one, long ago, and nobody does so now.
+    pub fn is_stuck(&self, slot: u64) -> bool {
+        slot == self.next()
+            && slot == self.proposed
+            && self.proposed_at.saturating_add(STUCK) <= self.time
+            && !self.is_busy()
     }
 
     /// How many slots are chosen, as far as it knows.
@@ -445,7 +470,7 @@ impl Pace {
         self.asked_to = self.wanted().min(self.applied.saturating_add(WINDOW));
         self.ask_at = self
             .time
-            .saturating_add(self.doubled(ON_ITS_WAY, self.asks));
+            .saturating_add(self.double_wait(ON_ITS_WAY, self.asks));
         Due::Ask(self.asked_to)
     }
 

@@ -1,7 +1,7 @@
 //! The members of a cluster, by what they say and whether they answer.
 
 ghost use Rattle.std.specs.Prelude.{◌≡◌, ◌≢◌, true, false, ◌+◌, ◌-◌, not, IfOk, IfSome, length};
-ghost use Rattle.press_member.specs.Hearing.{changed_at, ended, heard, noted};
+ghost use Rattle.press_member.specs.Hearing.{after_end, after_hearing, after_report, changed_at};
 ghost use Rattle.press_member.specs.Parts.{AreSame};
 ghost use Rattle.press_member.specs.Ready.{borne_out, claim, if_borne, is_heard, is_lately, is_majority, others, says};
 
@@ -63,7 +63,7 @@ impl Peer {
 
     // It was heard, which counts unless it is foreign by its last report.
     fn hear(&mut self, now: u64)
-        ensures { self.new ≡ heard now self.old }
+        ensures { self.new ≡ after_hearing now self.old }
     {
         if !self.is_foreign {
             self.heard = Some(now);
@@ -72,7 +72,7 @@ impl Peer {
 
     // It says how far it is, or is foreign.
     fn note(&mut self, is_foreign: bool, chosen: u64, now: u64)
-        ensures { self.new ≡ noted is_foreign chosen now self.old }
+        ensures { self.new ≡ after_report is_foreign chosen now self.old }
     {
         self.is_foreign = is_foreign;
         if !is_foreign {
@@ -169,7 +169,7 @@ impl Peers {
         ensures taken { result ≡ true → report.digests ≡ self.old.digests }
         ensures foreign { result ≡ false → report.digests ≢ self.old.digests }
         ensures notes { self.new.all.items ≡ changed_at (member - 1)
-            (noted (not result) report.chosen now) self.old.all.items }
+            (after_report (not result) report.chosen now) self.old.all.items }
     {
         let is_foreign = report.digests != self.digests;
         let place = place_of(member);
@@ -204,7 +204,7 @@ impl Peers {
     pub fn end_asking(&mut self, member: Id, count: u32, is_taken: bool, now: u64)
         ensures same { AreSame self.old self.new }
         ensures ends { self.new.all.items ≡ changed_at (member - 1)
-            (ended count is_taken now) self.old.all.items }
+            (after_end count is_taken now) self.old.all.items }
     {
         let place = place_of(member);
         if let Some(peer) = self.all.get_mut(place) {

@@ -155,7 +155,7 @@ impl<S: PromiseStore> Player<S> {
     {
         let is_filling = !self.node.is_waiting();
         let played = self.play(Event::Wake, out)?;
-        self.pace.woken(is_filling, played.proposes());
+        self.pace.note_wake(is_filling, played.proposes());
         Ok(())
     }
 
@@ -170,7 +170,7 @@ impl<S: PromiseStore> Player<S> {
     {
         let applied = self.node.applied();
         let waits = self.node.is_waiting();
-        self.pace.moved(applied, waits);
+        self.pace.note_applied(applied, waits);
         if !self.pace.is_due() {
             return Ok(());
         }

@@ -1,9 +1,12 @@
 //! What a member's own messages say of who proposes.
 
-ghost use Rattle.std.specs.Prelude.{◌≡◌};
+ghost use Rattle.std.specs.Prelude.{◌≡◌, Some, IfSome};
 ghost use Rattle.press_member.specs.Hearing.{proposed_in};
+ghost use Rattle.press_member.specs.Turns.{voted_in};
 
+use press_apply::{Stamped, Value};
 use press_wire::{Body, Message, Node as Id};
+use std::alloc::Global;
 
 /// What a message that a node sends says of who proposes.
 pub enum Sign {
@@ -51,5 +54,18 @@ pub fn proposed_in(message: &Message) -> Option<u64>
             Some(u64::from(message.slot.number()))
         }
         Body::Promise { .. } | Body::Nack { .. } | Body::Query => None,
+    }
+}
+
+/// A copy of the command of the vote that a message tells of. None where it tells of none, or without memory.
+pub fn voted_in(alloc: Global, message: &Message) -> Option<Stamped>
+    ensures { IfSome result (λ command. voted_in message.now.body ≡ Some command) }
+{
+    let Body::Accepted { vote } = &message.body else {
+        return None;
+    };
+    match &vote.value {
+        Value::Cmd(command) => command.copy(alloc).ok(),
+        Value::Noop { .. } => None,
     }
 }
