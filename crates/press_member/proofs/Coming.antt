@@ -15,7 +15,7 @@ use Rattle.press_node.specs.NodeEvent.{Running}
 use Rattle.press_node.specs.Nodes.{IsPlayed, NodeMove}
 use Rattle.press_node.specs.Plays.{Plays, PlaysUp, PlaysWhere, state_moved}
 use Rattle.press_node.specs.Refusals.{refusal_up}
-use Rattle.press_node.specs.States.{NodeState, running_in}
+use Rattle.press_node.specs.States.{NodeState, Up, count_where, running_in}
 use Rattle.press_node.specs.declared.event.Event.{Event}
 use Rattle.press_node.specs.declared.event.Event.TheVariants as event
 use Rattle.press_node.specs.declared.fault.NodeFault.{NodeFault}
@@ -28,7 +28,7 @@ use Rattle.press_member.specs.Deeds.Deed.{Plays as Playing, Asks as Asking}
 use Rattle.press_member.specs.Members.{AreMoves, Comes, IsSent, Members, Move, WhileUp, after, after_all, out_of, question}
 use Rattle.press_member.specs.Members.Holding.{Over}
 use Rattle.press_member.specs.Members.Move.{Acts as Moving, Asks}
-use Rattle.press_member.specs.Turns.{AreFor, AreQuestions, Brings, Delivers, HearsFirst, MaySubmit, MayWake, voted_in}
+use Rattle.press_member.specs.Turns.{AreFor, AreQuestions, Brings, Delivers, HearsFirst, IsVotedNext, MaySubmit, MayWake}
 use Rattle.press_member.specs.declared.input.Input.{Input}
 use Rattle.press_member.specs.declared.input.Input.TheVariants as input
 use Rattle.press_member.specs.declared.output.Outputs.{Outputs}
@@ -157,15 +157,15 @@ first_brought heard e refused (Playing Heard f o kept next ∷ ds) is h = absurd
 first_brought heard e refused (Playing Due f o kept next ∷ ds) is h = absurd h
 first_brought heard e refused (Asking to slot kept ∷ ds) is h = absurd h
 
-submit_brought : {N : Type 0} (heard : List Message) (command : Option Stamped) (ds : List (Deed N)) → MaySubmit command ds → AreBrought heard ds
-submit_brought heard None ds h = subst (AreBrought heard) (sym h) tt
-submit_brought heard (Some command) ds (inl h) = subst (AreBrought heard) (sym h) tt
-submit_brought heard (Some command) ds (inr h) = first_brought heard (event.Submit command) h.0 ds tt h.1
+submit_brought : {N : Type 0} (heard : List Message) (Which : Stamped → Type 0) (ds : List (Deed N)) → MaySubmit Which ds → AreBrought heard ds
+submit_brought heard Which ds (inl h) = subst (AreBrought heard) (sym h) tt
+submit_brought heard Which ds (inr h) = first_brought heard (event.Submit h.0) h.2.0 ds tt h.2.1
 
-delivery_brought : {N : Type 0} (heard : List Message) (message : Message) (refused : Option NodeFault) (ds : List (Deed N)) → IsIn heard message → Delivers message refused ds → AreBrought heard ds
-delivery_brought heard message refused ds is h =
+delivery_brought : {N : Type 0} (heard : List Message) (id next : ℕ) (message : Message) (refused : Option NodeFault) (ds : List (Deed N)) → IsIn heard message → Delivers id next message refused ds →
+    AreBrought heard ds
+delivery_brought heard id next message refused ds is h =
     subst (AreBrought heard) (sym h.are)
-    (brought_then heard h.first h.more (first_brought heard (event.Deliver message) refused h.first is h.brings) (submit_brought heard (voted_in message.body) h.more h.submits))
+    (brought_then heard h.first h.more (first_brought heard (event.Deliver message) refused h.first is h.brings) (submit_brought heard (IsVotedNext id next message) h.more h.submits))
 
 none_brought : {N : Type 0} (heard : List Message) (ds : List (Deed N)) → ds ≡ [] → AreBrought heard ds
 none_brought heard ds e = subst (AreBrought heard) (sym e) tt
@@ -174,14 +174,14 @@ form_brought : {N : Type 0} (is_open : Bool) (e : Event) (refused : Option NodeF
 form_brought true e refused ds is h = first_brought [] e refused ds is h
 form_brought false e refused ds is h = none_brought [] ds h
 
-has_brought : {N : Type 0} (old : View N) (Whole : Type 0) (i : Input) (refused : Option NodeFault) (ds : List (Deed N)) → Has old Whole i refused ds → AreBrought (heard_in i) ds
-has_brought old Whole (input.Form command) refused ds h = form_brought old.is_open (event.Submit command) refused ds tt h
-has_brought old Whole (input.Page target) refused ds h = none_brought [] ds h
-has_brought old Whole (input.Message message) refused ds h = delivery_brought (message ∷ []) message refused ds (inl refl) h
-has_brought old Whole (input.Report from report) refused ds h = none_brought [] ds h
-has_brought old Whole (input.Ended to asked is_taken) refused ds h = none_brought [] ds h
-has_brought old Whole input.Sent refused ds h = own_first [] old.id Whole old.own ds h
-has_brought old Whole (input.Time now) refused ds h = due_brought [] ds h
+has_brought : {N : Type 0} (old : View N) (up : Option Up) (Whole : Type 0) (i : Input) (refused : Option NodeFault) (ds : List (Deed N)) → Has old up Whole i refused ds → AreBrought (heard_in i) ds
+has_brought old up Whole (input.Form command) refused ds h = form_brought old.is_open (event.Submit command) refused ds tt h
+has_brought old up Whole (input.Page target) refused ds h = none_brought [] ds h
+has_brought old up Whole (input.Message message) refused ds h = delivery_brought (message ∷ []) old.id (count_where up + 1) message refused ds (inl refl) h
+has_brought old up Whole (input.Report from report) refused ds h = none_brought [] ds h
+has_brought old up Whole (input.Ended to asked is_taken) refused ds h = none_brought [] ds h
+has_brought old up Whole input.Sent refused ds h = own_first [] old.id Whole old.own ds h
+has_brought old up Whole (input.Time now) refused ds h = due_brought [] ds h
 
 comes : (sent own heard : List Message) (cause : Cause) (e : Event) → AreSent sent own → AreSent sent heard → IsCause own cause e → IsBroughtBy heard cause e → Comes sent e
 comes sent own heard Brought (event.Submit command) a b c i = tt
@@ -298,5 +298,5 @@ module _ {S N : Type 0} (seen : S → Seen) (node_moves : N → N → NodeMove) 
       let member : IsMember old.members (index + 1) = (omega arith, omega (arith, few)) in (
         acts.out,
         acts.sent,
-        comes_to seen node_moves store state is old.members index member (heard_in i) t.deeds w old.node new.node old.own new.own acts.out among does (has_brought old (IsTrue (is_ok result)) i acts.refused t.deeds t.kind) own_is out_is honest,
+        comes_to seen node_moves store state is old.members index member (heard_in i) t.deeds w old.node new.node old.own new.own acts.out among does (has_brought old (node_moves old.node old.node).up (IsTrue (is_ok result)) i acts.refused t.deeds t.kind) own_is out_is honest,
       )

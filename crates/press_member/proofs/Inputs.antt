@@ -1,8 +1,7 @@
 -- What an input does to a member, from its parts.
-use Rattle.std.proofs.Common.{Bool, ◌≡◌, inl, List, [], ◌++◌, Option, None, Some, Result, Ok, IfOk, IfErr, IfSome, IsTrue, is_ok, true, false, refl, sym, subst, ◌∙◌, append-nil}
+use Rattle.std.proofs.Common.{ℕ, Bool, ◌≡◌, inl, inr, List, [], ◌++◌, Option, None, Some, Result, Ok, IfOk, IfErr, IfSome, IsTrue, is_ok, true, false, refl, sym, subst, ◌∙◌, append-nil}
 use Rattle.std.specs.declared.alloc.AllocError.{AllocError}
 use Rattle.press_apply.specs.declared.command.Stamped.{Stamped}
-use Rattle.press_wire.specs.declared.message.Body.{Body}
 use Rattle.press_wire.specs.declared.message.Message.{Message}
 use Rattle.press_node.specs.Nodes.{NodeMove}
 use Rattle.press_node.specs.declared.fault.NodeFault.{NodeFault}
@@ -13,7 +12,7 @@ use Rattle.press_node.specs.declared.event.Event.TheVariants as event
 use Rattle.press_member.specs.declared.output.Answer.{Answer}
 use Rattle.press_member.specs.declared.output.Answer.TheVariants as answer
 use Rattle.press_member.specs.Parts.{IsSame, Turns}
-use Rattle.press_member.specs.Turns.{Brings, Delivers, MaySubmit, Turned, voted_in}
+use Rattle.press_member.specs.Turns.{Brings, Delivers, IsVotedNext, MaySubmit, Turned}
 use Rattle.press_member.specs.declared.input.Input.{Input}
 use Rattle.press_member.specs.declared.output.Outputs.{Outputs}
 use Rattle.press_member.proofs.Turning.{still, turns_on}
@@ -37,25 +36,24 @@ closed_answer false r given is shut e = e
 
 -- ---- a message, and what may be submitted behind it
 
-none_voted : {N : Type 0} (v : Option Stamped) (ds : List (Deed N)) → ds ≡ [] → MaySubmit v ds
-none_voted None ds h = h
-none_voted (Some c) ds h = inl h
+same_command : (a b : Stamped) → Some a ≡ Some b → a ≡ b
+same_command a b e = cc
 
--- what is submitted is voted for by the message
-voted : {N : Type 0} (body : Body) (command : Option Stamped) → IfSome command (λ c. voted_in body ≡ Some c) → (ds : List (Deed N)) → MaySubmit command ds → MaySubmit (voted_in body) ds
-voted body None is ds h = none_voted (voted_in body) ds h
-voted body (Some command) is ds h = subst (λ v. MaySubmit v ds) (sym is) h
+-- what is submitted is such a command
+are_such : {N : Type 0} (command : Option Stamped) (Which : Stamped → Type 0) → IfSome command Which → (ds : List (Deed N)) → MaySubmit (λ it. command ≡ Some it) ds → MaySubmit Which ds
+are_such command Which is ds (inl h) = inl h
+are_such None Which is ds (inr h) = absurd (let f = h.1 in cc)
+are_such (Some command) Which is ds (inr h) = inr (h.0, subst Which (same_command command h.0 h.1) is, h.2)
 
-pub delivers : {N : Type 0} (message : Message) (refused : Option NodeFault) (command : Option Stamped) → IfSome command (λ c. voted_in message.body ≡ Some c) →
-    (ds es : List (Deed N)) → Brings (event.Deliver message) refused ds → MaySubmit command es → Delivers message refused (ds ++ es)
-delivers message refused command is ds es h k = record { first = ds; more = es; are = refl; brings = h; submits = voted message.body command is es k }
+pub delivers : {N : Type 0} (id next : ℕ) (message : Message) (refused : Option NodeFault) (command : Option Stamped) → IfSome command (IsVotedNext id next message) →
+    (ds es : List (Deed N)) → Brings (event.Deliver message) refused ds → MaySubmit (λ it. command ≡ Some it) es → Delivers id next message refused (ds ++ es)
+delivers id next message refused command is ds es h k = record { first = ds; more = es; are = refl; brings = h; submits = are_such command (IsVotedNext id next message) is es k }
 
-pub none_more : (N : Type 0) (v : Option Stamped) → MaySubmit {N = N} v []
-none_more N None = refl
-none_more N (Some c) = inl refl
+pub none_more : (N : Type 0) (Which : Stamped → Type 0) → MaySubmit {N = N} Which []
+none_more N Which = inl refl
 
-pub delivers_only : {N : Type 0} (message : Message) (refused : Option NodeFault) (ds : List (Deed N)) → Brings (event.Deliver message) refused ds → Delivers message refused ds
-delivers_only message refused ds h = record { first = ds; more = []; are = sym (append-nil ds); brings = h; submits = none_more _ (voted_in message.body) }
+pub delivers_only : {N : Type 0} (id next : ℕ) (message : Message) (refused : Option NodeFault) (ds : List (Deed N)) → Brings (event.Deliver message) refused ds → Delivers id next message refused ds
+delivers_only id next message refused ds h = record { first = ds; more = []; are = sym (append-nil ds); brings = h; submits = none_more _ (IsVotedNext id next message) }
 
 module _ {N : Type 0} (moved : N → N → NodeMove) where
   pub same_then : (old mid new : View N) → IsSame moved old mid → IsSame moved mid new → IsSame moved old new
@@ -70,7 +68,7 @@ module _ {N : Type 0} (moved : N → N → NodeMove) where
 
   -- nothing is done but an answer given
   pub rests : (input : Input) (old new : View N) (outputs : Outputs) → IsSame moved old new → moment new ≡ moment old → outputs.messages.items ≡ [] →
-      Has {N = N} old (IsTrue true) input None [] → Answers old (moved old.node old.node).kit (moved old.node old.node).up input None outputs.answer → Acts moved input old new (Ok outputs)
+      Has {N = N} old (moved old.node old.node).up (IsTrue true) input None [] → Answers old (moved old.node old.node).kit (moved old.node old.node).up input None outputs.answer → Acts moved input old new (Ok outputs)
   rests input old new outputs s same none has given = record {
     id = s.id;
     members = s.members;
@@ -78,7 +76,7 @@ module _ {N : Type 0} (moved : N → N → NodeMove) where
     kit = s.kit;
     refused = None;
     out = [];
-    turned = still moved old.members old.id (Has old (IsTrue true) input None) (IsTrue true) (moment old) (moment new) [] same has;
+    turned = still moved old.members old.id (Has old (moved old.node old.node).up (IsTrue true) input None) (IsTrue true) (moment old) (moment new) [] same has;
     sent = none;
     answered = given;
     memory = tt;
@@ -86,7 +84,7 @@ module _ {N : Type 0} (moved : N → N → NodeMove) where
 
   -- a turn is done, and this is answered
   pub turns : (input : Input) (old new : View N) (result : Result Outputs AllocError) (refused : Option NodeFault) (out out1 : List Message) → IsSame moved old new → out ≡ [] →
-      Turns moved old new (Has old (IsTrue (is_ok result)) input refused) out out1 (IsTrue (is_ok result)) → IfOk result (λ outputs. outputs.messages.items ≡ out1) →
+      Turns moved old new (Has old (moved old.node old.node).up (IsTrue (is_ok result)) input refused) out out1 (IsTrue (is_ok result)) → IfOk result (λ outputs. outputs.messages.items ≡ out1) →
       IfOk result (λ outputs. Answers old (moved old.node old.node).kit (moved old.node old.node).up input refused outputs.answer) → IfErr result (λ fault. TakesMemory old input) → Acts moved input old new result
   turns input old new result refused out out1 s none t sent given memory = record {
     id = s.id;
@@ -95,7 +93,7 @@ module _ {N : Type 0} (moved : N → N → NodeMove) where
     kit = s.kit;
     refused = refused;
     out = out1;
-    turned = subst (λ l. Turns moved old new (Has old (IsTrue (is_ok result)) input refused) l out1 (IsTrue (is_ok result))) none t;
+    turned = subst (λ l. Turns moved old new (Has old (moved old.node old.node).up (IsTrue (is_ok result)) input refused) l out1 (IsTrue (is_ok result))) none t;
     sent = sent;
     answered = given;
     memory = memory;

@@ -1,5 +1,5 @@
 -- *Acts*: what an input does to a member, and what it brings (own).
-use Rattle.std.specs.Prelude.{ℕ, ◌≡◌, ◌≢◌, ◌⊎◌, Bool, true, false, nat_lt, Option, None, Some, List, [], length, Result, IfOk, IfErr, IsTrue, is_ok, is_some}
+use Rattle.std.specs.Prelude.{ℕ, ◌+◌, ◌≡◌, ◌≢◌, ◌⊎◌, Bool, true, false, nat_lt, Option, None, Some, List, [], length, Result, IfOk, IfErr, IsTrue, is_ok, is_some}
 use Rattle.std.specs.declared.alloc.AllocError.{AllocError}
 use Rattle.press_callbacks.specs.Kits.{KitView}
 use Rattle.press_page.specs.declared.reply.Reply.{Reply}
@@ -8,7 +8,7 @@ use Rattle.press_wire.specs.declared.message.Message.{Message}
 use Rattle.press_acceptor.specs.declared.fault.StoreFault.{StoreFault}
 use Rattle.press_node.specs.Nodes.{IsPageAt, NodeMove}
 use Rattle.press_node.specs.declared.kept.Node.{Node}
-use Rattle.press_node.specs.States.{NodeState, Up, is_down, is_down_where}
+use Rattle.press_node.specs.States.{NodeState, Up, count_where, is_down, is_down_where}
 use Rattle.press_node.specs.declared.event.Event.{Event}
 use Rattle.press_node.specs.declared.event.Event.TheVariants as event
 use Rattle.press_node.specs.declared.fault.NodeFault.{NodeFault}
@@ -46,14 +46,14 @@ Submits true event refused deeds = Brings event refused deeds
 Submits false event refused deeds = deeds ≡ []
 
 -- which deeds an input has a member do, where an event that it brings is refused so
-abbrev pub Has : {N : Type 0} → View N → Type 0 → Input → Option NodeFault → List (Deed N) → Type 0
-Has old Whole (Form command) refused deeds = Submits old.is_open (event.Submit command) refused deeds
-Has old Whole (Letter message) refused deeds = Delivers message refused deeds
-Has old Whole Sent refused deeds = HearsFirst old.id Whole old.own deeds
-Has old Whole (Time now) refused deeds = MayWake deeds ⊎ AreQuestions deeds
-Has old Whole (Page target) refused deeds = deeds ≡ []
-Has old Whole (Report from report) refused deeds = deeds ≡ []
-Has old Whole (Ended to asked is_taken) refused deeds = deeds ≡ []
+abbrev pub Has : {N : Type 0} → View N → Option Up → Type 0 → Input → Option NodeFault → List (Deed N) → Type 0
+Has old up Whole (Form command) refused deeds = Submits old.is_open (event.Submit command) refused deeds
+Has old up Whole (Letter message) refused deeds = Delivers old.id (count_where up + 1) message refused deeds
+Has old up Whole Sent refused deeds = HearsFirst old.id Whole old.own deeds
+Has old up Whole (Time now) refused deeds = MayWake deeds ⊎ AreQuestions deeds
+Has old up Whole (Page target) refused deeds = deeds ≡ []
+Has old up Whole (Report from report) refused deeds = deeds ≡ []
+Has old up Whole (Ended to asked is_taken) refused deeds = deeds ≡ []
 
 -- an input for which memory may be wanting
 abbrev pub TakesMemory : {N : Type 0} → View N → Input → Type 0
@@ -104,7 +104,7 @@ pub record Acts {N : Type 0} (moved : N → N → NodeMove) (input : Input) (old
   pub kit : (moved new.node new.node).kit ≡ (moved old.node old.node).kit
   pub refused : Option NodeFault
   pub out : List Message
-  pub turned : Turned moved old.members old.id (Has old (IsTrue (is_ok result)) input refused) (IsTrue (is_ok result)) (moment old) (moment new) [] out
+  pub turned : Turned moved old.members old.id (Has old (moved old.node old.node).up (IsTrue (is_ok result)) input refused) (IsTrue (is_ok result)) (moment old) (moment new) [] out
   pub sent : IfOk result (λ outputs. outputs.messages.items ≡ out)
   pub answered : IfOk result (λ outputs. Answers old (moved old.node old.node).kit (moved old.node old.node).up input refused outputs.answer)
   pub memory : IfErr result (λ fault. TakesMemory old input)

@@ -35,5 +35,5 @@ proposes (Nack refused promised) = false
 proposes Query = false
 
 -- the slot, where a message about it with this body tells that somebody proposes for it
-abbrev pub proposed_in : Body → ℕ → Option ℕ
-proposed_in body slot = if proposes body then Some slot else None
+abbrev pub slot_proposed : Body → ℕ → Option ℕ
+slot_proposed body slot = if proposes body then Some slot else None

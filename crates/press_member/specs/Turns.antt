@@ -66,26 +66,31 @@ command_of (Noop at) = None
 command_of (Cmd command) = Some command
 
 -- the command of the vote that a message tells of
-abbrev pub voted_in : Body → Option Stamped
-voted_in (Accepted vote) = command_of vote.value
-voted_in (Prepare round) = None
-voted_in (Promise ballot votes) = None
-voted_in (Nack refused promised) = None
-voted_in (Accept round value) = None
-voted_in Query = None
+abbrev pub command_of_vote : Body → Option Stamped
+command_of_vote (Accepted vote) = command_of vote.value
+command_of_vote (Prepare round) = None
+command_of_vote (Promise ballot votes) = None
+command_of_vote (Nack refused promised) = None
+command_of_vote (Accept round value) = None
+command_of_vote Query = None
 
--- a command that is voted for may be submitted; then a wake may be due
-abbrev pub MaySubmit : {N : Type 0} → Option Stamped → List (Deed N) → Type 0
-MaySubmit None deeds = deeds ≡ []
-MaySubmit (Some command) deeds = (deeds ≡ []) ⊎ ((refused : Option NodeFault) × Brings (Submit command) refused deeds)
+-- The message tells this member of a vote for this command, in its next slot.
+pub record IsVotedNext (id next : ℕ) (message : Message) (command : Stamped) : Type 0 where
+  pub for_it : message.to ≡ id
+  pub slot_is : message.slot ≡ next
+  pub voted : command_of_vote message.body ≡ Some command
 
--- A message is delivered first, and refused so; then the command of the vote that it tells of may be submitted.
-pub record Delivers {N : Type 0} (message : Message) (refused : Option NodeFault) (deeds : List (Deed N)) : Type 0 where
+-- one of these commands may be submitted; then a wake may be due
+abbrev pub MaySubmit : {N : Type 0} → (Stamped → Type 0) → List (Deed N) → Type 0
+MaySubmit Which deeds = (deeds ≡ []) ⊎ ((command : Stamped) × Which command × ((refused : Option NodeFault) × Brings (Submit command) refused deeds))
+
+-- A message is delivered first, and refused so; then the command of a vote for the next slot, of which it tells this member, may be submitted.
+pub record Delivers {N : Type 0} (id next : ℕ) (message : Message) (refused : Option NodeFault) (deeds : List (Deed N)) : Type 0 where
   pub first : List (Deed N)
   pub more : List (Deed N)
   pub are : deeds ≡ first ++ more
   pub brings : Brings (Deliver message) refused first
-  pub submits : MaySubmit (voted_in message.body) more
+  pub submits : MaySubmit (IsVotedNext id next message) more
 
 -- What a turn changes of a member: its node, what it has sent to itself and not heard yet, and what stopped the node last.
 pub record Moment (N : Type 0) : Type 0 where

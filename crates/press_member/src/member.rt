@@ -1,7 +1,7 @@
 //! A member: its node, and what it has beside it.
 
-ghost use Rattle.std.specs.Prelude.{◌≡◌, ◌<◌, ◌≤◌, false, Ok, None, Some, [], IfErr, IfOk, IfSome, IsTrue, MatchResult, is_ok, length, max};
-ghost use Rattle.press_node.specs.States.{is_down};
+ghost use Rattle.std.specs.Prelude.{◌+◌, ◌≡◌, ◌<◌, ◌≤◌, ◌^◌, false, Ok, None, Some, [], IfErr, IfOk, IfSome, IsTrue, MatchResult, is_ok, length, max, true};
+ghost use Rattle.press_node.specs.States.{applied_count, is_down};
 ghost use Rattle.press_node.specs.Nodes.{kit_of, node_moved, state_of, store_of};
 ghost use Rattle.press_member.specs.Acts.{Acts, Shows, TellsStop, begun, has_more, is_open, node_in, stop_in, view_of};
 ghost use Rattle.press_member.specs.Coming.{AreItsMoves};
@@ -10,7 +10,7 @@ ghost use Rattle.press_member.specs.Parts.{BringsEvent, IsDue, IsSame, Turns};
 ghost use Rattle.press_member.specs.Played.{moment_of};
 ghost use Rattle.press_member.specs.Shown.{Gets};
 ghost use Rattle.press_member.specs.Starting.{IsItsStart};
-ghost use Rattle.press_member.specs.Turns.{AreQuestions, MaySubmit, MayWake, voted_in};
+ghost use Rattle.press_member.specs.Turns.{AreQuestions, IsVotedNext, MaySubmit, MayWake};
 ghost use Rattle.press_callbacks.specs.Kits.{kit_view};
 ghost use Rattle.press_member.specs.declared.input.Input.TheVariants as input;
 
@@ -20,7 +20,7 @@ use crate::output::{Answer, Outputs};
 use crate::pace::{Due, Pace};
 use crate::peers::{Peers, id_at};
 use crate::player::Player;
-use crate::signs::{proposed_in, voted_in};
+use crate::signs::{command_of_vote, slot_proposed};
 use press_acceptor::{PromiseStore, StoreFault};
 use press_apply::Stamped;
 use press_batch::{Digests, Report};
@@ -318,27 +318,38 @@ impl<S: PromiseStore> Member<S> {
         Ok(Outputs::with(self.alloc, answer, messages))
     }
 
+    // The slot behind those that it has applied.
+    fn next_slot(&self) -> u64
+        ensures { result < 2 ^ 32 → result ≡ applied_count (state_of self.now.player.node) + 1 }
+    {
+        self.player.node.applied().saturating_add(1)
+    }
+
     // Whether a message is one of a member to this one.
-    fn is_for_it(&self, message: &Message) -> bool {
+    fn is_for_it(&self, message: &Message) -> bool
+        ensures { result ≡ true → message.now.to ≡ self.now.player.id }
+    {
         message.to == self.player.id && self.peers.counts(message.from)
     }
 
     // The slot for which somebody proposes, by a message of a member to this one.
-    fn proposed_in(&self, message: &Message) -> Option<u64> {
+    fn slot_proposed(&self, message: &Message) -> Option<u64> {
         if self.is_for_it(message) {
-            proposed_in(message)
+            slot_proposed(message)
         } else {
             None
         }
     }
 
     // The command of the vote that a message tells of, where nobody proposes any more for its slot, which is the next.
-    fn stuck_in(&self, message: &Message) -> Option<Stamped>
-        ensures { IfSome result (λ command. voted_in message.now.body ≡ Some command) }
+    fn stuck_command(&self, message: &Message) -> Option<Stamped>
+        ensures { IfSome result (λ command. IsVotedNext self.now.player.id
+            (applied_count (state_of self.now.player.node) + 1) message.now command) }
     {
-        let slot = u64::from(message.slot.number());
-        if self.is_for_it(message) && self.player.pace.is_stuck(slot) {
-            voted_in(self.alloc, message)
+        let next = self.next_slot();
+        let is_next = u64::from(message.slot.number()) == next;
+        if is_next && self.is_for_it(message) && self.player.pace.is_stuck(next) {
+            command_of_vote(self.alloc, message)
         } else {
             None
         }
@@ -348,18 +359,19 @@ impl<S: PromiseStore> Member<S> {
     // once, whether or not it is chosen there.
     fn submit_stuck(
         &mut self,
-        voted: Option<Stamped>,
+        command: Option<Stamped>,
         out: &mut Vec<Message>,
     ) -> Result<(), AllocError>
         requires always { Unit {0} }
         ensures same { IsSame (λ a b. node_moved S.seen a b) (view_of self.old) (view_of self.new) }
         ensures turned { Turns (λ a b. node_moved S.seen a b) (view_of self.old) (view_of self.new)
-            (MaySubmit voted) out.old.items out.new.items (IsTrue (is_ok result)) }
+            (MaySubmit (λ it. command ≡ Some it)) out.old.items out.new.items
+            (IsTrue (is_ok result)) }
     {
-        let Some(command) = voted else {
+        let Some(command) = command else {
             return Ok(());
         };
-        let next = self.player.node.applied().saturating_add(1);
+        let next = self.next_slot();
         if self.player.node.is_waiting() || !self.player.pace.is_stuck(next) {
             return Ok(());
         }
@@ -374,13 +386,13 @@ impl<S: PromiseStore> Member<S> {
     {
         let from = message.from;
         let to = message.to;
-        let proposed = self.proposed_in(&message);
-        let voted = self.stuck_in(&message);
+        let proposed = self.slot_proposed(&message);
+        let stuck = self.stuck_command(&message);
         let mut messages = Vec::new(self.alloc);
         let answer = self.bring(Event::Deliver(message), &mut messages)?;
         self.peers.hear(from, to, self.time);
         self.player.pace.hear_of(proposed, answer.is_taken());
-        self.submit_stuck(voted, &mut messages)?;
+        self.submit_stuck(stuck, &mut messages)?;
         self.peers.begin_all(&messages);
         Ok(Outputs::with(self.alloc, answer, messages))
     }
@@ -488,7 +500,7 @@ impl<S: PromiseStore> Member<S> {
         if self.peers.is_busy(place) {
             return Ok(());
         }
-        let next = self.player.node.applied().saturating_add(1);
+        let next = self.next_slot();
         self.player.ask_from(to, next, end, out)
     }
 

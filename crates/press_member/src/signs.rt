@@ -1,8 +1,8 @@
 //! What a member's own messages say of who proposes.
 
 ghost use Rattle.std.specs.Prelude.{◌≡◌, Some, IfSome};
-ghost use Rattle.press_member.specs.Hearing.{proposed_in};
-ghost use Rattle.press_member.specs.Turns.{voted_in};
+ghost use Rattle.press_member.specs.Hearing.{slot_proposed};
+ghost use Rattle.press_member.specs.Turns.{command_of_vote};
 
 use press_apply::{Stamped, Value};
 use press_wire::{Body, Message, Node as Id};
@@ -46,8 +46,8 @@ pub fn is_question(message: &Message) -> bool {
 
 /// The slots before this one are chosen, by a message about it: who proposes for a slot has applied those before it. A
 /// question and a refusal say nothing of that.
-pub fn proposed_in(message: &Message) -> Option<u64>
-    ensures { result ≡ proposed_in message.now.body message.now.slot }
+pub fn slot_proposed(message: &Message) -> Option<u64>
+    ensures { result ≡ slot_proposed message.now.body message.now.slot }
 {
     match message.body {
         Body::Prepare { .. } | Body::Accept { .. } | Body::Accepted { .. } => {
@@ -58,8 +58,8 @@ pub fn proposed_in(message: &Message) -> Option<u64>
 }
 
 /// A copy of the command of the vote that a message tells of. None where it tells of none, or without memory.
-pub fn voted_in(alloc: Global, message: &Message) -> Option<Stamped>
-    ensures { IfSome result (λ command. voted_in message.now.body ≡ Some command) }
+pub fn command_of_vote(alloc: Global, message: &Message) -> Option<Stamped>
+    ensures { IfSome result (λ command. command_of_vote message.now.body ≡ Some command) }
 {
     let Body::Accepted { vote } = &message.body else {
         return None;

@@ -184,7 +184,7 @@ impl<A: Actor> World<A> {
             Fault::Start { place, stops } => self.start_on(place, stops),
             Fault::Fill { place, room } => self.fill(place, room),
             Fault::Foreign(place) => self.start_as_another(place),
-            Fault::Given { place, to } => self.give(place, to),
+            Fault::Give { place, to } => self.give(place, to),
             Fault::Burst { place, count } => self.submit_often(place, count),
             Fault::Outage => self.stop_all(),
             Fault::Everywhere => self.submit_everywhere(),

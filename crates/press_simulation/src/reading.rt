@@ -59,7 +59,7 @@ fn fault_of(words: &[&str]) -> Option<Fault> {
             from: place(words, 1)?,
             to: place(words, 2)?,
         }),
-        "give" => Some(Fault::Given {
+        "give" => Some(Fault::Give {
             place: place(words, 1)?,
             to: place(words, 2)?,
         }),

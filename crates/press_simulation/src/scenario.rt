@@ -37,7 +37,7 @@ pub enum Fault {
     /// It starts with other digests.
     Foreign(usize),
     /// Its files are given to the member at another place, and then to it again.
-    Given { place: usize, to: usize },
+    Give { place: usize, to: usize },
     /// Nothing goes from the one to the other.
     Cut { from: usize, to: usize },
     /// The members with these bits are cut off from the others.

@@ -31,7 +31,7 @@ fn parts_of(fault: Fault) -> Parts {
         Fault::Room(place) => spelled("room", member(place), None),
         Fault::Foreign(place) => spelled("foreign", member(place), None),
         Fault::Cut { from, to } => spelled("cut", member(from), member(to)),
-        Fault::Given { place, to } => spelled("give", member(place), member(to)),
+        Fault::Give { place, to } => spelled("give", member(place), member(to)),
         Fault::Part(side) => spelled("part", Some(side), None),
         Fault::Heal => spelled("heal", None, None),
         Fault::Pause { place, millis } => spelled("pause", member(place), Some(millis)),
