@@ -99,7 +99,8 @@ impl Kit {
         self.callbacks.as_slice()
     }
 
-    pub(crate) fn plugins(&self) -> &[Plugin]
+    /// All plugins, in the order of their names.
+    pub fn plugins(&self) -> &[Plugin]
         ensures { result.now ≡ self.now.plugins.items }
     {
         self.plugins.as_slice()

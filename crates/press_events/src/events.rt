@@ -262,6 +262,13 @@ impl Events {
         self.events.len() >= MOST_EVENTS && others(&self.events, hook, arg) >= MOST_EVENTS
     }
 
+    /// All of them, by time, then in the order in which they were scheduled.
+    pub fn as_slice(&self) -> &[Event]
+        ensures { result.now ≡ self.now }
+    {
+        self.events.as_slice()
+    }
+
     /// The events whose time has come. Where there is none, this takes no memory.
     pub fn due(&self, now: Moment) -> Result<Items<Event>, AllocError>
         ensures events { IfOk result (λ es. es ≡ due now self.now) }

@@ -1,4 +1,5 @@
 pub mod Bodies
+pub mod Desk
 pub mod Faults
 pub mod Forms
 pub mod Heads

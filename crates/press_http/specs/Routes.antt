@@ -37,11 +37,11 @@ query_of t = after_first (λ b. b == 63) t
 
 -- ---- paths
 
-abbrev pub with_read : Result Scan InsertError → Place → RowsOf (RouteOf Place) → RowsOf (RouteOf Place)
+abbrev pub with_read : {P : Type 0} → Result Scan InsertError → P → RowsOf (RouteOf P) → RowsOf (RouteOf P)
 with_read (Ok s) at routes = placed (s.pattern, route_from s at) routes
 with_read (Err e) at routes = routes
 
-unfoldable pub with_route : List ℕ → Place → RowsOf (RouteOf Place) → RowsOf (RouteOf Place)
+unfoldable pub with_route : {P : Type 0} → List ℕ → P → RowsOf (RouteOf P) → RowsOf (RouteOf P)
 with_route path at routes = with_read (parse_route path) at routes
 
 unfoldable pub pages : RowsOf (RouteOf Place)
@@ -56,7 +56,7 @@ table = with_route (codes "/peer") place.Peers (with_route (codes "/command") pl
 abbrev pub or_missing : {A : Type 0} → Option A → Result A HttpFault
 or_missing found = or_fault NotFound found
 
-abbrev pub place_in : Option (RouteOf Place) → Result Place HttpFault
+abbrev pub place_in : {P : Type 0} → Option (RouteOf P) → Result P HttpFault
 place_in None = Err NotFound
 place_in (Some route) = Ok route.value
 

@@ -5,6 +5,7 @@
 
 mod asked;
 mod body;
+mod desk;
 mod fault;
 mod fields;
 mod form;
@@ -19,6 +20,7 @@ mod start;
 mod streams;
 
 pub use asked::Asked;
+pub use desk::DeskRoutes;
 pub use fault::HttpFault;
 pub use form::form_command;
 pub use pieces::Pieces;

@@ -19,7 +19,7 @@ use press_text::{Name, NameFault, dec_u64};
 use press_wire::{Message, WireFault, decode_msg};
 use std::alloc::Global;
 
-fn path(target: &str) -> &str
+pub(crate) fn path(target: &str) -> &str
     ensures { result.now ≡ spec.path_of target.now }
 {
     match target.split_once('?') {
@@ -28,7 +28,7 @@ fn path(target: &str) -> &str
     }
 }
 
-fn query(target: &str) -> &str
+pub(crate) fn query(target: &str) -> &str
     ensures { result.now ≡ spec.query_of target.now }
 {
     match target.split_once('?') {
@@ -57,7 +57,7 @@ fn after_slash(text: &str) -> &str
 
 // What follows the first `slashes` slashes.
 #[tactic(auto, using(crate::proofs::Slashes::one_more, crate::proofs::Slashes::none_left))]
-fn behind(path: &str, slashes: usize) -> &str
+pub(crate) fn behind(path: &str, slashes: usize) -> &str
     ensures { result.now ≡ spec.behind slashes path.now }
 {
     let mut rest = path;

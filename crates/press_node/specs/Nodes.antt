@@ -1,8 +1,10 @@
 -- A node by its parts: its kit, its store, and the rest; and the reply that it gives.
-use Rattle.std.specs.Prelude.{◌≡◌, Option, None, Some, List, Result}
+use Rattle.std.specs.Prelude.{◌≡◌, Option, None, Some, List, Result, length}
 use Rattle.press_apply.specs.Apply.{site_after}
 use Rattle.press_callbacks.specs.Kits.{KitView, kit_view}
+use Rattle.press_page.specs.Desk.{desk_of}
 use Rattle.press_page.specs.Page.{page_of}
+use Rattle.press_page.specs.declared.desk.Desk.{Desk}
 use Rattle.press_page.specs.declared.reply.Reply.{Reply}
 use Rattle.press_page.specs.declared.reply.Target.{Target}
 use Rattle.press_acceptor.specs.Seen.{Seen}
@@ -18,6 +20,11 @@ use Rattle.press_node.specs.declared.kept.Node.{Node}
 abbrev pub IsPageAt : KitView → Option Up → Target → Reply → Type 0
 IsPageAt kit None target reply = ⊥
 IsPageAt kit (Some up) target reply = reply ≡ page_of kit (site_after kit up.running.values) target
+
+-- what editors see of what the applied values make; nothing where the node is down
+abbrev pub IsDeskAt : KitView → Option Up → Desk → Reply → Type 0
+IsDeskAt kit None asked reply = ⊥
+IsDeskAt kit (Some up) asked reply = reply ≡ desk_of kit (site_after kit up.running.values) (length up.running.values) asked
 
 -- ---- its parts
 

@@ -4,7 +4,7 @@ ghost use Rattle.std.specs.Prelude.{◌≡◌, ◌⊎◌, ◌≤◌, IfOk, IfErr
 ghost use Rattle.press_callbacks.specs.Kits.{kit_view};
 ghost use Rattle.press_acceptor.specs.Seen.{Calls, Looks};
 ghost use Rattle.press_acceptor.specs.Seen.Call.{LoadsRound};
-ghost use Rattle.press_node.specs.Nodes.{IsPageAt, NodePlays, kit_of, state_of, store_of};
+ghost use Rattle.press_node.specs.Nodes.{IsDeskAt, IsPageAt, NodePlays, kit_of, state_of, store_of};
 ghost use Rattle.press_node.specs.States.{IsMemberOf, IsWhole, applied_count, is_down, is_waiting, started_at};
 
 use crate::event::Event;
@@ -14,7 +14,7 @@ use crate::start_fault::StartFault;
 use crate::state::State;
 use press_acceptor::PromiseStore;
 use press_callbacks::Kit;
-use press_page::{Reply, Target};
+use press_page::{Desk, Reply, Target};
 use press_wire::{Message, Node as Member};
 use std::alloc::Global;
 
@@ -66,6 +66,18 @@ impl<S> Node<S> {
             (fault ≡ NodeFault.NoMemory)) }
     {
         self.state.get(&self.kit, target)
+    }
+
+    /// The reply to an editor, over what the applied values make. Nothing changes.
+    pub fn show_desk(&self, asked: Desk) -> Result<Reply, NodeFault>
+        ensures desk { IfOk result
+            (λ reply. IsDeskAt (kit_of self.now) (state_of self.now).up asked reply) }
+        ensures down { is_down (state_of self.now) ≡ true → result ≡ Err NodeFault.Down }
+        ensures fault { IfErr result
+            (λ fault. ((fault ≡ NodeFault.Down) × (is_down (state_of self.now) ≡ true)) ⊎
+            (fault ≡ NodeFault.NoMemory)) }
+    {
+        self.state.show_desk(&self.kit, asked)
     }
 }
 

@@ -3,7 +3,7 @@
 ghost use Rattle.std.specs.Prelude.{◌≡◌, ◌⊎◌, ◌≤◌, Err, IfOk, IfErr, true, option_map, option_copied};
 ghost use Rattle.press_acceptor.specs.StoreMap.{StoreMap};
 ghost use Rattle.press_callbacks.specs.Kits.{kit_view};
-ghost use Rattle.press_node.specs.Nodes.{IsPageAt};
+ghost use Rattle.press_node.specs.Nodes.{IsDeskAt, IsPageAt};
 ghost use Rattle.press_node.specs.Plays.{StatePlays};
 ghost use Rattle.press_node.specs.Refusals.{refusal};
 ghost use Rattle.press_node.specs.States.{
@@ -25,7 +25,7 @@ use crate::up::Up;
 use press_acceptor::PromiseStore;
 use press_apply::Stamped;
 use press_callbacks::Kit;
-use press_page::{Reply, Target, page};
+use press_page::{Applied, Desk, Reply, Target, page, show_desk};
 use press_site::Site;
 use press_wire::{Message, Node as Member};
 use std::alloc::Global;
@@ -136,6 +136,28 @@ impl State {
             return Err(NodeFault::Down);
         };
         match page(self.alloc, &up.site, kit, target) {
+            Ok(reply) => Ok(reply),
+            Err(_) => Err(NodeFault::NoMemory),
+        }
+    }
+
+    /// The reply to an editor, over what the applied values make.
+    pub fn show_desk(&self, kit: &Kit, asked: Desk) -> Result<Reply, NodeFault>
+        ensures desk { IsFolded (kit_view kit.now) self.now →
+            IfOk result (λ reply. IsDeskAt (kit_view kit.now) self.now.up asked reply) }
+        ensures down { is_down self.now ≡ true → result ≡ Err NodeFault.Down }
+        ensures fault { IfErr result (λ fault. ((fault ≡ NodeFault.Down) × (is_down self.now ≡ true))
+            ⊎ (fault ≡ NodeFault.NoMemory)) }
+    {
+        let Some(up) = &self.up else {
+            return Err(NodeFault::Down);
+        };
+        let applied = Applied {
+            count: up.values.len() as u64,
+            site: &up.site,
+            kit,
+        };
+        match show_desk(self.alloc, applied, asked) {
             Ok(reply) => Ok(reply),
             Err(_) => Err(NodeFault::NoMemory),
         }

@@ -1,3 +1,4 @@
+pub mod Desk
 pub mod Earlier
 pub mod Json
 pub mod Page

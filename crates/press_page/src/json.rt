@@ -106,7 +106,7 @@ fn outcome_value(alloc: Global, outcome: Outcome) -> Result<Value, AllocError>
 }
 
 // A status alone.
-fn status_reply(alloc: Global, status: u16) -> Result<Reply, AllocError>
+pub(crate) fn status_reply(alloc: Global, status: u16) -> Result<Reply, AllocError>
     ensures { IfOk result (λ r. r ≡ status_reply status) }
 {
     let value = status_value(alloc, status)?;
@@ -120,7 +120,7 @@ fn status_value(alloc: Global, status: u16) -> Result<Value, AllocError>
     json!(in alloc; {"code": status})
 }
 
-fn json_reply(alloc: Global, status: u16, value: &Value) -> Result<Reply, AllocError>
+pub(crate) fn json_reply(alloc: Global, status: u16, value: &Value) -> Result<Reply, AllocError>
     requires { has_float (view value.now) ≡ false }
     ensures { IfOk result (λ r. r ≡ json_reply status (view value.now)) }
 {

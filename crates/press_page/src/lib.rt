@@ -3,6 +3,7 @@
 //! A page comes from a fresh boot of its own and only reads the site.
 #![tactic(auto)]
 
+mod desk;
 mod earlier;
 mod filtered;
 mod hooks;
@@ -13,6 +14,7 @@ mod reply;
 mod targets;
 mod template;
 
+pub use desk::{Applied, Desk, show_desk};
 pub use earlier::pages_as_before;
 pub use pages::page;
 pub use reply::{ContentKind, Reply, Target};

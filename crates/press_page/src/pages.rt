@@ -60,7 +60,7 @@ fn public_post<'a>(post: Option<&'a Post>) -> Option<&'a Post>
     }
 }
 
-fn fixed(alloc: Global, status: u16, line: &str) -> Result<Reply, AllocError>
+pub(crate) fn fixed(alloc: Global, status: u16, line: &str) -> Result<Reply, AllocError>
     ensures { IfOk result (λ r.
         r ≡ record { status = status; kind = ContentKind.Html; body = fixed_body line.now }) }
 {
@@ -72,7 +72,12 @@ fn fixed(alloc: Global, status: u16, line: &str) -> Result<Reply, AllocError>
 }
 
 // The page of the posts of these ids.
-fn page_with(alloc: Global, site: &Site, kit: &Kit, ids: &[u64]) -> Result<Reply, AllocError>
+pub(crate) fn page_with(
+    alloc: Global,
+    site: &Site,
+    kit: &Kit,
+    ids: &[u64],
+) -> Result<Reply, AllocError>
     ensures { IfOk result (λ r. r ≡ page_with (kit_view kit.now) site.now ids.now) }
 {
     let mut rendering = Rendering::new(alloc, kit, site)?;

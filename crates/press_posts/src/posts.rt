@@ -200,12 +200,19 @@ impl Posts {
         })
     }
 
+    /// The greatest id that was given, of a post that is there or was deleted; 0 where none was.
+    pub fn last_id(&self) -> u64
+        ensures { result ≡ length self.now }
+    {
+        self.places.len() as u64
+    }
+
     /// The id that the next post gets.
     pub fn next_id(&self) -> u64
         requires { is_full self.now ≡ false }
         ensures { result ≡ length self.now + 1 }
     {
-        self.places.len() as u64 + 1
+        self.last_id() + 1
     }
 
     /// Why an insert is refused, if it is.

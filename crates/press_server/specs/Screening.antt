@@ -26,6 +26,9 @@ asks_ready bytes = bytes_eq (take 11 bytes) (codes "GET /ready ")
 abbrev pub asks_editor : List ℕ → Bool
 asks_editor bytes = bytes_eq (take 12 bytes) (codes "GET /editor ")
 
+abbrev pub is_of_desk : List ℕ → Bool
+is_of_desk target = bytes_eq (take 6 target) (codes "/desk/")
+
 -- the bytes ask for one of the server's own paths, or it is the sort of what they ask for, and not of want of memory
 abbrev pub IsOfSort : List ℕ → Sort → Type 0
 IsOfSort bytes sort =

@@ -2,11 +2,12 @@
 
 ghost use Rattle.press_server.specs.Living.{NodeLives};
 
-use crate::screen::{Screen, Sort, refuse_form, refuse_without_memory};
+use crate::replies::{refuse, tell_desk};
+use crate::screen::{Screen, Sort, is_of_desk, not_found, refuse_form, refuse_without_memory};
 use crate::turn::serve_turn;
 use press_acceptor::PromiseStore;
-use press_http::HttpFault;
-use press_net::{Answers, Errand, Outgoing, Time};
+use press_http::{HttpFault, read_request};
+use press_net::{Answers, Errand, Outgoing, Time, words_of};
 use press_node::Node;
 use std::alloc::Global;
 use std::net::{IpAddr, SocketAddr};
@@ -50,11 +51,28 @@ impl<'s, S: PromiseStore> Alone<'s, S> {
 }
 
 impl<S: PromiseStore> Alone<'_, S> {
+    // What an editor asks of the desk.
+    fn reply_to_desk(&self, request: &[u8], told: &mut Vec<u8>) -> Result<u16, HttpFault> {
+        let mut rest = request;
+        let request = match read_request(self.alloc, &mut rest) {
+            Ok(request) => request,
+            Err(fault) => return refuse(fault, told),
+        };
+        match self.screen.desk_asked(self.alloc, &request) {
+            Some(asked) => tell_desk(self.alloc, &self.node, asked, told),
+            None => not_found(told),
+        }
+    }
+
     #[tactic(auto, using(crate::specs::Living::stays))]
     fn reply(&mut self, request: &[u8], told: &mut Vec<u8>) -> Result<u16, HttpFault>
         requires always { Unit {0} }
         ensures { NodeLives S.seen self.old.node self.new.node }
     {
+        let (_, target) = words_of(request);
+        if self.screen.has_editor() && is_of_desk(target) {
+            return self.reply_to_desk(request, told);
+        }
         match self.screen.sort_of(self.alloc, request)? {
             Sort::Editor if self.screen.has_editor() => self.screen.show_editor(self.alloc, told),
             Sort::Command(at) if self.screen.is_ahead(at, self.time.seconds) => refuse_form(told),

@@ -11,14 +11,17 @@ use crate::foreign::ForeignLines;
 use crate::lanes::{Lanes, Parcel, Sender};
 use crate::paths::{Own, Paths};
 use crate::peers::{Peers, member_at, place_of};
-use crate::replies::{queued, refuse, refuse_by, taken, tell_answer};
-use crate::screen::{Screen, Standing, not_found, refuse_form, refuse_without_memory, show_ready};
+use crate::replies::{queued, refuse, refuse_by, taken, tell_answer, tell_desk};
+use crate::screen::{
+    Screen, Standing, not_found, refuse_for_now, refuse_form, refuse_without_memory, show_ready,
+};
 use press_acceptor::{PromiseStore, StoreFault};
 use press_batch::{Batch, BatchFault, Report, decode_batch};
 use press_http::{Asked, HttpFault, Routes, read_request};
 use press_member::{Answer, Input, Member, Outputs};
 use press_net::{Answers, Errand, Outgoing, Time, words_of};
 use press_node::NodeFault;
+use press_page::Desk;
 use press_wire::{Message, Node as Id};
 use std::alloc::{AllocError, Global};
 use std::net::{IpAddr, Ipv4Addr, SocketAddr};
@@ -291,6 +294,18 @@ impl<S: PromiseStore> Clustered<'_, S> {
         show_ready(self.alloc, standing, told)
     }
 
+    // What editors see of the member, once it shows pages.
+    fn show_desk(
+        &self,
+        asked: Result<Desk, HttpFault>,
+        told: &mut Vec<u8>,
+    ) -> Result<u16, HttpFault> {
+        if !self.member.is_open() {
+            return refuse_for_now(told);
+        }
+        tell_desk(self.alloc, self.member.node(), asked, told)
+    }
+
     // A path of a site, or one for single messages: the request is read whole first.
     #[tactic(auto, using(crate::specs::Living::none_comes))]
     fn reply_to_site(
@@ -314,6 +329,9 @@ impl<S: PromiseStore> Clustered<'_, S> {
                 return self.screen.show_editor(self.alloc, told);
             }
             _ => {}
+        }
+        if let Some(asked) = self.screen.desk_asked(self.alloc, &request) {
+            return self.show_desk(asked, told);
         }
         match self.routes.route(self.alloc, &request) {
             Ok(asked) => self.ask(from, asked, told),

@@ -6,8 +6,8 @@ ghost use Rattle.press_node.specs.Serving.{queued, taken};
 use crate::screen::refuse_for_now;
 use press_http::{HttpFault, write_fault, write_reply};
 use press_member::Answer;
-use press_node::NodeFault;
-use press_page::{ContentKind, Reply};
+use press_node::{Node, NodeFault};
+use press_page::{ContentKind, Desk, Reply};
 use press_text::Text;
 use std::alloc::Global;
 
@@ -59,6 +59,22 @@ fn tell(alloc: Global, reply: &Reply, told: &mut Vec<u8>) -> Result<u16, HttpFau
     match write_reply(alloc, told, reply) {
         Ok(()) => Ok(reply.status),
         Err(fault) => refuse(fault, told),
+    }
+}
+
+/// What editors see of a node.
+pub fn tell_desk<S>(
+    alloc: Global,
+    node: &Node<S>,
+    asked: Result<Desk, HttpFault>,
+    told: &mut Vec<u8>,
+) -> Result<u16, HttpFault> {
+    match asked {
+        Err(fault) => refuse(fault, told),
+        Ok(asked) => match node.show_desk(asked) {
+            Ok(reply) => tell(alloc, &reply, told),
+            Err(fault) => refuse_by(fault, told),
+        },
     }
 }
 

@@ -1,15 +1,27 @@
 //! What a server does with a request before its node sees it.
 
-ghost use Rattle.std.specs.Prelude.{◌≡◌, ◌≢◌, IfOk, MatchResult, Some};
+ghost use Rattle.std.specs.Prelude.{◌≡◌, ◌≢◌, IfOk, IfSome, MatchResult, Ok, Some, true};
 ghost use Rattle.std.specs.Io.KnownBytes.{Appends};
+ghost use Rattle.press_http.specs.Desk.{desk_asked};
+ghost use Rattle.press_http.specs.Meanings.{Refuses};
 ghost use Rattle.press_http.specs.Replies.{fault_bytes};
-ghost use Rattle.press_server.specs.Screening.{IsOfSort, asks_editor, asks_ready, is_ahead, sort_by, sort_named};
+ghost use Rattle.press_server.specs.Screening.{IsOfSort, asks_editor, asks_ready, is_ahead, is_of_desk, sort_by, sort_named};
+ghost use Rattle.press_text.specs.Gives.{Gives};
 
 use press_batch::Report;
-use press_http::{Asked, HttpFault, read_request, route, write_fault, write_reply};
-use press_page::{ContentKind, Reply};
+use press_http::{
+    Asked, DeskRoutes, HttpFault, Request, read_request, route, write_fault, write_reply,
+};
+use press_page::{ContentKind, Desk, Reply};
 use press_text::{Text, write_once};
 use std::alloc::{AllocError, Global};
+
+/// Whether a target is of the desk.
+pub fn is_of_desk(target: &str) -> bool
+    ensures { result ≡ is_of_desk target.now }
+{
+    target.starts_with("/desk/")
+}
 
 /// What a request asks for.
 #[derive(Clone, Copy, PartialEq, Eq)]
@@ -82,16 +94,23 @@ pub fn sort_of(alloc: Global, bytes: &[u8]) -> Result<Sort, HttpFault>
     }
 }
 
+// The page for editors, and what they may ask beside it.
+#[derive(Drop)]
+struct Editors {
+    page: Text,
+    routes: DeskRoutes,
+}
+
 /// What an operator asked for: a page for editors, and how far ahead of the machine's clock a command may be, in seconds.
 pub struct Screen {
-    editor: Option<Text>,
+    editors: Option<Editors>,
     ahead: Option<u64>,
 }
 
 impl Drop for Screen {
     fn drop(self) {
         let Screen {
-            editor: _,
+            editors: _,
             ahead: _,
         } = self;
     }
@@ -99,13 +118,24 @@ impl Drop for Screen {
 
 impl Screen {
     /// The page for editors, and the most seconds that a command may be ahead; None asks for none.
-    pub fn new(editor: Option<Text>, ahead: Option<u64>) -> Screen {
-        Screen { editor, ahead }
+    pub fn new(
+        alloc: Global,
+        editor: Option<Text>,
+        ahead: Option<u64>,
+    ) -> Result<Screen, AllocError> {
+        let editors = match editor {
+            Some(page) => Some(Editors {
+                page,
+                routes: DeskRoutes::new(alloc)?,
+            }),
+            None => None,
+        };
+        Ok(Screen { editors, ahead })
     }
 
     /// What a request asks for, where that matters for what an operator asked for.
     pub fn sort_of(&self, alloc: Global, bytes: &[u8]) -> Result<Sort, HttpFault> {
-        if self.editor.is_none() && self.ahead.is_none() {
+        if self.editors.is_none() && self.ahead.is_none() {
             return Ok(Sort::Other);
         }
         sort_of(alloc, bytes)
@@ -113,7 +143,7 @@ impl Screen {
 
     /// Whether there is a page for editors.
     pub fn has_editor(&self) -> bool {
-        self.editor.is_some()
+        self.editors.is_some()
     }
 
     /// Whether a command of such a time is too far ahead.
@@ -126,9 +156,23 @@ impl Screen {
         }
     }
 
+    /// What a request asks of the desk, where its path is one of the desk and there is a page for editors.
+    pub fn desk_asked(&self, alloc: Global, request: &Request) -> Option<Result<Desk, HttpFault>>
+        ensures asked { IfSome result (λ asked. Gives Refuses Ok asked
+            (desk_asked request.now.method request.now.target)) }
+        ensures desk { IfSome result (λ _. is_of_desk request.now.target ≡ true) }
+    {
+        match &self.editors {
+            Some(editors) if is_of_desk(request.target.as_str()) => {
+                Some(editors.routes.route(alloc, request))
+            }
+            _ => None,
+        }
+    }
+
     /// The page for editors.
     pub fn show_editor(&self, alloc: Global, told: &mut Vec<u8>) -> Result<u16, HttpFault> {
-        let Some(page) = &self.editor else {
+        let Some(Editors { page, .. }) = &self.editors else {
             return not_found(told);
         };
         let reply = Reply {

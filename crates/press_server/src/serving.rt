@@ -185,7 +185,7 @@ fn screen_of(rt: &HostRuntime, setup: &Setup<'_>) -> Result<Screen, ServeFault> 
             Err(_) => return Err(ServeFault::ReadFault),
         },
     };
-    Ok(Screen::new(editor, setup.ahead.map(u64::from)))
+    Ok(Screen::new(rt.alloc(), editor, setup.ahead.map(u64::from))?)
 }
 
 fn loopback(port: u16) -> SocketAddr {

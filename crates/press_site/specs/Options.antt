@@ -6,10 +6,15 @@ use Rattle.std.specs.Map.{lookup, remove_entry, set_value}
 use Rattle.std.specs.Ordering.{nat_cmp}
 use Rattle.press_posts.specs.declared.fire.Fire.{Fire}
 use Rattle.press_site.specs.declared.fault.SiteFault.{SiteFault}
+use Rattle.press_site.specs.declared.options.SetOption.{SetOption}
 use Rattle.press_site.specs.declared.fault.SiteFault.TheVariants.{TooLong, TooManyOptions}
 
 abbrev pub Values : Type 0
 Values = List (List ℕ × List ℕ)
+
+-- an option that is set
+abbrev pub set_option_of : List ℕ × List ℕ → SetOption
+set_option_of option = record { name = option.0; value = option.1 }
 
 -- entries of a map, read by the bytes of their names
 abbrev pub by_bytes : {S : Type 0} → List (String S × List ℕ) → Values

@@ -89,6 +89,13 @@ impl Content {
         self.posts.newest(most)
     }
 
+    /// The greatest id that was given to a post; 0 where none was.
+    pub fn last_id(&self) -> u64
+        ensures { result ≡ length self.now.posts }
+    {
+        self.posts.last_id()
+    }
+
     pub fn events(&self) -> &Events
         ensures { result.now ≡ self.now.events }
     {

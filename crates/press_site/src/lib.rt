@@ -20,5 +20,6 @@ pub use changed::Changed;
 pub use effect::Effect;
 pub use fault::SiteFault;
 pub use open::OpenSite;
+pub use options::SetOption;
 pub use site::Site;
 pub use token::{Outcome, Token};

@@ -1,6 +1,6 @@
-ghost use Rattle.std.specs.Prelude.{◌≡◌, [], ◌∷◌, ◌<◌, ◌++◌, length, None, Some, Ok, Err, false, bytes_eq, IfOk, IfErr, OnOk, OnErr, option_map, codes, string_bytes};
+ghost use Rattle.std.specs.Prelude.{◌≡◌, [], ◌∷◌, ◌<◌, ◌++◌, length, None, Some, Ok, Err, false, bytes_eq, IfOk, IfErr, OnOk, OnErr, map, option_map, codes, string_bytes};
 ghost use Rattle.press_site.specs.Sets.{Changes, Sets, set_back};
-ghost use Rattle.press_site.specs.Options.{SetsSome, option_of, put_back, put_option, set_option, set_over, added_fire, updated_fire, added_name, updated_name};
+ghost use Rattle.press_site.specs.Options.{SetsSome, option_of, set_option_of, put_back, put_option, set_option, set_over, added_fire, updated_fire, added_name, updated_name};
 ghost use Rattle.press_site.specs.declared.fault.SiteFault.TheVariants.{NoMemory};
 
 use crate::fault::SiteFault;
@@ -40,6 +40,13 @@ impl Model for Options {
     ghost view = { λ o. by_bytes o.values.entries };
 }
 
+/// An option that is set, with its value.
+#[derive(Debug, Drop)]
+pub struct SetOption {
+    pub name: Text,
+    pub value: Text,
+}
+
 /// What the setting of an option fires, and the value that stood, if one did.
 #[derive(Debug, Drop)]
 pub struct SetDone {
@@ -71,6 +78,19 @@ impl Options {
             alloc: self.alloc,
             values,
         })
+    }
+
+    /// All of them, in the order of the bytes of their names.
+    pub fn all(&self) -> Result<Items<SetOption>, AllocError>
+        ensures { IfOk result (λ all. all ≡ map set_option_of self.now) }
+    {
+        let mut all = Vec::new(self.alloc);
+        for (name, value) in self.values.iter() {
+            let name = Text::from_str(self.alloc, name)?;
+            let value = value.copy(self.alloc)?;
+            all.push(SetOption { name, value })?;
+        }
+        Ok(Items::from_vec(all))
     }
 
     /// The value of an option.

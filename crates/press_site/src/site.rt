@@ -1,6 +1,6 @@
 //! The whole site as one value.
 
-ghost use Rattle.std.specs.Prelude.{Bool, ℕ, ◌≡◌, ◌≢◌, ◌<◌, length, [], false, None, Some, Ok, Err, true, IfOk, OnOk, OnErr, option_map, take};
+ghost use Rattle.std.specs.Prelude.{Bool, ℕ, ◌≡◌, ◌≢◌, ◌<◌, length, [], false, None, Some, Ok, Err, true, IfOk, OnOk, OnErr, map, option_map, take};
 ghost use Rattle.press_posts.specs.PostChange.{post_at};
 ghost use Rattle.press_posts.specs.Published.{published};
 ghost use Rattle.press_events.specs.DueEvents.{due};
@@ -10,7 +10,7 @@ ghost use Rattle.press_site.specs.Becomes.{Becomes};
 ghost use Rattle.press_site.specs.Contents.{ChangesSome, no_post};
 ghost use Rattle.press_site.specs.Effects.{no_site, effect_on, size};
 ghost use Rattle.press_site.specs.Log.{told};
-ghost use Rattle.press_site.specs.Options.{option_of};
+ghost use Rattle.press_site.specs.Options.{option_of, set_option_of};
 ghost use Rattle.press_site.specs.Open.{begun_of};
 ghost use Rattle.press_site.specs.Outcomes.{outcome_of, with_outcome};
 ghost use Rattle.press_site.specs.declared.fault.SiteFault.TheVariants.{NoMemory};
@@ -21,7 +21,7 @@ use crate::content::Content;
 use crate::effect::Effect;
 use crate::fault::SiteFault;
 use crate::open::OpenSite;
-use crate::options::{Options, SetDone};
+use crate::options::{Options, SetDone, SetOption};
 use crate::outcomes::Outcomes;
 use crate::plugins::Plugins;
 use crate::stood::{Done, Stood, Undone};
@@ -171,6 +171,27 @@ impl Site {
         ensures memory { OnErr result (0 < length (due self.now.moment self.now.events)) }
     {
         self.content.due(self.moment)
+    }
+
+    /// The greatest id that was given to a post; 0 where none was.
+    pub fn last_id(&self) -> u64
+        ensures { result ≡ length self.now.posts }
+    {
+        self.content.last_id()
+    }
+
+    /// All options with their values, in the order of the bytes of their names.
+    pub fn options(&self) -> Result<Items<SetOption>, AllocError>
+        ensures { IfOk result (λ all. all ≡ map set_option_of self.now.options) }
+    {
+        self.options.all()
+    }
+
+    /// The scheduled events, by time, then in the order in which they were scheduled.
+    pub fn scheduled(&self) -> &[Event]
+        ensures { result.now ≡ self.now.events }
+    {
+        self.content.events().as_slice()
     }
 
     /// All events.

@@ -1,6 +1,7 @@
 mod callbacks;
 mod clusters;
 mod demonstration;
+mod desk;
 mod downs;
 mod fuse;
 mod hooks;

@@ -1,0 +1,159 @@
+//! What editors ask of a site.
+
+ghost use Rattle.std.specs.Prelude.{◌≡◌, ◌≢◌, [], Err, Ok, IfOk, OnOk};
+ghost use Rattle.matchit.specs.Seek.{first};
+ghost use Rattle.press_text.specs.Gives.{Gives};
+ghost use Rattle.press_http.specs.Meanings.{Refuses};
+ghost use Rattle.press_http.specs.Routes.{path_of, place_in, with_route};
+ghost use Rattle.press_http.specs.Desk as spec;
+
+use crate::fault::HttpFault;
+use crate::form::first_value;
+use crate::request::Request;
+use crate::routing::{behind, path, query};
+use matchit::Router;
+use press_page::Desk;
+use press_text::dec_u64;
+use std::alloc::{AllocError, Global};
+
+// As many as one list has at most.
+const MOST: u64 = 100;
+
+/// What a path of editors is for.
+#[derive(Clone, Copy, Debug, PartialEq, Eq)]
+pub(crate) enum DeskPlace {
+    Posts,
+    Post,
+    Preview,
+    Site,
+}
+
+// A router refuses these paths only when out of memory.
+#[tactic(auto, using(crate::proofs::Tables::inserted), unfolding(crate::specs::Routes::with_route))]
+fn add(router: &mut Router<DeskPlace>, path: &str, place: DeskPlace) -> Result<(), AllocError>
+    ensures { OnOk result (router.new ≡ with_route path.now place router.old) }
+{
+    match router.insert(path, place) {
+        Ok(()) => Ok(()),
+        Err(_) => Err(AllocError),
+    }
+}
+
+#[tactic(auto, unfolding(crate::specs::Desk::desk_table))]
+fn table(alloc: Global) -> Result<Router<DeskPlace>, AllocError>
+    ensures { IfOk result (λ r. r ≡ spec.desk_table) }
+{
+    let mut router = Router::new(alloc);
+    add(&mut router, "/desk/posts", DeskPlace::Posts)?;
+    add(&mut router, "/desk/posts/{id}", DeskPlace::Post)?;
+    add(&mut router, "/desk/preview/{id}", DeskPlace::Preview)?;
+    add(&mut router, "/desk/site", DeskPlace::Site)?;
+    Ok(router)
+}
+
+// What the table has at that path. No memory is taken.
+fn found(routes: &Router<DeskPlace>, path: &str) -> Result<DeskPlace, HttpFault>
+    ensures place { result ≡ place_in (first routes.now path.now) }
+    ensures memory { result ≢ Err HttpFault.NoMemory }
+{
+    match routes.at(path) {
+        Ok(found) => Ok(*found.value),
+        Err(_) => Err(HttpFault::NotFound),
+    }
+}
+
+fn allowed(method: &str, place: DeskPlace) -> Result<DeskPlace, HttpFault>
+    ensures place { Gives Refuses Ok result (spec.desk_allowed method.now place) }
+    ensures memory { result ≢ Err HttpFault.NoMemory }
+{
+    if method == "GET" {
+        Ok(place)
+    } else {
+        Err(HttpFault::NotAllowed)
+    }
+}
+
+// The number that a query gives, or this one.
+fn number(alloc: Global, query: &str, name: &str, otherwise: u64) -> Result<u64, HttpFault>
+    ensures { Gives Refuses Ok result (spec.number_of name.now otherwise query.now) }
+{
+    let found = first_value(alloc, query.as_bytes(), name)?;
+    match found {
+        None => Ok(otherwise),
+        Some(text) => match dec_u64(text.as_str()) {
+            Some(number) => Ok(number),
+            None => Err(HttpFault::NotFound),
+        },
+    }
+}
+
+#[tactic(auto, unfolding(crate::specs::Desk::posts_of))]
+fn posts(alloc: Global, query: &str) -> Result<Desk, HttpFault>
+    ensures { Gives Refuses Ok result (spec.posts_of query.now) }
+{
+    let before = number(alloc, query, "before", u64::MAX)?;
+    let count = number(alloc, query, "count", MOST)?;
+    Ok(Desk::Posts { before, count })
+}
+
+fn id(path: &str) -> Result<u64, HttpFault>
+    ensures id { Gives Refuses Ok result (spec.id_in path.now) }
+    ensures memory { result ≢ Err HttpFault.NoMemory }
+{
+    match dec_u64(behind(path, 3)) {
+        Some(id) => Ok(id),
+        None => Err(HttpFault::NotFound),
+    }
+}
+
+#[tactic(auto, unfolding(crate::specs::Desk::desk_at))]
+fn asked_at(alloc: Global, place: DeskPlace, target: &str) -> Result<Desk, HttpFault>
+    ensures asked { Gives Refuses Ok result (spec.desk_at place target.now) }
+    ensures memory { result ≡ Err HttpFault.NoMemory → place ≡ DeskPlace.Posts }
+{
+    match place {
+        DeskPlace::Posts => posts(alloc, query(target)),
+        DeskPlace::Post => Ok(Desk::Post(id(path(target))?)),
+        DeskPlace::Preview => Ok(Desk::Preview(id(path(target))?)),
+        DeskPlace::Site => Ok(Desk::Site),
+    }
+}
+
+/// The table of the paths that editors have beside those of a site.
+#[derive(Drop)]
+pub struct DeskRoutes {
+    router: Router<DeskPlace>,
+    ghost whole: { router ≡ spec.desk_table },
+}
+
+impl DeskRoutes {
+    /// The table, which takes memory.
+    pub fn new(alloc: Global) -> Result<DeskRoutes, AllocError> {
+        Ok(DeskRoutes {
+            router: table(alloc)?,
+        })
+    }
+
+    #[tactic(auto, unfolding(crate::specs::Desk::desk_place_at))]
+    fn at(&self, path: &str) -> Result<DeskPlace, HttpFault>
+        ensures place { result ≡ spec.desk_place_at path.now }
+        ensures memory { result ≢ Err HttpFault.NoMemory }
+    {
+        found(&self.router, path)
+    }
+
+    /// What a request asks for, by its path, then its method, then its id or query. NotFound for a path that is not
+    /// one of these, or whose id or number doesn't read; NotAllowed for another method than GET. Only a list takes memory.
+    #[tactic(auto, unfolding(crate::specs::Desk::desk_asked))]
+    pub fn route(&self, alloc: Global, request: &Request) -> Result<Desk, HttpFault>
+        ensures asked { Gives Refuses Ok result
+            (spec.desk_asked request.now.method request.now.target) }
+        ensures memory { result ≡ Err HttpFault.NoMemory →
+            spec.desk_place_at (path_of request.now.target) ≡ Ok DeskPlace.Posts }
+    {
+        let target = request.target.as_str();
+        let place = self.at(path(target))?;
+        let place = allowed(request.method.as_str(), place)?;
+        asked_at(alloc, place, target)
+    }
+}
