@@ -207,11 +207,12 @@ class Browser:
         self.until(f"document.readyState === 'complete' && location.href === {json.dumps(url)}", f"{url} is shown")
 
     def click(self, selector):
-        """A click in the middle of what is found there, which has to be on top."""
-        script = f"""(() => {{
+        """A click in the middle of what is found there, which has to be on top. Where frames of other processes are, is known two pictures later."""
+        script = f"""(async () => {{
             const it = document.querySelector({json.dumps(selector)});
             if (!it) return null;
             it.scrollIntoView({{block: "nearest"}});
+            await new Promise((done) => requestAnimationFrame(() => requestAnimationFrame(done)));
             const box = it.getBoundingClientRect(), x = box.x + box.width / 2, y = box.y + box.height / 2;
             const top = document.elementFromPoint(x, y);
             return it.contains(top) ? [x, y] : null;
