@@ -34,6 +34,7 @@ HERE = "127.0.0.1"
 USED = set()
 
 WHYS = ("the input ended within a request", "a read failed", "a write failed", "its time is over", "given up for another", "nothing more can be opened")
+KIT = b"press: it plays the demonstration kit (no --kit)\n"
 LINE = re.compile(r"(\d{4}-\d\d-\d\dT\d\d:\d\d:\d\dZ) (?:(\d+) lines lost|(127\.\d{1,3}\.\d{1,3}\.\d{1,3}) (closed: (?:%s)|[!-~]+ [!-~]+ [1-5]\d\d \d+))\n" % "|".join(WHYS))
 
 
@@ -220,6 +221,8 @@ class Seen:
     def read(self, name, lines, first=None, last=None):
         """Counts a server's lines, each of which has to begin with a time between these two, in order, and with the address of a client."""
         for line in lines:
+            if line == KIT:
+                continue
             self.lines += 1
             form = LINE.fullmatch(line.decode("latin-1"))
             at = form and calendar.timegm(time.strptime(form[1], "%Y-%m-%dT%H:%M:%SZ"))

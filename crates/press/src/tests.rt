@@ -1,6 +1,7 @@
 mod connections;
 mod fakes;
 mod fixtures;
+mod kits;
 mod replays;
 mod runs;
 mod servers;

@@ -1,15 +1,16 @@
--- What editors ask of a site by a path and its query (own; paths and their parameters: the kit's `matchit`).
-use Rattle.std.specs.Prelude.{ℕ, List, [], bytes_eq, Option, Some, None, Result, Ok, Err, codes, if◌then◌else◌}
+-- What editors ask of a node by a path and its query (own; paths and their parameters: the kit's `matchit`).
+use Rattle.std.specs.Prelude.{ℕ, Bool, true, false, List, [], bytes_eq, Option, Some, None, Result, Ok, Err, codes, if◌then◌else◌}
 use Rattle.matchit.specs.Rows.{RowsOf}
 use Rattle.matchit.specs.Seek.{first}
 use Rattle.matchit.specs.Router.{RouteOf}
 use Rattle.press_text.specs.Decimals.{decimal_in}
-use Rattle.press_page.specs.declared.desk.Desk.{Desk}
 use Rattle.press_page.specs.declared.desk.Desk.TheVariants as desk
 use Rattle.press_http.specs.declared.fault.HttpFault.{HttpFault}
 use Rattle.press_http.specs.declared.fault.HttpFault.TheVariants.{NotAllowed}
 use Rattle.press_http.specs.declared.desk.DeskPlace.{DeskPlace}
 use Rattle.press_http.specs.declared.desk.DeskPlace.TheVariants as place
+use Rattle.press_http.specs.declared.desk.DeskRequest.{DeskRequest}
+use Rattle.press_http.specs.declared.desk.DeskRequest.TheVariants as request
 use Rattle.press_http.specs.Forms.{first_named}
 use Rattle.press_http.specs.Meanings.{◌>>=◌, made}
 use Rattle.press_http.specs.Routes.{behind, or_missing, path_of, place_in, query_of, with_route}
@@ -19,7 +20,8 @@ desk_table =
     with_route (codes "/desk/site") place.Site
     (with_route (codes "/desk/preview/{id}") place.Preview
     (with_route (codes "/desk/posts/{id}") place.Post
-    (with_route (codes "/desk/posts") place.Posts [])))
+    (with_route (codes "/desk/posts") place.Posts
+    (with_route (codes "/desk/log") place.Log []))))
 
 unfoldable pub desk_place_at : List ℕ → Result DeskPlace HttpFault
 desk_place_at path = place_in (first desk_table path)
@@ -36,23 +38,32 @@ abbrev pub number_of : List ℕ → ℕ → List ℕ → Result ℕ HttpFault
 number_of name otherwise query = number_by otherwise (first_named name query)
 
 -- those with ids below `before`, and `count` of them
-unfoldable pub posts_of : List ℕ → Result Desk HttpFault
+unfoldable pub posts_of : List ℕ → Result DeskRequest HttpFault
 posts_of query = do
   before ← number_of (codes "before") 18446744073709551615 query
   count ← number_of (codes "count") 100 query
-  Ok (desk.Posts before count)
+  Ok (request.Show (desk.Posts before count))
 
 abbrev pub id_in : List ℕ → Result ℕ HttpFault
 id_in path = or_missing (decimal_in (behind 3 path))
 
-unfoldable pub desk_at : DeskPlace → List ℕ → Result Desk HttpFault
+-- of a query one looks for a field, which takes memory
+abbrev pub has_query : DeskPlace → Bool
+has_query place.Log = true
+has_query place.Posts = true
+has_query place.Post = false
+has_query place.Preview = false
+has_query place.Site = false
+
+unfoldable pub desk_at : DeskPlace → List ℕ → Result DeskRequest HttpFault
+desk_at place.Log t = made request.Log (number_of (codes "from") 0 (query_of t))
 desk_at place.Posts t = posts_of (query_of t)
-desk_at place.Post t = made desk.Post (id_in (path_of t))
-desk_at place.Preview t = made desk.Preview (id_in (path_of t))
-desk_at place.Site t = Ok desk.Site
+desk_at place.Post t = made (λ id. request.Show (desk.Post id)) (id_in (path_of t))
+desk_at place.Preview t = made (λ id. request.Show (desk.Preview id)) (id_in (path_of t))
+desk_at place.Site t = Ok (request.Show desk.Site)
 
 -- by method and target
-unfoldable pub desk_asked : List ℕ → List ℕ → Result Desk HttpFault
+unfoldable pub desk_asked : List ℕ → List ℕ → Result DeskRequest HttpFault
 desk_asked method t = do
   found ← desk_place_at (path_of t)
   served ← desk_allowed method found

@@ -1,6 +1,6 @@
-//! What editors ask of a site.
+//! What editors ask of a node.
 
-ghost use Rattle.std.specs.Prelude.{◌≡◌, ◌≢◌, [], Err, Ok, IfOk, OnOk};
+ghost use Rattle.std.specs.Prelude.{◌≡◌, ◌≢◌, [], Err, IfOk, IsOkAnd, Ok, OnOk, true};
 ghost use Rattle.matchit.specs.Seek.{first};
 ghost use Rattle.press_text.specs.Gives.{Gives};
 ghost use Rattle.press_http.specs.Meanings.{Refuses};
@@ -22,10 +22,20 @@ const MOST: u64 = 100;
 /// What a path of editors is for.
 #[derive(Clone, Copy, Debug, PartialEq, Eq)]
 pub(crate) enum DeskPlace {
+    Log,
     Posts,
     Post,
     Preview,
     Site,
+}
+
+/// What editors ask of a node.
+#[derive(Clone, Copy, Debug)]
+pub enum DeskRequest {
+    /// What it shows them of its site.
+    Show(Desk),
+    /// What it has applied behind the first so many.
+    Log { from: u64 },
 }
 
 // A router refuses these paths only when out of memory.
@@ -44,6 +54,7 @@ fn table(alloc: Global) -> Result<Router<DeskPlace>, AllocError>
     ensures { IfOk result (λ r. r ≡ spec.desk_table) }
 {
     let mut router = Router::new(alloc);
+    add(&mut router, "/desk/log", DeskPlace::Log)?;
     add(&mut router, "/desk/posts", DeskPlace::Posts)?;
     add(&mut router, "/desk/posts/{id}", DeskPlace::Post)?;
     add(&mut router, "/desk/preview/{id}", DeskPlace::Preview)?;
@@ -88,12 +99,12 @@ fn number(alloc: Global, query: &str, name: &str, otherwise: u64) -> Result<u64,
 }
 
 #[tactic(auto, unfolding(crate::specs::Desk::posts_of))]
-fn posts(alloc: Global, query: &str) -> Result<Desk, HttpFault>
+fn posts(alloc: Global, query: &str) -> Result<DeskRequest, HttpFault>
     ensures { Gives Refuses Ok result (spec.posts_of query.now) }
 {
     let before = number(alloc, query, "before", u64::MAX)?;
     let count = number(alloc, query, "count", MOST)?;
-    Ok(Desk::Posts { before, count })
+    Ok(DeskRequest::Show(Desk::Posts { before, count }))
 }
 
 fn id(path: &str) -> Result<u64, HttpFault>
@@ -107,15 +118,18 @@ fn id(path: &str) -> Result<u64, HttpFault>
 }
 
 #[tactic(auto, unfolding(crate::specs::Desk::desk_at))]
-fn asked_at(alloc: Global, place: DeskPlace, target: &str) -> Result<Desk, HttpFault>
+fn asked_at(alloc: Global, place: DeskPlace, target: &str) -> Result<DeskRequest, HttpFault>
     ensures asked { Gives Refuses Ok result (spec.desk_at place target.now) }
-    ensures memory { result ≡ Err HttpFault.NoMemory → place ≡ DeskPlace.Posts }
+    ensures memory { result ≡ Err HttpFault.NoMemory → spec.has_query place ≡ true }
 {
     match place {
+        DeskPlace::Log => Ok(DeskRequest::Log {
+            from: number(alloc, query(target), "from", 0)?,
+        }),
         DeskPlace::Posts => posts(alloc, query(target)),
-        DeskPlace::Post => Ok(Desk::Post(id(path(target))?)),
-        DeskPlace::Preview => Ok(Desk::Preview(id(path(target))?)),
-        DeskPlace::Site => Ok(Desk::Site),
+        DeskPlace::Post => Ok(DeskRequest::Show(Desk::Post(id(path(target))?))),
+        DeskPlace::Preview => Ok(DeskRequest::Show(Desk::Preview(id(path(target))?))),
+        DeskPlace::Site => Ok(DeskRequest::Show(Desk::Site)),
     }
 }
 
@@ -143,13 +157,13 @@ impl DeskRoutes {
     }
 
     /// What a request asks for, by its path, then its method, then its id or query. NotFound for a path that is not
-    /// one of these, or whose id or number doesn't read; NotAllowed for another method than GET. Only a list takes memory.
+    /// one of these, or whose id or number doesn't read; NotAllowed for another method than GET. Only a query takes memory.
     #[tactic(auto, unfolding(crate::specs::Desk::desk_asked))]
-    pub fn route(&self, alloc: Global, request: &Request) -> Result<Desk, HttpFault>
+    pub fn route(&self, alloc: Global, request: &Request) -> Result<DeskRequest, HttpFault>
         ensures asked { Gives Refuses Ok result
             (spec.desk_asked request.now.method request.now.target) }
         ensures memory { result ≡ Err HttpFault.NoMemory →
-            spec.desk_place_at (path_of request.now.target) ≡ Ok DeskPlace.Posts }
+            IsOkAnd (spec.desk_place_at (path_of request.now.target)) (λ p. spec.has_query p ≡ true) }
     {
         let target = request.target.as_str();
         let place = self.at(path(target))?;

@@ -20,7 +20,7 @@ mod start;
 mod streams;
 
 pub use asked::Asked;
-pub use desk::DeskRoutes;
+pub use desk::{DeskRequest, DeskRoutes};
 pub use fault::HttpFault;
 pub use form::form_command;
 pub use pieces::Pieces;

@@ -1,6 +1,9 @@
+pub mod Alone
 pub mod Alongs
+pub mod Folded
 pub mod Gathered
 pub mod Inserted
 pub mod Mapped
 pub mod Names
 pub mod Refusals
+pub mod Shares

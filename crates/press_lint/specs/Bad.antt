@@ -1,13 +1,16 @@
--- How a place is written at which a file is bad: with the name of what is there, where that is one, and what is wrong with it, as far as its keys show (own).
-use Rattle.std.specs.Prelude.{ℕ, List, [], ◌∷◌, ◌++◌, Bool, true, false, not, ◌&&◌, if◌then◌else◌, is_none, is_some, Option, Some, None, option_and_then, option_map, slice_get, codes, bytes_eq, decimal, length, nat_lt, take}
+-- How a place is written at which a file is bad: with the name of what is there, where that is one, and what is wrong with it, as far as its keys and their values show (own).
+use Rattle.std.specs.Prelude.{ℕ, List, [], ◌∷◌, ◌++◌, Bool, true, false, not, ◌&&◌, ◌||◌, if◌then◌else◌, is_none, is_some, Option, Some, None, option_and_then, option_map, slice_get, codes, bytes_eq, decimal, length, nat_lt, take}
 use Rattle.serde_json.specs.Data.{Data, Members, no_members, member}
 use Rattle.serde_json.specs.Find.{as_object, as_str, get}
 use Rattle.press_kit.specs.Fields.{is_one_of, list_in, name_in}
 use Rattle.press_kit.specs.KitFile.{callback_keys, file_limit, hook_load_keys, kit_keys, plugin_keys, tag_load_keys}
 use Rattle.press_kit.specs.Ops.{keys_of, kind_of}
+use Rattle.press_kit.specs.PlayFile as play
 use Rattle.press_kit.specs.declared.place.Place.{Place}
 use Rattle.press_kit.specs.declared.place.Place.TheVariants.{File, Callbacks, Callback, Op, Plugins, Plugin, Load, Active, ActiveName, Commands, Command, Pages, Page, Plays, Play, Steps, Step}
 use Rattle.press_lint.specs.Told.{place_told}
+use Rattle.press_lint.specs.Unfit.{found_told, unfit, wanted_told}
+use Rattle.press_lint.specs.declared.wanted.Wanted.TheVariants.{Name}
 
 -- ---- items by their places
 
@@ -50,13 +53,13 @@ item_where kit File = Some kit
 item_where kit Callbacks = None
 item_where kit Plugins = None
 item_where kit Active = None
-item_where kit (ActiveName n) = None
+item_where kit (ActiveName n) = listed (codes "active") n kit
 item_where kit Commands = None
 item_where kit (Command n) = None
 item_where kit Pages = None
-item_where kit (Page n) = None
+item_where kit (Page n) = listed (codes "pages") n kit
 item_where kit Plays = None
-item_where kit (Play n) = None
+item_where kit (Play n) = listed (codes "plays") n kit
 item_where kit Steps = None
 item_where kit (Step n) = None
 
@@ -75,6 +78,9 @@ op_keys word = option_map keys_of (kind_of word)
 abbrev pub load_keys : Data → List (List ℕ)
 load_keys item = if is_some (get (codes "hook") item) then hook_load_keys else tag_load_keys
 
+abbrev pub play_keys : Data → List (List ℕ)
+play_keys item = play.keys_of (play.kind_of item)
+
 -- those that may stand in an item; of a step whose op nobody knows, none
 abbrev pub keys_for : Place → Data → Option (List (List ℕ))
 keys_for (Callback n) item = Some callback_keys
@@ -91,7 +97,7 @@ keys_for (Command n) item = Some []
 keys_for Pages item = Some []
 keys_for (Page n) item = Some []
 keys_for Plays item = Some []
-keys_for (Play n) item = Some []
+keys_for (Play n) item = Some (play_keys item)
 keys_for Steps item = Some []
 keys_for (Step n) item = Some []
 
@@ -101,7 +107,7 @@ unknown_key keys (member k d ms) = if is_one_of keys k then unknown_key keys ms 
 
 -- those that may be left out
 abbrev pub is_optional : List ℕ → Bool
-is_optional key = is_one_of (codes "priority" ∷ codes "accepted" ∷ codes "more" ∷ codes "args" ∷ codes "every" ∷ []) key
+is_optional key = is_one_of (codes "priority" ∷ codes "accepted" ∷ codes "more" ∷ codes "args" ∷ codes "every" ∷ codes "times" ∷ codes "trace" ∷ []) key
 
 abbrev pub missing_key : List (List ℕ) → Data → Option (List ℕ)
 missing_key [] item = None
@@ -117,29 +123,58 @@ name_shown (Some word) = codes " \"" ++ (word ++ codes "\"")
 abbrev pub shown : List ℕ → List ℕ
 shown word = name_shown (name_in 32 word)
 
-abbrev pub missing_told : Option (List ℕ) → List ℕ
-missing_told (Some key) = codes "lacks \"" ++ (key ++ codes "\"")
-missing_told None = codes "a value does not fit"
+abbrev pub unfit_told : Option (List ℕ) → List ℕ
+unfit_told (Some told) = told
+unfit_told None = codes "a value does not fit"
+
+abbrev pub missing_told : Option (List ℕ) → List ℕ → List ℕ
+missing_told (Some key) otherwise = codes "lacks \"" ++ (key ++ codes "\"")
+missing_told None otherwise = otherwise
 
 abbrev pub unknown_told : Option (List ℕ) → List ℕ → List ℕ
 unknown_told (Some key) otherwise = codes "unknown key" ++ shown key
 unknown_told None otherwise = otherwise
 
-abbrev pub members_told : List (List ℕ) → Data → Option Members → List ℕ
-members_told keys item None = codes "no object"
-members_told keys item (Some ms) = unknown_told (unknown_key keys ms) (missing_told (missing_key keys item))
+abbrev pub members_told : Place → List (List ℕ) → Data → Option Members → List ℕ
+members_told at keys item None = codes "no object"
+members_told at keys item (Some ms) =
+    unknown_told (unknown_key keys ms) (missing_told (missing_key keys item) (unfit_told (unfit at item keys)))
 
 abbrev pub op_told : Option (List ℕ) → List ℕ
 op_told None = codes "no op"
 op_told (Some word) = codes "unknown op" ++ shown word
 
-abbrev pub why_bad : Data → Option (List (List ℕ)) → List ℕ
-why_bad item None = op_told (option_and_then as_str (get (codes "op") item))
-why_bad item (Some keys) = members_told keys item (as_object item)
+abbrev pub why_bad : Place → Data → Option (List (List ℕ)) → List ℕ
+why_bad at item None = op_told (option_and_then as_str (get (codes "op") item))
+why_bad at item (Some keys) = members_told at keys item (as_object item)
+
+-- what is wanted at a place that has no keys
+abbrev pub bare_wanted : Place → Option (List ℕ)
+bare_wanted (ActiveName n) = Some (wanted_told Name)
+bare_wanted (Page n) = Some (codes "front, post:ID, json:ID or result:EDITOR/SEQ")
+bare_wanted File = None
+bare_wanted Callbacks = None
+bare_wanted (Callback n) = None
+bare_wanted (Op c o) = None
+bare_wanted Plugins = None
+bare_wanted (Plugin n) = None
+bare_wanted (Load p l) = None
+bare_wanted Active = None
+bare_wanted Commands = None
+bare_wanted (Command n) = None
+bare_wanted Pages = None
+bare_wanted Plays = None
+bare_wanted (Play n) = None
+bare_wanted Steps = None
+bare_wanted (Step n) = None
+
+abbrev pub bare_told : Option (List ℕ) → Data → List ℕ → List ℕ
+bare_told (Some wanted) item otherwise = found_told item ++ (codes ", " ++ (wanted ++ codes " is wanted"))
+bare_told None item otherwise = otherwise
 
 abbrev pub item_told : Place → Option Data → List ℕ
 item_told at None = codes "is bad"
-item_told at (Some item) = codes "is bad: " ++ why_bad item (keys_for at item)
+item_told at (Some item) = codes "is bad: " ++ bare_told (bare_wanted at) item (why_bad at item (keys_for at item))
 
 abbrev pub is_file : Place → Bool
 is_file File = true
@@ -161,12 +196,25 @@ is_file Steps = false
 is_file (Step n) = false
 
 -- a play file, of which the kit is a part, is easily taken for a kit file
+abbrev pub is_play : Data → Bool
+is_play d = is_some (get (codes "kit") d) || is_some (get (codes "plays") d)
+
 abbrev pub what_told : Data → Place → List ℕ
 what_told kit at =
-    if is_file at && is_some (get (codes "kit") kit) then codes "this is a play file: its kit is the value of \"kit\"" else item_told at (item_where kit at)
+    if is_file at && is_play kit then codes "this is a play file: its kit is the value of \"kit\"" else item_told at (item_where kit at)
 
 abbrev pub bad_told : Data → Place → List ℕ
 bad_told kit at = place_told (name_where kit at) at ++ what_told kit at
+
+-- ---- the message about a play file that is bad as a whole
+
+-- a kit file, which is easily taken for a play file
+abbrev pub is_kit : Data → Bool
+is_kit d = is_none (get (codes "kit") d) && (is_some (get (codes "callbacks") d) || is_some (get (codes "plugins") d))
+
+abbrev pub bad_play_told : Data → List ℕ
+bad_play_told d =
+    if is_kit d then codes "file: this is a kit file: a play file has it as the value of \"kit\"" else codes "file: is bad"
 
 -- ---- bytes that are no kit, before they are read as JSON
 

@@ -1,6 +1,14 @@
+pub mod Accepts
 pub mod Bad
+pub mod Files
+pub mod Joints
 pub mod Lints
 pub mod Mistakes
 pub mod NameSets
+pub mod Pages
+pub mod Reads
+pub mod Runs
 pub mod Slips
+pub mod Spots
 pub mod Told
+pub mod Unfit

@@ -1,5 +1,6 @@
--- What is no mistake in a kit, but surely not meant: a skip past the end of its script, and a callback on a hook that nothing runs (own).
-use Rattle.std.specs.Prelude.{ℕ, ◌+◌, List, [], ◌∷◌, ◌++◌, Bool, false, ◌||◌, ◌&&◌, bytes_eq, if◌then◌else◌, nat_le, nat_lt, length, take, drop, Option, Some, None, option_and_then, codes, decimal}
+-- What is no mistake in a kit, but surely not meant: a skip past the end of its script or of nothing, a read of what is never there, a change of the site that pages alone run, a callback on a hook that nothing runs, and one that is taken from where nothing puts it (own).
+use Rattle.std.specs.Prelude.{ℕ, ℤ, ◌+◌, List, [], ◌∷◌, ◌++◌, Bool, false, ◌||◌, ◌&&◌, bytes_eq, if◌then◌else◌, ◌==◌, nat_le, nat_lt, length, take, drop, Option, Some, None, option_and_then, codes, decimal}
+use Rattle.std.specs.Fmt.{signed_decimal}
 use Rattle.std.specs.List.{list_any}
 use Rattle.press_callbacks.specs.Kits.{is_named}
 use Rattle.press_callbacks.specs.declared.plugin.Load.{Load}
@@ -12,31 +13,15 @@ use Rattle.press_kit.specs.declared.kit_parts.Scripted.{Scripted}
 use Rattle.press_kit.specs.declared.place.Place.{Place}
 use Rattle.press_kit.specs.declared.play_file.Play.{Play}
 use Rattle.press_kit.specs.declared.place.Place.TheVariants as place
+use Rattle.press_callbacks.specs.declared.script.Source.{Source}
+use Rattle.press_lint.specs.Accepts.{most_accepted}
+use Rattle.press_lint.specs.Pages.{runs_on_pages}
+use Rattle.press_lint.specs.Reads.{unread, unread_told}
+use Rattle.press_lint.specs.Runs.{is_run_by}
+use Rattle.press_lint.specs.Spots.{is_put_at, spot}
 use Rattle.press_lint.specs.Told.{place_in}
 
 -- ---- what runs a hook
-
--- a step that runs it, or has it run later
-abbrev pub runs : List ℕ → Op → Bool
-runs hook (op.Apply h value more) = bytes_eq h hook
-runs hook (op.Do h args) = bytes_eq h hook
-runs hook (op.Schedule after every h arg) = bytes_eq h hook
-runs hook (op.Set text) = false
-runs hook (op.AddHook h c p a) = false
-runs hook (op.RemoveHook h c p) = false
-runs hook (op.RemoveAll h p) = false
-runs hook (op.AddTag tag c) = false
-runs hook (op.RemoveTag tag) = false
-runs hook (op.SkipIf left right n) = false
-runs hook (op.Shortcodes text) = false
-runs hook (op.Ask ask) = false
-runs hook (op.SetOption name value) = false
-runs hook (op.Publish post) = false
-runs hook (op.Echo text) = false
-runs hook (op.Return text) = false
-
-abbrev pub is_run_by : List Scripted → List ℕ → Bool
-is_run_by callbacks hook = list_any (λ (c : Scripted). list_any (runs hook) c.script) callbacks
 
 -- those that the engine runs by themselves (hook reference), but for those with a status or an option in their name
 abbrev pub engine_hooks : List (List ℕ)
@@ -102,8 +87,20 @@ slip front kit at what = front ++ (place_in kit at ++ (what ++ codes "\n"))
 abbrev pub past_end : List ℕ
 past_end = codes "skips past the end of its script"
 
+abbrev pub no_skip : List ℕ
+no_skip = codes "skips nothing"
+
 abbrev pub unrun : List ℕ → List ℕ
 unrun hook = codes "puts a callback on a hook that nothing runs: \"" ++ (hook ++ codes "\"")
+
+abbrev pub no_change : List ℕ
+no_change = codes "changes the site, and its callback runs on pages alone, where nothing changes"
+
+-- a callback that is taken off a hook at a priority
+abbrev pub removal_told : List ℕ → List ℕ → ℤ → List ℕ
+removal_told hook callback priority =
+    codes "takes \"" ++ (callback ++ (codes "\" off \"" ++ (hook
+    ++ (codes "\" at priority " ++ (signed_decimal priority ++ codes ", where nothing puts it")))))
 
 -- what each item of a list gives, by its number, itself and those after it, one after the other
 abbrev pub along : {A : Type 0} → (ℕ → A → List A → List ℕ) → ℕ → List A → List ℕ
@@ -114,12 +111,22 @@ module _ (front : List ℕ) (kit : KitParts) (plays : List Play) where
   abbrev pub hook_slip : Place → List ℕ → List ℕ
   hook_slip at hook = if is_run kit.callbacks plays hook then [] else slip front kit at (unrun hook)
 
+  abbrev pub removal_slip : Place → List ℕ → List ℕ → ℤ → List ℕ
+  removal_slip at hook callback priority =
+      if is_put_at kit (spot hook callback priority) then [] else slip front kit at (removal_told hook callback priority)
+
+  -- a skip of so many of the steps behind it
+  abbrev pub skip_slip : Place → ℕ → List Op → List ℕ
+  skip_slip at n behind =
+      if nat_lt (length behind) n then slip front kit at past_end else
+      (if n == 0 then slip front kit at no_skip else [])
+
   -- a step of a script, with those behind it
   abbrev pub op_slip : Place → Op → List Op → List ℕ
-  op_slip at (op.SkipIf left right n) behind = if nat_lt (length behind) n then slip front kit at past_end else []
+  op_slip at (op.SkipIf left right n) behind = skip_slip at n behind
   op_slip at (op.AddHook hook callback priority accepted) behind = hook_slip at hook
   op_slip at (op.Set text) behind = []
-  op_slip at (op.RemoveHook h callback p) behind = []
+  op_slip at (op.RemoveHook hook callback priority) behind = removal_slip at hook callback priority
   op_slip at (op.RemoveAll h p) behind = []
   op_slip at (op.AddTag tag callback) behind = []
   op_slip at (op.RemoveTag tag) behind = []
@@ -133,18 +140,51 @@ module _ (front : List ℕ) (kit : KitParts) (plays : List Play) where
   op_slip at (op.Echo text) behind = []
   op_slip at (op.Return text) behind = []
 
+  abbrev pub unread_slip : Place → Option Source → List ℕ
+  unread_slip at None = []
+  unread_slip at (Some source) = slip front kit at (unread_told source)
+
+  -- all of a step, whose callback gets at most so many arguments
+  abbrev pub step_slips : Option ℕ → Place → Op → List Op → List ℕ
+  step_slips most at op behind = op_slip at op behind ++ unread_slip at (unread most op)
+
+  -- a step that would change the site, in a callback that pages alone run
+  abbrev pub change_slip : Place → Op → List ℕ
+  change_slip at (op.SetOption name value) = slip front kit at no_change
+  change_slip at (op.Schedule after every h arg) = slip front kit at no_change
+  change_slip at (op.Publish post) = slip front kit at no_change
+  change_slip at (op.Set text) = []
+  change_slip at (op.AddHook h c p a) = []
+  change_slip at (op.RemoveHook h c p) = []
+  change_slip at (op.RemoveAll h p) = []
+  change_slip at (op.AddTag tag c) = []
+  change_slip at (op.RemoveTag tag) = []
+  change_slip at (op.SkipIf left right n) = []
+  change_slip at (op.Apply h value more) = []
+  change_slip at (op.Do h args) = []
+  change_slip at (op.Shortcodes text) = []
+  change_slip at (op.Ask ask) = []
+  change_slip at (op.Echo text) = []
+  change_slip at (op.Return text) = []
+
   abbrev pub load_slip : Place → Load → List ℕ
   load_slip at (Hook hook priority callback accepted) = hook_slip at hook
   load_slip at (Tag tag callback) = []
 
-  abbrev pub script_slips : ℕ → List Op → List ℕ
-  script_slips c script = along (λ o. op_slip (place.Op c o)) 0 script
+  abbrev pub script_slips : Option ℕ → ℕ → List Op → List ℕ
+  script_slips most c script = along (λ o. step_slips most (place.Op c o)) 0 script
+
+  abbrev pub changes_slips : ℕ → List Op → List ℕ
+  changes_slips c script = along (λ o op behind. change_slip (place.Op c o) op) 0 script
+
+  abbrev pub page_slips : ℕ → Scripted → List ℕ
+  page_slips n c = if runs_on_pages kit plays c.id then changes_slips n c.script else []
 
   abbrev pub loads_slips : ℕ → List Load → List ℕ
   loads_slips p loads = along (λ l load behind. load_slip (place.Load p l) load) 0 loads
 
   abbrev pub callback_slips : ℕ → Scripted → List Scripted → List ℕ
-  callback_slips n c behind = script_slips n c.script
+  callback_slips n c behind = script_slips (most_accepted kit c.id) n c.script ++ page_slips n c
 
   abbrev pub plugin_slips : ℕ → Plugin → List Plugin → List ℕ
   plugin_slips n p behind = loads_slips n p.load

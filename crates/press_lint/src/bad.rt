@@ -6,16 +6,19 @@ ghost use Rattle.serde_json.specs.Read.{read as read_text};
 ghost use Rattle.serde_json.specs.View.{view};
 ghost use Rattle.press_kit.specs.Fields.{name_in as named};
 ghost use Rattle.press_lint.specs.Bad as spec;
+ghost use Rattle.press_lint.specs.Unfit.{found_told as found_in, unfit as misfit_in};
 
 use crate::keys::{keys_for, missing_key, unknown_key};
 use crate::told::place_told;
+use crate::unfit::{found_told, unfit};
+use crate::wanted::Wanted;
 use press_kit::{FILE_LIMIT, Place, list};
 use press_text::CallbackId;
 use serde_json::Value;
 use std::alloc::{AllocError, Global};
 
-// A text that may be the name of a callback or of a plugin.
-fn name_in(text: &str) -> Option<&str>
+/// A text that may be the name of a callback or of a plugin.
+pub fn name_in(text: &str) -> Option<&str>
     ensures { option_map (λ t. t.now) result ≡ named 32 text.now }
 {
     match CallbackId::new(text) {
@@ -74,6 +77,9 @@ fn item_where(kit: &Value, at: Place) -> Option<&Value>
         Place::Op { callback, op } => op_where(kit, callback, op),
         Place::Plugin(n) => listed(kit, "plugins", n),
         Place::Load { plugin, load } => load_where(kit, plugin, load),
+        Place::ActiveName(n) => listed(kit, "active", n),
+        Place::Page(n) => listed(kit, "pages", n),
+        Place::Play(n) => listed(kit, "plays", n),
         Place::File => Some(kit),
         _ => None,
     }
@@ -85,8 +91,8 @@ fn name_where(kit: &Value, at: Place) -> Option<&str>
     name_of(owner_where(kit, at)?)
 }
 
-// A word of the file after a text, if it could be a name.
-fn shown(alloc: Global, text: &str, word: &str) -> Result<String, AllocError>
+/// A word of the file after a text, if it could be a name.
+pub fn shown(alloc: Global, text: &str, word: &str) -> Result<String, AllocError>
     ensures { IfOk result (λ t. string_bytes t ≡ text.now ++ spec.shown word.now) }
 {
     match name_in(word) {
@@ -95,23 +101,52 @@ fn shown(alloc: Global, text: &str, word: &str) -> Result<String, AllocError>
     }
 }
 
-fn missing_told(alloc: Global, key: Option<&'static str>) -> Result<String, AllocError>
+fn lacking_told(alloc: Global, key: &str) -> Result<String, AllocError>
     ensures { IfOk result (λ t. string_bytes t
-        ≡ spec.missing_told (option_map (λ k. k.now) key.entry)) }
+        ≡ codes "lacks \"" ++ (key.now ++ codes "\"")) }
 {
-    match key {
-        Some(key) => format!(in alloc; "lacks \"{key}\""),
+    format!(in alloc; "lacks \"{key}\"")
+}
+
+fn unfit_told(
+    alloc: Global,
+    at: Place,
+    item: &Value,
+    keys: &'static [&'static str],
+) -> Result<String, AllocError>
+    ensures { IfOk result (λ t. string_bytes t
+        ≡ spec.unfit_told (misfit_in at (view item.now) (map (λ k. k.now) keys.now))) }
+{
+    match unfit(alloc, at, item, keys)? {
+        Some(told) => Ok(told),
         None => String::from_str(alloc, "a value does not fit"),
+    }
+}
+
+fn missing_told(
+    alloc: Global,
+    at: Place,
+    item: &Value,
+    keys: &'static [&'static str],
+) -> Result<String, AllocError>
+    ensures { IfOk result (λ t. string_bytes t
+        ≡ spec.missing_told (spec.missing_key (map (λ k. k.now) keys.now) (view item.now))
+        (spec.unfit_told (misfit_in at (view item.now) (map (λ k. k.now) keys.now)))) }
+{
+    match missing_key(item, keys) {
+        Some(key) => lacking_told(alloc, key),
+        None => unfit_told(alloc, at, item, keys),
     }
 }
 
 fn members_told(
     alloc: Global,
+    at: Place,
     item: &Value,
     keys: &'static [&'static str],
 ) -> Result<String, AllocError>
     ensures { IfOk result (λ t. string_bytes t
-        ≡ spec.members_told (map (λ k. k.now) keys.now) (view item.now)
+        ≡ spec.members_told at (map (λ k. k.now) keys.now) (view item.now)
         (as_object (view item.now))) }
 {
     let Some(members) = item.as_object() else {
@@ -119,7 +154,7 @@ fn members_told(
     };
     match unknown_key(members, keys) {
         Some(key) => shown(alloc, "unknown key", key.as_str()),
-        None => missing_told(alloc, missing_key(item, keys)),
+        None => missing_told(alloc, at, item, keys),
     }
 }
 
@@ -135,11 +170,40 @@ fn op_told(alloc: Global, item: &Value) -> Result<String, AllocError>
 
 fn why_bad(alloc: Global, at: Place, item: &Value) -> Result<String, AllocError>
     ensures { IfOk result (λ t. string_bytes t
-        ≡ spec.why_bad (view item.now) (spec.keys_for at (view item.now))) }
+        ≡ spec.why_bad at (view item.now) (spec.keys_for at (view item.now))) }
 {
     match keys_for(at, item) {
-        Some(keys) => members_told(alloc, item, keys),
+        Some(keys) => members_told(alloc, at, item, keys),
         None => op_told(alloc, item),
+    }
+}
+
+fn bare_wanted(at: Place) -> Option<&'static str>
+    ensures { option_map (λ t. t.now) result ≡ spec.bare_wanted at }
+{
+    match at {
+        Place::ActiveName(_) => Some(Wanted::Name.told()),
+        Place::Page(_) => Some("front, post:ID, json:ID or result:EDITOR/SEQ"),
+        _ => None,
+    }
+}
+
+fn bare_told(alloc: Global, wanted: &str, item: &Value) -> Result<String, AllocError>
+    ensures { IfOk result (λ t. string_bytes t ≡ found_in (view item.now)
+        ++ (codes ", " ++ (wanted.now ++ codes " is wanted"))) }
+{
+    let found = found_told(alloc, item)?;
+    format!(in alloc; "{found}, {wanted} is wanted")
+}
+
+fn why_told(alloc: Global, at: Place, item: &Value) -> Result<String, AllocError>
+    ensures { IfOk result (λ t. string_bytes t
+        ≡ spec.bare_told (spec.bare_wanted at) (view item.now)
+        (spec.why_bad at (view item.now) (spec.keys_for at (view item.now)))) }
+{
+    match bare_wanted(at) {
+        Some(wanted) => bare_told(alloc, wanted, item),
+        None => why_bad(alloc, at, item),
     }
 }
 
@@ -149,7 +213,7 @@ fn item_told(alloc: Global, kit: &Value, at: Place) -> Result<String, AllocError
 {
     match item_where(kit, at) {
         Some(item) => {
-            let why = why_bad(alloc, at, item)?;
+            let why = why_told(alloc, at, item)?;
             format!(in alloc; "is bad: {why}")
         }
         None => String::from_str(alloc, "is bad"),
@@ -162,17 +226,23 @@ fn is_file(at: Place) -> bool
     matches!(at, Place::File)
 }
 
+fn is_play(value: &Value) -> bool
+    ensures { result ≡ spec.is_play (view value.now) }
+{
+    value.get("kit").is_some() || value.get("plays").is_some()
+}
+
 fn what_told(alloc: Global, kit: &Value, at: Place) -> Result<String, AllocError>
     ensures { IfOk result (λ t. string_bytes t ≡ spec.what_told (view kit.now) at) }
 {
-    if is_file(at) && kit.get("kit").is_some() {
+    if is_file(at) && is_play(kit) {
         let told = "this is a play file: its kit is the value of \"kit\"";
         return String::from_str(alloc, told);
     }
     item_told(alloc, kit, at)
 }
 
-/// The message about the place at which a kit's value is bad.
+/// The message about the place at which a kit's value is bad; of a place in the lists of a play file, that file's value.
 pub fn bad_line(alloc: Global, kit: &Value, at: Place) -> Result<String, AllocError>
     ensures { IfOk result (λ t. string_bytes t ≡ spec.bad_told (view kit.now) at) }
 {
@@ -180,6 +250,24 @@ pub fn bad_line(alloc: Global, kit: &Value, at: Place) -> Result<String, AllocEr
     let what = what_told(alloc, kit, at)?;
     line.push_str(what.as_str())?;
     Ok(line)
+}
+
+fn is_kit(value: &Value) -> bool
+    ensures { result ≡ spec.is_kit (view value.now) }
+{
+    value.get("kit").is_none()
+        && (value.get("callbacks").is_some() || value.get("plugins").is_some())
+}
+
+/// The message about a play file that is bad as a whole.
+pub fn bad_play_line(alloc: Global, value: &Value) -> Result<String, AllocError>
+    ensures { IfOk result (λ t. string_bytes t ≡ spec.bad_play_told (view value.now)) }
+{
+    if is_kit(value) {
+        let told = "file: this is a kit file: a play file has it as the value of \"kit\"";
+        return String::from_str(alloc, told);
+    }
+    String::from_str(alloc, "file: is bad")
 }
 
 /// The message about bytes that are no JSON, or too many: what the reader of JSON says of them, with line and column, both from 1.

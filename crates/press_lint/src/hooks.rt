@@ -4,10 +4,13 @@ ghost use Rattle.std.specs.Prelude.{◌≡◌, ◌||◌, ℕ, List, IfOk, OnOk, 
 ghost use Rattle.std.specs.List.{list_any};
 ghost use Rattle.press_kit.specs.declared.play_file.Play.{Play as Played};
 ghost use Rattle.press_lint.specs.NameSets.{holds};
+ghost use Rattle.press_lint.specs.Runs.{is_run_by, runs};
 ghost use Rattle.press_lint.specs.Slips as spec;
 
+use crate::accepted::accepted_in;
 use crate::name_set::NameSet;
 use crate::run::Run;
+use crate::spots::spots_in;
 use press_callbacks::Op;
 use press_kit::{KitParts, Play, Scripted};
 use press_text::HookName;
@@ -46,7 +49,8 @@ fn is_text(bytes: &[u8], text: &str) -> bool
     bytes == text.as_bytes()
 }
 
-fn is_among(word: &[u8], words: &[&str]) -> bool
+/// Whether a word is one of some texts.
+pub fn is_among(word: &[u8], words: &[&str]) -> bool
     ensures { result ≡ list_any (bytes_eq word.now) (map (λ w. w.now) words.now) }
 {
     words.iter().any(|w| is_text(word, w))
@@ -143,7 +147,7 @@ fn put<'k>(hooks: &mut NameSet<'k>, hook: &'k HookName) -> Result<(), AllocError
 // The hook that a step runs, or has run later.
 fn put_op<'k>(hooks: &mut NameSet<'k>, op: &'k Op) -> Result<(), AllocError>
     ensures { OnOk result ((q : List ℕ) → holds hooks.new q
-        ≡ (spec.runs q op.now || holds hooks.old q)) }
+        ≡ (runs q op.now || holds hooks.old q)) }
 {
     match op {
         Op::Apply { hook, .. } => put(hooks, hook),
@@ -159,7 +163,7 @@ fn put_op<'k>(hooks: &mut NameSet<'k>, op: &'k Op) -> Result<(), AllocError>
 #[tactic(auto, using(crate::proofs::Gathered::gathered))]
 fn put_script<'k>(hooks: &mut NameSet<'k>, script: &'k [Op]) -> Result<(), AllocError>
     ensures { OnOk result ((q : List ℕ) → holds hooks.new q
-        ≡ (list_any (spec.runs q) script.now || holds hooks.old q)) }
+        ≡ (list_any (runs q) script.now || holds hooks.old q)) }
 {
     for op in script {
         put_op(hooks, op)?;
@@ -170,7 +174,7 @@ fn put_script<'k>(hooks: &mut NameSet<'k>, script: &'k [Op]) -> Result<(), Alloc
 #[tactic(auto, using(crate::proofs::Gathered::gathered))]
 fn put_scripts<'k>(hooks: &mut NameSet<'k>, callbacks: &'k [Scripted]) -> Result<(), AllocError>
     ensures { OnOk result ((q : List ℕ) → holds hooks.new q
-        ≡ (spec.is_run_by callbacks.now q || holds hooks.old q)) }
+        ≡ (is_run_by callbacks.now q || holds hooks.old q)) }
 {
     for callback in callbacks {
         put_script(hooks, callback.script.as_slice())?;
@@ -189,7 +193,7 @@ fn put_plays<'k>(hooks: &mut NameSet<'k>, plays: &'k [Play]) -> Result<(), Alloc
     Ok(())
 }
 
-/// The hooks that the scripts of a kit and these plays run.
+/// The hooks that the scripts of a kit and these plays run, the arguments that its callbacks get, and where it puts them.
 #[tactic(auto, using(crate::proofs::Gathered::alone))]
 pub fn hooks_run<'k>(
     alloc: Global,
@@ -202,7 +206,13 @@ pub fn hooks_run<'k>(
     let mut hooks = NameSet::new(alloc);
     put_plays(&mut hooks, plays)?;
     put_scripts(&mut hooks, kit.callbacks.as_slice())?;
-    Ok(Run { kit, plays, hooks })
+    Ok(Run {
+        kit,
+        plays,
+        hooks,
+        accepted: accepted_in(alloc, kit)?,
+        spots: spots_in(alloc, kit)?,
+    })
 }
 
 /// Whether the engine, one of these scripts or one of these plays runs the hook.

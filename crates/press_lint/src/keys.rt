@@ -113,6 +113,16 @@ fn load_keys(item: &Value) -> Keys
     }
 }
 
+fn play_keys(item: &Value) -> Keys
+    ensures { map (λ k. k.now) result.now ≡ spec.play_keys (view item.now) }
+{
+    if item.get("apply").is_some() {
+        &["apply", "args", "times", "trace"]
+    } else {
+        &["do", "args", "times", "trace"]
+    }
+}
+
 /// The keys that the piece at a place may have.
 pub fn keys_for(at: Place, item: &Value) -> Option<Keys>
     ensures { option_map (λ ks. map (λ k. k.now) ks.now) result ≡ spec.keys_for at (view item.now) }
@@ -122,12 +132,14 @@ pub fn keys_for(at: Place, item: &Value) -> Option<Keys>
         Place::Op { .. } => step_keys(item),
         Place::Plugin(_) => Some(&["name", "load"]),
         Place::Load { .. } => Some(load_keys(item)),
+        Place::Play(_) => Some(play_keys(item)),
         Place::File => Some(&["callbacks", "plugins"]),
         _ => Some(&[]),
     }
 }
 
-fn is_one_of(keys: &[&str], key: &str) -> bool
+/// Whether a key is among these.
+pub fn is_one_of(keys: &[&str], key: &str) -> bool
     ensures { result ≡ one_of (map (λ k. k.now) keys.now) key.now }
 {
     keys.iter().any(|k| key == *k)
@@ -144,7 +156,12 @@ pub fn unknown_key<'v>(members: &'v Map<String, Value>, keys: &[&str]) -> Option
 fn is_optional(key: &str) -> bool
     ensures { result ≡ spec.is_optional key.now }
 {
-    is_one_of(&["priority", "accepted", "more", "args", "every"], key)
+    is_one_of(
+        &[
+            "priority", "accepted", "more", "args", "every", "times", "trace",
+        ],
+        key,
+    )
 }
 
 fn is_missing(item: &Value, key: &str) -> bool

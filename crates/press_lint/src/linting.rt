@@ -18,8 +18,8 @@ use crate::slipping::slips;
 use press_kit::{KitFileFault, KitParts, Place, file, read_kit_file};
 use std::alloc::{AllocError, Global};
 
-// The fault of a bad file, with its message.
-fn bad(alloc: Global, bytes: &[u8], at: Place) -> Result<String, AllocError>
+/// The message about a bad file.
+pub fn bad(alloc: Global, bytes: &[u8], at: Place) -> Result<String, AllocError>
     ensures { IfOk result (λ t. TellsBad (file_in bytes.now) at (string_bytes t)) }
 {
     match file(alloc, bytes) {

@@ -1,6 +1,7 @@
 //! How many loads the plugins have together.
 
 ghost use Rattle.std.specs.Prelude.{◌≡◌, count_by, nat_lt};
+ghost use Rattle.press_lint.specs.Files as files;
 ghost use Rattle.press_lint.specs.Mistakes as spec;
 
 use crate::mistake::{Mistake, Sort, Why};
@@ -45,6 +46,21 @@ fn most_of(sort: Sort) -> usize
         Sort::Hooks => 1000,
         Sort::Tags => 128,
     }
+}
+
+/// The number of the plugin with whose loads there are more of a sort than a kit may have, or how many plugins there are.
+pub fn past(plugins: &[Plugin], sort: Sort) -> usize
+    ensures { result ≡ files.past sort 0 (spec.most_of sort) plugins.now }
+{
+    let mut left = most_of(sort);
+    for n in 0..plugins.len() {
+        let loads = count_of(plugins[n].load.as_slice(), sort);
+        if loads > left {
+            return n;
+        }
+        left -= loads;
+    }
+    plugins.len()
 }
 
 fn too_many(plugins: &[Plugin], sort: Sort) -> Option<Mistake>

@@ -11,8 +11,8 @@ use press_text::CallbackId;
 use std::alloc::{AllocError, Global};
 use std::str::from_utf8;
 
-// The bytes of a name are ASCII.
-fn text_of(id: &CallbackId) -> &str
+/// The name as a text: its bytes are ASCII.
+pub fn text_of(id: &CallbackId) -> &str
     ensures { result.now ≡ id.now }
 {
     match from_utf8(id.as_bytes()) {
@@ -39,8 +39,8 @@ fn plugin_name(plugins: &[Plugin], n: usize) -> Option<&str>
     }
 }
 
-// The name of what is at a place.
-fn name_at(kit: &KitParts, at: Place) -> Option<&str>
+/// The name of what is at a place.
+pub fn name_at(kit: &KitParts, at: Place) -> Option<&str>
     ensures { option_map (λ t. t.now) result ≡ spec.name_at kit.now at }
 {
     match at {

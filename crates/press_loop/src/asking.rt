@@ -1,15 +1,13 @@
 //! The requests by which the steps of a schedule come over a connection.
 
-ghost use Rattle.std.specs.Prelude.{◌≡◌, ◌∷◌, [], Some, IfOk, codes, decimal, option_map, string_bytes, vec_items};
-ghost use Rattle.press_apply.specs.Kinds.{kind_named};
+ghost use Rattle.std.specs.Prelude.{◌≡◌, IfOk, codes, option_map, string_bytes, vec_items};
+ghost use Rattle.press_forms.specs.Forms.{form_of};
 ghost use Rattle.press_world.specs.Models.{model};
-ghost use Rattle.press_loop.specs.Requests.{command_bytes, draft_pairs, form_of, get_bytes, head_of_post, is_node, kind_word, message_bytes, pairs_of, path_of, post_bytes, request_of, Puts};
+ghost use Rattle.press_loop.specs.Requests.{command_bytes, get_bytes, head_of_post, is_node, message_bytes, path_of, post_bytes, request_of};
 
-use form_urlencoded::Serializer;
-use itoa::Buffer;
-use press_apply::{Command, CommandKind, Stamped};
+use press_apply::Stamped;
+use press_forms::form_of;
 use press_page::Target;
-use press_posts::Draft;
 use press_wire::{Message, WireFault, encode_msg};
 use press_world::{Step, World};
 use std::alloc::{AllocError, Global};
@@ -20,85 +18,6 @@ const LONGEST_FORM: usize = 65_536;
 const FORM: &str = "application/x-www-form-urlencoded";
 
 const BYTES: &str = "application/octet-stream";
-
-// The word for it in a form.
-fn word(kind: CommandKind) -> &'static str
-    ensures named { kind_named result.now ≡ Some kind }
-    ensures word { result.now ≡ kind_word kind }
-{
-    match kind {
-        CommandKind::Insert => "insert",
-        CommandKind::Update => "update",
-        CommandKind::Trash => "trash",
-        CommandKind::Untrash => "untrash",
-        CommandKind::Delete => "delete",
-        CommandKind::SetOption => "option",
-        CommandKind::Activate => "activate",
-        CommandKind::Deactivate => "deactivate",
-        CommandKind::Tick => "tick",
-        CommandKind::Profile => "profile",
-    }
-}
-
-#[tactic(auto, unfolding(crate::specs::Requests::with_pair))]
-fn put(form: &mut Serializer, name: &str, value: &str) -> Result<(), AllocError>
-    ensures { Puts form.old form.new ((name.now, value.now) ∷ []) result }
-{
-    form.append_pair(name, value)
-}
-
-fn put_number(form: &mut Serializer, name: &str, number: u64) -> Result<(), AllocError>
-    ensures { Puts form.old form.new ((name.now, decimal number) ∷ []) result }
-{
-    let mut digits = Buffer::new();
-    put(form, name, digits.format(number))
-}
-
-fn put_draft(form: &mut Serializer, draft: &Draft) -> Result<(), AllocError>
-    ensures { Puts form.old form.new (draft_pairs draft.now) result }
-{
-    put(form, "title", draft.title.as_str())?;
-    put(form, "content", draft.content.as_str())?;
-    put(form, "status", draft.status.word())?;
-    put_number(form, "date", draft.date.seconds())
-}
-
-fn put_fields(form: &mut Serializer, command: &Command) -> Result<(), AllocError>
-    ensures { Puts form.old form.new (pairs_of command.now) result }
-{
-    match command {
-        Command::Insert(draft) => put_draft(form, draft),
-        Command::Update { id, draft } => {
-            put_number(form, "id", *id)?;
-            put_draft(form, draft)
-        }
-        Command::Trash { id } | Command::Untrash { id } | Command::Delete { id } => {
-            put_number(form, "id", *id)
-        }
-        Command::SetOption { name, value } => {
-            put(form, "name", name.as_str())?;
-            put(form, "value", value.as_str())
-        }
-        Command::Activate { plugin } | Command::Deactivate { plugin } => {
-            put(form, "plugin", plugin.as_str())
-        }
-        Command::Tick => Ok(()),
-        Command::Profile(to) => put_number(form, "profile", *to as u64),
-    }
-}
-
-// The form that gives the command.
-fn form_of(alloc: Global, stamped: &Stamped) -> Result<String, AllocError>
-    ensures { IfOk result (λ form. string_bytes form ≡ form_of stamped.now) }
-{
-    let mut form = Serializer::new(String::new(alloc));
-    put(&mut form, "editor", stamped.token.editor.as_str())?;
-    put_number(&mut form, "seq", stamped.token.seq)?;
-    put_number(&mut form, "at", stamped.at.seconds())?;
-    put(&mut form, "kind", word(CommandKind::of(&stamped.command)))?;
-    put_fields(&mut form, &stamped.command)?;
-    Ok(form.finish())
-}
 
 #[tactic(auto, unfolding(crate::specs::Requests::head_of_post))]
 fn head_of_post(alloc: Global, path: &str, kind: &str, count: usize) -> Result<String, AllocError>

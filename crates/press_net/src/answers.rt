@@ -32,6 +32,15 @@ pub struct Outgoing {
     pub errand: Errand,
 }
 
+/// How much is at a server.
+#[derive(Clone, Copy, Debug, PartialEq, Eq)]
+pub struct Traffic {
+    /// How many connections are open.
+    pub connections: u64,
+    /// How many of its lines were lost.
+    pub lost: u64,
+}
+
 /// What a server serves: it is given requests and time, and has requests of its own to send.
 pub trait Answers {
     ghost use Rattle.press_net.specs.Answering.{Credit, Exchange};
@@ -91,6 +100,10 @@ pub trait Answers {
     /// Time has passed.
     fn pass(&mut self, time: Time)
         requires always { Unit {0} }
+        ensures becomes { becomes self.old self.new };
+
+    /// So much is at its server.
+    fn see(&mut self, traffic: Traffic)
         ensures becomes { becomes self.old self.new };
 
     /// Where nothing happens it is what it was.

@@ -16,7 +16,7 @@ mod talk;
 mod talks;
 
 pub use addresses::{AddressBook, Listed};
-pub use answers::{Answers, Errand, Outgoing, Time};
+pub use answers::{Answers, Errand, Outgoing, Time, Traffic};
 pub use gathered::words_of;
-pub use lines::Lines;
+pub use lines::{Lines, Log};
 pub use server::{Server, Task};

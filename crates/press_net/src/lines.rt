@@ -1,6 +1,6 @@
 //! Lines that hold up nobody who writes them.
 
-ghost use Rattle.std.specs.Prelude.{◌≡◌};
+ghost use Rattle.std.specs.Prelude.{◌≡◌, ◌+◌, min};
 ghost use Rattle.press_net.specs.Losing.{Puts};
 
 use crate::outlet::{Outlet, put_all};
@@ -108,6 +108,12 @@ impl<W: Write> Write for Ready<W> {
     }
 }
 
+/// Lines of which some may be lost.
+pub trait Log {
+    /// How many were lost.
+    fn lost(&self) -> u64;
+}
+
 /// Lines on a writer, each behind the time: it goes out at once, or it is lost, and counted. The next that goes out comes
 /// behind the count.
 pub struct Lines<'c, C, O> {
@@ -115,6 +121,8 @@ pub struct Lines<'c, C, O> {
     ready: O,
     // How many were lost since the count was told.
     lost: u64,
+    // How many were told as lost.
+    told: u64,
     alloc: Global,
 }
 
@@ -124,6 +132,7 @@ impl<C, O: Drop> Drop for Lines<'_, C, O> {
             clock: _,
             ready: _,
             lost: _,
+            told: _,
             alloc: _,
         } = self;
     }
@@ -137,6 +146,7 @@ impl<'c, C: AllocGlobal + Clock + Net, W: Write + Drop> Lines<'c, C, Ready<W>> {
             clock,
             ready: Ready { writer, watch },
             lost: 0,
+            told: 0,
             alloc: clock.alloc(),
         })
     }
@@ -157,6 +167,7 @@ impl<C: Clock, O: Outlet + Drop> Lines<'_, C, O> {
             return;
         };
         if put_all(&mut self.ready, line.as_bytes()) {
+            self.told = self.told.saturating_add(lost);
             self.lost = 0;
         }
     }
@@ -194,5 +205,13 @@ impl<C: Clock, O: Outlet + Drop> Write for Lines<'_, C, O> {
 
     fn flush(&mut self) -> io::Result<()> {
         Ok(())
+    }
+}
+
+impl<C, O> Log for Lines<'_, C, O> {
+    fn lost(&self) -> u64
+        ensures { result ≡ min (self.now.told + self.now.lost) 18446744073709551615 }
+    {
+        self.told.saturating_add(self.lost)
     }
 }

@@ -9,10 +9,11 @@ ghost use Rattle.press_net.specs.Lanes.{IsCredited, call_at};
 ghost use Rattle.press_net.specs.Talking.{freed, group_of, is_crowded, is_reading};
 ghost use Rattle.press_net.specs.Turning.{KeepsAllButCalls, call_of, ends_at, holder_named, talk_of};
 
-use crate::answers::{Answers, Outgoing, Time};
+use crate::answers::{Answers, Outgoing, Time, Traffic};
 use crate::call::Call;
 use crate::calls::Calls;
 use crate::dial::connect_from;
+use crate::lines::Log;
 use crate::talk::{Arrival, Group, Phase, Talk, log_closed, log_line};
 use crate::talks::{Round, Talks};
 use mio::net::{TcpListener, TcpStream};
@@ -679,10 +680,23 @@ impl Server {
         }
     }
 
+    // What is served hears the time, and how much is here.
+    fn tell<A: Answers, E: Log>(&self, answers: &mut A, time: Time, log: &E)
+        requires always { Unit {0} }
+        ensures { A.becomes answers.old answers.new }
+    {
+        let traffic = Traffic {
+            connections: self.talks.count(),
+            lost: log.lost(),
+        };
+        answers.pass(time);
+        answers.see(traffic);
+    }
+
     /// Serves until all its connections had their turn and the last reply is out, until nothing is answered any more, or
     /// until it is ended. A connection has its turn when its request is served, or it is closed without a reply, and one
     /// that stays open has one for each request.
-    pub fn serve<A: Answers, E: Write>(
+    pub fn serve<A: Answers, E: Log + Write>(
         &mut self,
         rt: &HostRuntime,
         answers: &mut A,
@@ -702,7 +716,7 @@ impl Server {
             self.poll.poll(&mut events, limit)?;
             let now = self.look_at_clock(rt);
             let time = self.time(rt, now);
-            answers.pass(time);
+            self.tell(answers, time, log);
             // What a reply brings goes out first: whoever is to answer that is at it while others are served here.
             self.hear_calls(answers, &events);
             self.send_all(rt, answers);

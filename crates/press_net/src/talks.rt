@@ -1,6 +1,6 @@
 //! The open connections.
 
-ghost use Rattle.std.specs.Prelude.{◌≡◌, ◌<◌, ◌≤◌, [], IfErr, IfOk, IfSome, IsSomeAnd, List, MatchOption, None, Option, Some, is_none, position, slice_set};
+ghost use Rattle.std.specs.Prelude.{◌≡◌, ◌<◌, ◌≤◌, [], IfErr, IfOk, IfSome, IsSomeAnd, List, MatchOption, None, Option, Some, is_none, position, slice_set, true};
 ghost use Rattle.std.specs.List.{list_all};
 ghost use Rattle.press_net.specs.declared.talk.Group.TheVariants.{Member};
 ghost use Rattle.press_net.specs.declared.talk.Talk.{Talk};
@@ -163,6 +163,17 @@ fn number_before(
     }
 }
 
+// How many connections stand there.
+fn count_open(slots: &[Option<Talk>]) -> u64
+    ensures { result ≡ count_of (λ _. true) slots.now }
+{
+    let mut count: u64 = 0;
+    for slot in slots {
+        count = count.saturating_add(u64::from(slot.is_some()));
+    }
+    count
+}
+
 // Frees a place whose request isn't whole.
 fn end_if_unheard(slot: &mut Option<Talk>)
     ensures { slot.new ≡ kept_unless is_reading slot.old }
@@ -204,6 +215,13 @@ impl Talks {
         ensures { result ≡ list_all is_none self.now.places.items }
     {
         self.places.iter().all(|talk| talk.is_none())
+    }
+
+    /// How many are open.
+    pub fn count(&self) -> u64
+        ensures { result ≡ count_of (λ _. true) self.now.places.items }
+    {
+        count_open(&self.places)
     }
 
     /// The most connections that are open at once.

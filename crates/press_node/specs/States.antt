@@ -1,7 +1,8 @@
 -- A node without its kit and its store: which member it is, and what it has in memory while it is up.
-use Rattle.std.specs.Prelude.{◌≡◌, ◌≤◌, ℕ, Bool, true, false, Option, None, Some, option_map, length, not}
+use Rattle.std.specs.Prelude.{◌≡◌, ◌≤◌, ℕ, Bool, true, false, List, [], Option, None, Some, option_map, length, not}
 use Rattle.press_callbacks.specs.Kits.{KitView}
 use Rattle.press_apply.specs.Apply.{site_after}
+use Rattle.press_apply.specs.declared.value.Value.{Value}
 use Rattle.press_site.specs.SiteView.{SiteView}
 use Rattle.press_site.specs.Effects.{no_site}
 use Rattle.press_acceptor.specs.StoreMap.{StoreMap}
@@ -57,6 +58,14 @@ is_waiting_where (Some up) = not (is_empty up.running.proposer.queue)
 
 abbrev pub is_waiting : NodeState → Bool
 is_waiting state = is_waiting_where state.up
+
+-- the values that were applied since the start, in the order of their slots; none where the node is down
+abbrev pub values_where : Option Up → List Value
+values_where None = []
+values_where (Some up) = up.running.values
+
+abbrev pub applied_values : NodeState → List Value
+applied_values state = values_where state.up
 
 -- the site is what the kit makes of the applied values
 abbrev pub IsFolded : KitView → NodeState → Type 0

@@ -5,7 +5,7 @@ ghost use Rattle.press_callbacks.specs.Kits.{kit_view};
 ghost use Rattle.press_acceptor.specs.Seen.{Calls, Looks};
 ghost use Rattle.press_acceptor.specs.Seen.Call.{LoadsRound};
 ghost use Rattle.press_node.specs.Nodes.{IsDeskAt, IsPageAt, NodePlays, kit_of, state_of, store_of};
-ghost use Rattle.press_node.specs.States.{IsMemberOf, IsWhole, applied_count, is_down, is_waiting, started_at};
+ghost use Rattle.press_node.specs.States.{IsMemberOf, IsWhole, applied_count, applied_values, is_down, is_waiting, started_at};
 
 use crate::event::Event;
 use crate::fault::NodeFault;
@@ -13,6 +13,7 @@ use crate::kept::Node;
 use crate::start_fault::StartFault;
 use crate::state::State;
 use press_acceptor::PromiseStore;
+use press_apply::Value;
 use press_callbacks::Kit;
 use press_page::{Desk, Reply, Target};
 use press_wire::{Message, Node as Member};
@@ -32,6 +33,13 @@ impl<S> Node<S> {
         ensures whole { IsWhole (state_of self.now) }
     {
         self.state.applied()
+    }
+
+    /// The values that it has applied since its start, in the order of their slots; none where it is down.
+    pub fn values(&self) -> &[Value]
+        ensures { result.now ≡ applied_values (state_of self.now) }
+    {
+        self.state.values()
     }
 
     /// Whether a command that was submitted to it waits to be chosen; false where it is down.

@@ -8,6 +8,7 @@ ghost use Rattle.press_node.specs.Plays.{StatePlays};
 ghost use Rattle.press_node.specs.Refusals.{refusal};
 ghost use Rattle.press_node.specs.States.{
   applied_count,
+  applied_values,
   is_down,
   is_waiting,
   IsFolded,
@@ -23,7 +24,7 @@ use crate::fault::NodeFault;
 use crate::fixed::Fixed;
 use crate::up::Up;
 use press_acceptor::PromiseStore;
-use press_apply::Stamped;
+use press_apply::{Stamped, Value};
 use press_callbacks::Kit;
 use press_page::{Applied, Desk, Reply, Target, page, show_desk};
 use press_site::Site;
@@ -111,6 +112,16 @@ impl State {
         match &self.up {
             Some(up) => up.values.len() as u64,
             None => 0,
+        }
+    }
+
+    /// The values that were applied, in the order of their slots; none where the node is down.
+    pub fn values(&self) -> &[Value]
+        ensures { result.now ≡ applied_values self.now }
+    {
+        match &self.up {
+            Some(up) => &up.values,
+            None => &[],
         }
     }
 

@@ -120,7 +120,7 @@ fn status_value(alloc: Global, status: u16) -> Result<Value, AllocError>
     json!(in alloc; {"code": status})
 }
 
-pub(crate) fn json_reply(alloc: Global, status: u16, value: &Value) -> Result<Reply, AllocError>
+pub fn json_reply(alloc: Global, status: u16, value: &Value) -> Result<Reply, AllocError>
     requires { has_float (view value.now) ≡ false }
     ensures { IfOk result (λ r. r ≡ json_reply status (view value.now)) }
 {

@@ -16,5 +16,6 @@ mod template;
 
 pub use desk::{Applied, Desk, show_desk};
 pub use earlier::pages_as_before;
+pub use json::json_reply;
 pub use pages::page;
 pub use reply::{ContentKind, Reply, Target};

@@ -2,7 +2,7 @@
 
 use crate::journal::Journal;
 use press_kit::{Place, PlayFile, file};
-use press_lint::{active_slips, bad_line, mistake_in, no_json, slips};
+use press_lint::{active_slips, bad_line, bad_play_line, mistake_in, no_json, slips};
 use std::alloc::{AllocError, Global};
 
 /// Messages about a file, on standard error.
@@ -18,14 +18,20 @@ pub struct Notes {
     pub journal: Journal,
 }
 
+// Whether a place is in a list of the play file itself.
+fn is_of_play(at: Place) -> bool {
+    matches!(at, Place::ActiveName(_) | Place::Page(_) | Place::Play(_))
+}
+
 // The message about a file that is bad at a place.
 fn bad(alloc: Global, bytes: &[u8], at: Place) -> Result<String, AllocError> {
     let Ok(value) = file(alloc, bytes) else {
         return no_json(alloc, bytes);
     };
     match value.get("kit") {
+        Some(_) if is_of_play(at) => bad_line(alloc, &value, at),
         Some(kit) if at != Place::File => bad_line(alloc, kit, at),
-        _ => String::from_str(alloc, "file: is bad"),
+        _ => bad_play_line(alloc, &value),
     }
 }
 

@@ -3,6 +3,8 @@ pub mod Ends
 pub mod FirstValue
 pub mod KitRuns
 pub mod Kits
+pub mod Mails
+pub mod Named
 pub mod Pushes
 pub mod Told
 pub mod Wanting

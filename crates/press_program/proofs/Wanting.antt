@@ -1,5 +1,5 @@
 -- What a run comes to, by what it was asked, where there is no memory to read its words.
-use Rattle.std.proofs.Common.{◌≡◌, ℕ, List, inl, inr, refl}
+use Rattle.std.proofs.Common.{◌≡◌, ℕ, List, [], ◌∷◌, inl, inr, refl}
 use Rattle.std.specs.Prelude.{Option, Some, None, Err}
 use Rattle.std.specs.Io.KnownBytes.{Keeps}
 use Rattle.press_callbacks.specs.Kits.{KitView}
@@ -11,7 +11,7 @@ use Rattle.press_demonstration.specs.Demonstration.{demonstration}
 use Rattle.press_program.specs.Endings.{known_of, Does, Runs, RunsOver, Served}
 use Rattle.press_program.specs.KitFiles.{fault_line}
 use Rattle.press_program.specs.declared.kitting.KitFault.TheVariants as kit
-use Rattle.press_program.specs.Words.{Asked, Job, of_file, serve}
+use Rattle.press_program.specs.Words.{Asked, Job, of_file, send, serve}
 use Rattle.press_program.proofs.Ends.{outside_task}
 
 no_memory_for : (served : Served) (kit : KitView) (job : Job) (remaining : Option (List ℕ)) (status : ℕ) (out err err' : Option (List ℕ))
@@ -19,13 +19,14 @@ no_memory_for : (served : Served) (kit : KitView) (job : Job) (remaining : Optio
 no_memory_for served kit (of_file wanted) remaining status out err err' is kept told =
     (Fault NoMemory, out, outside_task kit wanted.1 (known_of wanted.0 remaining) out NoMemory tt, (is, kept, told))
 no_memory_for served kit (serve server) remaining status out err err' is kept told = (Err fault.NoMemory, inl (refl, kept), is)
+no_memory_for served kit (send mail) remaining status out err err' is kept told = inl (is, kept, inr told)
 
-no_memory_over : (served : Served) (file : Option (List ℕ)) (job : Job) (remaining : Option (List ℕ)) (status : ℕ) (out err err' : Option (List ℕ))
-    → status ≡ 2 → Keeps out out → AppendsFront err err' (fault_line NoMemory) → RunsOver served file job remaining status out out err err'
-no_memory_over served None job remaining status out err err' is kept told = no_memory_for served demonstration job remaining status out err err' is kept told
-no_memory_over served (Some file) job remaining status out err err' is kept told = inl (is, kept, kit.NoMemory, tt, told)
+no_memory_over : (served : Served) (names : List (List ℕ)) (job : Job) (remaining : Option (List ℕ)) (status : ℕ) (out err err' : Option (List ℕ))
+    → status ≡ 2 → Keeps out out → AppendsFront err err' (fault_line NoMemory) → RunsOver served names job remaining status out out err err'
+no_memory_over served [] job remaining status out err err' is kept told = no_memory_for served demonstration job remaining status out err err' is kept told
+no_memory_over served (name ∷ names) job remaining status out err err' is kept told = inl (is, kept, [], kit.NoMemory, tt, told)
 
 pub no_memory : (served : Served) (asked : Option Asked) (remaining : Option (List ℕ)) (status : ℕ) (out err err' : Option (List ℕ))
     → status ≡ 2 → Keeps out out → AppendsFront err err' (fault_line NoMemory) → Runs served asked remaining status out out err err'
 no_memory served None remaining status out err err' is kept told = (is, kept, inr told)
-no_memory served (Some asked) remaining status out err err' is kept told = no_memory_over served asked.kit asked.job remaining status out err err' is kept told
+no_memory served (Some asked) remaining status out err err' is kept told = no_memory_over served asked.kits asked.job remaining status out err err' is kept told

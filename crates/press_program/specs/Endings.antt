@@ -1,5 +1,5 @@
 -- What the program does for its words and its input (own).
-use Rattle.std.specs.Prelude.{◌≡◌, ◌⊎◌, ℕ, List, [], map, nat_eq, if◌then◌else◌, false, Option, Some, None, Result, Ok, Err, codes}
+use Rattle.std.specs.Prelude.{◌≡◌, ◌⊎◌, ℕ, List, [], ◌∷◌, length, map, nat_eq, if◌then◌else◌, false, Option, Some, None, Result, Ok, Err, codes}
 use Rattle.std.specs.Io.KnownBytes.{Appends, Keeps}
 use Rattle.press_callbacks.specs.Kits.{KitView}
 use Rattle.press_apply.specs.declared.command.Stamped.{Stamped}
@@ -8,6 +8,9 @@ use Rattle.press_apply.specs.Apply.{site_after}
 use Rattle.press_page.specs.declared.reply.Reply.{Reply}
 use Rattle.press_page.specs.declared.reply.Target.{Target}
 use Rattle.press_page.specs.Page.{page_of}
+use Rattle.press_client.specs.Reporting.{are_done, counts_of, report_of}
+use Rattle.press_client.specs.declared.counts.Counts.{Counts}
+use Rattle.press_client.specs.declared.ending.Ending.{Ending as Ended}
 use Rattle.press_world.specs.ReadingFiles.{Has}
 use Rattle.press_world.specs.Replays.{Replays, transcript}
 use Rattle.press_world.specs.ScheduleFile.{schedule_in}
@@ -21,14 +24,14 @@ use Rattle.press_server.specs.Listening.{listening_line}
 use Rattle.press_server.specs.declared.serve_fault.ServeFault.{ServeFault}
 use Rattle.press_server.specs.declared.serve_fault.ServeFault.TheVariants as fault
 use Rattle.press_loop.specs.Loops.{Loops}
-use Rattle.press_program.specs.Words.{Asked, Job, OfFile, Server, of_file, serve, is_input}
+use Rattle.press_program.specs.Words.{Asked, Job, Mail, OfFile, Server, of_file, send, serve, is_input}
 use Rattle.press_program.specs.declared.task.Task.{Task}
 use Rattle.press_program.specs.declared.task.Task.TheVariants.{Page, Replay, Loop}
 use Rattle.press_text.specs.Streams.{AppendsFront}
 use Rattle.press_demonstration.specs.Demonstration.{demonstration}
-use Rattle.press_kit.specs.declared.kit_parts.KitParts.{KitParts}
-use Rattle.press_lint.specs.Slips.{slips}
-use Rattle.press_program.specs.KitFiles.{IsKitOf, RefusesKit, fault_line, slip_front, view_in}
+use Rattle.press_lint.specs.Files.{GivesSlips}
+use Rattle.press_lint.specs.Joints.{File, read_together}
+use Rattle.press_program.specs.KitFiles.{AreNamed, RefusesKit, fault_line, slip_front, view_where}
 
 -- 0 for a page, 1 for any other reply
 abbrev pub exit_status : ℕ → ℕ
@@ -123,6 +126,7 @@ RefusesWords None result input input' out out' err err' = Keeps input input' × 
 abbrev pub ReadsFor : Job → Option (List ℕ) → Option (List ℕ) → Type 0
 ReadsFor (of_file wanted) input input' = is_input wanted.0 ≡ false → Keeps input input'
 ReadsFor (serve server) input input' = Keeps input input'
+ReadsFor (send mail) input input' = is_input mail.0 ≡ false → Keeps input input'
 
 abbrev pub ReadsAsked : Option Asked → Option (List ℕ) → Option (List ℕ) → Type 0
 ReadsAsked None input input' = Keeps input input'
@@ -154,20 +158,50 @@ server_status (Err fault) = 2
 abbrev pub Listens : Served → KitView → Server → ℕ → Option (List ℕ) → Option (List ℕ) → Type 0
 Listens served kit server result out out' = (ended : Result (Unit {0}) ServeFault) × IsServed served kit server ended out out' × (result ≡ server_status ended)
 
+-- ---- commands that go to members
+
+-- the commands of the site file that a reader has left
+abbrev pub IsSite : Option (List ℕ) → List Stamped → Type 0
+IsSite remaining commands = (input : List ℕ) × Has remaining input × (site_in input ≡ Ok commands)
+
+-- 0 where each was done
+abbrev pub mail_status : Counts → ℕ
+mail_status counts = if are_done counts then 0 else 1
+
+-- What is printed of commands that were sent: what became of each, or a front of that, or nothing. Contracts see no bytes of sockets: `deliver` says what became of them.
+abbrev pub Reports : Option (List ℕ) → Option (List ℕ) → Option (List ℕ) → Result ℕ ReplayFault → Type 0
+Reports remaining out out' (Ok status) =
+    (commands : List Stamped) × (endings : List Ended) × IsSite remaining commands
+    × (status ≡ mail_status (counts_of (length commands) endings)) × Appends out out' (report_of commands endings)
+Reports remaining out out' (Err fault) =
+    Keeps out out' ⊎ ((commands : List Stamped) × (endings : List Ended) × IsSite remaining commands × AppendsFront out out' (report_of commands endings))
+
+-- a fault is told, and has the status 2
+abbrev pub TellsFault : Result ℕ ReplayFault → ℕ → Option (List ℕ) → Option (List ℕ) → Type 0
+TellsFault (Ok status) result err err' = (result ≡ status) × Keeps err err'
+TellsFault (Err fault) result err err' = (result ≡ 2) × AppendsFront err err' (fault_line fault)
+
+-- A run that sends commands. Where the members are none, that is told as words are that are refused.
+abbrev pub Mails : Option (List ℕ) → ℕ → Option (List ℕ) → Option (List ℕ) → Option (List ℕ) → Option (List ℕ) → Type 0
+Mails remaining result out out' err err' =
+    TellsUsage result out out' err err'
+    ⊎ ((ended : Result ℕ ReplayFault) × Reports remaining out out' ended × TellsFault ended result err err')
+
 -- what is to be done, over a kit
 abbrev pub Does : Served → KitView → Job → Option (List ℕ) → ℕ → Option (List ℕ) → Option (List ℕ) → Option (List ℕ) → Option (List ℕ) → Type 0
 Does served kit (of_file wanted) remaining result out out' err err' = Shows kit wanted remaining result out out' err err'
 Does served kit (serve server) remaining result out out' err err' = Listens served kit server result out out'
+Does served kit (send mail) remaining result out out' err err' = Mails (known_of mail.0 remaining) result out out' err err'
 
--- Over the demonstration kit, or over that of a kit file, whose slips are reported before anything else; a kit file that can't be used is reported, and nothing else is done.
-abbrev pub RunsOver : Served → Option (List ℕ) → Job → Option (List ℕ) → ℕ → Option (List ℕ) → Option (List ℕ) → Option (List ℕ) → Option (List ℕ) → Type 0
-RunsOver served None job remaining result out out' err err' = Does served demonstration job remaining result out out' err err'
-RunsOver served (Some file) job remaining result out out' err err' =
-    RefusesKit file result out out' err err'
-    ⊎ ((bytes : List ℕ) × (kit : KitParts) × IsKitOf bytes kit
-    × (by_then : Option (List ℕ)) × AppendsFront err by_then (slips (slip_front file) kit []) × Does served (view_in kit) job remaining result out out' by_then err')
+-- Over the demonstration kit, or over that of kit files, whose slips are reported before anything else; one that can't be used is reported, and nothing else is done.
+abbrev pub RunsOver : Served → List (List ℕ) → Job → Option (List ℕ) → ℕ → Option (List ℕ) → Option (List ℕ) → Option (List ℕ) → Option (List ℕ) → Type 0
+RunsOver served [] job remaining result out out' err err' = Does served demonstration job remaining result out out' err err'
+RunsOver served (name ∷ names) job remaining result out out' err err' =
+    RefusesKit (name ∷ names) result out out' err err'
+    ⊎ ((files : List File) × AreNamed (name ∷ names) files × (told : List ℕ) × GivesSlips slip_front (read_together files) told
+    × (by_then : Option (List ℕ)) × AppendsFront err by_then told × Does served (view_where (read_together files)) job remaining result out out' by_then err')
 
 -- A run for what is asked.
 abbrev pub Runs : Served → Option Asked → Option (List ℕ) → ℕ → Option (List ℕ) → Option (List ℕ) → Option (List ℕ) → Option (List ℕ) → Type 0
 Runs served None remaining result out out' err err' = TellsUsage result out out' err err'
-Runs served (Some asked) remaining result out out' err err' = RunsOver served asked.kit asked.job remaining result out out' err err'
+Runs served (Some asked) remaining result out out' err err' = RunsOver served asked.kits asked.job remaining result out out' err err'

@@ -1,3 +1,4 @@
 pub mod Endings
 pub mod KitFiles
+pub mod Reasons
 pub mod Words

@@ -1,9 +1,9 @@
--- What the words after the program's name ask for: `page FILE TARGET`, `replay FILE`, `loop FILE`, or `serve` with words by their names, each of them with a kit file or without, as
--- `clap` reads words; without any, post 1 of the standard input (own).
-use Rattle.std.specs.Prelude.{ℕ, List, [], ◌∷◌, ◌&&◌, Bool, true, false, bytes_eq, nat_le, if◌then◌else◌, Option, Some, None, option_and_then, option_map, codes}
+-- What the words after the program's name ask for: `page FILE TARGET`, `replay FILE`, `loop FILE`, or `serve` with words by their names, each of them with kit files or without; or
+-- `send FILE MEMBERS`; as `clap` reads words; without any, post 1 of the standard input (own).
+use Rattle.std.specs.Prelude.{ℕ, List, [], ◌∷◌, ◌&&◌, Bool, true, false, bytes_eq, nat_le, if◌then◌else◌, Option, Some, None, map, option_and_then, option_map, codes}
 use Rattle.clap.specs.Kinds.{Kinds}
-use Rattle.clap.specs.declared.builder.action.ArgAction.TheVariants.{SetTrue}
-use Rattle.clap.specs.Words.{App, Row, Rule, Text, fault_of, first_of, new_app, new_rule, subcommand_of, with_rule, with_subcommand}
+use Rattle.clap.specs.declared.builder.action.ArgAction.TheVariants.{SetTrue, Append}
+use Rattle.clap.specs.Words.{App, Row, Rule, Text, all_of, fault_of, first_of, new_app, new_rule, subcommand_of, with_rule, with_subcommand}
 use Rattle.press_page.specs.declared.reply.Target.TheVariants.{Post}
 use Rattle.press_page.specs.Targets.{target_in}
 use Rattle.press_text.specs.Decimals.{decimal_in}
@@ -15,6 +15,7 @@ use Rattle.press_server.specs.Listening.{Where}
 use Rattle.press_server.specs.declared.setup.Place.TheVariants.{Alone, Member}
 use Rattle.press_server.specs.declared.setup.Place.{Place}
 use Rattle.press_server.specs.declared.setup.Setup.{Setup}
+use Rattle.press_program.specs.declared.wanted.Mailing.{Mailing}
 use Rattle.press_program.specs.declared.wanted.Wanted.{Wanted}
 use Rattle.press_program.specs.declared.task.Task.{Task}
 use Rattle.press_program.specs.declared.task.Task.TheVariants.{Page, Replay, Loop}
@@ -42,9 +43,13 @@ flagged id = record (named id) { action = Some SetTrue }
 abbrev pub helpless : Text → App
 helpless name = record { top = record (new_app name).top { disable_help_flag = true }; subs = [] }
 
--- a command, over a kit file where that is named
+-- a word behind `--NAME`, which may be there more than once
+abbrev pub repeated : Text → Rule
+repeated id = record (named id) { action = Some Append }
+
+-- a command, over kit files where they are named
 abbrev pub with_kit : App → App
-with_kit app = with_rule app (named (codes "kit"))
+with_kit app = with_rule app (repeated (codes "kit"))
 
 abbrev pub page_words : App
 page_words = with_kit (with_rule (with_rule (helpless (codes "page")) (needed (codes "FILE"))) (needed (codes "TARGET")))
@@ -63,10 +68,13 @@ valued_words =
     with_rule (with_rule (with_rule (with_rule place_words (named (codes "store"))) (named (codes "turns"))) (named (codes "editor"))) (named (codes "ahead"))
 
 abbrev pub server_words : App
-server_words = with_rule valued_words (flagged (codes "stay"))
+server_words = with_rule (with_rule valued_words (flagged (codes "stay"))) (flagged (codes "status"))
 
 abbrev pub serve_words : App
 serve_words = with_kit server_words
+
+abbrev pub send_words : App
+send_words = with_rule (with_rule (helpless (codes "send")) (needed (codes "FILE"))) (needed (codes "MEMBERS"))
 
 abbrev pub bare : App
 bare = record {
@@ -75,7 +83,9 @@ bare = record {
 }
 
 unfoldable pub program : App
-program = with_subcommand (with_subcommand (with_subcommand (with_subcommand bare page_words.top) (file_words (codes "replay")).top) (file_words (codes "loop")).top) serve_words.top
+program =
+    with_subcommand (with_subcommand (with_subcommand (with_subcommand (with_subcommand bare page_words.top) (file_words (codes "replay")).top) (file_words (codes "loop")).top)
+    serve_words.top) send_words.top
 
 -- ---- what is asked for
 
@@ -84,7 +94,7 @@ abbrev pub OfFile : Type 0
 OfFile = List ℕ × Task
 
 -- a server: its place, with the milliseconds of its tick; for so many connections, or until it is ended; over the store in a file, or in memory; with the file of a page for
--- editors; how many seconds ahead a command may be; and whether a member stays whose store has failed
+-- editors; how many seconds ahead a command may be; whether a member stays whose store has failed; and whether it tells how it stands
 pub record Server : Type 0 where
   pub place : Where
   pub tick : ℕ
@@ -93,14 +103,20 @@ pub record Server : Type 0 where
   pub editor : Option (List ℕ)
   pub ahead : Option ℕ
   pub stay : Bool
+  pub status : Bool
+
+-- a file whose commands go to the members that a text names
+abbrev pub Mail : Type 0
+Mail = List ℕ × List ℕ
 
 pub data Job : Type 0 where
   of_file : OfFile → Job
   serve : Server → Job
+  send : Mail → Job
 
--- over the kit of a file, or else the demonstration kit
+-- over the kit of files in this order, or else the demonstration kit
 pub record Asked : Type 0 where
-  pub kit : Option (List ℕ)
+  pub kits : List (List ℕ)
   pub job : Job
 
 abbrev pub page_in : List Row → Option OfFile
@@ -174,7 +190,14 @@ server_in rows = do
     editor = first_of (codes "editor") rows;
     ahead = ahead;
     stay = is_set (first_of (codes "stay") rows);
+    status = is_set (first_of (codes "status") rows);
   })
+
+abbrev pub mailing_in : List Row → Option Mail
+mailing_in rows = do
+  file ← first_of (codes "FILE") rows
+  members ← first_of (codes "MEMBERS") rows
+  Some (file, members)
 
 -- by the name of the subcommand
 abbrev pub job_in : Text → List Row → Option Job
@@ -182,10 +205,18 @@ job_in name rows =
     if bytes_eq name (codes "page") then option_map of_file (page_in rows) else
     (if bytes_eq name (codes "replay") then option_map of_file (file_in Replay rows) else
     (if bytes_eq name (codes "loop") then option_map of_file (file_in Loop rows) else
-    (if bytes_eq name (codes "serve") then option_map serve (server_in rows) else None)))
+    (if bytes_eq name (codes "serve") then option_map serve (server_in rows) else
+    (if bytes_eq name (codes "send") then option_map send (mailing_in rows) else None))))
+
+abbrev pub values_of : Option (List Text) → List Text
+values_of None = []
+values_of (Some values) = values
+
+abbrev pub kits_in : List Row → List Text
+kits_in rows = values_of (all_of (codes "kit") rows)
 
 abbrev pub asked_in : Text → List Row → Option Asked
-asked_in name rows = option_map (λ job. record { kit = first_of (codes "kit") rows; job = job }) (job_in name rows)
+asked_in name rows = option_map (λ job. record { kits = kits_in rows; job = job }) (job_in name rows)
 
 -- nothing where `clap` has a fault
 abbrev pub asked_where : Kinds → Option (Text × List Row) → Option Asked
@@ -193,7 +224,7 @@ asked_where [] found = option_and_then (λ p. asked_in p.0 p.1) found
 asked_where (k ∷ ks) found = None
 
 abbrev pub asked_by : List Text → Option Asked
-asked_by [] = Some (record { kit = None; job = of_file (codes "-", Page (Post 1)) })
+asked_by [] = Some (record { kits = []; job = of_file (codes "-", Page (Post 1)) })
 asked_by (w ∷ ws) = asked_where (fault_of program (w ∷ ws)) (subcommand_of program (w ∷ ws))
 
 -- `-` is the standard input
@@ -219,11 +250,16 @@ server_of s = record {
   editor = option_map (λ file. file.now) s.editor;
   ahead = s.ahead;
   stay = s.stay;
+  status = s.status;
 }
+
+abbrev pub mailing_of : Mailing → Mail
+mailing_of m = (m.file.now, m.members.now)
 
 abbrev pub job_of : declared.Job → Job
 job_of (told.OfFile w) = of_file (wanted_of w)
 job_of (told.Serve s) = serve (server_of s)
+job_of (told.Send m) = send (mailing_of m)
 
 abbrev pub asked_of : asked.Asked → Asked
-asked_of a = record { kit = option_map (λ kit. kit.now) a.kit; job = job_of a.job }
+asked_of a = record { kits = map (λ kit. kit.now) a.kits.items; job = job_of a.job }

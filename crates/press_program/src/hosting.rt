@@ -1,9 +1,11 @@
 //! What is to be done over a kit, a server among it.
 
-ghost use Rattle.std.specs.Prelude.{◌+◌, IfOk, OnErr};
+ghost use Rattle.std.specs.Prelude.{◌≡◌, ◌+◌, IfOk, OnErr, map};
 ghost use Rattle.std.specs.Io.KnownBytes.{Keeps};
 ghost use Rattle.press_demonstration.specs.Demonstration.{demonstration};
-ghost use Rattle.press_kit.specs.KitFile.{file_limit, kit_in};
+ghost use Rattle.press_kit.specs.KitFile.{file_limit};
+ghost use Rattle.press_lint.specs.Joints.{File as FileRead, files_of, read_together};
+ghost use Rattle.press_server.specs.Digests.{behind_files, digest_of_files};
 ghost use Rattle.press_server.specs.Listening.{listening_line, where_of};
 ghost use Rattle.press_text.specs.Streams.{AppendsFront, TakesAtMost};
 ghost use Rattle.press_program.specs.Endings.{Does, IsServed, Listens, ReadsFor};
@@ -12,38 +14,50 @@ ghost use Rattle.press_program.specs.Words.{job_of, server_of};
 
 use crate::kitting::Chosen;
 use crate::over::Over;
+use crate::reasons::{reason_of, serve_line};
 use crate::serves::Serves;
 use crate::telling::tell;
 use crate::wanted::Job;
 use crate::{demonstration_kit, filed_kit};
 use press_callbacks::{BoxedTurns, CallIn, Kit, Stored, script_turn};
 use press_demonstration::{grow, grow_turn, parts};
-use press_kit::read_kit_file;
-use press_server::{ServeFault, Setup, digest_of};
+use press_lint::{Joint, NamedFile, read_files};
+use press_server::{ServeFault, Setup, behind_file, digest_of};
 use press_text::Copied;
 use std::alloc::AllocError;
 use std::io::{Read, Write};
 
-fn serve_line(fault: ServeFault) -> &'static [u8] {
-    match fault {
-        ServeFault::BadPeers => b"press: usage\n",
-        ServeFault::NoMemory => b"press: fault 0\n",
-        ServeFault::NoConnections | ServeFault::ReadFault => b"press: fault 40\n",
-        ServeFault::WriteFault => b"press: fault 42\n",
-        ServeFault::Foreign => b"press: the store is another member's\n",
-        ServeFault::Disk => b"press: fault 50\n",
-        ServeFault::Damaged => b"press: fault 51\n",
+// The digest of kit files with these behind them.
+fn behind_kits(digest: u64, files: &[NamedFile<'_>]) -> u64
+    ensures { result ≡ behind_files digest
+        (map (λ (f : FileRead). f.bytes) (files_of files.now)) }
+{
+    let mut digest = digest;
+    for file in files {
+        digest = behind_file(digest, &file.bytes);
+    }
+    digest
+}
+
+// What members compare of these kit files.
+fn digest_of_kits(files: &[NamedFile<'_>]) -> u64
+    ensures { result ≡ digest_of_files
+        (map (λ (f : FileRead). f.bytes) (files_of files.now)) }
+{
+    match files.split_first() {
+        Some((first, rest)) => behind_kits(digest_of(&first.bytes), rest),
+        None => digest_of(&[]),
     }
 }
 
 /// A program that runs over a kit, and whoever serves for it.
 #[derive(Drop)]
-pub(crate) struct Hosting<'r, S> {
-    pub over: Over<'r, HostRuntime>,
+pub(crate) struct Hosting<'r, 'f, S> {
+    pub over: Over<'r, 'f, HostRuntime>,
     pub serves: &'r S,
 }
 
-impl<S: Serves> Hosting<'_, S> {
+impl<S: Serves> Hosting<'_, '_, S> {
     // A server over the demonstration kit; none where there is no memory for that.
     fn serve_demonstrated<W: Write, E: Write>(
         &self,
@@ -66,28 +80,28 @@ impl<S: Serves> Hosting<'_, S> {
         }
     }
 
-    // The same over the kit of a kit file with these bytes.
+    // The same over the kit of these kit files.
     fn serve_filed<W: Write, E: Write>(
         &self,
-        bytes: &[u8],
+        files: &[NamedFile<'_>],
         setup: &Setup<'_>,
         writer: &mut W,
         error: &mut E,
     ) -> Result<Result<(), ServeFault>, AllocError>
-        ensures served { IfOk result (λ ended. S.served (view_where (kit_in bytes.now))
-            (server_of setup.now) ended) }
+        ensures served { IfOk result (λ ended. S.served
+            (view_where (read_together (files_of files.now))) (server_of setup.now) ended) }
         ensures line { IfOk result (λ _. AppendsFront (W.contents writer.old)
             (W.contents writer.new) (listening_line (where_of setup.now.place))) }
         ensures nobody { OnErr result (Keeps (W.contents writer.old) (W.contents writer.new)) }
     {
         let alloc = self.over.rt.alloc();
-        let Ok(parts) = read_kit_file(alloc, bytes) else {
+        let Ok(Joint { parts, shares: _ }) = read_files(alloc, files) else {
             return Err(AllocError);
         };
         match filed_kit!(alloc, parts) {
             Ok(kit) => {
                 let setup = Setup {
-                    kit: digest_of(bytes),
+                    kit: Some(digest_of_kits(files)),
                     ..*setup
                 };
                 let ended = self.serves.serve(kit, &setup, writer, error);
@@ -112,7 +126,7 @@ impl<S: Serves> Hosting<'_, S> {
                 Ok(ended) => ended,
                 Err(_) => Err(ServeFault::NoMemory),
             },
-            Chosen::OfFile(bytes) => match self.serve_filed(bytes, setup, writer, error) {
+            Chosen::OfFiles(files) => match self.serve_filed(files, setup, writer, error) {
                 Ok(ended) => ended,
                 Err(_) => Err(ServeFault::NoMemory),
             },
@@ -128,6 +142,9 @@ impl<S: Serves> Hosting<'_, S> {
             Ok(()) => 0,
             Err(fault) => {
                 tell(error, serve_line(fault));
+                if let Ok(Some(reason)) = reason_of(self.over.rt.alloc(), fault, setup) {
+                    tell(error, reason.as_bytes());
+                }
                 2
             }
         }
@@ -152,6 +169,7 @@ impl<S: Serves> Hosting<'_, S> {
         match job {
             Job::OfFile(wanted) => self.over.show(wanted, reader, writer, error),
             Job::Serve(setup) => self.serve(setup, writer, error),
+            Job::Send(mailing) => mailing.send(self.over.rt, reader, writer, error),
         }
     }
 }

@@ -1,13 +1,13 @@
-//! The kit file of a run.
+//! The kit files of a run.
 
-ghost use Rattle.std.specs.Prelude.{◌≡◌, [], IfErr, IfOk, string_bytes};
-ghost use Rattle.press_kit.specs.declared.kit_parts.KitParts.{KitParts as KitRead};
-ghost use Rattle.press_lint.specs.Slips.{slips as slips_of};
-ghost use Rattle.press_program.specs.KitFiles.{IsKitOf, MeetsFault, kit_line, slip_front};
+ghost use Rattle.std.specs.Prelude.{◌≡◌, IfErr, IfOk, map, string_bytes};
+ghost use Rattle.press_lint.specs.Files.{GivesSlips};
+ghost use Rattle.press_lint.specs.Joints.{files_of, read_together};
+ghost use Rattle.press_program.specs.KitFiles.{AreNamed, MeetsAlone, MeetsFault, kit_line, slip_front};
 ghost use Rattle.press_program.specs.declared.kitting.KitFault.TheVariants.{NoMemory};
 
 use press_kit::FILE_LIMIT;
-use press_lint::{LintFault, lint};
+use press_lint::{FilesFault, NamedFile, lint_files};
 use press_text::{ReadLimitedFault, read_limited};
 use std::alloc::{AllocError, Global};
 use std::rt::Files;
@@ -16,10 +16,10 @@ use thiserror::Error;
 
 /// The kit that a run plays with.
 #[derive(Debug, Drop)]
-pub enum Chosen {
+pub enum Chosen<'f> {
     Demonstration,
-    /// That of a kit file with these bytes.
-    OfFile(Vec<u8>),
+    /// That of these kit files, in their order.
+    OfFiles(Vec<NamedFile<'f>>),
 }
 
 /// Why a kit file can't be used.
@@ -45,7 +45,7 @@ impl From<AllocError> for KitFault {
 
 // The bytes of a file by its name. One that can't be opened counts as one that can't be read.
 fn bytes_of<Rt: AllocGlobal + Files>(rt: &Rt, file: &str) -> Result<Vec<u8>, KitFault>
-    ensures { IfErr result (λ f. MeetsFault f) }
+    ensures { IfErr result (λ f. MeetsAlone f) }
 {
     let mut reader = match fs::open(rt, file) {
         Ok(reader) => reader,
@@ -60,37 +60,75 @@ fn bytes_of<Rt: AllocGlobal + Files>(rt: &Rt, file: &str) -> Result<Vec<u8>, Kit
     }
 }
 
-/// A kit file that can be used.
+/// Why kit files can't be used, with the file that this is about.
 #[derive(Debug, Drop)]
-pub struct ReadKit {
-    pub bytes: Vec<u8>,
-    /// A line for each slip in it.
+pub struct Unusable<'f> {
+    pub file: &'f str,
+    pub fault: KitFault,
+}
+
+// The bytes of files by their names.
+fn read_all<'f, Rt: AllocGlobal + Files>(
+    rt: &Rt,
+    names: &[&'f str],
+) -> Result<Vec<NamedFile<'f>>, Unusable<'f>>
+    ensures files { IfOk result (λ files. AreNamed (map (λ n. n.now) names.now)
+        (files_of files.items)) }
+    ensures fault { IfErr result (λ u. MeetsFault (map (λ n. n.now) names.now)
+        u.file.now u.fault) }
+{
+    let mut files = Vec::new(rt.alloc());
+    for i in 0..names.len() {
+        let name = names[i];
+        let bytes = match bytes_of(rt, name) {
+            Ok(bytes) => bytes,
+            Err(fault) => return Err(Unusable { file: name, fault }),
+        };
+        if files.push(NamedFile { name, bytes }).is_err() {
+            return Err(Unusable {
+                file: name,
+                fault: KitFault::NoMemory,
+            });
+        }
+    }
+    Ok(files)
+}
+
+/// Kit files that can be used.
+#[derive(Debug, Drop)]
+pub struct ReadKits<'f> {
+    pub files: Vec<NamedFile<'f>>,
+    /// A line for each slip in them.
     pub slips: String,
 }
 
-// The slips in a kit file's bytes.
-fn slips_in(alloc: Global, file: &str, bytes: &[u8]) -> Result<String, KitFault>
-    ensures kit { IfOk result (λ slips. (kit : KitRead) × IsKitOf bytes.now kit
-        × (string_bytes slips ≡ slips_of (slip_front file.now) kit [])) }
-    ensures fault { IfErr result (λ f. MeetsFault f) }
+/// The kit files of these names.
+pub fn read_kits<'f, Rt: AllocGlobal + Files>(
+    rt: &Rt,
+    names: &[&'f str],
+) -> Result<ReadKits<'f>, Unusable<'f>>
+    ensures names { IfOk result (λ read. AreNamed (map (λ n. n.now) names.now)
+        (files_of read.files.items)) }
+    ensures slips { IfOk result (λ read. GivesSlips slip_front
+        (read_together (files_of read.files.items)) (string_bytes read.slips)) }
+    ensures fault { IfErr result (λ u. MeetsFault (map (λ n. n.now) names.now)
+        u.file.now u.fault) }
 {
-    let front = format!(in alloc; "press: warning in {file}: ")?;
-    match lint(alloc, front.as_str(), bytes) {
-        Ok(linted) => Ok(linted.slips),
-        Err(LintFault::NoMemory) => Err(KitFault::NoMemory),
-        Err(LintFault::Refused { number, text }) => Err(KitFault::Refused { number, text }),
+    let files = match read_all(rt, names) {
+        Ok(files) => files,
+        Err(unusable) => return Err(unusable),
+    };
+    match lint_files(rt.alloc(), "press: warning in ", &files) {
+        Ok(slips) => Ok(ReadKits { files, slips }),
+        Err(FilesFault::NoMemory) => Err(Unusable {
+            file: "",
+            fault: KitFault::NoMemory,
+        }),
+        Err(FilesFault::Refused { file, number, text }) => Err(Unusable {
+            file,
+            fault: KitFault::Refused { number, text },
+        }),
     }
-}
-
-/// The kit file of that name.
-pub fn read_kit<Rt: AllocGlobal + Files>(rt: &Rt, file: &str) -> Result<ReadKit, KitFault>
-    ensures kit { IfOk result (λ read. (kit : KitRead) × IsKitOf read.bytes.items kit
-        × (string_bytes read.slips ≡ slips_of (slip_front file.now) kit [])) }
-    ensures fault { IfErr result (λ f. MeetsFault f) }
-{
-    let bytes = bytes_of(rt, file)?;
-    let slips = slips_in(rt.alloc(), file, &bytes)?;
-    Ok(ReadKit { bytes, slips })
 }
 
 /// The line that reports a kit file's fault.

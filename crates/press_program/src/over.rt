@@ -2,7 +2,8 @@
 
 ghost use Rattle.std.specs.Prelude.{◌≡◌, ◌+◌, None, false, IfOk, IfErr};
 ghost use Rattle.std.specs.Io.KnownBytes.{Keeps};
-ghost use Rattle.press_kit.specs.KitFile.{file_limit, kit_in};
+ghost use Rattle.press_kit.specs.KitFile.{file_limit};
+ghost use Rattle.press_lint.specs.Joints.{files_of, read_together};
 ghost use Rattle.press_text.specs.Streams.{TakesAtMost};
 ghost use Rattle.press_program.specs.Endings as spec;
 ghost use Rattle.press_program.specs.Endings.{known_of, EndsTask, Shows};
@@ -18,7 +19,7 @@ use crate::wanted::Wanted;
 use crate::{demonstration_kit, filed_kit};
 use press_callbacks::{BoxedTurns, CallIn, Kit, Stored, script_turn};
 use press_demonstration::{grow, grow_turn, parts};
-use press_kit::read_kit_file;
+use press_lint::{Joint, NamedFile, read_files};
 use press_text::Copied;
 use press_world::ReplayFault;
 use std::io::{Read, Write};
@@ -38,12 +39,12 @@ fn kits_for(task: &Task) -> usize
 
 /// A program that runs over a kit.
 #[derive(Drop)]
-pub(crate) struct Over<'r, Rt> {
+pub(crate) struct Over<'r, 'f, Rt> {
     pub rt: &'r Rt,
-    pub kit: &'r Chosen,
+    pub kit: &'r Chosen<'f>,
 }
 
-impl<Rt: AllocGlobal + Net> Over<'_, Rt> {
+impl<Rt: AllocGlobal + Net> Over<'_, '_, Rt> {
     // The end for what is asked of a file, over demonstration kits.
     fn demonstrated<R: Read, W: Write>(
         &self,
@@ -69,17 +70,18 @@ impl<Rt: AllocGlobal + Net> Over<'_, Rt> {
         Ok(end_over(self.rt, kits, task, reader, writer))
     }
 
-    // The same over kits of a kit file with these bytes.
+    // The same over kits of these kit files.
     fn filed<R: Read, W: Write>(
         &self,
-        bytes: &[u8],
+        files: &[NamedFile<'_>],
         task: &Task,
         reader: &mut R,
         writer: &mut W,
     ) -> Result<Ending, ReplayFault>
         ensures took { TakesAtMost (R.remaining reader.old)
             (R.remaining reader.new) (file_limit + 1) }
-        ensures ends { IfOk result (λ end. EndsTask (view_where (kit_in bytes.now)) task.now
+        ensures ends { IfOk result (λ end. EndsTask
+            (view_where (read_together (files_of files.now))) task.now
             (R.remaining reader.old) (W.contents writer.old) (W.contents writer.new) end) }
         ensures err { IfErr result (λ e. (e ≡ ReplayFault.NoMemory)
             × (W.contents writer.new ≡ W.contents writer.old)) }
@@ -87,7 +89,7 @@ impl<Rt: AllocGlobal + Net> Over<'_, Rt> {
         let alloc = self.rt.alloc();
         let mut kits: Vec<Kit> = Vec::new(alloc);
         for _i in 0..kits_for(task) {
-            let Ok(parts) = read_kit_file(alloc, bytes) else {
+            let Ok(Joint { parts, shares: _ }) = read_files(alloc, files) else {
                 return Err(ReplayFault::NoMemory);
             };
             match filed_kit!(alloc, parts) {
@@ -113,7 +115,7 @@ impl<Rt: AllocGlobal + Net> Over<'_, Rt> {
     {
         match self.kit {
             Chosen::Demonstration => self.demonstrated(task, reader, writer),
-            Chosen::OfFile(bytes) => self.filed(bytes, task, reader, writer),
+            Chosen::OfFiles(files) => self.filed(files, task, reader, writer),
         }
     }
 
@@ -132,7 +134,7 @@ impl<Rt: AllocGlobal + Net> Over<'_, Rt> {
     }
 }
 
-impl<Rt: AllocGlobal + Files + Net> Over<'_, Rt> {
+impl<Rt: AllocGlobal + Files + Net> Over<'_, '_, Rt> {
     // The end of a run on a file by its name. One that can't be opened counts as one that can't be read.
     fn shown_of<W: Write>(&self, wanted: &Wanted<'_>, writer: &mut W) -> Ending
         ensures { EndsTask (view_chosen self.now.kit.now) wanted.now.task None

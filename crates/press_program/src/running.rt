@@ -1,13 +1,13 @@
 //! One run of the program over any reader and writers.
 
-ghost use Rattle.std.specs.Prelude.{◌≡◌, ◌+◌, map, option_map, string_bytes};
+ghost use Rattle.std.specs.Prelude.{◌+◌, map, option_map, string_bytes};
 ghost use Rattle.press_kit.specs.KitFile.{file_limit};
 ghost use Rattle.press_text.specs.Streams.{TakesAtMost};
 ghost use Rattle.press_program.specs.Endings.{ReadsAsked, ReadsFor, RefusesWords, Runs, RunsOver, any_server};
 ghost use Rattle.press_program.specs.Words.{asked_by, asked_of, job_of};
 
 use crate::hosting::Hosting;
-use crate::kitting::{Chosen, ReadKit, read_kit};
+use crate::kitting::{Chosen, ReadKits, Unusable, read_kits};
 use crate::over::Over;
 use crate::serves::{Serves, Sockets};
 use crate::telling::{fail, refuse, refuse_kit, tell};
@@ -29,24 +29,24 @@ impl Asked<'_> {
             (R.remaining reader.new) (file_limit + 1) }
         ensures reads { ReadsFor (job_of self.now.job) (R.remaining reader.old)
             (R.remaining reader.new) }
-        ensures runs { RunsOver S.served (option_map (λ kit. kit.now) self.now.kit)
+        ensures runs { RunsOver S.served (map (λ kit. kit.now) self.now.kits.items)
             (job_of self.now.job) (R.remaining reader.old) result (W.contents writer.old) (W.contents writer.new)
             (E.contents error.old) (E.contents error.new) }
     {
         let Program { rt, serves } = *program;
-        let Some(file) = self.kit else {
+        if self.kits.is_empty() {
             let kit = Chosen::Demonstration;
             let over = Over { rt, kit: &kit };
             return Hosting { over, serves }.does(&self.job, reader, writer, error);
-        };
-        match read_kit(rt, file) {
-            Ok(ReadKit { bytes, slips }) => {
+        }
+        match read_kits(rt, &self.kits) {
+            Ok(ReadKits { files, slips }) => {
                 tell(error, slips.as_bytes());
-                let kit = Chosen::OfFile(bytes);
+                let kit = Chosen::OfFiles(files);
                 let over = Over { rt, kit: &kit };
                 Hosting { over, serves }.does(&self.job, reader, writer, error)
             }
-            Err(fault) => refuse_kit(rt.alloc(), file, &fault, error),
+            Err(Unusable { file, fault }) => refuse_kit(rt.alloc(), file, &fault, error),
         }
     }
 }
@@ -121,10 +121,10 @@ impl<S: Serves> Program<'_, S> {
 /// --id N --peers HOST:PORT,.. --store FILE [--tick N]` one of a cluster of up to seven at its own address among these;
 /// with `--turns N` for N connections, and then it ends with status 0; with `--editor FILE` that file is shown at
 /// `/editor`, and with `--ahead N` no command is taken that is more than N seconds ahead of the machine's clock. A member
-/// whose store fails ends with its fault, and with `--stay` answers 503. With
-/// `--kit FILE` each of them plays the callbacks and plugins of a kit file in place of the demonstration kit; what is
-/// wrong with that file is reported with its place, and what in it is surely a slip is a line `press: warning in FILE:
-/// ..` before anything else. A fault is a line `press: fault N` on standard error, and status 2; so is `press: usage`
+/// whose store fails ends with its fault, and with `--stay` answers 503. With `--status` a server tells how it stands. With
+/// `--kit FILE` each of them plays the callbacks and plugins of a kit file in place of the demonstration kit, and with
+/// several of these those of all the files together; what is wrong is reported with the file and the place in it, and
+/// what is surely a slip is a line `press: warning in FILE: ..` before anything else. A fault is a line `press: fault N` on standard error, and status 2; so is `press: usage`
 /// for any other arguments, and then nothing is read.
 ///
 /// A server runs over the sockets and files of the operating system (`Sockets`). Of it `Program::run` says over what it

@@ -9,17 +9,27 @@ pub struct Wanted<'a> {
     pub task: Task,
 }
 
+/// A file whose commands go to members.
+#[derive(Debug, Drop)]
+pub struct Mailing<'a> {
+    /// The file's name, or `-` for the standard input.
+    pub file: &'a str,
+    /// The members' addresses or names, with commas between.
+    pub members: &'a str,
+}
+
 /// What is to be done.
 #[derive(Debug, Drop)]
 pub enum Job<'a> {
     OfFile(Wanted<'a>),
     Serve(Setup<'a>),
+    Send(Mailing<'a>),
 }
 
 /// What the arguments after the program's name ask for.
 #[derive(Debug, Drop)]
 pub struct Asked<'a> {
-    /// The name of a kit file; without one it is the demonstration kit.
-    pub kit: Option<&'a str>,
+    /// The names of kit files; without any it is the demonstration kit.
+    pub kits: Vec<&'a str>,
     pub job: Job<'a>,
 }

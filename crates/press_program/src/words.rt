@@ -7,7 +7,7 @@ ghost use Rattle.clap.specs.Values.{kind_of};
 ghost use Rattle.press_program.specs.Words as spec;
 
 use crate::task::Task;
-use crate::wanted::{Asked, Job, Wanted};
+use crate::wanted::{Asked, Job, Mailing, Wanted};
 use clap::error::ErrorKind;
 use clap::{Arg, ArgAction, ArgMatches, Command, Error};
 use press_page::Target;
@@ -15,14 +15,14 @@ use press_server::{Place, Setup};
 use press_text::dec_u64;
 use std::alloc::{AllocError, Global};
 
-// The option for a kit file, after the other arguments of a command.
+// The option for kit files, after the other arguments of a command.
 fn with_kit<'a>(alloc: Global, command: Command<'a>) -> Result<Command<'a>, AllocError>
     requires local { (out-Command command).has_globals ≡ false }
     ensures app { IfOk result (λ c. app_of c ≡ spec.with_kit (app_of command.entry)) }
     ensures local { IfOk result (λ c. (out-Command c).has_globals ≡ false) }
 {
     let kit = Arg::new(alloc, "kit").long("kit");
-    let with = command.arg(kit)?;
+    let with = command.arg(kit.action(ArgAction::Append))?;
     Ok(with)
 }
 
@@ -84,7 +84,9 @@ fn server_words<'a>(alloc: Global) -> Result<Command<'a>, AllocError>
 {
     let valued = valued_words(alloc)?;
     let stay = Arg::new(alloc, "stay").long("stay");
-    let serve = valued.arg(stay.action(ArgAction::SetTrue))?;
+    let one = valued.arg(stay.action(ArgAction::SetTrue))?;
+    let status = Arg::new(alloc, "status").long("status");
+    let serve = one.arg(status.action(ArgAction::SetTrue))?;
     Ok(serve)
 }
 
@@ -97,17 +99,37 @@ fn serve_words<'a>(alloc: Global) -> Result<Command<'a>, AllocError>
     Ok(whole)
 }
 
+fn send_words<'a>(alloc: Global) -> Result<Command<'a>, AllocError>
+    ensures app { IfOk result (λ c. app_of c ≡ spec.send_words) }
+    ensures local { IfOk result (λ c. (out-Command c).has_globals ≡ false) }
+{
+    let file = Arg::new(alloc, "FILE").required(true);
+    let members = Arg::new(alloc, "MEMBERS").required(true);
+    let send = Command::new(alloc, "send")
+        .disable_help_flag(true)
+        .arg(file)?
+        .arg(members)?;
+    Ok(send)
+}
+
+// The program without its commands.
+fn bare_words<'a>(alloc: Global) -> Command<'a>
+    ensures { app_of result ≡ spec.bare }
+{
+    Command::new(alloc, "press")
+        .no_binary_name(true)
+        .disable_help_flag(true)
+        .disable_help_subcommand(true)
+        .subcommand_required(true)
+}
+
 // What the arguments ask for, as `clap` reads them.
 fn parsed<'a>(alloc: Global, words: &'a [String]) -> Result<ArgMatches<'a>, Error>
     ensures kinds { FailsBy (fault_of spec.program (map string_bytes words.entry.now)) result }
     ensures matches { IfOk result (λ m. subcommand_rows_of m
         ≡ subcommand_of spec.program (map string_bytes words.entry.now)) }
 {
-    let bare = Command::new(alloc, "press")
-        .no_binary_name(true)
-        .disable_help_flag(true)
-        .disable_help_subcommand(true)
-        .subcommand_required(true);
+    let bare = bare_words(alloc);
     let page = page_words(alloc)?;
     let one = bare.subcommand(page)?;
     let replay = file_words(alloc, "replay")?;
@@ -115,7 +137,9 @@ fn parsed<'a>(alloc: Global, words: &'a [String]) -> Result<ArgMatches<'a>, Erro
     let looped = file_words(alloc, "loop")?;
     let three = two.subcommand(looped)?;
     let serve = serve_words(alloc)?;
-    let program = three.subcommand(serve)?;
+    let four = three.subcommand(serve)?;
+    let send = send_words(alloc)?;
+    let program = four.subcommand(send)?;
     program.try_get_matches_from(words)
 }
 
@@ -255,8 +279,19 @@ fn server_in<'a>(inside: &ArgMatches<'a>) -> Option<Setup<'a>>
         editor: inside.get_str("editor"),
         ahead,
         stay: is_set(inside.get_str("stay")),
-        kit: 0,
+        status: is_set(inside.get_str("status")),
+        kit: None,
     })
+}
+
+#[tactic(auto, using(crate::proofs::FirstValue::first_is))]
+fn mailing_in<'a>(inside: &ArgMatches<'a>) -> Option<Mailing<'a>>
+    ensures { option_map (λ m. spec.mailing_of m) result
+        ≡ spec.mailing_in (rows_of (found_of inside.now)) }
+{
+    let file = inside.get_str("FILE")?;
+    let members = inside.get_str("MEMBERS")?;
+    Some(Mailing { file, members })
 }
 
 fn job_in<'a>(
@@ -276,12 +311,25 @@ fn job_in<'a>(
         Ok(file_in(inside, Task::Loop).map(Job::OfFile))
     } else if name == "serve" {
         Ok(server_in(inside).map(Job::Serve))
+    } else if name == "send" {
+        Ok(mailing_in(inside).map(Job::Send))
     } else {
         Ok(None)
     }
 }
 
-#[tactic(auto, using(crate::proofs::FirstValue::first_is))]
+// The names of the kit files, in their order.
+#[tactic(auto, using(crate::proofs::FirstValue::all_are))]
+fn kits_in<'a>(alloc: Global, inside: &ArgMatches<'a>) -> Result<Vec<&'a str>, AllocError>
+    ensures { IfOk result (λ kits. map (λ kit. kit.now) kits.items
+        ≡ spec.kits_in (rows_of (found_of inside.now))) }
+{
+    match inside.get_strs("kit") {
+        Some(kits) => Vec::from_slice(alloc, kits),
+        None => Ok(Vec::new(alloc)),
+    }
+}
+
 fn asked_in<'a>(
     alloc: Global,
     name: &str,
@@ -291,10 +339,10 @@ fn asked_in<'a>(
         ≡ spec.asked_in name.now (rows_of (found_of inside.now))) }
 {
     match job_in(alloc, name, inside)? {
-        Some(job) => Ok(Some(Asked {
-            kit: inside.get_str("kit"),
-            job,
-        })),
+        Some(job) => {
+            let kits = kits_in(alloc, inside)?;
+            Ok(Some(Asked { kits, job }))
+        }
         None => Ok(None),
     }
 }
@@ -328,7 +376,7 @@ pub fn read_words<'a>(alloc: Global, words: &'a [String]) -> Result<Option<Asked
 {
     if words.is_empty() {
         return Ok(Some(Asked {
-            kit: None,
+            kits: Vec::new(alloc),
             job: Job::OfFile(Wanted {
                 file: "-",
                 task: Task::Page(Target::Post(1)),

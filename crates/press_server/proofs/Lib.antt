@@ -1,5 +1,6 @@
 pub mod Delivering
 pub mod Fronts
+pub mod Mapped
 mod Named
 mod Samples
 pub mod Sorts

@@ -1,9 +1,11 @@
+pub mod Counting
 pub mod Digests
 pub mod Files
 pub mod Going
 pub mod Listening
 pub mod Living
 pub mod Members
+pub mod Metrics
 pub mod Paths
 pub mod Turns
 pub mod Screening

@@ -1,4 +1,4 @@
--- The paths that a member has beside those of a site: which path, by which method (own; paths: the kit's `matchit`).
+-- The paths that a server has beside those of a site: which path, by which method (own; paths: the kit's `matchit`).
 use Rattle.std.specs.Prelude.{ℕ, List, [], bytes_eq, Option, Some, None, Result, Ok, Err, codes, if◌then◌else◌}
 use Rattle.matchit.specs.Rows.{RowsOf}
 use Rattle.matchit.specs.Seek.{first}
@@ -17,11 +17,13 @@ unfoldable pub with_route : List ℕ → Own → RowsOf (RouteOf Own) → RowsOf
 with_route path at routes = with_read (parse_route path) at routes
 
 unfoldable pub table : RowsOf (RouteOf Own)
-table = with_route (codes "/members") own.Members (with_route (codes "/editor") own.Editor (with_route (codes "/ready") own.Ready []))
+table =
+    with_route (codes "/metrics") own.Metrics (with_route (codes "/members") own.Members (with_route (codes "/editor") own.Editor (with_route (codes "/ready") own.Ready [])))
 
 -- the one method of a path
 abbrev pub method_of : Own → List ℕ
 method_of own.Ready = codes "GET"
+method_of own.Metrics = codes "GET"
 method_of own.Editor = codes "GET"
 method_of own.Members = codes "POST"
 

@@ -1,5 +1,5 @@
 -- What a server sees of a request before its node does (own).
-use Rattle.std.specs.Prelude.{◌≡◌, ◌≢◌, ◌⊎◌, ◌+◌, Bool, true, false, bytes_eq, codes, take, min, nat_lt, List, ℕ, Option, None, Some, Result, Ok, Err}
+use Rattle.std.specs.Prelude.{◌≡◌, ◌≢◌, ◌+◌, Bool, false, bytes_eq, codes, take, min, nat_lt, List, ℕ, Option, None, Some, Result, Ok, Err}
 use Rattle.press_http.specs.declared.asked.Asked.{Asked}
 use Rattle.press_http.specs.declared.asked.Asked.TheVariants as asked
 use Rattle.press_http.specs.declared.fault.HttpFault.{HttpFault}
@@ -7,7 +7,7 @@ use Rattle.press_http.specs.declared.fault.HttpFault.TheVariants.{NoMemory}
 use Rattle.std.specs.Io.KnownBytes.{Consumes}
 use Rattle.press_node.specs.Serving.{AsksFor}
 use Rattle.press_server.specs.declared.screen.Sort.{Sort}
-use Rattle.press_server.specs.declared.screen.Sort.TheVariants.{Ready, Editor, Peer, Command, Page, Other}
+use Rattle.press_server.specs.declared.screen.Sort.TheVariants.{Peer, Command, Page, Other}
 
 abbrev pub sort_named : Asked → Sort
 sort_named (asked.Peer message) = Peer
@@ -19,22 +19,15 @@ abbrev pub sort_by : Result Asked HttpFault → Sort
 sort_by (Ok what) = sort_named what
 sort_by (Err fault) = Other
 
--- the request line begins with one of the server's own paths
-abbrev pub asks_ready : List ℕ → Bool
-asks_ready bytes = bytes_eq (take 11 bytes) (codes "GET /ready ")
-
-abbrev pub asks_editor : List ℕ → Bool
-asks_editor bytes = bytes_eq (take 12 bytes) (codes "GET /editor ")
-
+-- the target is of the desk
 abbrev pub is_of_desk : List ℕ → Bool
 is_of_desk target = bytes_eq (take 6 target) (codes "/desk/")
 
--- the bytes ask for one of the server's own paths, or it is the sort of what they ask for, and not of want of memory
+-- it is the sort of what the bytes ask for, and not of want of memory
 abbrev pub IsOfSort : List ℕ → Sort → Type 0
 IsOfSort bytes sort =
-    ((sort ≡ Ready) × (asks_ready bytes ≡ true)) ⊎ ((sort ≡ Editor) × (asks_editor bytes ≡ true))
-    ⊎ ((seen : List ℕ) × (left : Option (List ℕ)) × Consumes (Some bytes) left seen × (meant : Result Asked HttpFault) × AsksFor seen left meant
-    × (meant ≢ Err NoMemory) × (sort ≡ sort_by meant))
+    (seen : List ℕ) × (left : Option (List ℕ)) × Consumes (Some bytes) left seen × (meant : Result Asked HttpFault) × AsksFor seen left meant
+    × (meant ≢ Err NoMemory) × (sort ≡ sort_by meant)
 
 -- a time is more seconds ahead than an operator allows
 abbrev pub is_ahead : Option ℕ → ℕ → ℕ → Bool

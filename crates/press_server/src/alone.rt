@@ -1,15 +1,23 @@
 //! A node by itself behind a server: it has nobody to call.
 
+ghost use Rattle.std.specs.Prelude.{◌≡◌, not};
+ghost use Rattle.press_node.specs.Nodes.{state_of};
+ghost use Rattle.press_node.specs.States.{is_down};
 ghost use Rattle.press_server.specs.Living.{NodeLives};
 
+use crate::counts::Counts;
+use crate::metrics::{Metrics, show_metrics};
+use crate::paths::{Own, Paths};
 use crate::replies::{refuse, tell_desk};
-use crate::screen::{Screen, Sort, is_of_desk, not_found, refuse_form, refuse_without_memory};
+use crate::screen::{
+    Screen, Sort, Standing, is_of_desk, not_found, refuse_form, refuse_without_memory, show_ready,
+};
 use crate::turn::serve_turn;
 use press_acceptor::PromiseStore;
-use press_http::{HttpFault, read_request};
-use press_net::{Answers, Errand, Outgoing, Time, words_of};
+use press_http::{HttpFault, Request, read_request};
+use press_net::{Answers, Errand, Outgoing, Time, Traffic, words_of};
 use press_node::Node;
-use std::alloc::Global;
+use std::alloc::{AllocError, Global};
 use std::net::{IpAddr, SocketAddr};
 
 /// A node by itself behind a server.
@@ -18,6 +26,9 @@ pub struct Alone<'s, S: PromiseStore> {
     addr: SocketAddr,
     node: Node<S>,
     screen: &'s Screen,
+    paths: Paths,
+    counts: Counts,
+    traffic: Traffic,
     time: Time,
 }
 
@@ -28,39 +39,128 @@ impl<S: PromiseStore + Drop> Drop for Alone<'_, S> {
             addr: _,
             node: _,
             screen: _,
+            paths: _,
+            counts: _,
+            traffic: _,
             time: _,
         } = self;
     }
 }
 
-impl<'s, S: PromiseStore> Alone<'s, S> {
+impl<'s, S: PromiseStore + Drop> Alone<'s, S> {
     /// The node at an address, with what its operator asked for.
-    pub fn new(alloc: Global, addr: SocketAddr, node: Node<S>, screen: &'s Screen) -> Alone<'s, S> {
+    pub fn new(
+        alloc: Global,
+        addr: SocketAddr,
+        node: Node<S>,
+        screen: &'s Screen,
+    ) -> Result<Alone<'s, S>, AllocError> {
+        let paths = Paths::new(alloc)?;
+        let counts = Counts::new();
+        let traffic = Traffic {
+            connections: 0,
+            lost: 0,
+        };
         let time = Time {
             millis: 0,
             seconds: 0,
         };
-        Alone {
+        Ok(Alone {
             alloc,
             addr,
             node,
             screen,
+            paths,
+            counts,
+            traffic,
             time,
-        }
+        })
     }
 }
 
 impl<S: PromiseStore> Alone<'_, S> {
-    // What an editor asks of the desk.
-    fn reply_to_desk(&self, request: &[u8], told: &mut Vec<u8>) -> Result<u16, HttpFault> {
-        let mut rest = request;
-        let request = match read_request(self.alloc, &mut rest) {
-            Ok(request) => request,
-            Err(fault) => return refuse(fault, told),
+    // It has caught up before it listens.
+    fn is_ready(&self) -> bool
+        ensures { result ≡ not (is_down (state_of self.now.node)) }
+    {
+        !self.node.is_down()
+    }
+
+    // Its own vote is a majority, so all that it knows to be chosen it has applied.
+    fn show_ready(&self, told: &mut Vec<u8>) -> Result<u16, HttpFault> {
+        let applied = self.node.applied();
+        let standing = Standing {
+            is_ready: self.is_ready(),
+            applied,
+            chosen: applied,
+            near: &[1],
+            foreign: &[],
         };
-        match self.screen.desk_asked(self.alloc, &request) {
-            Some(asked) => tell_desk(self.alloc, &self.node, asked, told),
-            None => not_found(told),
+        show_ready(self.alloc, standing, told)
+    }
+
+    fn show_metrics(&self, told: &mut Vec<u8>) -> Result<u16, HttpFault> {
+        let metrics = Metrics {
+            applied: self.node.applied(),
+            is_down: self.node.is_down(),
+            is_waiting: self.node.is_waiting(),
+            among: None,
+            saves: self.screen.saves(),
+            traffic: self.traffic,
+            counts: self.counts.all(),
+        };
+        show_metrics(self.alloc, &metrics, told)
+    }
+
+    // One of its own paths, or of the desk.
+    fn reply_to_path(
+        &self,
+        own: Option<Own>,
+        request: &Request,
+        told: &mut Vec<u8>,
+    ) -> Result<u16, HttpFault> {
+        match own {
+            Some(Own::Ready) => self.show_ready(told),
+            Some(Own::Metrics) => self.show_metrics(told),
+            Some(Own::Editor) => self.screen.show_editor(self.alloc, told),
+            Some(Own::Members) | None => match self.screen.desk_asked(self.alloc, request) {
+                Some(asked) => tell_desk(self.alloc, &self.node, asked, told),
+                None => not_found(told),
+            },
+        }
+    }
+
+    // The request is read whole first.
+    fn reply_itself(
+        &self,
+        own: Option<Own>,
+        request: &[u8],
+        told: &mut Vec<u8>,
+    ) -> Result<u16, HttpFault> {
+        let mut rest = request;
+        match read_request(self.alloc, &mut rest) {
+            Ok(request) => self.reply_to_path(own, &request, told),
+            Err(fault) => refuse(fault, told),
+        }
+    }
+
+    // A path of a site: a command that is too far ahead is refused.
+    #[tactic(auto, using(crate::specs::Living::stays))]
+    fn reply_to_site(
+        &mut self,
+        method: &str,
+        request: &[u8],
+        told: &mut Vec<u8>,
+    ) -> Result<u16, HttpFault>
+        requires always { Unit {0} }
+        ensures { NodeLives S.seen self.old.node self.new.node }
+    {
+        match self.screen.sort_of(self.alloc, method, request)? {
+            Sort::Command(at) if self.screen.is_ahead(at, self.time.seconds) => refuse_form(told),
+            _ => {
+                let mut rest = request;
+                serve_turn(self.alloc, &mut self.node, &mut rest, told)
+            }
         }
     }
 
@@ -69,17 +169,13 @@ impl<S: PromiseStore> Alone<'_, S> {
         requires always { Unit {0} }
         ensures { NodeLives S.seen self.old.node self.new.node }
     {
-        let (_, target) = words_of(request);
-        if self.screen.has_editor() && is_of_desk(target) {
-            return self.reply_to_desk(request, told);
-        }
-        match self.screen.sort_of(self.alloc, request)? {
-            Sort::Editor if self.screen.has_editor() => self.screen.show_editor(self.alloc, told),
-            Sort::Command(at) if self.screen.is_ahead(at, self.time.seconds) => refuse_form(told),
-            _ => {
-                let mut rest = request;
-                serve_turn(self.alloc, &mut self.node, &mut rest, told)
+        let (method, target) = words_of(request);
+        match self.paths.at(method, target) {
+            Some(own) if self.screen.has(own) => self.reply_itself(Some(own), request, told),
+            _ if self.screen.has_editor() && is_of_desk(target) => {
+                self.reply_itself(None, request, told)
             }
+            _ => self.reply_to_site(method, request, told),
         }
     }
 }
@@ -111,10 +207,12 @@ impl<S: PromiseStore> Answers for Alone<'_, S> {
         requires always { Unit {0} }
         ensures { NodeLives S.seen self.old.node self.new.node }
     {
-        match self.reply(request, told) {
+        let replied = match self.reply(request, told) {
             Err(HttpFault::NoMemory) => refuse_without_memory(told),
             replied => replied,
-        }
+        };
+        self.counts.note(&replied);
+        replied
     }
 
     #[tactic(auto, using(crate::specs::Living::stays))]
@@ -156,6 +254,11 @@ impl<S: PromiseStore> Answers for Alone<'_, S> {
         ensures { NodeLives S.seen self.old.node self.new.node }
     {
         self.time = time;
+    }
+
+    #[tactic(auto, using(crate::specs::Living::stays))]
+    fn see(&mut self, traffic: Traffic) {
+        self.traffic = traffic;
     }
 
     ghost rests = { λ a. stays a.node };

@@ -7,8 +7,10 @@ ghost use Rattle.press_server.specs.Members.{is_other_at};
 ghost use Rattle.press_server.specs.Screening.{is_ahead};
 
 use crate::carrying::{batch_by, body_in, request_of, tell_batch};
+use crate::counts::Counts;
 use crate::foreign::ForeignLines;
 use crate::lanes::{Lanes, Parcel, Sender};
+use crate::metrics::{Among, Metrics, show_metrics};
 use crate::paths::{Own, Paths};
 use crate::peers::{Peers, member_at, place_of};
 use crate::replies::{queued, refuse, refuse_by, taken, tell_answer, tell_desk};
@@ -17,11 +19,10 @@ use crate::screen::{
 };
 use press_acceptor::{PromiseStore, StoreFault};
 use press_batch::{Batch, BatchFault, Report, decode_batch};
-use press_http::{Asked, HttpFault, Routes, read_request};
+use press_http::{Asked, DeskRequest, HttpFault, Routes, read_request};
 use press_member::{Answer, Input, Member, Outputs};
-use press_net::{Answers, Errand, Outgoing, Time, words_of};
+use press_net::{Answers, Errand, Outgoing, Time, Traffic, words_of};
 use press_node::NodeFault;
-use press_page::Desk;
 use press_wire::{Message, Node as Id};
 use std::alloc::{AllocError, Global};
 use std::net::{IpAddr, Ipv4Addr, SocketAddr};
@@ -45,6 +46,8 @@ pub struct Clustered<'s, S: PromiseStore> {
     routes: Routes,
     lanes: Lanes,
     foreign: ForeignLines,
+    counts: Counts,
+    traffic: Traffic,
     time: Time,
     stays: bool,
 }
@@ -60,6 +63,8 @@ impl<S: PromiseStore + Drop> Drop for Clustered<'_, S> {
             routes: _,
             lanes: _,
             foreign: _,
+            counts: _,
+            traffic: _,
             time: _,
             stays: _,
         } = self;
@@ -80,6 +85,10 @@ impl<'s, S: PromiseStore + Drop> Clustered<'s, S> {
             screen,
             stays,
         } = party;
+        let traffic = Traffic {
+            connections: 0,
+            lost: 0,
+        };
         let time = Time {
             millis: 0,
             seconds: 0,
@@ -97,6 +106,8 @@ impl<'s, S: PromiseStore + Drop> Clustered<'s, S> {
             routes,
             lanes,
             foreign,
+            counts: Counts::new(),
+            traffic,
             time,
             stays,
         })
@@ -285,19 +296,43 @@ impl<S: PromiseStore> Clustered<'_, S> {
                 foreign.push(number)?;
             }
         }
+        let Report {
+            applied,
+            chosen,
+            ..
+        } = self.member.report();
         let standing = Standing {
             is_ready: self.member.is_ready(),
-            report: self.member.report(),
+            applied,
+            chosen,
             near: &near,
             foreign: &foreign,
         };
         show_ready(self.alloc, standing, told)
     }
 
+    fn show_metrics(&self, told: &mut Vec<u8>) -> Result<u16, HttpFault> {
+        let node = self.member.node();
+        let among = Among {
+            chosen: self.member.chosen(),
+            foreign: self.foreign.count(),
+        };
+        let metrics = Metrics {
+            applied: node.applied(),
+            is_down: node.is_down(),
+            is_waiting: node.is_waiting(),
+            among: Some(among),
+            saves: self.screen.saves(),
+            traffic: self.traffic,
+            counts: self.counts.all(),
+        };
+        show_metrics(self.alloc, &metrics, told)
+    }
+
     // What editors see of the member, once it shows pages.
     fn show_desk(
         &self,
-        asked: Result<Desk, HttpFault>,
+        asked: Result<DeskRequest, HttpFault>,
         told: &mut Vec<u8>,
     ) -> Result<u16, HttpFault> {
         if !self.member.is_open() {
@@ -325,6 +360,7 @@ impl<S: PromiseStore> Clustered<'_, S> {
         };
         match own {
             Some(Own::Ready) => return self.show_ready(told),
+            Some(Own::Metrics) if self.screen.has_status() => return self.show_metrics(told),
             Some(Own::Editor) if self.screen.has_editor() => {
                 return self.screen.show_editor(self.alloc, told);
             }
@@ -413,10 +449,12 @@ impl<S: PromiseStore> Answers for Clustered<'_, S> {
         requires always { Unit {0} }
         ensures { MemberLives S.seen self.old.member self.new.member }
     {
-        match self.reply(from, request, told) {
+        let replied = match self.reply(from, request, told) {
             Err(HttpFault::NoMemory) => refuse_without_memory(told),
             replied => replied,
-        }
+        };
+        self.counts.note(&replied);
+        replied
     }
 
     #[tactic(auto, using(crate::specs::Living::none_comes))]
@@ -480,6 +518,11 @@ impl<S: PromiseStore> Answers for Clustered<'_, S> {
     {
         self.time = time;
         self.note(Input::Time(time.millis));
+    }
+
+    #[tactic(auto, using(crate::specs::Living::none_comes))]
+    fn see(&mut self, traffic: Traffic) {
+        self.traffic = traffic;
     }
 
     ghost rests = { λ a. none_comes (view_of a.member) };

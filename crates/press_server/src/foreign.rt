@@ -1,6 +1,7 @@
 //! The members that count other members, or run another kit: each has a line once it shows that.
 
-ghost use Rattle.std.specs.Prelude.{◌≡◌, ◌&&◌, MatchOption, false, not, slice_get, slice_set};
+ghost use Rattle.std.specs.Prelude.{◌≡◌, ◌&&◌, MatchOption, false, if◌then◌else◌, not, slice_get, slice_set};
+ghost use Rattle.press_server.specs.Counting.{one_more};
 
 use press_acceptor::PromiseStore;
 use press_member::Member;
@@ -10,6 +11,8 @@ use std::alloc::{AllocError, Global};
 #[derive(Drop)]
 pub struct ForeignLines {
     named: Vec<bool>,
+    // How many had a line.
+    count: u64,
 }
 
 impl ForeignLines {
@@ -19,7 +22,24 @@ impl ForeignLines {
         for _ in 0..count {
             named.push(false)?;
         }
-        Ok(ForeignLines { named })
+        Ok(ForeignLines { named, count: 0 })
+    }
+
+    /// How often a member began to be foreign.
+    pub fn count(&self) -> u64
+        ensures { result ≡ self.now.count }
+    {
+        self.count
+    }
+
+    fn note(&mut self, is_news: bool)
+        ensures counts { self.new.count ≡ (if is_news then one_more self.old.count
+            else self.old.count) }
+        ensures same { self.new.named ≡ self.old.named }
+    {
+        if is_news {
+            self.count = self.count.saturating_add(1);
+        }
     }
 
     // Whether the member at a place is to have its line: it is foreign, and wasn't before.
@@ -41,7 +61,9 @@ impl ForeignLines {
     // The place of the next that is to have its line.
     fn next<S: PromiseStore>(&mut self, member: &Member<S>) -> Option<usize> {
         for place in 0..self.named.len() {
-            if self.is_news(place, member.is_foreign(place)) {
+            let is_news = self.is_news(place, member.is_foreign(place));
+            self.note(is_news);
+            if is_news {
                 return Some(place);
             }
         }

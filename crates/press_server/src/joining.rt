@@ -15,6 +15,7 @@ use crate::peers::{Peers, PeersFault};
 use crate::screen::Screen;
 use crate::serve_fault::ServeFault;
 use crate::setup::{Place, Setup};
+use crate::timed::TimedStore;
 use crate::turn::catch_up;
 use press_acceptor::{PromiseStore, StoreFault};
 use press_batch::Digests;
@@ -120,7 +121,7 @@ pub fn seat_of<E: Write>(
     Ok(Some(Seat {
         peers,
         tick,
-        kit: setup.kit,
+        kit: setup.kit.unwrap_or(0),
         stays: setup.stay,
     }))
 }
@@ -249,25 +250,27 @@ impl Seat {
     }
 }
 
-/// Who is to be a member: its place, and what its operator asked for.
+/// Who is to be a member: its place, what its operator asked for, and the clock by which its saves are timed.
 #[derive(Drop)]
 pub struct Joiner<'s> {
+    pub rt: &'s HostRuntime,
     pub seat: Seat,
     pub screen: &'s Screen,
 }
 
 /// The member, over its store.
 pub fn join<'s, D: Alter + Drop>(
-    alloc: Global,
     joiner: Joiner<'s>,
     kit: Kit,
     store: SqlStore<D>,
-) -> Result<Clustered<'s, SqlStore<D>>, ServeFault>
+) -> Result<Clustered<'s, TimedStore<'s, SqlStore<D>>>, ServeFault>
     requires always { Unit {0} }
 {
-    let Joiner { seat, screen } = joiner;
+    let Joiner { rt, seat, screen } = joiner;
+    let alloc = rt.alloc();
     let mut store = store;
     let beginning = seat.beginning(chosen_by(&mut store)?)?;
+    let store = TimedStore::new(rt, screen.tally(), store);
     let member = seat.begin(alloc, kit, store, beginning)?;
     let Seat { peers, stays, .. } = seat;
     let party = Party {

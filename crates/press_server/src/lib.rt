@@ -4,11 +4,13 @@
 mod alone;
 mod carrying;
 mod clustered;
+mod counts;
 mod digest;
 mod files;
 mod foreign;
 mod joining;
 mod lanes;
+mod metrics;
 mod paths;
 mod peers;
 mod replies;
@@ -16,9 +18,10 @@ mod screen;
 mod serve_fault;
 mod serving;
 mod setup;
+mod timed;
 mod turn;
 
-pub use digest::digest_of;
+pub use digest::{behind_file, digest_of};
 pub use serve_fault::ServeFault;
 pub use serving::begin;
 pub use setup::{Place, Setup};

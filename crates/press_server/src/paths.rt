@@ -1,4 +1,4 @@
-//! The paths that a member has beside those of a site, and what each is for.
+//! The paths that a server has beside those of a site, and what each is for.
 
 ghost use Rattle.std.specs.Prelude.{◌≡◌, [], IfOk, OnOk};
 ghost use Rattle.press_server.specs.Paths.{method_of, own_at, table, with_route};
@@ -9,8 +9,10 @@ use std::alloc::{AllocError, Global};
 /// What a path of the program's own is for.
 #[derive(Clone, Copy, Debug, PartialEq, Eq)]
 pub enum Own {
-    /// Whether the member is ready.
+    /// Whether the node is ready.
     Ready,
+    /// The page of numbers for those who watch the server.
+    Metrics,
     /// The page for editors.
     Editor,
     /// That messages of a member be taken.
@@ -23,7 +25,7 @@ impl Own {
         ensures { result.now ≡ method_of self }
     {
         match self {
-            Own::Ready | Own::Editor => "GET",
+            Own::Ready | Own::Metrics | Own::Editor => "GET",
             Own::Members => "POST",
         }
     }
@@ -48,6 +50,7 @@ fn routes(alloc: Global) -> Result<Router<Own>, AllocError>
     add(&mut router, "/ready", Own::Ready)?;
     add(&mut router, "/editor", Own::Editor)?;
     add(&mut router, "/members", Own::Members)?;
+    add(&mut router, "/metrics", Own::Metrics)?;
     Ok(router)
 }
 

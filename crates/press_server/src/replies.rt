@@ -4,10 +4,11 @@ ghost use Rattle.std.specs.Prelude.{◌≡◌};
 ghost use Rattle.press_node.specs.Serving.{queued, taken};
 
 use crate::screen::refuse_for_now;
-use press_http::{HttpFault, write_fault, write_reply};
+use press_http::{DeskRequest, HttpFault, write_fault, write_reply};
+use press_log::show_log;
 use press_member::Answer;
 use press_node::{Node, NodeFault};
-use press_page::{ContentKind, Desk, Reply};
+use press_page::{ContentKind, Reply};
 use press_text::Text;
 use std::alloc::Global;
 
@@ -66,15 +67,20 @@ fn tell(alloc: Global, reply: &Reply, told: &mut Vec<u8>) -> Result<u16, HttpFau
 pub fn tell_desk<S>(
     alloc: Global,
     node: &Node<S>,
-    asked: Result<Desk, HttpFault>,
+    asked: Result<DeskRequest, HttpFault>,
     told: &mut Vec<u8>,
 ) -> Result<u16, HttpFault> {
     match asked {
         Err(fault) => refuse(fault, told),
-        Ok(asked) => match node.show_desk(asked) {
+        Ok(DeskRequest::Show(asked)) => match node.show_desk(asked) {
             Ok(reply) => tell(alloc, &reply, told),
             Err(fault) => refuse_by(fault, told),
         },
+        Ok(DeskRequest::Log { .. }) if node.is_down() => refuse_by(NodeFault::Down, told),
+        Ok(DeskRequest::Log { from }) => {
+            let reply = show_log(alloc, node.values(), from)?;
+            tell(alloc, &reply, told)
+        }
     }
 }
 

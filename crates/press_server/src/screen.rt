@@ -5,14 +5,16 @@ ghost use Rattle.std.specs.Io.KnownBytes.{Appends};
 ghost use Rattle.press_http.specs.Desk.{desk_asked};
 ghost use Rattle.press_http.specs.Meanings.{Refuses};
 ghost use Rattle.press_http.specs.Replies.{fault_bytes};
-ghost use Rattle.press_server.specs.Screening.{IsOfSort, asks_editor, asks_ready, is_ahead, is_of_desk, sort_by, sort_named};
+ghost use Rattle.press_server.specs.Screening.{IsOfSort, is_ahead, is_of_desk, sort_by, sort_named};
 ghost use Rattle.press_text.specs.Gives.{Gives};
 
-use press_batch::Report;
+use crate::paths::Own;
+use crate::timed::{Saves, Tally};
 use press_http::{
-    Asked, DeskRoutes, HttpFault, Request, read_request, route, write_fault, write_reply,
+    Asked, DeskRequest, DeskRoutes, HttpFault, Request, read_request, route, write_fault,
+    write_reply,
 };
-use press_page::{ContentKind, Desk, Reply};
+use press_page::{ContentKind, Reply};
 use press_text::{Text, write_once};
 use std::alloc::{AllocError, Global};
 
@@ -26,10 +28,6 @@ pub fn is_of_desk(target: &str) -> bool
 /// What a request asks for.
 #[derive(Clone, Copy, PartialEq, Eq)]
 pub enum Sort {
-    /// Whether the node is ready.
-    Ready,
-    /// The page for editors.
-    Editor,
     /// That a message of a peer be taken.
     Peer,
     /// That a command be taken, with its time in seconds.
@@ -61,18 +59,6 @@ fn sort_refused(fault: HttpFault) -> Result<Sort, HttpFault>
     }
 }
 
-fn asks_ready(bytes: &[u8]) -> bool
-    ensures { result ≡ asks_ready bytes.now }
-{
-    bytes.starts_with(b"GET /ready ")
-}
-
-fn asks_editor(bytes: &[u8]) -> bool
-    ensures { result ≡ asks_editor bytes.now }
-{
-    bytes.starts_with(b"GET /editor ")
-}
-
 /// What a request asks for. Its only fault is that there is no memory to see it.
 pub fn sort_of(alloc: Global, bytes: &[u8]) -> Result<Sort, HttpFault>
     ensures { MatchResult result (IsOfSort bytes.now) (λ e. e ≡ HttpFault.NoMemory) }
@@ -82,12 +68,6 @@ pub fn sort_of(alloc: Global, bytes: &[u8]) -> Result<Sort, HttpFault>
         Ok(request) => request,
         Err(fault) => return sort_refused(fault),
     };
-    if asks_ready(bytes) {
-        return Ok(Sort::Ready);
-    }
-    if asks_editor(bytes) {
-        return Ok(Sort::Editor);
-    }
     match route(alloc, &request) {
         Ok(asked) => Ok(sort_of_asked(&asked)),
         Err(fault) => sort_refused(fault),
@@ -101,10 +81,12 @@ struct Editors {
     routes: DeskRoutes,
 }
 
-/// What an operator asked for: a page for editors, and how far ahead of the machine's clock a command may be, in seconds.
+/// What an operator asked for: a page for editors, how far ahead of the machine's clock a command may be, in seconds,
+/// and that the server tells how it stands.
 pub struct Screen {
     editors: Option<Editors>,
     ahead: Option<u64>,
+    tally: Option<Tally>,
 }
 
 impl Drop for Screen {
@@ -112,16 +94,18 @@ impl Drop for Screen {
         let Screen {
             editors: _,
             ahead: _,
+            tally: _,
         } = self;
     }
 }
 
 impl Screen {
-    /// The page for editors, and the most seconds that a command may be ahead; None asks for none.
+    /// The page for editors, the most seconds that a command may be ahead, and what saves are noted in; None asks for none.
     pub fn new(
         alloc: Global,
         editor: Option<Text>,
         ahead: Option<u64>,
+        tally: Option<Tally>,
     ) -> Result<Screen, AllocError> {
         let editors = match editor {
             Some(page) => Some(Editors {
@@ -130,15 +114,49 @@ impl Screen {
             }),
             None => None,
         };
-        Ok(Screen { editors, ahead })
+        Ok(Screen {
+            editors,
+            ahead,
+            tally,
+        })
     }
 
-    /// What a request asks for, where that matters for what an operator asked for.
-    pub fn sort_of(&self, alloc: Global, bytes: &[u8]) -> Result<Sort, HttpFault> {
-        if self.editors.is_none() && self.ahead.is_none() {
+    /// What a request by that method asks for, where its time may matter: no GET is a command.
+    pub fn sort_of(&self, alloc: Global, method: &str, bytes: &[u8]) -> Result<Sort, HttpFault> {
+        if self.ahead.is_none() || method == "GET" {
             return Ok(Sort::Other);
         }
         sort_of(alloc, bytes)
+    }
+
+    /// Whether the server tells how it stands.
+    pub fn has_status(&self) -> bool {
+        self.tally.is_some()
+    }
+
+    /// Where saves are noted, where the server tells how it stands.
+    pub fn tally(&self) -> Option<&Tally> {
+        self.tally.as_ref()
+    }
+
+    /// The saves that were noted.
+    pub fn saves(&self) -> Saves {
+        match &self.tally {
+            Some(tally) => tally.saves(),
+            None => Saves {
+                count: 0,
+                millis: 0,
+            },
+        }
+    }
+
+    /// Whether a node by itself has that path.
+    pub fn has(&self, own: Own) -> bool {
+        match own {
+            Own::Ready | Own::Metrics => self.has_status(),
+            Own::Editor => self.has_editor(),
+            Own::Members => false,
+        }
     }
 
     /// Whether there is a page for editors.
@@ -157,7 +175,11 @@ impl Screen {
     }
 
     /// What a request asks of the desk, where its path is one of the desk and there is a page for editors.
-    pub fn desk_asked(&self, alloc: Global, request: &Request) -> Option<Result<Desk, HttpFault>>
+    pub fn desk_asked(
+        &self,
+        alloc: Global,
+        request: &Request,
+    ) -> Option<Result<DeskRequest, HttpFault>>
         ensures asked { IfSome result (λ asked. Gives Refuses Ok asked
             (desk_asked request.now.method request.now.target)) }
         ensures desk { IfSome result (λ _. is_of_desk request.now.target ≡ true) }
@@ -233,12 +255,14 @@ fn ready_head(alloc: Global, is_ready: bool, count: usize) -> Result<String, All
     )
 }
 
-/// How a member stands.
+/// How a node stands.
 #[derive(Clone, Copy)]
 pub struct Standing<'a> {
     pub is_ready: bool,
-    /// How far it is.
-    pub report: Report,
+    /// How many slots it has applied.
+    pub applied: u64,
+    /// How many are chosen, as far as it knows.
+    pub chosen: u64,
     /// The numbers of the members that answered lately.
     pub near: &'a [usize],
     /// Those that count other members, or run another kit.
@@ -261,11 +285,11 @@ fn list_of(alloc: Global, numbers: &[usize]) -> Result<String, AllocError> {
 fn ready_body(alloc: Global, standing: Standing<'_>) -> Result<String, AllocError> {
     let Standing {
         is_ready,
-        report,
+        applied,
+        chosen,
         near,
         foreign,
     } = standing;
-    let (applied, chosen) = (report.applied, report.chosen);
     let near = list_of(alloc, near)?;
     let foreign = list_of(alloc, foreign)?;
     format!(in alloc;

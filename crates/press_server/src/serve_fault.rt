@@ -12,9 +12,20 @@ use thiserror::Error;
 pub enum ServeFault {
     #[error("no memory")]
     NoMemory,
-    /// The listener could not be opened, or too few files may be open.
+    /// The listener could not be opened.
     #[error("no connection could be opened")]
     NoConnections,
+    #[error("its address is taken")]
+    Taken,
+    #[error("its address may not be opened")]
+    NotAllowed,
+    #[error("its address is none of this machine")]
+    NotHere,
+    /// The name of the member itself isn't found.
+    #[error("no address is found for its name")]
+    NotFound,
+    #[error("too few files may be open")]
+    FewFiles,
     #[error("the page for editors could not be read")]
     ReadFault,
     /// The list of peers is wrong: nothing is opened.
@@ -29,6 +40,12 @@ pub enum ServeFault {
     Disk,
     #[error("what is stored is damaged")]
     Damaged,
+    #[error("the store is open in another process")]
+    StoreTaken,
+    #[error("the folder of the store does not exist")]
+    NoFolder,
+    #[error("the store could not be opened")]
+    StoreShut,
 }
 
 impl From<AllocError> for ServeFault {
@@ -45,10 +62,12 @@ impl<T: Drop> From<AllocFailed<T>> for ServeFault {
 
 impl From<io::Error> for ServeFault {
     fn from(e: io::Error) -> ServeFault {
-        if e.kind() == io::ErrorKind::OutOfMemory {
-            ServeFault::NoMemory
-        } else {
-            ServeFault::NoConnections
+        match e.kind() {
+            io::ErrorKind::OutOfMemory => ServeFault::NoMemory,
+            io::ErrorKind::AddrInUse => ServeFault::Taken,
+            io::ErrorKind::AddrNotAvailable => ServeFault::NotHere,
+            io::ErrorKind::PermissionDenied => ServeFault::NotAllowed,
+            _ => ServeFault::NoConnections,
         }
     }
 }
@@ -68,7 +87,7 @@ impl From<PeersFault> for ServeFault {
         match fault {
             PeersFault::NoMemory => ServeFault::NoMemory,
             PeersFault::Unknown => ServeFault::BadPeers,
-            PeersFault::NotFound => ServeFault::NoConnections,
+            PeersFault::NotFound => ServeFault::NotFound,
         }
     }
 }

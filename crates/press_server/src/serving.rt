@@ -15,6 +15,7 @@ use crate::joining::{Joiner, Seat, join, seat_of, tie};
 use crate::screen::Screen;
 use crate::serve_fault::ServeFault;
 use crate::setup::{Place, Setup};
+use crate::timed::{Tally, TimedStore};
 use crate::turn::catch_up;
 use press_acceptor::{MemoryStore, PromiseStore, StoreFault};
 use press_callbacks::Kit;
@@ -23,7 +24,7 @@ use press_node::{Node, StartFault};
 use press_store::SqlStore;
 use press_text::{Text, write_once};
 use press_wire::Node as Member;
-use sqlite::Alter;
+use sqlite::{Alter, Connection, Error, ErrorCode};
 use std::alloc::{AllocError, Global};
 use std::fs;
 use std::io::Write;
@@ -145,6 +146,7 @@ fn serve_over<A: Answers, W: Write, E: Write>(
         is_timed: matches!(setup.place, Place::Member { .. }),
     };
     let mut server = Server::listen(rt, answers.addr(), task)?;
+    tell_kit(setup, error);
     let mut lines = Lines::new(rt, STANDARD_ERROR, error)?;
     announce(rt.alloc(), &setup.place, writer)?;
     server.serve(rt, answers, &mut lines)?;
@@ -162,6 +164,13 @@ fn tell_few<E: Write>(alloc: Global, files: u64, error: &mut E) {
     }
 }
 
+// A line says which kit is played where none was named; one that can't be written is dropped.
+fn tell_kit<E: Write>(setup: &Setup<'_>, error: &mut E) {
+    if setup.kit.is_none() {
+        let _ = write_once(error, b"press: it plays the demonstration kit (no --kit)\n");
+    }
+}
+
 // How many connections may be open at once. Limits that can't be read are none.
 fn most_open<E: Write>(rt: &HostRuntime, error: &mut E) -> Result<usize, ServeFault> {
     let files = match fs::read(rt, LIMITS) {
@@ -172,7 +181,7 @@ fn most_open<E: Write>(rt: &HostRuntime, error: &mut E) -> Result<usize, ServeFa
         Some(most) => Ok(most),
         None => {
             tell_few(rt.alloc(), files.unwrap_or(0), error);
-            Err(ServeFault::NoConnections)
+            Err(ServeFault::FewFiles)
         }
     }
 }
@@ -185,7 +194,40 @@ fn screen_of(rt: &HostRuntime, setup: &Setup<'_>) -> Result<Screen, ServeFault> 
             Err(_) => return Err(ServeFault::ReadFault),
         },
     };
-    Ok(Screen::new(rt.alloc(), editor, setup.ahead.map(u64::from))?)
+    let tally = if setup.status {
+        Some(Tally::new())
+    } else {
+        None
+    };
+    Ok(Screen::new(rt.alloc(), editor, setup.ahead.map(u64::from), tally)?)
+}
+
+// Whether the folder of a file doesn't exist.
+fn lacks_folder(rt: &HostRuntime, file: &str) -> bool {
+    match file.rsplit_once('/') {
+        Some(("", _)) | None => false,
+        Some((folder, _)) => matches!(fs::exists(rt, folder), Ok(false)),
+    }
+}
+
+// Why a store that is told to be damaged could not be opened, as far as another look at its file tells.
+fn why_shut(rt: &HostRuntime, file: &str) -> ServeFault {
+    match Connection::open(rt, file) {
+        Err(Error::SqliteFailure(ErrorCode::DatabaseBusy)) => ServeFault::StoreTaken,
+        Err(Error::SqliteFailure(ErrorCode::CannotOpen)) if lacks_folder(rt, file) => {
+            ServeFault::NoFolder
+        }
+        Err(Error::SqliteFailure(ErrorCode::CannotOpen)) => ServeFault::StoreShut,
+        _ => ServeFault::Damaged,
+    }
+}
+
+// A store could not be opened.
+fn fault_of_open(rt: &HostRuntime, file: &str, fault: StoreFault) -> ServeFault {
+    match fault {
+        StoreFault::Damaged => why_shut(rt, file),
+        _ => fault.into(),
+    }
 }
 
 fn loopback(port: u16) -> SocketAddr {
@@ -227,9 +269,10 @@ fn serve_alone<S: PromiseStore + Drop, W: Write, E: Write>(
         ..
     } = beside;
     let Start { rt, setup, .. } = start;
+    let store = TimedStore::new(rt, screen.tally(), store);
     let node = begin_caught_up(rt.alloc(), kit, store)?;
     let addr = loopback(port_of(setup.place));
-    let mut alone = Alone::new(rt.alloc(), addr, node, &screen);
+    let mut alone = Alone::new(rt.alloc(), addr, node, &screen)?;
     serve_over(start, &mut alone, writer, error)
 }
 
@@ -256,10 +299,11 @@ fn serve_stored<D: Alter + Drop, W: Write, E: Write>(
         ..
     } = beside;
     let joiner = Joiner {
+        rt: start.rt,
         seat,
         screen: &screen,
     };
-    let mut clustered = join(start.rt.alloc(), joiner, kit, store)?;
+    let mut clustered = join(joiner, kit, store)?;
     serve_over(start, &mut clustered, writer, error)?;
     match clustered.stop() {
         Some(stop) => Err(stop.into()),
@@ -298,7 +342,10 @@ impl Setup<'_> {
             kit,
         };
         match self.store {
-            Some(file) => serve_stored(beside, SqlStore::open(rt, file)?, writer, error),
+            Some(file) => match SqlStore::open(rt, file) {
+                Ok(store) => serve_stored(beside, store, writer, error),
+                Err(fault) => Err(fault_of_open(rt, file, fault)),
+            },
             None => serve_alone(beside, MemoryStore::new(rt.alloc()), writer, error),
         }
     }

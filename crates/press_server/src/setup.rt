@@ -28,6 +28,8 @@ pub struct Setup<'a> {
     pub ahead: Option<u32>,
     /// Whether a member whose store has failed stays, and answers 503; another ends.
     pub stay: bool,
-    /// The digest of its kit: that of the bytes of a kit file, and 0 for another.
-    pub kit: u64,
+    /// Whether it tells whoever asks how it stands.
+    pub status: bool,
+    /// The digest of the bytes of its kit file; None for the demonstration kit.
+    pub kit: Option<u64>,
 }

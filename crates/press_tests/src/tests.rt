@@ -13,6 +13,7 @@ mod posts;
 mod proposer;
 mod runs;
 mod scripts;
+mod sending;
 mod site;
 mod synod;
 mod texts;

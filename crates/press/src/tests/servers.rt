@@ -9,6 +9,11 @@ const FRONT: &[u8] = b"GET / HTTP/1.1\r\nHost: a\r\n\r\n";
 
 const READY: &[u8] = b"GET /ready HTTP/1.1\r\nHost: a\r\n\r\n";
 
+const METRICS: &[u8] = b"GET /metrics HTTP/1.1\r\nHost: a\r\n\r\n";
+
+// What a server without a kit file says.
+const KIT: &str = "press: it plays the demonstration kit (no --kit)\n";
+
 // A question for the vote of slot 1, from member 2 to member 1.
 const QUESTION: &[u8] =
     b"POST /peer HTTP/1.1\r\nHost: a\r\nContent-Length: 7\r\n\r\n\x06\x02\x01\x00\x00\x00\x01";
@@ -64,7 +69,10 @@ fn a_failed_flush_is_told(rt: HostRuntime) -> Result<(), Fail> {
     let mut out = Narrow::flushed(rt.alloc(), Flush::Fails);
     let mut told: Vec<u8> = Vec::new(rt.alloc());
     assert_eq!(rt; run(&rt, &words, &mut input, &mut out, &mut told), 2);
-    assert_eq!(rt; told.as_slice(), b"press: fault 42\n".as_slice());
+    let words = format!(in rt.alloc();
+        "{KIT}press: fault 42\npress: the line that it listens cannot be written\n"
+    )?;
+    assert_eq!(rt; told.as_slice(), words.as_bytes());
     Ok(())
 }
 
@@ -114,6 +122,24 @@ fn one_of_two_members_alone_is_not_ready(rt: HostRuntime) -> Result<(), Fail> {
     Ok(())
 }
 
+// A node by itself has these paths only where it is asked to.
+#[test]
+fn a_server_tells_how_it_stands_where_it_is_to(rt: HostRuntime) -> Result<(), Fail> {
+    for request in [READY, METRICS] {
+        let addr = free_addr(&rt, "127.0.0.1")?;
+        let port = format!(in rt.alloc(); "{}", addr.port())?;
+        let words = ["serve", "--port", &port, "--turns", "1", "--status"];
+        for (words, status) in [
+            (&words[..], "HTTP/1.1 200 "),
+            (&words[..5], "HTTP/1.1 404 "),
+        ] {
+            let reply = replied(&rt, words, addr, request)?;
+            assert!(rt; reply.starts_with(status.as_bytes()), "at {}", words.len());
+        }
+    }
+    Ok(())
+}
+
 // Over memory, over a new store, and over the store that this one left.
 #[test]
 fn a_server_without_turns_ends(rt: HostRuntime) -> Result<(), Fail> {
@@ -123,7 +149,7 @@ fn a_server_without_turns_ends(rt: HostRuntime) -> Result<(), Fail> {
     let words = ["serve", "--port", &port, "--turns", "0", "--store", "kept"];
     for words in [&words[..5], &words[..], &words[..]] {
         let outcome = asked(&rt, words)?;
-        assert!(rt; outcome.left(0, &line, ""), "at {}", words.len());
+        assert!(rt; outcome.left(0, &line, KIT), "at {}", words.len());
     }
     fs::remove_file(&rt, "kept")?;
     fs::remove_file(&rt, "kept-wal")?;

@@ -64,7 +64,8 @@ fn words_ask_for_a_server(rt: HostRuntime) -> Result<(), Fail> {
             "serve", "--port", "8080", "--turns", "0", "--store", "none/f",
         ],
     )?;
-    assert!(rt; outcome.left(2, "", "press: fault 51\n"));
+    let told = "press: fault 51\npress: the folder of the store none/f does not exist\n";
+    assert!(rt; outcome.left(2, "", told));
     assert_eq!(rt; outcome.rest, LETTERS.len());
     Ok(())
 }
@@ -127,8 +128,25 @@ fn a_page_that_is_not_there_leaves_no_store(rt: HostRuntime) -> Result<(), Fail>
         ][..],
     ] {
         let unread = asked(&rt, words)?;
-        assert!(rt; unread.left(2, "", "press: fault 40\n"));
+        let told = "press: fault 40\npress: the page for editors no/such cannot be read\n";
+        assert!(rt; unread.left(2, "", told));
     }
     assert!(rt; File::open(&rt, "f").is_err());
+    Ok(())
+}
+
+// The members' addresses are read before the file, and the file before any of them is asked.
+#[test]
+fn words_ask_for_commands_to_be_sent(rt: HostRuntime) -> Result<(), Fail> {
+    assert!(rt; asked(&rt, &["send", "-"])?.is_refused());
+    assert!(rt; asked(&rt, &["send", "-", "here"])?.is_refused());
+    assert!(rt; asked(&rt, &["send", "-", "127.0.0.1:1", "--kit", "f"])?.is_refused());
+    let unknown = asked(&rt, &["send", "no/such/file", "127.0.0.1:1"])?;
+    assert!(rt; unknown.left(2, "", "press: fault 40\n"));
+    let words = ["send", "-", "127.0.0.1:1"];
+    let bad = asked_of(&rt, &words, b"{\"commands\":1}")?;
+    assert!(rt; bad.left(2, "", "press: fault 72\n"));
+    let none = asked_of(&rt, &words, b"{\"commands\":[]}")?;
+    assert!(rt; none.left(0, "0 done, 0 refused, 0 not taken, 0 left\n", ""));
     Ok(())
 }

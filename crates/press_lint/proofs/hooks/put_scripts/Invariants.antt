@@ -1,7 +1,7 @@
 use Rattle.std.proofs.Common.{◌≡◌, ℕ, List, take}
 use Rattle.std.specs.Prelude.{◌||◌}
 use Rattle.press_lint.specs.NameSets.{holds}
-use Rattle.press_lint.specs.Slips.{is_run_by}
+use Rattle.press_lint.specs.Runs.{is_run_by}
 use Rattle.press_lint.proofs.hooks.put_scripts.Given as goal
 
 abbrev pub invariant-loop-callback : goal.invariant-loop-callback

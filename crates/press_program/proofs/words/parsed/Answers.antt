@@ -1,4 +1,4 @@
-use Rattle.std.proofs.Common.{rules, ap, ap₂, refl, true, map, subst, ◌≡◌, ◌∙◌, string_bytes}
+use Rattle.std.proofs.Common.{ap, ap₂, refl, true, map, subst, ◌≡◌, ◌∙◌, string_bytes}
 use Rattle.std.proofs.lemmas.Result.{IfOk-weaker}
 use Rattle.clap.specs.Words.{App, app_of, fault_of, is_simple, is_simple_and_free, subcommand_of, with_subcommand, FailsBy}
 use Rattle.clap.proofs.OnLiterals.{clap_on_literals}
@@ -17,11 +17,12 @@ is_told = refl
 program_is : (c : goal.After-try_get_matches_from) → app_of c.in_ok-program.program ≡ spec.program
 unfolding program
 program_is c =
-    let bare_is : app_of c.subcommand_required-bare.result ≡ spec.bare = search rules in
+    let bare_is = c.bare_words-bare.ensures in
     let one = c.in_ok-one.ensures.shape c.in_ok-page.ensures.local ∙ ap₂ with_subcommand bare_is (ap (λ (a : App). a.top) c.in_ok-page.ensures.app) in
     let two = c.in_ok-two.ensures.shape c.in_ok-replay.ensures.local ∙ ap₂ with_subcommand one (ap (λ (a : App). a.top) c.in_ok-replay.ensures.app) in
     let three = c.in_ok-three.ensures.shape c.in_ok-looped.ensures.local ∙ ap₂ with_subcommand two (ap (λ (a : App). a.top) c.in_ok-looped.ensures.app) in
-    c.in_ok-program.ensures.shape c.in_ok-serve.ensures.local ∙ ap₂ with_subcommand three (ap (λ (a : App). a.top) c.in_ok-serve.ensures.app)
+    let four = c.in_ok-four.ensures.shape c.in_ok-serve.ensures.local ∙ ap₂ with_subcommand three (ap (λ (a : App). a.top) c.in_ok-serve.ensures.app) in
+    c.in_ok-program.ensures.shape c.in_ok-send.ensures.local ∙ ap₂ with_subcommand four (ap (λ (a : App). a.top) c.in_ok-send.ensures.app)
 
 pub returns-clause-kinds : goal.returns-clause-kinds
 returns-clause-kinds c =

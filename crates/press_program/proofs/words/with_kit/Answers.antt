@@ -5,5 +5,5 @@ use Rattle.press_program.proofs.words.with_kit.Goals as goal
 
 pub returns-clause-app : goal.returns-clause-app
 returns-clause-app c =
-    let kit_is : rule_of c.long-kit.result ≡ spec.named (codes "kit") = search rules in
+    let kit_is : rule_of c.action.result ≡ spec.repeated (codes "kit") = search rules in
     c.in_ok-with.ensures.shape (search rules) ∙ ap (λ (r : Rule). with_rule (app_of c.args.command) r) kit_is

@@ -6,4 +6,5 @@ unfolding table
 returns c =
     let first = c.in_ok-add.ensures in
     let second = c.in_ok-add-2.ensures in
-    rw (second, first, c.new-router.ensures) at c.in_ok-add-3.ensures
+    let third = c.in_ok-add-3.ensures in
+    rw (third, second, first, c.new-router.ensures) at c.in_ok-add-4.ensures

@@ -7,4 +7,4 @@ use Rattle.press_lint.proofs.Inserted.{inserted}
 use Rattle.press_lint.proofs.name_set.NameSet.insert.Goals as goal
 
 pub returns-clause-holds : goal.returns-clause-holds
-returns-clause-holds c = λ q. ap (list_any (is_at (λ k. slice_cmp nat_cmp q k.now))) c.in_ok-insert.ensures.keys ∙ inserted q c.args.name c.args.self.now.names.keys
+returns-clause-holds c = λ q. ap (list_any (is_at (λ k. slice_cmp nat_cmp q k.now))) c.in_ok-insert.ensures.keys ∙ inserted (λ k. k.now) q c.args.name c.args.self.now.names.keys

@@ -1,0 +1,92 @@
+//! What a member's reply says.
+
+ghost use Rattle.std.specs.Prelude.{ℕ, ◌≡◌, ◌++◌, IfSome, List, codes};
+ghost use Rattle.press_client.specs.Replying.{IsNumber, IsOutcome, SaysTaken, SaysTold, Spells, TellsOutcome};
+
+use crate::newsroom::{Taken, Told};
+use press_site::Outcome;
+use press_text::dec_u64;
+use std::str::from_utf8;
+
+// The length of a reply's first bytes up to its status: `HTTP/1.1 200`.
+const FRONT: usize = 12;
+
+fn status_in(reply: &[u8]) -> Option<u16>
+    ensures { IfSome result (λ status. Spells reply.now status) }
+{
+    let front = from_utf8(reply.get(..FRONT)?).ok()?;
+    let code = front.strip_prefix("HTTP/1.1 ")?;
+    u16::try_from(dec_u64(code)?).ok()
+}
+
+// What is behind the first empty line.
+fn body_in(reply: &str) -> Option<&str>
+    ensures { IfSome result (λ body. (head : List ℕ)
+        × (reply.now ≡ head ++ (codes "\r\n\r\n" ++ body.now))) }
+{
+    match reply.split_once("\r\n\r\n") {
+        Some((_, body)) => Some(body),
+        None => None,
+    }
+}
+
+// The number between these.
+fn number_in(body: &str, front: &str) -> Option<u64>
+    ensures { IfSome result (λ number. IsNumber front.now number body.now) }
+{
+    let behind = body.strip_prefix(front)?;
+    let digits = behind.strip_suffix("}")?;
+    dec_u64(digits)
+}
+
+fn refused_in(body: &str) -> Option<Outcome>
+    ensures { IfSome result (λ outcome. IsOutcome outcome body.now) }
+{
+    let fault = number_in(body, "{\"refused\":")?;
+    match u8::try_from(fault) {
+        Ok(fault) => Some(Outcome::Refused(fault)),
+        Err(_) => None,
+    }
+}
+
+fn outcome_in(body: &str) -> Option<Outcome>
+    ensures { IfSome result (λ outcome. IsOutcome outcome body.now) }
+{
+    match number_in(body, "{\"done\":") {
+        Some(id) => Some(Outcome::Done(id)),
+        None => refused_in(body),
+    }
+}
+
+fn outcome_told(reply: &[u8]) -> Option<Outcome>
+    ensures { IfSome result (λ outcome. TellsOutcome outcome reply.now) }
+{
+    let text = from_utf8(reply).ok()?;
+    outcome_in(body_in(text)?)
+}
+
+/// What a member makes of a command, by its reply to the form.
+pub fn taken_by(reply: &[u8]) -> Taken
+    ensures { SaysTaken result reply.now }
+{
+    match status_in(reply) {
+        Some(202) => Taken::Queued,
+        Some(503) => Taken::Busy,
+        Some(status) if 400 <= status && status < 500 => Taken::Refused(status),
+        _ => Taken::Lost,
+    }
+}
+
+/// What a member says of an outcome, by its reply to the question.
+pub fn told_by(reply: &[u8]) -> Told
+    ensures { SaysTold result reply.now }
+{
+    match status_in(reply) {
+        Some(404) => Told::NotYet,
+        Some(200) => match outcome_told(reply) {
+            Some(outcome) => Told::Outcome(outcome),
+            None => Told::Lost,
+        },
+        _ => Told::Lost,
+    }
+}

@@ -1,0 +1,6 @@
+//! Commands as forms, as a client sends them.
+#![tactic(auto)]
+
+mod form;
+
+pub use form::{form_of, word};

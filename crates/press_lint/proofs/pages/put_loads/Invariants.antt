@@ -1,0 +1,9 @@
+use Rattle.std.proofs.Common.{◌≡◌, ℕ, List, take}
+use Rattle.std.specs.Prelude.{◌||◌}
+use Rattle.std.specs.List.{list_any}
+use Rattle.press_lint.specs.NameSets.{holds}
+use Rattle.press_lint.specs.Pages as spec
+use Rattle.press_lint.proofs.pages.put_loads.Given as goal
+
+abbrev pub invariant-loop-load : goal.invariant-loop-load
+invariant-loop-load l = (q : List ℕ) → holds l.strays q ≡ (list_any (spec.load_strays l.run.kit.now l.run.plays.now l.tags q) (take l.load-index l.loads) || holds l.fn.strays q)

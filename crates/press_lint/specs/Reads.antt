@@ -1,0 +1,88 @@
+-- What a step reads that is never there: an argument that its callback is never given, and an attribute by a name with capitals, since the names of attributes are in lower case (Shortcode API: `shortcode_parse_atts`).
+use Rattle.std.specs.Prelude.{ℕ, List, [], ◌∷◌, ◌++◌, Bool, false, if◌then◌else◌, nat_le, Option, Some, None, codes, decimal}
+use Rattle.std.specs.List.{list_any}
+use Rattle.std.specs.Char.{is_ascii_uppercase}
+use Rattle.press_callbacks.specs.declared.script.Op.{Op}
+use Rattle.press_callbacks.specs.declared.script.Op.TheVariants as op
+use Rattle.press_callbacks.specs.declared.script.Part.{Part}
+use Rattle.press_callbacks.specs.declared.script.Part.TheVariants.{Lit, Raw, Escaped}
+use Rattle.press_callbacks.specs.declared.script.Source.{Source}
+use Rattle.press_callbacks.specs.declared.script.Source.TheVariants.{Arg, Att, Content, Tag, Value, Last}
+use Rattle.press_scan.specs.declared.att_key.AttKey.{AttKey}
+use Rattle.press_scan.specs.declared.att_key.AttKey.TheVariants.{Name, Place}
+use Rattle.press_lint.specs.Bad.{shown}
+
+-- ---- of a callback that gets at most so many arguments, where it is put anywhere
+
+abbrev pub is_past : Option ℕ → ℕ → Bool
+is_past None n = false
+is_past (Some most) n = nat_le most n
+
+abbrev pub has_capitals : AttKey → Bool
+has_capitals (Name name) = list_any is_ascii_uppercase name
+has_capitals (Place n) = false
+
+abbrev pub is_never_there : Option ℕ → Source → Bool
+is_never_there most (Arg n) = is_past most n
+is_never_there most (Att key) = has_capitals key
+is_never_there most Content = false
+is_never_there most Tag = false
+is_never_there most Value = false
+is_never_there most Last = false
+
+abbrev pub if_never : Option ℕ → Source → Option Source
+if_never most source = if is_never_there most source then Some source else None
+
+abbrev pub unread_part : Option ℕ → Part → Option Source
+unread_part most (Lit text) = None
+unread_part most (Raw source) = if_never most source
+unread_part most (Escaped source) = if_never most source
+
+abbrev pub or_other : Option Source → Option Source → Option Source
+or_other (Some source) other = Some source
+or_other None other = other
+
+-- the first of a text
+abbrev pub unread_text : Option ℕ → List Part → Option Source
+unread_text most [] = None
+unread_text most (part ∷ parts) = or_other (unread_part most part) (unread_text most parts)
+
+abbrev pub unread_texts : Option ℕ → List (List Part) → Option Source
+unread_texts most [] = None
+unread_texts most (text ∷ texts) = or_other (unread_text most text) (unread_texts most texts)
+
+-- the first of a step
+abbrev pub unread : Option ℕ → Op → Option Source
+unread most (op.Set text) = unread_text most text
+unread most (op.SkipIf left right n) = or_other (unread_text most left) (unread_text most right)
+unread most (op.Apply hook value more) = or_other (unread_text most value) (unread_texts most more)
+unread most (op.Do hook args) = unread_texts most args
+unread most (op.Shortcodes text) = unread_text most text
+unread most (op.SetOption name value) = unread_text most value
+unread most (op.Schedule after every hook arg) = unread_text most arg
+unread most (op.Publish post) = unread_text most post
+unread most (op.Echo text) = unread_text most text
+unread most (op.Return text) = unread_text most text
+unread most (op.AddHook h c p a) = None
+unread most (op.RemoveHook h c p) = None
+unread most (op.RemoveAll h p) = None
+unread most (op.AddTag tag c) = None
+unread most (op.RemoveTag tag) = None
+unread most (op.Ask ask) = None
+
+-- ---- the message
+
+abbrev pub key_told : AttKey → List ℕ
+key_told (Name name) = codes "reads no attribute by a name with capitals" ++ shown name
+key_told (Place n) = []
+
+abbrev pub argument_told : ℕ → List ℕ
+argument_told n = codes "reads argument " ++ (decimal n ++ codes ", counted from 0, and no load of its callback accepts as many")
+
+abbrev pub unread_told : Source → List ℕ
+unread_told (Arg n) = argument_told n
+unread_told (Att key) = key_told key
+unread_told Content = []
+unread_told Tag = []
+unread_told Value = []
+unread_told Last = []
