@@ -1,5 +1,5 @@
 -- What editors ask of a node by a path and its query (own; paths and their parameters: the kit's `matchit`).
-use Rattle.std.specs.Prelude.{ℕ, Bool, true, false, List, [], bytes_eq, Option, Some, None, Result, Ok, Err, codes, if◌then◌else◌}
+use Rattle.std.specs.Prelude.{ℕ, ◌≡◌, List, [], bytes_eq, Option, Some, None, Result, Ok, Err, codes, if◌then◌else◌}
 use Rattle.matchit.specs.Rows.{RowsOf}
 use Rattle.matchit.specs.Seek.{first}
 use Rattle.matchit.specs.Router.{RouteOf}
@@ -11,7 +11,7 @@ use Rattle.press_http.specs.declared.desk.DeskPlace.{DeskPlace}
 use Rattle.press_http.specs.declared.desk.DeskPlace.TheVariants as place
 use Rattle.press_http.specs.declared.desk.DeskRequest.{DeskRequest}
 use Rattle.press_http.specs.declared.desk.DeskRequest.TheVariants as request
-use Rattle.press_http.specs.Forms.{first_named}
+use Rattle.press_http.specs.Forms.{first_named, LacksPlainly}
 use Rattle.press_http.specs.Meanings.{◌>>=◌, made}
 use Rattle.press_http.specs.Routes.{behind, or_missing, path_of, place_in, query_of, with_route}
 
@@ -47,14 +47,6 @@ posts_of query = do
 abbrev pub id_in : List ℕ → Result ℕ HttpFault
 id_in path = or_missing (decimal_in (behind 3 path))
 
--- of a query one looks for a field, which takes memory
-abbrev pub has_query : DeskPlace → Bool
-has_query place.Log = true
-has_query place.Posts = true
-has_query place.Post = false
-has_query place.Preview = false
-has_query place.Site = false
-
 unfoldable pub desk_at : DeskPlace → List ℕ → Result DeskRequest HttpFault
 desk_at place.Log t = made request.Log (number_of (codes "from") 0 (query_of t))
 desk_at place.Posts t = posts_of (query_of t)
@@ -68,3 +60,20 @@ desk_asked method t = do
   found ← desk_place_at (path_of t)
   served ← desk_allowed method found
   desk_at served t
+
+-- ---- memory
+
+abbrev pub LacksBoth : List ℕ → Type 0
+LacksBoth query = LacksPlainly (codes "before") query × LacksPlainly (codes "count") query
+
+-- a field that may be the one that is looked for takes memory
+abbrev pub TakesMemory : DeskPlace → List ℕ → Type 0
+TakesMemory place.Log t = LacksPlainly (codes "from") (query_of t) → ⊥
+TakesMemory place.Posts t = LacksBoth (query_of t) → ⊥
+TakesMemory place.Post t = ⊥
+TakesMemory place.Preview t = ⊥
+TakesMemory place.Site t = ⊥
+
+-- its path is served by its method, and that takes some
+abbrev pub MayTakeMemory : List ℕ → List ℕ → Type 0
+MayTakeMemory method t = (at : DeskPlace) × ((desk_place_at (path_of t) >>= desk_allowed method) ≡ Ok at) × TakesMemory at t

@@ -1,14 +1,14 @@
 //! What editors ask of a node.
 
-ghost use Rattle.std.specs.Prelude.{◌≡◌, ◌≢◌, [], Err, IfOk, IsOkAnd, Ok, OnOk, true};
-ghost use Rattle.matchit.specs.Seek.{first};
+ghost use Rattle.std.specs.Prelude.{◌≡◌, ◌≢◌, Err, IfOk, Ok};
 ghost use Rattle.press_text.specs.Gives.{Gives};
+ghost use Rattle.press_http.specs.Forms.{LacksPlainly};
 ghost use Rattle.press_http.specs.Meanings.{Refuses};
-ghost use Rattle.press_http.specs.Routes.{path_of, place_in, with_route};
 ghost use Rattle.press_http.specs.Desk as spec;
 
 use crate::fault::HttpFault;
 use crate::form::first_value;
+use crate::place::{add, place_in};
 use crate::request::Request;
 use crate::routing::{behind, path, query};
 use matchit::Router;
@@ -38,17 +38,6 @@ pub enum DeskRequest {
     Log { from: u64 },
 }
 
-// A router refuses these paths only when out of memory.
-#[tactic(auto, using(crate::proofs::Tables::inserted), unfolding(crate::specs::Routes::with_route))]
-fn add(router: &mut Router<DeskPlace>, path: &str, place: DeskPlace) -> Result<(), AllocError>
-    ensures { OnOk result (router.new ≡ with_route path.now place router.old) }
-{
-    match router.insert(path, place) {
-        Ok(()) => Ok(()),
-        Err(_) => Err(AllocError),
-    }
-}
-
 #[tactic(auto, unfolding(crate::specs::Desk::desk_table))]
 fn table(alloc: Global) -> Result<Router<DeskPlace>, AllocError>
     ensures { IfOk result (λ r. r ≡ spec.desk_table) }
@@ -60,17 +49,6 @@ fn table(alloc: Global) -> Result<Router<DeskPlace>, AllocError>
     add(&mut router, "/desk/preview/{id}", DeskPlace::Preview)?;
     add(&mut router, "/desk/site", DeskPlace::Site)?;
     Ok(router)
-}
-
-// What the table has at that path. No memory is taken.
-fn found(routes: &Router<DeskPlace>, path: &str) -> Result<DeskPlace, HttpFault>
-    ensures place { result ≡ place_in (first routes.now path.now) }
-    ensures memory { result ≢ Err HttpFault.NoMemory }
-{
-    match routes.at(path) {
-        Ok(found) => Ok(*found.value),
-        Err(_) => Err(HttpFault::NotFound),
-    }
 }
 
 fn allowed(method: &str, place: DeskPlace) -> Result<DeskPlace, HttpFault>
@@ -86,7 +64,8 @@ fn allowed(method: &str, place: DeskPlace) -> Result<DeskPlace, HttpFault>
 
 // The number that a query gives, or this one.
 fn number(alloc: Global, query: &str, name: &str, otherwise: u64) -> Result<u64, HttpFault>
-    ensures { Gives Refuses Ok result (spec.number_of name.now otherwise query.now) }
+    ensures number { Gives Refuses Ok result (spec.number_of name.now otherwise query.now) }
+    ensures memory { LacksPlainly name.now query.now → result ≡ Ok otherwise }
 {
     let found = first_value(alloc, query.as_bytes(), name)?;
     match found {
@@ -100,7 +79,8 @@ fn number(alloc: Global, query: &str, name: &str, otherwise: u64) -> Result<u64,
 
 #[tactic(auto, unfolding(crate::specs::Desk::posts_of))]
 fn posts(alloc: Global, query: &str) -> Result<DeskRequest, HttpFault>
-    ensures { Gives Refuses Ok result (spec.posts_of query.now) }
+    ensures posts { Gives Refuses Ok result (spec.posts_of query.now) }
+    ensures memory { spec.LacksBoth query.now → result ≢ Err HttpFault.NoMemory }
 {
     let before = number(alloc, query, "before", u64::MAX)?;
     let count = number(alloc, query, "count", MOST)?;
@@ -120,7 +100,7 @@ fn id(path: &str) -> Result<u64, HttpFault>
 #[tactic(auto, unfolding(crate::specs::Desk::desk_at))]
 fn asked_at(alloc: Global, place: DeskPlace, target: &str) -> Result<DeskRequest, HttpFault>
     ensures asked { Gives Refuses Ok result (spec.desk_at place target.now) }
-    ensures memory { result ≡ Err HttpFault.NoMemory → spec.has_query place ≡ true }
+    ensures memory { result ≡ Err HttpFault.NoMemory → spec.TakesMemory place target.now }
 {
     match place {
         DeskPlace::Log => Ok(DeskRequest::Log {
@@ -153,17 +133,18 @@ impl DeskRoutes {
         ensures place { result ≡ spec.desk_place_at path.now }
         ensures memory { result ≢ Err HttpFault.NoMemory }
     {
-        found(&self.router, path)
+        place_in(&self.router, path)
     }
 
     /// What a request asks for, by its path, then its method, then its id or query. NotFound for a path that is not
-    /// one of these, or whose id or number doesn't read; NotAllowed for another method than GET. Only a query takes memory.
+    /// one of these, or whose id or number doesn't read; NotAllowed for another method than GET. Only a field
+    /// of a query that may be the one that is looked for takes memory.
     #[tactic(auto, unfolding(crate::specs::Desk::desk_asked))]
     pub fn route(&self, alloc: Global, request: &Request) -> Result<DeskRequest, HttpFault>
         ensures asked { Gives Refuses Ok result
             (spec.desk_asked request.now.method request.now.target) }
         ensures memory { result ≡ Err HttpFault.NoMemory →
-            IsOkAnd (spec.desk_place_at (path_of request.now.target)) (λ p. spec.has_query p ≡ true) }
+            spec.MayTakeMemory request.now.method request.now.target }
     {
         let target = request.target.as_str();
         let place = self.at(path(target))?;

@@ -30,8 +30,8 @@ impl Place {
     }
 }
 
-// What the table has at that path. No memory is taken.
-fn found(routes: &Router<Place>, path: &str) -> Result<Place, HttpFault>
+// What a table has at that path. No memory is taken.
+pub(crate) fn place_in<P: Copy + Drop>(routes: &Router<P>, path: &str) -> Result<P, HttpFault>
     ensures place { result ≡ place_in (first routes.now path.now) }
     ensures memory { result ≢ Err HttpFault.NoMemory }
 {
@@ -43,7 +43,7 @@ fn found(routes: &Router<Place>, path: &str) -> Result<Place, HttpFault>
 
 // A router refuses these paths only when out of memory.
 #[tactic(auto, using(crate::proofs::Tables::inserted), unfolding(crate::specs::Routes::with_route))]
-fn add(router: &mut Router<Place>, path: &str, place: Place) -> Result<(), AllocError>
+pub(crate) fn add<P: Drop>(router: &mut Router<P>, path: &str, place: P) -> Result<(), AllocError>
     ensures { OnOk result (router.new ≡ with_route path.now place router.old) }
 {
     match router.insert(path, place) {
@@ -94,6 +94,6 @@ impl Routes {
         ensures place { result ≡ place_at path.now }
         ensures memory { result ≢ Err HttpFault.NoMemory }
     {
-        found(&self.router, path)
+        place_in(&self.router, path)
     }
 }
