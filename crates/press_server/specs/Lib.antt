@@ -1,4 +1,5 @@
 pub mod Counting
+pub mod Desk
 pub mod Digests
 pub mod Files
 pub mod Going

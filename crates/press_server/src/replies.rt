@@ -1,7 +1,11 @@
 //! What a member answers, as bytes.
 
-ghost use Rattle.std.specs.Prelude.{◌≡◌};
-ghost use Rattle.press_node.specs.Serving.{queued, taken};
+ghost use Rattle.std.specs.Io.KnownBytes.{Appends};
+ghost use Rattle.std.specs.Prelude.{◌≡◌, IfOk, Some};
+ghost use Rattle.press_http.specs.Replies.{fault_bytes};
+ghost use Rattle.press_node.specs.Nodes.{kit_of, state_of};
+ghost use Rattle.press_node.specs.Serving.{Tells, queued, status_of_node, taken};
+ghost use Rattle.press_server.specs.Desk.{ShowsDesk, TellsFault};
 
 use crate::screen::refuse_for_now;
 use press_http::{DeskRequest, HttpFault, write_fault, write_reply};
@@ -38,7 +42,9 @@ pub fn taken(alloc: Global) -> Reply
 }
 
 /// A request is refused; the connection of one that isn't whole is closed without a reply.
-pub fn refuse(fault: HttpFault, told: &mut Vec<u8>) -> Result<u16, HttpFault> {
+pub fn refuse(fault: HttpFault, told: &mut Vec<u8>) -> Result<u16, HttpFault>
+    ensures { IfOk result (TellsFault fault (Some told.old.items) (Some told.new.items)) }
+{
     match fault.status() {
         Some(status) => {
             write_fault(told, status)?;
@@ -49,14 +55,19 @@ pub fn refuse(fault: HttpFault, told: &mut Vec<u8>) -> Result<u16, HttpFault> {
 }
 
 /// A node refuses what it is asked.
-pub fn refuse_by(fault: NodeFault, told: &mut Vec<u8>) -> Result<u16, HttpFault> {
+pub fn refuse_by(fault: NodeFault, told: &mut Vec<u8>) -> Result<u16, HttpFault>
+    ensures { IfOk result (λ status. (status ≡ status_of_node fault)
+        × Appends (Some told.old.items) (Some told.new.items) (fault_bytes status)) }
+{
     let status = fault.status();
     write_fault(told, status)?;
     Ok(status)
 }
 
 // Writes a reply; without memory for its head, 503 in its place.
-fn tell(alloc: Global, reply: &Reply, told: &mut Vec<u8>) -> Result<u16, HttpFault> {
+fn tell(alloc: Global, reply: &Reply, told: &mut Vec<u8>) -> Result<u16, HttpFault>
+    ensures { IfOk result (Tells (Some told.old.items) (Some told.new.items) reply.now) }
+{
     match write_reply(alloc, told, reply) {
         Ok(()) => Ok(reply.status),
         Err(fault) => refuse(fault, told),
@@ -69,7 +80,10 @@ pub fn tell_desk<S>(
     node: &Node<S>,
     asked: Result<DeskRequest, HttpFault>,
     told: &mut Vec<u8>,
-) -> Result<u16, HttpFault> {
+) -> Result<u16, HttpFault>
+    ensures { IfOk result (ShowsDesk (kit_of node.now) (state_of node.now) asked
+        (Some told.old.items) (Some told.new.items)) }
+{
     match asked {
         Err(fault) => refuse(fault, told),
         Ok(DeskRequest::Show(asked)) => match node.show_desk(asked) {

@@ -1,6 +1,6 @@
 //! What a server does with a request before its node sees it.
 
-ghost use Rattle.std.specs.Prelude.{◌≡◌, ◌≢◌, IfOk, IfSome, MatchResult, Ok, Some, true};
+ghost use Rattle.std.specs.Prelude.{◌≡◌, ◌≢◌, ◌&&◌, IfOk, IfSome, MatchResult, Ok, Some, is_some};
 ghost use Rattle.std.specs.Io.KnownBytes.{Appends};
 ghost use Rattle.press_http.specs.Desk.{desk_asked};
 ghost use Rattle.press_http.specs.Meanings.{Refuses};
@@ -160,7 +160,9 @@ impl Screen {
     }
 
     /// Whether there is a page for editors.
-    pub fn has_editor(&self) -> bool {
+    pub fn has_editor(&self) -> bool
+        ensures { result ≡ is_some self.now.editors }
+    {
         self.editors.is_some()
     }
 
@@ -174,7 +176,7 @@ impl Screen {
         }
     }
 
-    /// What a request asks of the desk, where its path is one of the desk and there is a page for editors.
+    /// What a request asks of the desk, exactly where its path is one of the desk and there is a page for editors.
     pub fn desk_asked(
         &self,
         alloc: Global,
@@ -182,7 +184,8 @@ impl Screen {
     ) -> Option<Result<DeskRequest, HttpFault>>
         ensures asked { IfSome result (λ asked. Gives Refuses Ok asked
             (desk_asked request.now.method request.now.target)) }
-        ensures desk { IfSome result (λ _. is_of_desk request.now.target ≡ true) }
+        ensures desk { is_some result
+            ≡ (is_some self.now.editors && is_of_desk request.now.target) }
     {
         match &self.editors {
             Some(editors) if is_of_desk(request.target.as_str()) => {
