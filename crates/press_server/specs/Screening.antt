@@ -1,11 +1,12 @@
 -- What a server sees of a request before its node does (own).
-use Rattle.std.specs.Prelude.{◌≡◌, ◌≢◌, ◌+◌, Bool, false, bytes_eq, codes, take, min, nat_lt, List, ℕ, Option, None, Some, Result, Ok, Err}
+use Rattle.std.specs.Prelude.{◌≡◌, ◌≢◌, ◌+◌, Bool, false, bytes_eq, codes, is_some, take, min, nat_lt, List, ℕ, Option, None, Some, Result, Ok, Err}
 use Rattle.press_http.specs.declared.asked.Asked.{Asked}
 use Rattle.press_http.specs.declared.asked.Asked.TheVariants as asked
 use Rattle.press_http.specs.declared.fault.HttpFault.{HttpFault}
 use Rattle.press_http.specs.declared.fault.HttpFault.TheVariants.{NoMemory}
 use Rattle.std.specs.Io.KnownBytes.{Consumes}
 use Rattle.press_node.specs.Serving.{AsksFor}
+use Rattle.press_server.specs.declared.screen.Screen.{Screen}
 use Rattle.press_server.specs.declared.screen.Sort.{Sort}
 use Rattle.press_server.specs.declared.screen.Sort.TheVariants.{Peer, Command, Page, Other}
 
@@ -33,3 +34,11 @@ IsOfSort bytes sort =
 abbrev pub is_ahead : Option ℕ → ℕ → ℕ → Bool
 is_ahead None at now = false
 is_ahead (Some most) at now = nat_lt (min (now + most) 18446744073709551615) at
+
+-- there is a page for editors
+abbrev pub has_page : Screen → Bool
+has_page screen = is_some screen.editors
+
+-- how far ahead a command may be
+abbrev pub ahead_of : Screen → Option ℕ
+ahead_of screen = screen.ahead

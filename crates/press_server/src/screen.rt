@@ -5,7 +5,7 @@ ghost use Rattle.std.specs.Io.KnownBytes.{Appends};
 ghost use Rattle.press_http.specs.Desk.{desk_asked};
 ghost use Rattle.press_http.specs.Meanings.{Refuses};
 ghost use Rattle.press_http.specs.Replies.{fault_bytes};
-ghost use Rattle.press_server.specs.Screening.{IsOfSort, is_ahead, is_of_desk, sort_by, sort_named};
+ghost use Rattle.press_server.specs.Screening.{IsOfSort, ahead_of, has_page, is_ahead, is_of_desk, sort_by, sort_named};
 ghost use Rattle.press_text.specs.Gives.{Gives};
 
 use crate::paths::Own;
@@ -106,7 +106,10 @@ impl Screen {
         editor: Option<Text>,
         ahead: Option<u64>,
         tally: Option<Tally>,
-    ) -> Result<Screen, AllocError> {
+    ) -> Result<Screen, AllocError>
+        ensures page { IfOk result (λ screen. has_page screen ≡ is_some editor) }
+        ensures ahead { IfOk result (λ screen. ahead_of screen ≡ ahead) }
+    {
         let editors = match editor {
             Some(page) => Some(Editors {
                 page,
@@ -161,14 +164,14 @@ impl Screen {
 
     /// Whether there is a page for editors.
     pub fn has_editor(&self) -> bool
-        ensures { result ≡ is_some self.now.editors }
+        ensures { result ≡ has_page self.now }
     {
         self.editors.is_some()
     }
 
     /// Whether a command of such a time is too far ahead.
     pub fn is_ahead(&self, at: u64, now: u64) -> bool
-        ensures { result ≡ is_ahead self.now.ahead at now }
+        ensures { result ≡ is_ahead (ahead_of self.now) at now }
     {
         match self.ahead {
             Some(most) => at > now.saturating_add(most),
@@ -185,7 +188,7 @@ impl Screen {
         ensures asked { IfSome result (λ asked. Gives Refuses Ok asked
             (desk_asked request.now.method request.now.target)) }
         ensures desk { is_some result
-            ≡ (is_some self.now.editors && is_of_desk request.now.target) }
+            ≡ (has_page self.now && is_of_desk request.now.target) }
     {
         match &self.editors {
             Some(editors) if is_of_desk(request.target.as_str()) => {

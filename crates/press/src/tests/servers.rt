@@ -44,16 +44,19 @@ fn replied(
     Ok(reply)
 }
 
-// What the first of these members, which is new, replies.
+// What the first of these members, which is new, replies where these words stand behind the others.
 fn replied_by_member(
     rt: &HostRuntime,
     addr: SocketAddr,
     peers: &str,
+    more: &[&str],
     request: &[u8],
 ) -> Result<Vec<u8>, Fail> {
-    let words = [
+    let mut words: Vec<&str> = Vec::new(rt.alloc());
+    words.extend_from_slice(&[
         "serve", "--id", "1", "--peers", peers, "--store", "member", "--turns", "1",
-    ];
+    ])?;
+    words.extend_from_slice(more)?;
     let reply = replied(rt, &words, addr, request)?;
     fs::remove_file(rt, "member")?;
     fs::remove_file(rt, "member-wal")?;
@@ -102,7 +105,7 @@ fn a_message_of_a_stranger_is_not_taken(rt: HostRuntime) -> Result<(), Fail> {
     ] {
         let addr = free_addr(&rt, ip)?;
         let peers = format!(in rt.alloc(); "{addr},{ip}:1")?;
-        let reply = replied_by_member(&rt, addr, &peers, QUESTION)?;
+        let reply = replied_by_member(&rt, addr, &peers, &[], QUESTION)?;
         assert!(rt; reply.starts_with(status.as_bytes()), "at {ip}");
     }
     Ok(())
@@ -115,7 +118,7 @@ fn one_of_two_members_alone_is_not_ready(rt: HostRuntime) -> Result<(), Fail> {
         for request in [FRONT, READY] {
             let addr = free_addr(&rt, "127.0.0.1")?;
             let peers = format!(in rt.alloc(); "{addr}{others}")?;
-            let reply = replied_by_member(&rt, addr, &peers, request)?;
+            let reply = replied_by_member(&rt, addr, &peers, &[], request)?;
             assert!(rt; reply.starts_with(status.as_bytes()), "at {peers}");
         }
     }
@@ -137,6 +140,68 @@ fn a_server_tells_how_it_stands_where_it_is_to(rt: HostRuntime) -> Result<(), Fa
             assert!(rt; reply.starts_with(status.as_bytes()), "at {}", words.len());
         }
     }
+    Ok(())
+}
+
+// What editors may ask of an empty site, and what is replied.
+const DESK: [(&[u8], &[u8]); 5] = [
+    (
+        b"GET /desk/posts HTTP/1.1\r\nHost: a\r\n\r\n",
+        b"HTTP/1.1 200 OK\r\nContent-Type: application/json; charset=UTF-8\r\nContent-Length: 12\r\nConnection: close\r\n\r\n{\"posts\":[]}",
+    ),
+    (
+        b"GET /desk/log?from=0 HTTP/1.1\r\nHost: a\r\n\r\n",
+        b"HTTP/1.1 200 OK\r\nContent-Type: application/json; charset=UTF-8\r\nContent-Length: 27\r\nConnection: close\r\n\r\n{\"applied\":0,\"commands\":[]}",
+    ),
+    (
+        b"GET /desk/preview/1 HTTP/1.1\r\nHost: a\r\n\r\n",
+        b"HTTP/1.1 404 Not Found\r\n",
+    ),
+    (
+        b"GET /desk/posts?count=x HTTP/1.1\r\nHost: a\r\n\r\n",
+        b"HTTP/1.1 404 Not Found\r\n",
+    ),
+    (
+        b"POST /desk/posts HTTP/1.1\r\nHost: a\r\nContent-Length: 0\r\n\r\n",
+        b"HTTP/1.1 405 Method Not Allowed\r\n",
+    ),
+];
+
+// Without a page for editors there is no path of theirs.
+#[test]
+fn editors_are_answered_where_there_is_a_page_for_them(rt: HostRuntime) -> Result<(), Fail> {
+    fs::write(&rt, "editor.html", b"<p>")?;
+    for (request, reply) in DESK {
+        let addr = free_addr(&rt, "127.0.0.1")?;
+        let port = format!(in rt.alloc(); "{}", addr.port())?;
+        let words = [
+            "serve",
+            "--port",
+            &port,
+            "--turns",
+            "1",
+            "--editor",
+            "editor.html",
+        ];
+        let told = replied(&rt, &words, addr, request)?;
+        assert!(rt; told.starts_with(reply), "at {}", reply.len());
+        let told = replied(&rt, &words[..5], addr, request)?;
+        assert!(rt; told.starts_with(b"HTTP/1.1 404 "), "without, at {}", reply.len());
+    }
+    fs::remove_file(&rt, "editor.html")?;
+    Ok(())
+}
+
+#[test]
+fn editors_are_answered_by_a_member(rt: HostRuntime) -> Result<(), Fail> {
+    fs::write(&rt, "editor.html", b"<p>")?;
+    for (request, reply) in DESK {
+        let addr = free_addr(&rt, "127.0.0.1")?;
+        let peers = format!(in rt.alloc(); "{addr}")?;
+        let told = replied_by_member(&rt, addr, &peers, &["--editor", "editor.html"], request)?;
+        assert!(rt; told.starts_with(reply), "at {}", reply.len());
+    }
+    fs::remove_file(&rt, "editor.html")?;
     Ok(())
 }
 
