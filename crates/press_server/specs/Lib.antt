@@ -8,5 +8,6 @@ pub mod Living
 pub mod Members
 pub mod Metrics
 pub mod Paths
+pub mod Reasons
 pub mod Turns
 pub mod Screening

@@ -8,6 +8,7 @@ ghost use Rattle.press_server.specs.Living.{NodeLives};
 use crate::counts::Counts;
 use crate::metrics::{Metrics, show_metrics};
 use crate::paths::{Own, Paths};
+use crate::reasons::{REFUSED, line_about};
 use crate::replies::{refuse, tell_desk};
 use crate::screen::{
     Screen, Sort, Standing, is_of_desk, not_found, refuse_form, refuse_without_memory, show_ready,
@@ -30,6 +31,8 @@ pub struct Alone<'s, S: PromiseStore> {
     counts: Counts,
     traffic: Traffic,
     time: Time,
+    // About the last request that was refused, until it is taken.
+    line: Option<String>,
 }
 
 impl<S: PromiseStore + Drop> Drop for Alone<'_, S> {
@@ -43,6 +46,7 @@ impl<S: PromiseStore + Drop> Drop for Alone<'_, S> {
             counts: _,
             traffic: _,
             time: _,
+            line: _,
         } = self;
     }
 }
@@ -74,6 +78,7 @@ impl<'s, S: PromiseStore + Drop> Alone<'s, S> {
             counts,
             traffic,
             time,
+            line: None,
         })
     }
 }
@@ -164,6 +169,16 @@ impl<S: PromiseStore> Alone<'_, S> {
         }
     }
 
+    // What came of a request: it is counted, and a form that was refused gets a line.
+    fn note_reply(&mut self, replied: &Result<u16, HttpFault>, request: &[u8])
+        ensures { self.new.node ≡ self.old.node }
+    {
+        self.counts.note(replied);
+        if matches!(replied, Ok(REFUSED)) {
+            self.line = line_about(self.alloc, self.screen, self.time.seconds, request);
+        }
+    }
+
     #[tactic(auto, using(crate::specs::Living::stays))]
     fn reply(&mut self, request: &[u8], told: &mut Vec<u8>) -> Result<u16, HttpFault>
         requires always { Unit {0} }
@@ -211,7 +226,7 @@ impl<S: PromiseStore> Answers for Alone<'_, S> {
             Err(HttpFault::NoMemory) => refuse_without_memory(told),
             replied => replied,
         };
-        self.counts.note(&replied);
+        self.note_reply(&replied, request);
         replied
     }
 
@@ -239,7 +254,7 @@ impl<S: PromiseStore> Answers for Alone<'_, S> {
 
     #[tactic(auto, using(crate::specs::Living::stays))]
     fn next_line(&mut self) -> Option<String> {
-        None
+        self.line.take()
     }
 
     #[tactic(auto, using(crate::specs::Living::stays))]

@@ -13,6 +13,7 @@ use crate::lanes::{Lanes, Parcel, Sender};
 use crate::metrics::{Among, Metrics, show_metrics};
 use crate::paths::{Own, Paths};
 use crate::peers::{Peers, member_at, place_of};
+use crate::reasons::{REFUSED, line_about};
 use crate::replies::{queued, refuse, refuse_by, taken, tell_answer, tell_desk};
 use crate::screen::{
     Screen, Standing, not_found, refuse_for_now, refuse_form, refuse_without_memory, show_ready,
@@ -50,6 +51,8 @@ pub struct Clustered<'s, S: PromiseStore> {
     traffic: Traffic,
     time: Time,
     stays: bool,
+    // About the last request that was refused, until it is taken.
+    line: Option<String>,
 }
 
 impl<S: PromiseStore + Drop> Drop for Clustered<'_, S> {
@@ -67,6 +70,7 @@ impl<S: PromiseStore + Drop> Drop for Clustered<'_, S> {
             traffic: _,
             time: _,
             stays: _,
+            line: _,
         } = self;
     }
 }
@@ -110,6 +114,7 @@ impl<'s, S: PromiseStore + Drop> Clustered<'s, S> {
             traffic,
             time,
             stays,
+            line: None,
         })
     }
 }
@@ -151,6 +156,16 @@ impl<S: PromiseStore> Clustered<'_, S> {
         ensures { MemberLives S.seen self.old.member self.new.member }
     {
         let _ = self.play(input);
+    }
+
+    // What came of a request: it is counted, and a form that was refused gets a line.
+    fn note_reply(&mut self, replied: &Result<u16, HttpFault>, request: &[u8])
+        ensures { self.new.member ≡ self.old.member }
+    {
+        self.counts.note(replied);
+        if matches!(replied, Ok(REFUSED)) {
+            self.line = line_about(self.alloc, self.screen, self.time.seconds, request);
+        }
     }
 
     // A command that is too far ahead is refused, once the member takes any.
@@ -453,7 +468,7 @@ impl<S: PromiseStore> Answers for Clustered<'_, S> {
             Err(HttpFault::NoMemory) => refuse_without_memory(told),
             replied => replied,
         };
-        self.counts.note(&replied);
+        self.note_reply(&replied, request);
         replied
     }
 
@@ -501,7 +516,10 @@ impl<S: PromiseStore> Answers for Clustered<'_, S> {
 
     #[tactic(auto, using(crate::specs::Living::none_comes))]
     fn next_line(&mut self) -> Option<String> {
-        self.foreign.next_line(self.alloc, &self.member)
+        match self.line.take() {
+            Some(line) => Some(line),
+            None => self.foreign.next_line(self.alloc, &self.member),
+        }
     }
 
     #[tactic(auto, using(crate::specs::Living::none_comes))]

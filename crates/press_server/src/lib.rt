@@ -13,6 +13,7 @@ mod lanes;
 mod metrics;
 mod paths;
 mod peers;
+mod reasons;
 mod replies;
 mod screen;
 mod serve_fault;

@@ -1,6 +1,6 @@
 //! What a server does with a request before its node sees it.
 
-ghost use Rattle.std.specs.Prelude.{◌≡◌, ◌≢◌, ◌&&◌, IfOk, IfSome, MatchResult, Ok, Some, is_some};
+ghost use Rattle.std.specs.Prelude.{◌≡◌, ◌≢◌, ◌&&◌, IfOk, IfSome, MatchResult, None, Ok, Some, if◌then◌else◌, is_some};
 ghost use Rattle.std.specs.Io.KnownBytes.{Appends};
 ghost use Rattle.press_http.specs.Desk.{desk_asked};
 ghost use Rattle.press_http.specs.Meanings.{Refuses};
@@ -176,6 +176,17 @@ impl Screen {
         match self.ahead {
             Some(most) => at > now.saturating_add(most),
             None => false,
+        }
+    }
+
+    /// The most seconds that a command may be ahead, where one of such a time is more.
+    pub fn limit_behind(&self, at: u64, now: u64) -> Option<u64>
+        ensures { result ≡ (if is_ahead self.now.ahead at now then self.now.ahead else None) }
+    {
+        if self.is_ahead(at, now) {
+            self.ahead
+        } else {
+            None
         }
     }
 
