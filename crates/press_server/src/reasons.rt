@@ -1,10 +1,10 @@
 //! Why a command was refused that came as a form: a line for whoever runs the server, since the reply doesn't say it.
 
-ghost use Rattle.std.specs.Prelude.{◌≡◌, IfOk, IfSome, option_map, string_bytes, ⊥};
+ghost use Rattle.std.specs.Prelude.{◌≡◌, IfOk, IfSome, option_map, string_bytes};
 ghost use Rattle.std.specs.Cow.{cow_str_bytes};
 ghost use Rattle.press_http.specs.Forms.{fields_of, first_named};
 ghost use Rattle.press_http.specs.Routes.{asked};
-ghost use Rattle.press_server.specs.Reasons.{IsOfField, IsReason, line_of};
+ghost use Rattle.press_server.specs.Reasons.{IsLine, IsLineOf, IsOfField, IsReason, line_of};
 
 use crate::screen::Screen;
 use press_fields::{FieldFault, Lookup, read_command};
@@ -18,7 +18,7 @@ use std::cell::Cell;
 pub const REFUSED: u16 = 400;
 
 /// Why a form was refused.
-#[derive(Debug, Drop)]
+#[derive(Drop)]
 pub enum Reason {
     /// It has no field of that name.
     Missing(Text),
@@ -160,10 +160,25 @@ fn reason_of(alloc: Global, screen: &Screen, now: u64, request: &Request) -> Opt
     }
 }
 
+// The line about a request that is refused at that time. None where it isn't, and without memory.
+fn line_behind(alloc: Global, screen: &Screen, now: u64, request: &Request) -> Option<String>
+    ensures { IfSome result (λ line.
+        IsLineOf screen.now.ahead now request.now (string_bytes line)) }
+{
+    match reason_of(alloc, screen, now, request) {
+        Some(reason) => reason.line(alloc).ok(),
+        None => None,
+    }
+}
+
 /// The line about a form that was refused at that time. Without memory there is none.
-pub fn line_about(alloc: Global, screen: &Screen, now: u64, request: &[u8]) -> Option<String> {
+pub fn line_about(alloc: Global, screen: &Screen, now: u64, request: &[u8]) -> Option<String>
+    ensures { IfSome result (λ line.
+        IsLine screen.now.ahead now request.now (string_bytes line)) }
+{
     let mut rest = request;
-    let request = read_request(alloc, &mut rest).ok()?;
-    let reason = reason_of(alloc, screen, now, &request)?;
-    reason.line(alloc).ok()
+    match read_request(alloc, &mut rest) {
+        Ok(request) => line_behind(alloc, screen, now, &request),
+        Err(_) => None,
+    }
 }

@@ -24,13 +24,20 @@ fn free_addr(rt: &HostRuntime, ip: &str) -> Result<SocketAddr, Fail> {
     Ok(listener.local_addr()?)
 }
 
-// What a server for these words replies to a request.
-fn replied(
+// What a server replied to a request, and what it wrote on standard error.
+#[derive(Drop)]
+struct Served {
+    reply: Vec<u8>,
+    told: Vec<u8>,
+}
+
+// What comes of a request to a server for these words.
+fn served(
     rt: &HostRuntime,
     words: &[&str],
     addr: SocketAddr,
     request: &[u8],
-) -> Result<Vec<u8>, Fail> {
+) -> Result<Served, Fail> {
     let words = given(rt, words)?;
     let client = Client::new(rt, addr, request);
     let mut input: &[u8] = b"";
@@ -41,7 +48,33 @@ fn replied(
     }
     let mut reply = Vec::new(rt.alloc());
     out.reply(&mut reply)?;
+    Ok(Served { reply, told })
+}
+
+fn replied(
+    rt: &HostRuntime,
+    words: &[&str],
+    addr: SocketAddr,
+    request: &[u8],
+) -> Result<Vec<u8>, Fail> {
+    let Served { reply, .. } = served(rt, words, addr, request)?;
     Ok(reply)
+}
+
+// Whether a server for these words refuses a form, with a line behind that of the request which says why.
+fn refuses(
+    rt: &HostRuntime,
+    words: &[&str],
+    addr: SocketAddr,
+    (form, why): (&str, &str),
+) -> Result<bool, Fail> {
+    let request = format!(in rt.alloc();
+        "POST /command HTTP/1.1\r\nHost: a\r\nContent-Length: {}\r\n\r\n{form}",
+        form.len()
+    )?;
+    let line = format!(in rt.alloc(); " press: POST /command 400: {why}\n")?;
+    let Served { reply, told } = served(rt, words, addr, request.as_bytes())?;
+    Ok(reply.starts_with(b"HTTP/1.1 400 ") && told.ends_with(line.as_bytes()))
 }
 
 // What the first of these members, which is new, replies where these words stand behind the others.
@@ -192,6 +225,31 @@ fn editors_are_answered_where_there_is_a_page_for_them(rt: HostRuntime) -> Resul
     Ok(())
 }
 
+// A form that is refused, and the line that says why.
+const REFUSALS: [(&str, &str); 4] = [
+    ("editor=ann&at=100&kind=tick", "seq is missing"),
+    ("editor=ann&seq=x&at=100&kind=tick", "seq does not fit"),
+    (
+        "editor=ann&seq=1&at=100&kind=insert&title=x&content=y&status=gone",
+        "status does not fit",
+    ),
+    (
+        "editor=ann&seq=1&at=253402300799&kind=tick",
+        "at is more than 60 seconds ahead",
+    ),
+];
+
+#[test]
+fn a_node_by_itself_tells_why_a_form_is_refused(rt: HostRuntime) -> Result<(), Fail> {
+    for (form, why) in REFUSALS {
+        let addr = free_addr(&rt, "127.0.0.1")?;
+        let port = format!(in rt.alloc(); "{}", addr.port())?;
+        let words = ["serve", "--port", &port, "--turns", "1", "--ahead", "60"];
+        assert!(rt; refuses(&rt, &words, addr, (form, why))?, "at {why}");
+    }
+    Ok(())
+}
+
 #[test]
 fn editors_are_answered_by_a_member(rt: HostRuntime) -> Result<(), Fail> {
     fs::write(&rt, "editor.html", b"<p>")?;
@@ -202,6 +260,23 @@ fn editors_are_answered_by_a_member(rt: HostRuntime) -> Result<(), Fail> {
         assert!(rt; told.starts_with(reply), "at {}", reply.len());
     }
     fs::remove_file(&rt, "editor.html")?;
+    Ok(())
+}
+
+#[test]
+fn a_member_tells_why_a_form_is_refused(rt: HostRuntime) -> Result<(), Fail> {
+    for (form, why) in REFUSALS {
+        let addr = free_addr(&rt, "127.0.0.1")?;
+        let peers = format!(in rt.alloc(); "{addr}")?;
+        let words = [
+            "serve", "--id", "1", "--peers", &peers, "--store", "member", "--turns", "1",
+            "--ahead", "60",
+        ];
+        let refuses = refuses(&rt, &words, addr, (form, why))?;
+        fs::remove_file(&rt, "member")?;
+        fs::remove_file(&rt, "member-wal")?;
+        assert!(rt; refuses, "at {why}");
+    }
     Ok(())
 }
 
