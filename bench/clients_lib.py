@@ -35,7 +35,7 @@ USED = set()
 
 WHYS = ("the input ended within a request", "a read failed", "a write failed", "its time is over", "given up for another", "nothing more can be opened")
 KIT = b"press: it plays the demonstration kit (no --kit)\n"
-LINE = re.compile(r"(\d{4}-\d\d-\d\dT\d\d:\d\d:\d\dZ) (?:(\d+) lines lost|(127\.\d{1,3}\.\d{1,3}\.\d{1,3}) (closed: (?:%s)|[!-~]+ [!-~]+ [1-5]\d\d \d+))\n" % "|".join(WHYS))
+LINE = re.compile(r"(\d{4}-\d\d-\d\dT\d\d:\d\d:\d\dZ) (?:(\d+) lines lost|(127\.\d{1,3}\.\d{1,3}\.\d{1,3}) (closed: (?:%s)|[!-~]+ [!-~]+ [1-5]\d\d \d+)|press: POST /command 400: ([a-z]+ (?:is missing|does not fit|is more than \d+ seconds ahead)))\n" % "|".join(WHYS))
 
 
 def form(**fields):
@@ -219,7 +219,7 @@ class Seen:
         return self.peaks[name]
 
     def read(self, name, lines, first=None, last=None):
-        """Counts a server's lines, each of which has to begin with a time between these two, in order, and with the address of a client."""
+        """Counts a server's lines, each of which has to begin with a time between these two, in order, and with the address of a client, or why a form of one was refused."""
         for line in lines:
             if line == KIT:
                 continue
@@ -233,6 +233,8 @@ class Seen:
             self.firsts.setdefault(name, form[1])
             if form[4]:
                 self.whys[form[4] if form[4].startswith("closed: ") else "served"] += 1
+            elif form[5]:
+                self.whys["reasons"] += 1
             else:
                 self.whys["lost"] += int(form[2])
 
