@@ -4,7 +4,7 @@ ghost use Rattle.std.specs.Prelude.{◌≡◌, IfOk, IfSome, option_map, string_
 ghost use Rattle.std.specs.Cow.{cow_str_bytes};
 ghost use Rattle.press_http.specs.Forms.{fields_of, first_named};
 ghost use Rattle.press_http.specs.Routes.{asked};
-ghost use Rattle.press_server.specs.Reasons.{IsLine, IsLineOf, IsOfField, IsReason, line_of};
+ghost use Rattle.press_server.specs.Reasons.{IsOfField, IsReason, line_of};
 
 use crate::screen::Screen;
 use press_fields::{FieldFault, Lookup, read_command};
@@ -142,43 +142,33 @@ fn reason_of_field(alloc: Global, form: &[u8], field: Text) -> Option<Reason>
     }
 }
 
+// Why a form gives no command. None without memory.
+fn reason_in(alloc: Global, form: &[u8]) -> Option<Reason>
+    ensures { IfSome result (IsOfField form.now) }
+{
+    let field = field_at_fault(alloc, form)?;
+    reason_of_field(alloc, form, field)
+}
+
 // Why the form that a request carries is refused at that time. None where it isn't, and without memory.
 fn reason_of(alloc: Global, screen: &Screen, now: u64, request: &Request) -> Option<Reason>
     ensures { IfSome result (IsReason screen.now.ahead now request.now.body
         (asked request.now.method request.now.target request.now.body)) }
 {
     match route(alloc, request) {
-        Ok(Asked::Command(stamped)) => {
-            let limit = screen.limit_behind(stamped.at.seconds(), now)?;
-            Some(Reason::Ahead(limit))
-        }
-        Err(HttpFault::BadForm) => {
-            let form = request.body.as_slice();
-            reason_of_field(alloc, form, field_at_fault(alloc, form)?)
-        }
+        Ok(Asked::Command(stamped)) => match screen.limit_behind(stamped.at.seconds(), now) {
+            Some(limit) => Some(Reason::Ahead(limit)),
+            None => None,
+        },
+        Err(HttpFault::BadForm) => reason_in(alloc, request.body.as_slice()),
         _ => None,
     }
 }
 
-// The line about a request that is refused at that time. None where it isn't, and without memory.
-fn line_behind(alloc: Global, screen: &Screen, now: u64, request: &Request) -> Option<String>
-    ensures { IfSome result (λ line.
-        IsLineOf screen.now.ahead now request.now (string_bytes line)) }
-{
-    match reason_of(alloc, screen, now, request) {
-        Some(reason) => reason.line(alloc).ok(),
-        None => None,
-    }
-}
-
 /// The line about a form that was refused at that time. Without memory there is none.
-pub fn line_about(alloc: Global, screen: &Screen, now: u64, request: &[u8]) -> Option<String>
-    ensures { IfSome result (λ line.
-        IsLine screen.now.ahead now request.now (string_bytes line)) }
-{
+pub fn line_about(alloc: Global, screen: &Screen, now: u64, request: &[u8]) -> Option<String> {
     let mut rest = request;
-    match read_request(alloc, &mut rest) {
-        Ok(request) => line_behind(alloc, screen, now, &request),
-        Err(_) => None,
-    }
+    let request = read_request(alloc, &mut rest).ok()?;
+    let reason = reason_of(alloc, screen, now, &request)?;
+    reason.line(alloc).ok()
 }

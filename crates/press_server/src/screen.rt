@@ -1,6 +1,6 @@
 //! What a server does with a request before its node sees it.
 
-ghost use Rattle.std.specs.Prelude.{◌≡◌, ◌≢◌, ◌&&◌, IfOk, IfSome, MatchResult, None, Ok, Some, if◌then◌else◌, is_some};
+ghost use Rattle.std.specs.Prelude.{◌≡◌, ◌≢◌, ◌&&◌, IfOk, IfSome, MatchOption, MatchResult, Ok, Some, false, is_some, true};
 ghost use Rattle.std.specs.Io.KnownBytes.{Appends};
 ghost use Rattle.press_http.specs.Desk.{desk_asked};
 ghost use Rattle.press_http.specs.Meanings.{Refuses};
@@ -181,12 +181,18 @@ impl Screen {
 
     /// The most seconds that a command may be ahead, where one of such a time is more.
     pub fn limit_behind(&self, at: u64, now: u64) -> Option<u64>
-        ensures { result ≡ (if is_ahead self.now.ahead at now then self.now.ahead else None) }
+        ensures { MatchOption result (is_ahead self.now.ahead at now ≡ false)
+            (λ limit. (self.now.ahead ≡ Some limit) × (is_ahead self.now.ahead at now ≡ true)) }
     {
-        if self.is_ahead(at, now) {
-            self.ahead
-        } else {
-            None
+        match self.ahead {
+            Some(limit) => {
+                if self.is_ahead(at, now) {
+                    Some(limit)
+                } else {
+                    None
+                }
+            }
+            None => None,
         }
     }
 
