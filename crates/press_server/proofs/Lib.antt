@@ -1,3 +1,4 @@
+pub mod Blames
 pub mod Delivering
 pub mod Fronts
 pub mod Mapped

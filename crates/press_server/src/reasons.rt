@@ -151,6 +151,7 @@ fn reason_in(alloc: Global, form: &[u8]) -> Option<Reason>
 }
 
 // Why the form that a request carries is refused at that time. None where it isn't, and without memory.
+#[tactic(auto, using(crate::proofs::Blames::of_field))]
 fn reason_of(alloc: Global, screen: &Screen, now: u64, request: &Request) -> Option<Reason>
     ensures { IfSome result (IsReason screen.now.ahead now request.now.body
         (asked request.now.method request.now.target request.now.body)) }
