@@ -4,6 +4,7 @@ ghost use Rattle.std.specs.Prelude.{◌≡◌, IfOk, IfSome, option_map, string_
 ghost use Rattle.std.specs.Cow.{cow_str_bytes};
 ghost use Rattle.press_http.specs.Forms.{fields_of, first_named};
 ghost use Rattle.press_http.specs.Routes.{asked};
+ghost use Rattle.press_server.specs.Screening.{ahead_of};
 ghost use Rattle.press_server.specs.Reasons.{IsOfField, IsReason, line_of};
 
 use crate::screen::Screen;
@@ -153,7 +154,7 @@ fn reason_in(alloc: Global, form: &[u8]) -> Option<Reason>
 // Why the form that a request carries is refused at that time. None where it isn't, and without memory.
 #[tactic(auto, using(crate::proofs::Blames::of_field))]
 fn reason_of(alloc: Global, screen: &Screen, now: u64, request: &Request) -> Option<Reason>
-    ensures { IfSome result (IsReason screen.now.ahead now request.now.body
+    ensures { IfSome result (IsReason (ahead_of screen.now) now request.now.body
         (asked request.now.method request.now.target request.now.body)) }
 {
     match route(alloc, request) {
