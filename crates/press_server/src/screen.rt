@@ -182,7 +182,8 @@ impl Screen {
     /// The most seconds that a command may be ahead, where one of such a time is more.
     pub fn limit_behind(&self, at: u64, now: u64) -> Option<u64>
         ensures { MatchOption result (is_ahead (ahead_of self.now) at now ≡ false)
-            (λ limit. ((ahead_of self.now) ≡ Some limit) × (is_ahead (ahead_of self.now) at now ≡ true)) }
+            (λ limit. (ahead_of self.now ≡ Some limit)
+            × (is_ahead (ahead_of self.now) at now ≡ true)) }
     {
         match self.ahead {
             Some(limit) => {
