@@ -14,3 +14,6 @@ command_bytes host command = head_of_form host (length (form_of command)) ++ for
 
 unfoldable pub question_bytes : List ℕ → List ℕ → ℕ → List ℕ
 question_bytes host editor seq = codes "GET /result/" ++ (editor ++ (codes "/" ++ (decimal seq ++ (codes " HTTP/1.1\r\nHost: " ++ (host ++ codes "\r\n\r\n")))))
+
+unfoldable pub log_bytes : List ℕ → ℕ → List ℕ
+log_bytes host from = codes "GET /desk/log?from=" ++ (decimal from ++ (codes " HTTP/1.1\r\nHost: " ++ (host ++ codes "\r\n\r\n")))

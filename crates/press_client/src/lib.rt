@@ -4,16 +4,24 @@
 mod counts;
 mod delivery;
 mod ending;
+mod entry;
+mod exporting;
+mod log;
 mod newsroom;
 mod replies;
 mod reporting;
 mod requests;
+mod site_files;
 mod sockets;
 
 pub use counts::Counts;
 pub use delivery::deliver;
 pub use ending::Ending;
+pub use entry::Entry;
+pub use exporting::{Teller, export};
+pub use log::{LogFault, Piece};
 pub use newsroom::{Newsroom, Taken, Told};
-pub use replies::{taken_by, told_by};
+pub use replies::{piece_told, taken_by, told_by};
 pub use reporting::report;
+pub use site_files::{Limits, SiteFile, SiteFiles};
 pub use sockets::{MembersFault, Sockets};

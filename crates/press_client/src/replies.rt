@@ -1,11 +1,14 @@
 //! What a member's reply says.
 
-ghost use Rattle.std.specs.Prelude.{ℕ, ◌≡◌, ◌++◌, IfSome, List, codes};
+ghost use Rattle.std.specs.Prelude.{ℕ, ◌≡◌, ◌++◌, IfOk, IfSome, List, codes};
+ghost use Rattle.press_client.specs.Logging.{TellsPiece};
 ghost use Rattle.press_client.specs.Replying.{IsNumber, IsOutcome, SaysTaken, SaysTold, Spells, TellsOutcome};
 
+use crate::log::{LogFault, Piece, piece_in};
 use crate::newsroom::{Taken, Told};
 use press_site::Outcome;
 use press_text::dec_u64;
+use std::alloc::Global;
 use std::str::from_utf8;
 
 // The length of a reply's first bytes up to its status: `HTTP/1.1 200`.
@@ -88,5 +91,22 @@ pub fn told_by(reply: &[u8]) -> Told
             None => Told::Lost,
         },
         _ => Told::Lost,
+    }
+}
+
+/// The piece of a log that a member tells, by its reply.
+pub fn piece_told(alloc: Global, reply: &[u8]) -> Result<Piece, LogFault>
+    ensures status { IfOk result (λ _. Spells reply.now 200) }
+    ensures piece { IfOk result (λ piece. TellsPiece piece reply.now) }
+{
+    if status_in(reply) != Some(200) {
+        return Err(LogFault::NoLog);
+    }
+    let Ok(text) = from_utf8(reply) else {
+        return Err(LogFault::NoLog);
+    };
+    match body_in(text) {
+        Some(body) => piece_in(alloc, body),
+        None => Err(LogFault::NoLog),
     }
 }

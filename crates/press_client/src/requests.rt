@@ -2,7 +2,7 @@
 
 ghost use Rattle.std.specs.Prelude.{◌≡◌, IfOk, string_bytes};
 ghost use Rattle.press_forms.specs.Forms.{form_of};
-ghost use Rattle.press_client.specs.Asking.{command_bytes, head_of_form, question_bytes};
+ghost use Rattle.press_client.specs.Asking.{command_bytes, head_of_form, log_bytes, question_bytes};
 
 use press_apply::Stamped;
 use press_forms::form_of;
@@ -41,4 +41,12 @@ pub fn outcome_request(alloc: Global, host: &str, token: &Token) -> Result<Strin
         ≡ question_bytes host.now token.now.editor token.now.seq) }
 {
     question(alloc, host, token.editor.as_str(), token.seq)
+}
+
+/// The request that asks a host what it has applied behind the first so many values.
+#[tactic(auto, unfolding(crate::specs::Asking::log_bytes))]
+pub fn log_request(alloc: Global, host: &str, from: u64) -> Result<String, AllocError>
+    ensures { IfOk result (λ request. string_bytes request ≡ log_bytes host.now from) }
+{
+    format!(in alloc; "GET /desk/log?from={from} HTTP/1.1\r\nHost: {host}\r\n\r\n")
 }

@@ -2,9 +2,11 @@
 
 ghost use Rattle.std.specs.Prelude.{None};
 
+use crate::exporting::Teller;
+use crate::log::{LogFault, Piece};
 use crate::newsroom::{Newsroom, Taken, Told};
-use crate::replies::{taken_by, told_by};
-use crate::requests::{command_request, outcome_request};
+use crate::replies::{piece_told, taken_by, told_by};
+use crate::requests::{command_request, log_request, outcome_request};
 use press_apply::Stamped;
 use press_net::{AddressBook, Listed};
 use press_site::Token;
@@ -22,8 +24,10 @@ const MOST: usize = 7;
 // How long a member may take to be reached, and for each read and write.
 const SECONDS: u64 = 2;
 
-// The longest reply that is read.
+// The longest reply that is read to a command or a question, and to one for a piece of a log: 64 commands whose bytes are all escaped.
 const LONGEST: usize = 65_536;
+
+const LONGEST_LOG: usize = 33_554_432;
 
 // Milliseconds until an outcome is asked for again, and until the next member is asked behind a loss.
 const SOON: u64 = 4;
@@ -105,13 +109,18 @@ impl Drop for Sockets<'_> {
 
 // Sends a request to an address, and returns its whole reply. There may be one though not all was written: a form that is too
 // long is refused by its head.
-fn ask(rt: &HostRuntime, to: SocketAddr, request: &[u8]) -> io::Result<Vec<u8>> {
+fn ask(
+    rt: &HostRuntime,
+    to: SocketAddr,
+    request: &[u8],
+    longest: usize,
+) -> io::Result<Vec<u8>> {
     let limit = Duration::from_secs(SECONDS);
     let mut stream = rt.connect_timeout(to, limit)?;
     stream.set_read_timeout(Some(limit))?;
     stream.set_write_timeout(Some(limit))?;
     let _ = write_once(&mut stream, request);
-    match read_limited(rt.alloc(), &mut stream, LONGEST) {
+    match read_limited(rt.alloc(), &mut stream, longest) {
         Ok(reply) => Ok(reply),
         Err(_) => Err(io::Error::from(ErrorKind::UnexpectedEof)),
     }
@@ -157,11 +166,16 @@ impl<'r> Sockets<'r> {
         self.hosts.len()
     }
 
-    // The reply of the member at a place; None where it is away.
-    fn reply(&mut self, place: usize, request: &[u8]) -> Option<Vec<u8>> {
+    /// How many members there are.
+    pub fn count(&self) -> usize {
+        self.hosts.len()
+    }
+
+    // The reply of the member at a place, up to that length; None where it is away.
+    fn reply(&mut self, place: usize, request: &[u8], longest: usize) -> Option<Vec<u8>> {
         let to = self.book.first(place);
         if let Some(addr) = to {
-            if let Ok(reply) = ask(self.rt, addr, request) {
+            if let Ok(reply) = ask(self.rt, addr, request, longest) {
                 return Some(reply);
             }
         }
@@ -211,7 +225,7 @@ impl Newsroom for Sockets<'_> {
 
     fn submit(&mut self, place: usize, command: &Stamped) -> Result<Taken, AllocError> {
         let request = command_request(self.rt.alloc(), self.host(place), command)?;
-        match self.reply(place, request.as_bytes()) {
+        match self.reply(place, request.as_bytes(), LONGEST) {
             Some(reply) => Ok(taken_by(&reply)),
             None => Ok(Taken::Lost),
         }
@@ -219,7 +233,7 @@ impl Newsroom for Sockets<'_> {
 
     fn outcome(&mut self, place: usize, token: &Token) -> Result<Told, AllocError> {
         let request = outcome_request(self.rt.alloc(), self.host(place), token)?;
-        match self.reply(place, request.as_bytes()) {
+        match self.reply(place, request.as_bytes(), LONGEST) {
             Some(reply) => Ok(told_by(&reply)),
             None => Ok(Told::Lost),
         }
@@ -235,5 +249,17 @@ impl Newsroom for Sockets<'_> {
         let millis = if answered { SOON } else { LATER };
         thread::sleep(self.rt, Duration::from_millis(millis));
         self.watch.look(self.rt) < self.ended.saturating_add(PATIENCE * 1_000)
+    }
+}
+
+// The first of them tells.
+impl Teller for Sockets<'_> {
+    fn piece(&mut self, from: u64) -> Result<Piece, LogFault> {
+        let alloc = self.rt.alloc();
+        let request = log_request(alloc, self.host(0), from)?;
+        match self.reply(0, request.as_bytes(), LONGEST_LOG) {
+            Some(reply) => piece_told(alloc, &reply),
+            None => Err(LogFault::Away),
+        }
     }
 }
