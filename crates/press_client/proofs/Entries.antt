@@ -32,9 +32,6 @@ put_on limits (e ∷ es) fs w = put_on limits es fs (put limits e w)
 abbrev pub IsBehind : Limits → Limits → Writing → Type 0
 IsBehind limits own w = (own ≡ limits) × (es : List Entry) × (w ≡ put_all limits es begun)
 
-pub at_first : (limits own : Limits) (w : Writing) → own ≡ limits → w ≡ begun → IsBehind limits own w
-at_first limits own w same is = (same, [], is)
-
 pub gone_on : (limits own own' : Limits) (w w' : Writing) (fs : List Entry) → IsBehind limits own w → own' ≡ own → w' ≡ put_all own fs w → IsBehind limits own' w'
 gone_on limits own own' w w' fs (same, es, is) kept put =
     (kept ∙ same, es ++ fs, put ∙ ap (λ l. put_all l fs w) same ∙ ap (put_all limits fs) is ∙ sym (put_on limits es fs begun))

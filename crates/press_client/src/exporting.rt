@@ -28,11 +28,7 @@ fn put_all(files: &mut SiteFiles, entries: Vec<Entry>) -> Result<(), AllocError>
 }
 
 // The first so many of these; returns how many are left of that.
-fn put_first(
-    files: &mut SiteFiles,
-    mut entries: Vec<Entry>,
-    most: u64,
-) -> Result<u64, AllocError>
+fn put_first(files: &mut SiteFiles, mut entries: Vec<Entry>, most: u64) -> Result<u64, AllocError>
     ensures put { IfOk result (λ _. writing_of files.new
         ≡ spec.put_all files.old.limits (take most entries.items) (writing_of files.old)) }
     ensures left { IfOk result (λ left. left ≡ most - length entries.items) }

@@ -109,12 +109,7 @@ impl Drop for Sockets<'_> {
 
 // Sends a request to an address, and returns its whole reply. There may be one though not all was written: a form that is too
 // long is refused by its head.
-fn ask(
-    rt: &HostRuntime,
-    to: SocketAddr,
-    request: &[u8],
-    longest: usize,
-) -> io::Result<Vec<u8>> {
+fn ask(rt: &HostRuntime, to: SocketAddr, request: &[u8], longest: usize) -> io::Result<Vec<u8>> {
     let limit = Duration::from_secs(SECONDS);
     let mut stream = rt.connect_timeout(to, limit)?;
     stream.set_read_timeout(Some(limit))?;
