@@ -1,6 +1,6 @@
 //! The members over sockets: a connection for each request, which is waited for.
 
-ghost use Rattle.std.specs.Prelude.{None};
+ghost use Rattle.std.specs.Prelude.{◌<◌, ◌^◌, None};
 
 use crate::exporting::Teller;
 use crate::log::{LogFault, Piece};
@@ -109,7 +109,9 @@ impl Drop for Sockets<'_> {
 
 // Sends a request to an address, and returns its whole reply. There may be one though not all was written: a form that is too
 // long is refused by its head.
-fn ask(rt: &HostRuntime, to: SocketAddr, request: &[u8], longest: usize) -> io::Result<Vec<u8>> {
+fn ask(rt: &HostRuntime, to: SocketAddr, request: &[u8], longest: usize) -> io::Result<Vec<u8>>
+    requires { longest < 2 ^ 62 }
+{
     let limit = Duration::from_secs(SECONDS);
     let mut stream = rt.connect_timeout(to, limit)?;
     stream.set_read_timeout(Some(limit))?;
@@ -167,7 +169,9 @@ impl<'r> Sockets<'r> {
     }
 
     // The reply of the member at a place, up to that length; None where it is away.
-    fn reply(&mut self, place: usize, request: &[u8], longest: usize) -> Option<Vec<u8>> {
+    fn reply(&mut self, place: usize, request: &[u8], longest: usize) -> Option<Vec<u8>>
+        requires { longest < 2 ^ 62 }
+    {
         let to = self.book.first(place);
         if let Some(addr) = to {
             if let Ok(reply) = ask(self.rt, addr, request, longest) {
