@@ -1,5 +1,5 @@
 -- What a server writes for what editors ask of a node (own; replies: RFC 9112).
-use Rattle.std.specs.Prelude.{◌≡◌, ◌⊎◌, ℕ, Bool, false, List, Option, None, Some, Result, Ok, Err}
+use Rattle.std.specs.Prelude.{◌≡◌, ◌⊎◌, ℕ, false, List, Option, Some, Result, Ok, Err}
 use Rattle.std.specs.Io.KnownBytes.{Appends}
 use Rattle.press_callbacks.specs.Kits.{KitView}
 use Rattle.press_page.specs.declared.reply.Reply.{Reply}
