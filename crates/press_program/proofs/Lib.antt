@@ -1,5 +1,6 @@
 pub mod Asked
 pub mod Ends
+pub mod Exports
 pub mod FirstValue
 pub mod KitRuns
 pub mod Kits

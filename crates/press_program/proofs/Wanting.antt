@@ -11,7 +11,7 @@ use Rattle.press_demonstration.specs.Demonstration.{demonstration}
 use Rattle.press_program.specs.Endings.{known_of, Does, Runs, RunsOver, Served}
 use Rattle.press_program.specs.KitFiles.{fault_line}
 use Rattle.press_program.specs.declared.kitting.KitFault.TheVariants as kit
-use Rattle.press_program.specs.Words.{Asked, Job, of_file, send, serve}
+use Rattle.press_program.specs.Words.{Asked, Job, export, of_file, send, serve}
 use Rattle.press_program.proofs.Ends.{outside_task}
 
 no_memory_for : (served : Served) (kit : KitView) (job : Job) (remaining : Option (List ℕ)) (status : ℕ) (out err err' : Option (List ℕ))
@@ -20,6 +20,7 @@ no_memory_for served kit (of_file wanted) remaining status out err err' is kept 
     (Fault NoMemory, out, outside_task kit wanted.1 (known_of wanted.0 remaining) out NoMemory tt, (is, kept, told))
 no_memory_for served kit (serve server) remaining status out err err' is kept told = (Err fault.NoMemory, inl (refl, kept), is)
 no_memory_for served kit (send mail) remaining status out err err' is kept told = inl (is, kept, inr told)
+no_memory_for served kit (export it) remaining status out err err' is kept told = inl (is, kept, inr told)
 
 no_memory_over : (served : Served) (names : List (List ℕ)) (job : Job) (remaining : Option (List ℕ)) (status : ℕ) (out err err' : Option (List ℕ))
     → status ≡ 2 → Keeps out out → AppendsFront err err' (fault_line NoMemory) → RunsOver served names job remaining status out out err err'

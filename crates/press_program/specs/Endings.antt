@@ -24,7 +24,8 @@ use Rattle.press_server.specs.Listening.{listening_line}
 use Rattle.press_server.specs.declared.serve_fault.ServeFault.{ServeFault}
 use Rattle.press_server.specs.declared.serve_fault.ServeFault.TheVariants as fault
 use Rattle.press_loop.specs.Loops.{Loops}
-use Rattle.press_program.specs.Words.{Asked, Job, Mail, OfFile, Server, of_file, send, serve, is_input}
+use Rattle.press_program.specs.Exports.{Makes, TellsUnmade}
+use Rattle.press_program.specs.Words.{Asked, Export, Job, Mail, OfFile, Server, export, of_file, send, serve, is_input}
 use Rattle.press_program.specs.declared.task.Task.{Task}
 use Rattle.press_program.specs.declared.task.Task.TheVariants.{Page, Replay, Loop}
 use Rattle.press_text.specs.Streams.{AppendsFront}
@@ -127,6 +128,7 @@ abbrev pub ReadsFor : Job → Option (List ℕ) → Option (List ℕ) → Type 0
 ReadsFor (of_file wanted) input input' = is_input wanted.0 ≡ false → Keeps input input'
 ReadsFor (serve server) input input' = Keeps input input'
 ReadsFor (send mail) input input' = is_input mail.0 ≡ false → Keeps input input'
+ReadsFor (export it) input input' = Keeps input input'
 
 abbrev pub ReadsAsked : Option Asked → Option (List ℕ) → Option (List ℕ) → Type 0
 ReadsAsked None input input' = Keeps input input'
@@ -187,10 +189,16 @@ Mails remaining result out out' err err' =
     TellsUsage result out out' err err'
     ⊎ ((ended : Result ℕ ReplayFault) × Reports remaining out out' ended × TellsFault ended result err err')
 
+-- A run that makes site files of a log. What is no member, or more than one, is told as words are that are refused.
+abbrev pub Exports : Export → ℕ → Option (List ℕ) → Option (List ℕ) → Option (List ℕ) → Option (List ℕ) → Type 0
+Exports it result out out' err err' =
+    TellsUsage result out out' err err' ⊎ (Makes it result out out' err err' ⊎ TellsUnmade it result out out' err err')
+
 -- what is to be done, over a kit
 abbrev pub Does : Served → KitView → Job → Option (List ℕ) → ℕ → Option (List ℕ) → Option (List ℕ) → Option (List ℕ) → Option (List ℕ) → Type 0
 Does served kit (of_file wanted) remaining result out out' err err' = Shows kit wanted remaining result out out' err err'
 Does served kit (serve server) remaining result out out' err err' = Listens served kit server result out out'
+Does served kit (export it) remaining result out out' err err' = Exports it result out out' err err'
 Does served kit (send mail) remaining result out out' err err' = Mails (known_of mail.0 remaining) result out out' err err'
 
 -- Over the demonstration kit, or over that of kit files, whose slips are reported before anything else; one that can't be used is reported, and nothing else is done.

@@ -1,5 +1,5 @@
 -- What the words after the program's name ask for: `page FILE TARGET`, `replay FILE`, `loop FILE`, or `serve` with words by their names, each of them with kit files or without; or
--- `send FILE MEMBERS`; as `clap` reads words; without any, post 1 of the standard input (own).
+-- `send FILE MEMBERS`, or `export MEMBER FILE`; as `clap` reads words; without any, post 1 of the standard input (own).
 use Rattle.std.specs.Prelude.{ℕ, List, [], ◌∷◌, ◌&&◌, Bool, true, false, bytes_eq, nat_le, if◌then◌else◌, Option, Some, None, map, option_and_then, option_map, codes}
 use Rattle.clap.specs.Kinds.{Kinds}
 use Rattle.clap.specs.declared.builder.action.ArgAction.TheVariants.{SetTrue, Append}
@@ -15,6 +15,7 @@ use Rattle.press_server.specs.Listening.{Where}
 use Rattle.press_server.specs.declared.setup.Place.TheVariants.{Alone, Member}
 use Rattle.press_server.specs.declared.setup.Place.{Place}
 use Rattle.press_server.specs.declared.setup.Setup.{Setup}
+use Rattle.press_program.specs.declared.wanted.Exporting.{Exporting}
 use Rattle.press_program.specs.declared.wanted.Mailing.{Mailing}
 use Rattle.press_program.specs.declared.wanted.Wanted.{Wanted}
 use Rattle.press_program.specs.declared.task.Task.{Task}
@@ -76,6 +77,9 @@ serve_words = with_kit server_words
 abbrev pub send_words : App
 send_words = with_rule (with_rule (helpless (codes "send")) (needed (codes "FILE"))) (needed (codes "MEMBERS"))
 
+abbrev pub export_words : App
+export_words = with_rule (with_rule (helpless (codes "export")) (needed (codes "MEMBER"))) (needed (codes "FILE"))
+
 abbrev pub bare : App
 bare = record {
   top = record (new_app (codes "press")).top { no_binary_name = true; disable_help_flag = true; disable_help_subcommand = true; subcommand_required = true };
@@ -84,8 +88,8 @@ bare = record {
 
 unfoldable pub program : App
 program =
-    with_subcommand (with_subcommand (with_subcommand (with_subcommand (with_subcommand bare page_words.top) (file_words (codes "replay")).top) (file_words (codes "loop")).top)
-    serve_words.top) send_words.top
+    with_subcommand (with_subcommand (with_subcommand (with_subcommand (with_subcommand (with_subcommand bare page_words.top) (file_words (codes "replay")).top)
+    (file_words (codes "loop")).top) serve_words.top) send_words.top) export_words.top
 
 -- ---- what is asked for
 
@@ -109,10 +113,15 @@ pub record Server : Type 0 where
 abbrev pub Mail : Type 0
 Mail = List ℕ × List ℕ
 
+-- a member whose log becomes site files, and the name of the first file
+abbrev pub Export : Type 0
+Export = List ℕ × List ℕ
+
 pub data Job : Type 0 where
   of_file : OfFile → Job
   serve : Server → Job
   send : Mail → Job
+  export : Export → Job
 
 -- over the kit of files in this order, or else the demonstration kit
 pub record Asked : Type 0 where
@@ -199,6 +208,12 @@ mailing_in rows = do
   members ← first_of (codes "MEMBERS") rows
   Some (file, members)
 
+abbrev pub export_in : List Row → Option Export
+export_in rows = do
+  member ← first_of (codes "MEMBER") rows
+  file ← first_of (codes "FILE") rows
+  Some (member, file)
+
 -- by the name of the subcommand
 abbrev pub job_in : Text → List Row → Option Job
 job_in name rows =
@@ -206,7 +221,8 @@ job_in name rows =
     (if bytes_eq name (codes "replay") then option_map of_file (file_in Replay rows) else
     (if bytes_eq name (codes "loop") then option_map of_file (file_in Loop rows) else
     (if bytes_eq name (codes "serve") then option_map serve (server_in rows) else
-    (if bytes_eq name (codes "send") then option_map send (mailing_in rows) else None))))
+    (if bytes_eq name (codes "send") then option_map send (mailing_in rows) else
+    (if bytes_eq name (codes "export") then option_map export (export_in rows) else None)))))
 
 abbrev pub values_of : Option (List Text) → List Text
 values_of None = []
@@ -256,10 +272,14 @@ server_of s = record {
 abbrev pub mailing_of : Mailing → Mail
 mailing_of m = (m.file.now, m.members.now)
 
+abbrev pub export_of : Exporting → Export
+export_of e = (e.member.now, e.file.now)
+
 abbrev pub job_of : declared.Job → Job
 job_of (told.OfFile w) = of_file (wanted_of w)
 job_of (told.Serve s) = serve (server_of s)
 job_of (told.Send m) = send (mailing_of m)
+job_of (told.Export e) = export (export_of e)
 
 abbrev pub asked_of : asked.Asked → Asked
 asked_of a = record { kits = map (λ kit. kit.now) a.kits.items; job = job_of a.job }

@@ -4,6 +4,7 @@
 mod boxing;
 mod commands;
 mod ending;
+mod exporting;
 mod hosting;
 mod kitting;
 mod mailing;

@@ -18,12 +18,22 @@ pub struct Mailing<'a> {
     pub members: &'a str,
 }
 
+/// A member whose log becomes site files.
+#[derive(Debug, Drop)]
+pub struct Exporting<'a> {
+    /// The member's address or name.
+    pub member: &'a str,
+    /// The name of the first file; those behind it have their number as well.
+    pub file: &'a str,
+}
+
 /// What is to be done.
 #[derive(Debug, Drop)]
 pub enum Job<'a> {
     OfFile(Wanted<'a>),
     Serve(Setup<'a>),
     Send(Mailing<'a>),
+    Export(Exporting<'a>),
 }
 
 /// What the arguments after the program's name ask for.

@@ -7,7 +7,7 @@ ghost use Rattle.clap.specs.Values.{kind_of};
 ghost use Rattle.press_program.specs.Words as spec;
 
 use crate::task::Task;
-use crate::wanted::{Asked, Job, Mailing, Wanted};
+use crate::wanted::{Asked, Exporting, Job, Mailing, Wanted};
 use clap::error::ErrorKind;
 use clap::{Arg, ArgAction, ArgMatches, Command, Error};
 use press_page::Target;
@@ -112,6 +112,19 @@ fn send_words<'a>(alloc: Global) -> Result<Command<'a>, AllocError>
     Ok(send)
 }
 
+fn export_words<'a>(alloc: Global) -> Result<Command<'a>, AllocError>
+    ensures app { IfOk result (λ c. app_of c ≡ spec.export_words) }
+    ensures local { IfOk result (λ c. (out-Command c).has_globals ≡ false) }
+{
+    let member = Arg::new(alloc, "MEMBER").required(true);
+    let file = Arg::new(alloc, "FILE").required(true);
+    let export = Command::new(alloc, "export")
+        .disable_help_flag(true)
+        .arg(member)?
+        .arg(file)?;
+    Ok(export)
+}
+
 // The program without its commands.
 fn bare_words<'a>(alloc: Global) -> Command<'a>
     ensures { app_of result ≡ spec.bare }
@@ -139,7 +152,9 @@ fn parsed<'a>(alloc: Global, words: &'a [String]) -> Result<ArgMatches<'a>, Erro
     let serve = serve_words(alloc)?;
     let four = three.subcommand(serve)?;
     let send = send_words(alloc)?;
-    let program = four.subcommand(send)?;
+    let five = four.subcommand(send)?;
+    let export = export_words(alloc)?;
+    let program = five.subcommand(export)?;
     program.try_get_matches_from(words)
 }
 
@@ -294,6 +309,16 @@ fn mailing_in<'a>(inside: &ArgMatches<'a>) -> Option<Mailing<'a>>
     Some(Mailing { file, members })
 }
 
+#[tactic(auto, using(crate::proofs::FirstValue::first_is))]
+fn export_in<'a>(inside: &ArgMatches<'a>) -> Option<Exporting<'a>>
+    ensures { option_map (λ e. spec.export_of e) result
+        ≡ spec.export_in (rows_of (found_of inside.now)) }
+{
+    let member = inside.get_str("MEMBER")?;
+    let file = inside.get_str("FILE")?;
+    Some(Exporting { member, file })
+}
+
 fn job_in<'a>(
     alloc: Global,
     name: &str,
@@ -313,6 +338,8 @@ fn job_in<'a>(
         Ok(server_in(inside).map(Job::Serve))
     } else if name == "send" {
         Ok(mailing_in(inside).map(Job::Send))
+    } else if name == "export" {
+        Ok(export_in(inside).map(Job::Export))
     } else {
         Ok(None)
     }

@@ -22,7 +22,8 @@ program_is c =
     let two = c.in_ok-two.ensures.shape c.in_ok-replay.ensures.local ∙ ap₂ with_subcommand one (ap (λ (a : App). a.top) c.in_ok-replay.ensures.app) in
     let three = c.in_ok-three.ensures.shape c.in_ok-looped.ensures.local ∙ ap₂ with_subcommand two (ap (λ (a : App). a.top) c.in_ok-looped.ensures.app) in
     let four = c.in_ok-four.ensures.shape c.in_ok-serve.ensures.local ∙ ap₂ with_subcommand three (ap (λ (a : App). a.top) c.in_ok-serve.ensures.app) in
-    c.in_ok-program.ensures.shape c.in_ok-send.ensures.local ∙ ap₂ with_subcommand four (ap (λ (a : App). a.top) c.in_ok-send.ensures.app)
+    let five = c.in_ok-five.ensures.shape c.in_ok-send.ensures.local ∙ ap₂ with_subcommand four (ap (λ (a : App). a.top) c.in_ok-send.ensures.app) in
+    c.in_ok-program.ensures.shape c.in_ok-export.ensures.local ∙ ap₂ with_subcommand five (ap (λ (a : App). a.top) c.in_ok-export.ensures.app)
 
 pub returns-clause-kinds : goal.returns-clause-kinds
 returns-clause-kinds c =
