@@ -1,4 +1,5 @@
 mod connections;
+mod exports;
 mod fakes;
 mod fixtures;
 mod kits;

@@ -150,3 +150,16 @@ fn words_ask_for_commands_to_be_sent(rt: HostRuntime) -> Result<(), Fail> {
     assert!(rt; none.left(0, "0 done, 0 refused, 0 not taken, 0 left\n", ""));
     Ok(())
 }
+
+// Nothing listens at that port.
+#[test]
+fn words_ask_for_a_log_as_files(rt: HostRuntime) -> Result<(), Fail> {
+    assert!(rt; asked(&rt, &["export", "127.0.0.1:1"])?.is_refused());
+    assert!(rt; asked(&rt, &["export", "here", "f"])?.is_refused());
+    assert!(rt; asked(&rt, &["export", "127.0.0.1:1,127.0.0.1:2", "f"])?.is_refused());
+    let away = asked(&rt, &["export", "127.0.0.1:1", "f"])?;
+    let told = "press: fault 40\npress: 127.0.0.1:1 is away\n";
+    assert!(rt; away.left(2, "", told));
+    assert!(rt; File::open(&rt, "f").is_err());
+    Ok(())
+}
