@@ -40,10 +40,15 @@ fn fillers_move_the_moment_alone(rt: HostRuntime) -> Result<(), Fail> {
     files.put(Entry::Filler { at: 9 })?;
     files.put(tick(rt.alloc(), 2, 7)?)?;
     let files = files.into_files()?;
-    assert!(rt; are(&files, &[
-        "{\"commands\":[\n{\"at\":5,\"editor\":\"ann\",\"kind\":\"tick\",\"seq\":1},\n{\"at\":9,\"editor\":\"ann\",\"kind\":\"tick\",\"seq\":1}\n]}\n",
-        "{\"commands\":[\n{\"at\":7,\"editor\":\"ann\",\"kind\":\"tick\",\"seq\":2}\n]}\n",
-    ]));
+    assert!(rt;
+        are(
+            &files,
+            &[
+                "{\"commands\":[\n{\"at\":5,\"editor\":\"ann\",\"kind\":\"tick\",\"seq\":1},\n{\"at\":9,\"editor\":\"ann\",\"kind\":\"tick\",\"seq\":1}\n]}\n",
+                "{\"commands\":[\n{\"at\":7,\"editor\":\"ann\",\"kind\":\"tick\",\"seq\":2}\n]}\n",
+            ]
+        )
+    );
     Ok(())
 }
 
@@ -78,10 +83,15 @@ fn an_export_is_what_was_applied_at_first(rt: HostRuntime) -> Result<(), Fail> {
         tells: true,
     };
     let files = export(alloc, &mut node, LIMITS)?;
-    assert!(rt; are(&files, &[
-        "{\"commands\":[\n{\"at\":0,\"editor\":\"ann\",\"kind\":\"tick\",\"seq\":0},\n{\"at\":1,\"editor\":\"ann\",\"kind\":\"tick\",\"seq\":1}\n]}\n",
-        "{\"commands\":[\n{\"at\":2,\"editor\":\"ann\",\"kind\":\"tick\",\"seq\":2}\n]}\n",
-    ]));
+    assert!(rt;
+        are(
+            &files,
+            &[
+                "{\"commands\":[\n{\"at\":0,\"editor\":\"ann\",\"kind\":\"tick\",\"seq\":0},\n{\"at\":1,\"editor\":\"ann\",\"kind\":\"tick\",\"seq\":1}\n]}\n",
+                "{\"commands\":[\n{\"at\":2,\"editor\":\"ann\",\"kind\":\"tick\",\"seq\":2}\n]}\n",
+            ]
+        )
+    );
     node.tells = false;
     assert!(rt; matches!(export(alloc, &mut node, LIMITS), Err(LogFault::NoLog)));
     Ok(())
