@@ -65,7 +65,10 @@ impl Teller for Growing {
         let mut entries = Vec::new(self.alloc);
         for seq in from..self.applied.min(from.saturating_add(2)) {
             if self.tells {
-                entries.push(tick(self.alloc, seq, seq)?)?;
+                match entries.push(tick(self.alloc, seq, seq)?) {
+                    Ok(()) => {}
+                    Err(_) => return Err(LogFault::NoMemory),
+                }
             }
         }
         let applied = self.applied;
