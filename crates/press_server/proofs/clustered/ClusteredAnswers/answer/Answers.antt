@@ -1,0 +1,6 @@
+use Rattle.std.proofs.Common.{sym, subst}
+use Rattle.press_server.specs.Living.{MemberLives}
+use Rattle.press_server.proofs.clustered.ClusteredAnswers.answer.Goals as goal
+
+pub returns : goal.returns
+returns g c = subst (λ m. MemberLives g.S.PromiseStore.seen c.args.self.now.member m) (sym c.note_reply.ensures) c.reply.ensures
