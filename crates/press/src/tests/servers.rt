@@ -32,12 +32,7 @@ struct Served {
 }
 
 // What comes of a request to a server for these words.
-fn served(
-    rt: &HostRuntime,
-    words: &[&str],
-    addr: SocketAddr,
-    request: &[u8],
-) -> Result<Served, Fail> {
+fn ask(rt: &HostRuntime, words: &[&str], addr: SocketAddr, request: &[u8]) -> Result<Served, Fail> {
     let words = given(rt, words)?;
     let client = Client::new(rt, addr, request);
     let mut input: &[u8] = b"";
@@ -57,7 +52,7 @@ fn replied(
     addr: SocketAddr,
     request: &[u8],
 ) -> Result<Vec<u8>, Fail> {
-    let Served { reply, .. } = served(rt, words, addr, request)?;
+    let Served { reply, .. } = ask(rt, words, addr, request)?;
     Ok(reply)
 }
 
@@ -73,7 +68,7 @@ fn refuses(
         form.len()
     )?;
     let line = format!(in rt.alloc(); " press: POST /command 400: {why}\n")?;
-    let Served { reply, told } = served(rt, words, addr, request.as_bytes())?;
+    let Served { reply, told } = ask(rt, words, addr, request.as_bytes())?;
     Ok(reply.starts_with(b"HTTP/1.1 400 ") && told.ends_with(line.as_bytes()))
 }
 
