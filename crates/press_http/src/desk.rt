@@ -8,7 +8,7 @@ ghost use Rattle.press_http.specs.Desk as spec;
 
 use crate::fault::HttpFault;
 use crate::form::first_value;
-use crate::place::{add, place_in};
+use crate::place::{add_route, place_in};
 use crate::request::Request;
 use crate::routing::{behind, path, query};
 use matchit::Router;
@@ -43,11 +43,11 @@ fn table(alloc: Global) -> Result<Router<DeskPlace>, AllocError>
     ensures { IfOk result (λ r. r ≡ spec.desk_table) }
 {
     let mut router = Router::new(alloc);
-    add(&mut router, "/desk/log", DeskPlace::Log)?;
-    add(&mut router, "/desk/posts", DeskPlace::Posts)?;
-    add(&mut router, "/desk/posts/{id}", DeskPlace::Post)?;
-    add(&mut router, "/desk/preview/{id}", DeskPlace::Preview)?;
-    add(&mut router, "/desk/site", DeskPlace::Site)?;
+    add_route(&mut router, "/desk/log", DeskPlace::Log)?;
+    add_route(&mut router, "/desk/posts", DeskPlace::Posts)?;
+    add_route(&mut router, "/desk/posts/{id}", DeskPlace::Post)?;
+    add_route(&mut router, "/desk/preview/{id}", DeskPlace::Preview)?;
+    add_route(&mut router, "/desk/site", DeskPlace::Site)?;
     Ok(router)
 }
 

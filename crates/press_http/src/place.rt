@@ -41,9 +41,10 @@ pub(crate) fn place_in<P: Copy + Drop>(routes: &Router<P>, path: &str) -> Result
     }
 }
 
-// A router refuses these paths only when out of memory.
+/// Puts a path, and what it is for, into a table. Each refusal is told as want of memory: for paths that are
+/// well formed and stand once.
 #[tactic(auto, using(crate::proofs::Tables::inserted), unfolding(crate::specs::Routes::with_route))]
-pub(crate) fn add<P: Drop>(router: &mut Router<P>, path: &str, place: P) -> Result<(), AllocError>
+pub fn add_route<P: Drop>(router: &mut Router<P>, path: &str, place: P) -> Result<(), AllocError>
     ensures { OnOk result (router.new ≡ with_route path.now place router.old) }
 {
     match router.insert(path, place) {
@@ -57,9 +58,9 @@ fn pages(alloc: Global) -> Result<Router<Place>, AllocError>
     ensures { IfOk result (λ r. r ≡ pages) }
 {
     let mut router = Router::new(alloc);
-    add(&mut router, "/", Place::Front)?;
-    add(&mut router, "/wp-json/wp/v2/posts/{id}", Place::Post)?;
-    add(&mut router, "/result/{editor}/{seq}", Place::Outcome)?;
+    add_route(&mut router, "/", Place::Front)?;
+    add_route(&mut router, "/wp-json/wp/v2/posts/{id}", Place::Post)?;
+    add_route(&mut router, "/result/{editor}/{seq}", Place::Outcome)?;
     Ok(router)
 }
 
@@ -68,8 +69,8 @@ fn all_routes(alloc: Global) -> Result<Router<Place>, AllocError>
     ensures { IfOk result (λ r. r ≡ table) }
 {
     let mut router = pages(alloc)?;
-    add(&mut router, "/command", Place::Commands)?;
-    add(&mut router, "/peer", Place::Peers)?;
+    add_route(&mut router, "/command", Place::Commands)?;
+    add_route(&mut router, "/peer", Place::Peers)?;
     Ok(router)
 }
 

@@ -5,4 +5,3 @@ pub mod Mapped
 mod Named
 mod Samples
 pub mod Sorts
-pub mod Tables

@@ -1,9 +1,10 @@
 //! The paths that a server has beside those of a site, and what each is for.
 
-ghost use Rattle.std.specs.Prelude.{◌≡◌, [], IfOk, OnOk};
-ghost use Rattle.press_server.specs.Paths.{method_of, own_at, table, with_route};
+ghost use Rattle.std.specs.Prelude.{◌≡◌, IfOk};
+ghost use Rattle.press_server.specs.Paths.{method_of, own_at, table};
 
 use matchit::Router;
+use press_http::add_route;
 use std::alloc::{AllocError, Global};
 
 /// What a path of the program's own is for.
@@ -31,26 +32,15 @@ impl Own {
     }
 }
 
-// A router refuses these paths only when out of memory.
-#[tactic(auto, using(crate::proofs::Tables::inserted), unfolding(crate::specs::Paths::with_route))]
-fn add(router: &mut Router<Own>, path: &str, own: Own) -> Result<(), AllocError>
-    ensures { OnOk result (router.new ≡ with_route path.now own router.old) }
-{
-    match router.insert(path, own) {
-        Ok(()) => Ok(()),
-        Err(_) => Err(AllocError),
-    }
-}
-
 #[tactic(auto, unfolding(crate::specs::Paths::table))]
 fn routes(alloc: Global) -> Result<Router<Own>, AllocError>
     ensures { IfOk result (λ r. r ≡ table) }
 {
     let mut router = Router::new(alloc);
-    add(&mut router, "/ready", Own::Ready)?;
-    add(&mut router, "/editor", Own::Editor)?;
-    add(&mut router, "/members", Own::Members)?;
-    add(&mut router, "/metrics", Own::Metrics)?;
+    add_route(&mut router, "/ready", Own::Ready)?;
+    add_route(&mut router, "/editor", Own::Editor)?;
+    add_route(&mut router, "/members", Own::Members)?;
+    add_route(&mut router, "/metrics", Own::Metrics)?;
     Ok(router)
 }
 

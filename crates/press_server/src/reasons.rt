@@ -1,15 +1,14 @@
 //! Why a command was refused that came as a form: a line for whoever runs the server, since the reply doesn't say it.
 
-ghost use Rattle.std.specs.Prelude.{◌≡◌, IfOk, IfSome, option_map, string_bytes};
-ghost use Rattle.std.specs.Cow.{cow_str_bytes};
-ghost use Rattle.press_http.specs.Forms.{fields_of, first_named};
+ghost use Rattle.std.specs.Prelude.{◌≡◌, IfOk, IfSome, string_bytes};
+ghost use Rattle.press_http.specs.Forms.{fields_of};
 ghost use Rattle.press_http.specs.Routes.{asked};
 ghost use Rattle.press_server.specs.Screening.{ahead_of};
 ghost use Rattle.press_server.specs.Reasons.{IsOfField, IsReason, line_of};
 
 use crate::screen::Screen;
 use press_fields::{FieldFault, Lookup, read_command};
-use press_http::{Asked, HttpFault, Request, read_request, route};
+use press_http::{Asked, HttpFault, Request, first_value, read_request, route};
 use press_text::{Text, dec_u64};
 use std::alloc::{AllocError, Global};
 use std::borrow::CowStr;
@@ -61,26 +60,6 @@ fn ahead_line(alloc: Global, limit: u64) -> Result<String, AllocError>
     ensures { IfOk result (λ line. string_bytes line ≡ line_of (Reason.Ahead limit)) }
 {
     format!(in alloc; "press: POST /command 400: at is more than {limit} seconds ahead\n")
-}
-
-// The value of the first field of that name.
-#[tactic(auto, unfolding(press_http::specs::Forms::first_named))]
-fn first_value<'f>(
-    alloc: Global,
-    form: &'f [u8],
-    name: &str,
-) -> Result<Option<CowStr<'f>>, AllocError>
-    ensures { IfOk result (λ found. option_map cow_str_bytes found
-        ≡ first_named name.now form.now) }
-{
-    let mut pairs = form_urlencoded::raw_pairs(form);
-    while let Some((key, value)) = pairs.next() {
-        let key = form_urlencoded::decode(alloc, key)?;
-        if key.as_str() == name {
-            return Ok(Some(form_urlencoded::decode(alloc, value)?));
-        }
-    }
-    Ok(None)
 }
 
 // A form that notes which of its fields was looked up last. Without memory for a name it notes none.
