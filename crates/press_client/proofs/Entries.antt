@@ -4,11 +4,8 @@ use Rattle.std.proofs.lemmas.List.{map-append, take_more}
 use Rattle.serde_json.specs.Data.{Data}
 use Rattle.serde_json.specs.View.{view}
 use Rattle.serde_json.specs.declared.value.Value.{Value}
-use Rattle.press_client.specs.Exporting.{Writing, begun, files_in, files_of, put, put_all}
 use Rattle.press_client.specs.Logging.{AreEntries, IsEntry}
 use Rattle.press_client.specs.declared.entry.Entry.{Entry}
-use Rattle.press_client.specs.declared.site_files.Limits.{Limits}
-use Rattle.press_client.specs.declared.site_files.SiteFile.{SiteFile}
 
 one_more : (es : List Entry) (ds : List Data) (e : Entry) (d : Data) → AreEntries es ds → IsEntry e d → AreEntries (es ++ e ∷ []) (ds ++ d ∷ [])
 one_more [] [] e d are is = (is, tt)
@@ -21,21 +18,3 @@ pub pushed : (es new : List Entry) (vs : List Value) (i : ℕ) (v : Value) (e : 
 pushed es new vs i v e lt at are is made =
     let on : map view (take (i + 1) vs) ≡ map view (take i vs) ++ view v ∷ [] = ap (map view) (take_more vs i v lt ∙ ap (λ x. take i vs ++ x ∷ []) (sym at)) ∙ map-append view (take i vs) (v ∷ []) in
     rw (made, on) (one_more es (map view (take i vs)) e (view v) are is)
-
--- ---- entries that were put
-
-put_on : (limits : Limits) (es fs : List Entry) (w : Writing) → put_all limits (es ++ fs) w ≡ put_all limits fs (put_all limits es w)
-put_on limits [] fs w = refl
-put_on limits (e ∷ es) fs w = put_on limits es fs (put limits e w)
-
--- some entries were put, within these limits
-abbrev pub IsBehind : Limits → Limits → Writing → Type 0
-IsBehind limits own w = (own ≡ limits) × (es : List Entry) × (w ≡ put_all limits es begun)
-
-pub gone_on : (limits own own' : Limits) (w w' : Writing) (fs : List Entry) → IsBehind limits own w → own' ≡ own → w' ≡ put_all own fs w → IsBehind limits own' w'
-gone_on limits own own' w w' fs (same, es, is) kept put =
-    (kept ∙ same, es ++ fs, put ∙ ap (λ l. put_all l fs w) same ∙ ap (put_all limits fs) is ∙ sym (put_on limits es fs begun))
-
-pub ended : (limits own : Limits) (w : Writing) (files : List SiteFile) → IsBehind limits own w → files ≡ files_in w → (es : List Entry) × (files ≡ files_of limits es)
-unfolding files_of
-ended limits own w files (same, es, is) are = (es, are ∙ ap files_in is)

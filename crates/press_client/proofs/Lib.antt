@@ -1,4 +1,5 @@
 pub mod Entries
+pub mod Exports
 pub mod Lines
 pub mod Splitting
 pub mod Standing

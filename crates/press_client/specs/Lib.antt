@@ -6,3 +6,4 @@ pub mod Logging
 pub mod Replying
 pub mod Reporting
 pub mod Saying
+pub mod Telling

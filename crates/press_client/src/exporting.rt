@@ -1,9 +1,9 @@
 //! What a node has applied, as site files.
 
-ghost use Rattle.std.specs.Prelude.{◌≡◌, ◌-◌, IfOk, List, length, take};
+ghost use Rattle.std.specs.Prelude.{◌≡◌, ◌-◌, IfErr, IfOk, length, take};
 ghost use Rattle.press_client.specs.Exporting as spec;
-ghost use Rattle.press_client.specs.Exporting.{files_of, writing_of};
-ghost use Rattle.press_client.specs.declared.entry.Entry.{Entry as Applied};
+ghost use Rattle.press_client.specs.Exporting.{writing_of};
+ghost use Rattle.press_client.specs.Telling.{IsExport, StopsBy};
 
 use crate::entry::Entry;
 use crate::log::{LogFault, Piece};
@@ -12,8 +12,14 @@ use std::alloc::{AllocError, Global};
 
 /// A node that tells what it has applied.
 pub trait Teller {
+    ghost use Rattle.press_client.specs.Telling.{Question};
+
+    // A question leads from a state to another, and has an answer.
+    ghost tells: { Question Self };
+
     /// How many values it has applied by now, and some of them behind the first so many.
-    fn piece(&mut self, from: u64) -> Result<Piece, LogFault>;
+    fn piece(&mut self, from: u64) -> Result<Piece, LogFault>
+        ensures { tells self.old from result self.new };
 }
 
 fn put_all(files: &mut SiteFiles, entries: Vec<Entry>) -> Result<(), AllocError>
@@ -46,8 +52,9 @@ pub fn export<T: Teller>(
     teller: &mut T,
     limits: Limits,
 ) -> Result<Vec<SiteFile>, LogFault>
-    ensures { IfOk result (λ files. (entries : List Applied)
-        × (files.items ≡ files_of limits entries)) }
+    ensures files { IfOk result (λ files.
+        IsExport T.tells limits teller.old teller.new files.items) }
+    ensures stops { IfErr result (λ e. StopsBy T.tells e teller.old teller.new) }
 {
     let mut files = SiteFiles::new(alloc, limits)?;
     let Piece { applied, entries } = teller.piece(0)?;

@@ -253,6 +253,12 @@ impl Newsroom for Sockets<'_> {
 
 // The first of them tells.
 impl Teller for Sockets<'_> {
+    ghost use Rattle.std.specs.Prelude.{ℕ, List, IfOk};
+    ghost use Rattle.press_client.specs.Logging.{TellsPiece};
+
+    ghost tells = { λ old from result new. IfOk result (λ piece. (reply : List ℕ)
+        × TellsPiece piece reply) };
+
     fn piece(&mut self, from: u64) -> Result<Piece, LogFault> {
         let alloc = self.rt.alloc();
         let request = log_request(alloc, self.host(0), from)?;

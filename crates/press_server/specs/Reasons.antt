@@ -1,10 +1,13 @@
 -- Why a command is refused that came as a form, and what is said of that (own).
 use Rattle.std.specs.Prelude.{◌≡◌, ◌≢◌, ◌++◌, ℕ, List, Bool, Option, Some, None, Result, Ok, Err, true, false, codes, decimal}
 use Rattle.press_http.specs.declared.asked.Asked.{Asked}
-use Rattle.press_http.specs.declared.asked.Asked.TheVariants as asked
+use Rattle.press_http.specs.declared.asked.Asked.TheVariants as variant
 use Rattle.press_http.specs.declared.fault.HttpFault.{HttpFault}
 use Rattle.press_http.specs.declared.fault.HttpFault.TheVariants.{BadForm}
+use Rattle.press_http.specs.declared.request.Request.{Request}
 use Rattle.press_http.specs.Forms.{first_named}
+use Rattle.press_http.specs.Requests.{IsRequest}
+use Rattle.press_http.specs.Routes.{asked}
 use Rattle.press_server.specs.Screening.{is_ahead}
 use Rattle.press_server.specs.declared.reasons.Reason.{Reason}
 use Rattle.press_server.specs.declared.reasons.Reason.TheVariants.{Missing, Unfit, Ahead}
@@ -17,9 +20,9 @@ IsOfField form (Ahead limit) = ⊥
 
 -- a command was asked for that is more seconds ahead than an operator allows
 abbrev pub is_past : Option ℕ → ℕ → Result Asked HttpFault → Bool
-is_past most now (Ok (asked.Peer message)) = false
-is_past most now (Ok (asked.Command stamped)) = is_ahead most stamped.at now
-is_past most now (Ok (asked.Page target)) = false
+is_past most now (Ok (variant.Peer message)) = false
+is_past most now (Ok (variant.Command stamped)) = is_ahead most stamped.at now
+is_past most now (Ok (variant.Page target)) = false
 is_past most now (Err fault) = false
 
 -- why a form is refused, by what it asks for
@@ -32,3 +35,11 @@ unfoldable pub line_of : Reason → List ℕ
 line_of (Missing field) = codes "press: POST /command 400: " ++ (field ++ codes " is missing\n")
 line_of (Unfit field) = codes "press: POST /command 400: " ++ (field ++ codes " does not fit\n")
 line_of (Ahead limit) = codes "press: POST /command 400: at is more than " ++ (decimal limit ++ codes " seconds ahead\n")
+
+-- what is said of a request's bytes: why the form is refused that the request in front of them carries
+abbrev pub IsLineAbout : Option ℕ → ℕ → List ℕ → List ℕ → Type 0
+IsLineAbout most now bytes line =
+    (seen rest : List ℕ) × (bytes ≡ seen ++ rest)
+    × (r : Request) × IsRequest seen r
+    × (reason : Reason) × IsReason most now r.body (asked r.method r.target r.body) reason
+    × (line ≡ line_of reason)

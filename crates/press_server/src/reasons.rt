@@ -4,7 +4,7 @@ ghost use Rattle.std.specs.Prelude.{◌≡◌, IfOk, IfSome, string_bytes};
 ghost use Rattle.press_http.specs.Forms.{fields_of};
 ghost use Rattle.press_http.specs.Routes.{asked};
 ghost use Rattle.press_server.specs.Screening.{ahead_of};
-ghost use Rattle.press_server.specs.Reasons.{IsOfField, IsReason, line_of};
+ghost use Rattle.press_server.specs.Reasons.{IsLineAbout, IsOfField, IsReason, line_of};
 
 use crate::screen::Screen;
 use press_fields::{FieldFault, Lookup, read_command};
@@ -147,7 +147,10 @@ fn reason_of(alloc: Global, screen: &Screen, now: u64, request: &Request) -> Opt
 }
 
 /// The line about a form that was refused at that time. Without memory there is none.
-pub fn line_about(alloc: Global, screen: &Screen, now: u64, request: &[u8]) -> Option<String> {
+pub fn line_about(alloc: Global, screen: &Screen, now: u64, request: &[u8]) -> Option<String>
+    ensures { IfSome result (λ line. IsLineAbout (ahead_of screen.now) now request.now
+        (string_bytes line)) }
+{
     let mut rest = request;
     let request = read_request(alloc, &mut rest).ok()?;
     let reason = reason_of(alloc, screen, now, &request)?;

@@ -1,13 +1,14 @@
 //! What a member answers, as bytes.
 
 ghost use Rattle.std.specs.Io.KnownBytes.{Appends};
-ghost use Rattle.std.specs.Prelude.{◌≡◌, IfOk, Some};
+ghost use Rattle.std.specs.Prelude.{◌≡◌, IfErr, IfOk, OnErr, Some};
+ghost use Rattle.press_text.specs.Streams.{AppendsProperFront};
 ghost use Rattle.press_http.specs.Replies.{fault_bytes};
 ghost use Rattle.press_node.specs.Nodes.{kit_of, state_of};
-ghost use Rattle.press_node.specs.Serving.{Tells, queued, status_of_node, taken};
-ghost use Rattle.press_server.specs.Desk.{ShowsDesk, TellsFault};
+ghost use Rattle.press_node.specs.Serving.{Tells, TellsFront, queued, status_of_node, taken};
+ghost use Rattle.press_server.specs.Desk.{ShowsDesk, ShowsDeskFront, TellsFault, TellsFaultFront};
 
-use crate::screen::refuse_for_now;
+use crate::screen::{refuse_for_now, refuse_without_memory};
 use press_http::{DeskRequest, HttpFault, write_fault, write_reply};
 use press_log::show_log;
 use press_member::Answer;
@@ -43,7 +44,9 @@ pub fn taken(alloc: Global) -> Reply
 
 /// A request is refused; the connection of one that isn't whole is closed without a reply.
 pub fn refuse(fault: HttpFault, told: &mut Vec<u8>) -> Result<u16, HttpFault>
-    ensures { IfOk result (TellsFault fault (Some told.old.items) (Some told.new.items)) }
+    ensures told { IfOk result (TellsFault fault (Some told.old.items) (Some told.new.items)) }
+    ensures left { IfErr result (TellsFaultFront fault (Some told.old.items)
+        (Some told.new.items)) }
 {
     match fault.status() {
         Some(status) => {
@@ -56,8 +59,11 @@ pub fn refuse(fault: HttpFault, told: &mut Vec<u8>) -> Result<u16, HttpFault>
 
 /// A node refuses what it is asked.
 pub fn refuse_by(fault: NodeFault, told: &mut Vec<u8>) -> Result<u16, HttpFault>
-    ensures { IfOk result (λ status. (status ≡ status_of_node fault)
+    ensures told { IfOk result (λ status. (status ≡ status_of_node fault)
         × Appends (Some told.old.items) (Some told.new.items) (fault_bytes status)) }
+    ensures left { OnErr result (AppendsProperFront (Some told.old.items) (Some told.new.items)
+        (fault_bytes (status_of_node fault))) }
+    ensures fault { IfErr result (λ e. e ≡ HttpFault.WriteFault) }
 {
     let status = fault.status();
     write_fault(told, status)?;
@@ -66,11 +72,14 @@ pub fn refuse_by(fault: NodeFault, told: &mut Vec<u8>) -> Result<u16, HttpFault>
 
 // Writes a reply; without memory for its head, 503 in its place.
 fn tell(alloc: Global, reply: &Reply, told: &mut Vec<u8>) -> Result<u16, HttpFault>
-    ensures { IfOk result (Tells (Some told.old.items) (Some told.new.items) reply.now) }
+    ensures told { IfOk result (Tells (Some told.old.items) (Some told.new.items) reply.now) }
+    ensures left { OnErr result (TellsFront (Some told.old.items) (Some told.new.items) reply.now) }
+    ensures fault { IfErr result (λ e. e ≡ HttpFault.WriteFault) }
 {
     match write_reply(alloc, told, reply) {
         Ok(()) => Ok(reply.status),
-        Err(fault) => refuse(fault, told),
+        Err(HttpFault::NoMemory) => refuse_without_memory(told),
+        Err(fault) => Err(fault),
     }
 }
 
@@ -81,7 +90,9 @@ pub fn tell_desk<S>(
     asked: Result<DeskRequest, HttpFault>,
     told: &mut Vec<u8>,
 ) -> Result<u16, HttpFault>
-    ensures { IfOk result (ShowsDesk (kit_of node.now) (state_of node.now) asked
+    ensures told { IfOk result (ShowsDesk (kit_of node.now) (state_of node.now) asked
+        (Some told.old.items) (Some told.new.items)) }
+    ensures left { IfErr result (ShowsDeskFront (kit_of node.now) (state_of node.now) asked
         (Some told.old.items) (Some told.new.items)) }
 {
     match asked {

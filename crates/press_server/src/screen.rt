@@ -1,12 +1,13 @@
 //! What a server does with a request before its node sees it.
 
-ghost use Rattle.std.specs.Prelude.{◌≡◌, ◌≢◌, ◌&&◌, IfOk, IfSome, MatchOption, MatchResult, Ok, Some, false, is_some, true};
+ghost use Rattle.std.specs.Prelude.{◌≡◌, ◌≢◌, ◌&&◌, IfErr, IfOk, IfSome, MatchOption, MatchResult, Ok, OnErr, Some, false, is_some, true};
 ghost use Rattle.std.specs.Io.KnownBytes.{Appends};
 ghost use Rattle.press_http.specs.Desk.{desk_asked};
 ghost use Rattle.press_http.specs.Meanings.{Refuses};
 ghost use Rattle.press_http.specs.Replies.{fault_bytes};
 ghost use Rattle.press_server.specs.Screening.{IsOfSort, ahead_of, has_page, is_ahead, is_of_desk, sort_by, sort_named};
 ghost use Rattle.press_text.specs.Gives.{Gives};
+ghost use Rattle.press_text.specs.Streams.{AppendsProperFront};
 
 use crate::paths::Own;
 use crate::timed::{Saves, Tally};
@@ -245,8 +246,11 @@ pub fn not_found(told: &mut Vec<u8>) -> Result<u16, HttpFault> {
 
 /// There was no memory to see what was asked, or for the reply.
 pub fn refuse_without_memory(told: &mut Vec<u8>) -> Result<u16, HttpFault>
-    ensures { IfOk result (λ status. (status ≡ 503)
+    ensures told { IfOk result (λ status. (status ≡ 503)
         × Appends (Some told.old.items) (Some told.new.items) (fault_bytes 503)) }
+    ensures left { OnErr result (AppendsProperFront (Some told.old.items) (Some told.new.items)
+        (fault_bytes 503)) }
+    ensures fault { IfErr result (λ e. e ≡ HttpFault.WriteFault) }
 {
     write_fault(told, 503)?;
     Ok(503)

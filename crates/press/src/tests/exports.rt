@@ -61,6 +61,8 @@ struct Growing {
 }
 
 impl Teller for Growing {
+    ghost tells = { λ old from result new. Unit {0} };
+
     fn piece(&mut self, from: u64) -> Result<Piece, LogFault> {
         let mut entries = Vec::new(self.alloc);
         for seq in from..self.applied.min(from.saturating_add(2)) {
