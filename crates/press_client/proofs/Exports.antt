@@ -32,9 +32,15 @@ module _ {Node : Type 0} (tells : Question Node) (limits : Limits) where
   pub first_is : (own own' : Limits) (left : ℕ) (first : Piece) (old now : Node) (w w' : Writing) → tells old 0 (Ok first) now → own ≡ limits → own' ≡ own
       → left ≡ first.applied - length first.entries.items → w ≡ begun → w' ≡ put_all own (take first.applied first.entries.items) w
       → IsOnTheWay tells limits own' first.applied left old now w'
-  first_is own own' left first old now w w' told same kept is from put =
-      (first, [], told, kept ∙ same, refl, is,
-          put ∙ (ap (λ l. put_all l (take first.applied first.entries.items) w) same ∙ ap (put_all limits (take first.applied first.entries.items)) from))
+  first_is own own' left first old now w w' told same kept is from put = (
+    first,
+    [],
+    told,
+    kept ∙ same,
+    refl,
+    is,
+    put ∙ (ap (λ l. put_all l (take first.applied first.entries.items) w) same ∙ ap (put_all limits (take first.applied first.entries.items)) from),
+  )
 
   pub goes_on : (own own' : Limits) (applied left next : ℕ) (old before now : Node) (w w' : Writing) (piece : Piece) → 0 < left → IsOnTheWay tells limits own applied left old before w
       → tells before (applied - left) (Ok piece) now → own' ≡ own → next ≡ left - length piece.entries.items → w' ≡ put_all own (take left piece.entries.items) w
@@ -42,12 +48,17 @@ module _ {Node : Type 0} (tells : Question Node) (limits : Limits) where
   goes_on own own' applied left next old before now w w' piece some (first, more, asks, same, is, rest, put) told kept fewer more_put =
       let es = entries_of first more in
       let short : length es < applied = omega (arith, some, rest) in
-      let at : applied - left ≡ length es = omega (arith, rest, short) in
-      (first, piece ∷ more, (before, asks, subst (λ n. length es < n) (sym is) short, subst (λ n. tells before n (Ok piece) now) at told), kept ∙ same, is,
-          omega (arith, fewer, rest, length-append es piece.entries.items),
-          more_put ∙ (ap (λ l. put_all l (take left piece.entries.items) w) same ∙ (ap (put_all limits (take left piece.entries.items)) put
-          ∙ (sym (put_on limits (take applied es) (take left piece.entries.items) begun)
-          ∙ ap (λ front. put_all limits front begun) (ap (λ n. take applied es ++ take n piece.entries.items) rest ∙ sym (take_on applied es piece.entries.items short))))))
+      let at : applied - left ≡ length es = omega (arith, rest, short) in (
+        first,
+        piece ∷ more,
+        (before, asks, subst (λ n. length es < n) (sym is) short, subst (λ n. tells before n (Ok piece) now) at told),
+        kept ∙ same,
+        is,
+        omega (arith, fewer, rest, length-append es piece.entries.items),
+        more_put ∙ (ap (λ l. put_all l (take left piece.entries.items) w) same ∙ (ap (put_all limits (take left piece.entries.items)) put
+            ∙ (sym (put_on limits (take applied es) (take left piece.entries.items) begun)
+            ∙ ap (λ front. put_all limits front begun) (ap (λ n. take applied es ++ take n piece.entries.items) rest ∙ sym (take_on applied es piece.entries.items short))))),
+      )
 
   pub ended : (own : Limits) (applied left : ℕ) (old now : Node) (w : Writing) (files : List SiteFile) → left ≡ 0 → IsOnTheWay tells limits own applied left old now w → files ≡ files_in w
       → IsExport tells limits old now files
@@ -68,6 +79,10 @@ module _ {Node : Type 0} (tells : Question Node) (limits : Limits) where
   holds_nothing own applied left next old before now w piece some (first, more, asks, same, is, rest, put) told fewer stays =
       let es = entries_of first more in
       let short : length es < applied = omega (arith, some, rest) in
-      let at : applied - left ≡ length es = omega (arith, rest, short) in
-      (first, piece, more, (before, asks, subst (λ n. length es < n) (sym is) short, subst (λ n. tells before n (Ok piece) now) at told),
-          nil_from_length piece.entries.items (omega (arith, fewer, stays, some)))
+      let at : applied - left ≡ length es = omega (arith, rest, short) in (
+        first,
+        piece,
+        more,
+        (before, asks, subst (λ n. length es < n) (sym is) short, subst (λ n. tells before n (Ok piece) now) at told),
+        nil_from_length piece.entries.items (omega (arith, fewer, stays, some)),
+      )
