@@ -1,5 +1,6 @@
 -- Why a command is refused that came as a form, and what is said of that (own).
 use Rattle.std.specs.Prelude.{◌≡◌, ◌≢◌, ◌++◌, ℕ, List, Bool, Option, Some, None, Result, Ok, Err, true, false, codes, decimal}
+use Rattle.std.specs.Io.KnownBytes.{Consumes}
 use Rattle.press_http.specs.declared.asked.Asked.{Asked}
 use Rattle.press_http.specs.declared.asked.Asked.TheVariants as variant
 use Rattle.press_http.specs.declared.fault.HttpFault.{HttpFault}
@@ -39,7 +40,7 @@ line_of (Ahead limit) = codes "press: POST /command 400: at is more than " ++ (d
 -- what is said of a request's bytes: why the form is refused that the request in front of them carries
 abbrev pub IsLineAbout : Option ℕ → ℕ → List ℕ → List ℕ → Type 0
 IsLineAbout most now bytes line =
-    (seen rest : List ℕ) × (bytes ≡ seen ++ rest)
+    (seen : List ℕ) × (left : Option (List ℕ)) × Consumes (Some bytes) left seen
     × (r : Request) × IsRequest seen r
     × (reason : Reason) × IsReason most now r.body (asked r.method r.target r.body) reason
     × (line ≡ line_of reason)

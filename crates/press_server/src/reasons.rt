@@ -147,12 +147,14 @@ fn reason_of(alloc: Global, screen: &Screen, now: u64, request: &Request) -> Opt
 }
 
 /// The line about a form that was refused at that time. Without memory there is none.
-pub fn line_about(alloc: Global, screen: &Screen, now: u64, request: &[u8]) -> Option<String>
-    ensures { IfSome result (λ line. IsLineAbout (ahead_of screen.now) now request.now
+pub fn line_about(alloc: Global, screen: &Screen, now: u64, bytes: &[u8]) -> Option<String>
+    ensures { IfSome result (λ line. IsLineAbout (ahead_of screen.now) now bytes.now
         (string_bytes line)) }
 {
-    let mut rest = request;
-    let request = read_request(alloc, &mut rest).ok()?;
+    let mut rest = bytes;
+    let Ok(request) = read_request(alloc, &mut rest) else {
+        return None;
+    };
     let reason = reason_of(alloc, screen, now, &request)?;
     reason.line(alloc).ok()
 }
