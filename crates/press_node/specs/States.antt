@@ -59,6 +59,14 @@ is_waiting_where (Some up) = not (is_empty up.running.proposer.queue)
 abbrev pub is_waiting : NodeState → Bool
 is_waiting state = is_waiting_where state.up
 
+-- how many commands wait to be chosen; none does where the node is down
+abbrev pub waiting_where : Option Up → ℕ
+waiting_where None = 0
+waiting_where (Some up) = length up.running.proposer.queue
+
+abbrev pub waiting_count : NodeState → ℕ
+waiting_count state = waiting_where state.up
+
 -- the values that were applied since the start, in the order of their slots; none where the node is down
 abbrev pub values_where : Option Up → List Value
 values_where None = []

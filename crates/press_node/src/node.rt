@@ -5,7 +5,7 @@ ghost use Rattle.press_callbacks.specs.Kits.{kit_view};
 ghost use Rattle.press_acceptor.specs.Seen.{Calls, Looks};
 ghost use Rattle.press_acceptor.specs.Seen.Call.{LoadsRound};
 ghost use Rattle.press_node.specs.Nodes.{IsDeskAt, IsPageAt, NodePlays, kit_of, state_of, store_of};
-ghost use Rattle.press_node.specs.States.{IsMemberOf, IsWhole, applied_count, applied_values, is_down, is_waiting, started_at};
+ghost use Rattle.press_node.specs.States.{IsMemberOf, IsWhole, applied_count, applied_values, is_down, is_waiting, started_at, waiting_count};
 
 use crate::event::Event;
 use crate::fault::NodeFault;
@@ -47,6 +47,13 @@ impl<S> Node<S> {
         ensures { result ≡ is_waiting (state_of self.now) }
     {
         self.state.is_waiting()
+    }
+
+    /// How many commands that were submitted to it wait to be chosen, 256 at most; none where it is down.
+    pub fn waiting_count(&self) -> usize
+        ensures { result ≡ waiting_count (state_of self.now) }
+    {
+        self.state.waiting_count()
     }
 
     pub fn store(&self) -> &S

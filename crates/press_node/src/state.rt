@@ -17,6 +17,7 @@ ghost use Rattle.press_node.specs.States.{
   running_in,
   started_at,
   stopped,
+  waiting_count,
 };
 
 use crate::event::Event;
@@ -132,6 +133,16 @@ impl State {
         match &self.up {
             Some(up) => up.proposer.is_waiting(),
             None => false,
+        }
+    }
+
+    /// How many commands wait to be chosen; none where the node is down.
+    pub fn waiting_count(&self) -> usize
+        ensures { result ≡ waiting_count self.now }
+    {
+        match &self.up {
+            Some(up) => up.proposer.waiting_count(),
+            None => 0,
         }
     }
 

@@ -1,6 +1,6 @@
 //! What a proposer does at each event: at most one save, and the messages that go out after it.
 
-ghost use Rattle.std.specs.Prelude.{◌≡◌, ◌≢◌, ◌<◌, ◌≤◌, ◌^◌, ◌+◌, Err, IfOk, IfErr, IsTrue, OnOk, OnErr, false, nat_lt, not, true, if◌then◌else◌};
+ghost use Rattle.std.specs.Prelude.{◌≡◌, ◌≢◌, ◌<◌, ◌≤◌, ◌^◌, ◌+◌, Err, IfOk, IfErr, IsTrue, OnOk, OnErr, false, length, nat_lt, not, true, if◌then◌else◌};
 ghost use Rattle.press_acceptor.specs.Messages as messages;
 ghost use Rattle.press_acceptor.specs.Seen.{Calls, Looks, fault_in};
 ghost use Rattle.press_acceptor.specs.Seen.Call.{LoadsRound};
@@ -98,6 +98,13 @@ impl Proposer {
         ensures { result ≡ not (is_empty self.now.queue) }
     {
         !self.queue.is_empty()
+    }
+
+    /// How many commands wait to be chosen, 256 at most.
+    pub fn waiting_count(&self) -> usize
+        ensures { result ≡ length self.now.queue }
+    {
+        self.queue.len()
     }
 
     /// Whether a wake would want a round, and none is left, where this is the last round of the store and so many slots have values.

@@ -49,6 +49,12 @@ impl Queue {
         self.commands.is_empty()
     }
 
+    pub fn len(&self) -> usize
+        ensures { result ≡ length self.now }
+    {
+        self.commands.len()
+    }
+
     pub fn is_full(&self) -> bool
         ensures { result ≡ is_full self.now }
     {

@@ -22,7 +22,7 @@ abbrev pub of_node : Metrics → List ℕ
 of_node m =
     gauge (codes "applied_slots") (codes "Slots whose commands the node has applied.") m.applied
     ++ (gauge (codes "down") (codes "Whether its store, or want of memory, has stopped the node.") (one_if m.is_down)
-    ++ gauge (codes "command_waits") (codes "Whether a command waits at the node to be chosen.") (one_if m.is_waiting))
+    ++ gauge (codes "queued_commands") (codes "Commands that wait at the node to be chosen.") m.waiting)
 
 -- its store
 abbrev pub of_store : Metrics → List ℕ

@@ -108,7 +108,7 @@ impl<S: PromiseStore> Alone<'_, S> {
         let metrics = Metrics {
             applied: self.node.applied(),
             is_down: self.node.is_down(),
-            is_waiting: self.node.is_waiting(),
+            waiting: self.node.waiting_count() as u64,
             among: None,
             saves: self.screen.saves(),
             traffic: self.traffic,

@@ -335,7 +335,7 @@ impl<S: PromiseStore> Clustered<'_, S> {
         let metrics = Metrics {
             applied: node.applied(),
             is_down: node.is_down(),
-            is_waiting: node.is_waiting(),
+            waiting: node.waiting_count() as u64,
             among: Some(among),
             saves: self.screen.saves(),
             traffic: self.traffic,

@@ -26,8 +26,8 @@ pub struct Metrics<'a> {
     /// How many slots its node has applied.
     pub applied: u64,
     pub is_down: bool,
-    /// Whether a command waits at its node.
-    pub is_waiting: bool,
+    /// How many commands wait at its node to be chosen.
+    pub waiting: u64,
     /// None for a node by itself.
     pub among: Option<Among>,
     pub saves: Saves,
@@ -76,13 +76,13 @@ fn of_node(alloc: Global, metrics: &Metrics<'_>) -> Result<String, AllocError>
         "Whether its store, or want of memory, has stopped the node.",
         u64::from(metrics.is_down),
     )?;
-    let waits = gauge(
+    let queued = gauge(
         alloc,
-        "command_waits",
-        "Whether a command waits at the node to be chosen.",
-        u64::from(metrics.is_waiting),
+        "queued_commands",
+        "Commands that wait at the node to be chosen.",
+        metrics.waiting,
     )?;
-    let standing = two(alloc, down.as_str(), waits.as_str())?;
+    let standing = two(alloc, down.as_str(), queued.as_str())?;
     two(alloc, applied.as_str(), standing.as_str())
 }
 
