@@ -167,7 +167,8 @@ impl Exporting<'_> {
         let rt = members.runtime();
         let files = export(rt.alloc(), members, LIMITS)?;
         self.write_all(rt, &files)?;
-        Ok(lines(rt.alloc(), self.file, &files)?)
+        let text = lines(rt.alloc(), self.file, &files)?;
+        Ok(text)
     }
 
     // Makes the files, and prints a line for each.
