@@ -2,13 +2,12 @@
 use Rattle.std.proofs.Common.{ℕ, zero, suc, ◌≡◌, inl, inr, List, [], ◌∷◌, ◌++◌, drop, Some, None, slice_get, refl, sym, ap, ◌∙◌, append_assoc, append-nil}
 use Rattle.std.specs.Prelude.{Option}
 use Rattle.std.specs.Io.KnownBytes.{Appends, Keeps}
-use Rattle.press_client.specs.Exporting.{files_of}
 use Rattle.press_client.specs.declared.entry.Entry.{Entry}
 use Rattle.press_client.specs.declared.site_files.SiteFile.{SiteFile}
 use Rattle.press_text.specs.Streams.{AppendsFront}
 use Rattle.press_world.specs.declared.replay_fault.ReplayFault.TheVariants.{NoMemory}
 use Rattle.press_program.specs.Endings.{Exports, usage_line}
-use Rattle.press_program.specs.Exports.{fault_of, limits, line, lines_from, lines_of, name_of, reason_of}
+use Rattle.press_program.specs.Exports.{fault_of, line, lines_from, lines_of, name_of, reason_of}
 use Rattle.press_program.specs.KitFiles.{fault_line}
 use Rattle.press_program.specs.Words.{Export}
 use Rattle.press_program.specs.declared.exporting.Unmade.{Unmade}
@@ -33,11 +32,6 @@ lines_on text i file files whole f at is =
 
 pub lines_end : (text : List ℕ) (i : ℕ) (file : List ℕ) (files : List SiteFile) (whole : List ℕ) → slice_get files i ≡ None → text ++ lines_from file i (drop i files) ≡ whole → text ≡ whole
 lines_end text i file files whole past is = sym (append-nil text) ∙ (ap (λ fs. text ++ lines_from file i fs) (sym (drop_past files i past)) ∙ is)
-
--- the lines of the files of some entries
-pub are_lines : (it : Export) (entries : List Entry) (files : List SiteFile) (text : List ℕ) → files ≡ files_of limits entries → text ≡ lines_from it.1 0 files
-    → (some : List Entry) × (text ≡ lines_of it some)
-are_lines it entries files text are is = (entries, is ∙ ap (lines_from it.1 0) are)
 
 -- ---- how it ends
 
