@@ -1,4 +1,5 @@
 pub mod Asked
+pub mod Behind
 pub mod Ends
 pub mod Exports
 pub mod FirstValue

@@ -1,7 +1,7 @@
 -- What a run that sends commands comes to.
-use Rattle.std.proofs.Common.{ℕ, ◌≡◌, List, [], inl, inr, length, refl, sym, subst}
+use Rattle.std.proofs.Common.{ℕ, ◌≡◌, List, inl, inr, length, sym, subst}
 use Rattle.std.proofs.Math.Seq.{take-length}
-use Rattle.std.specs.Prelude.{IfOk, MatchResult, Option, Some, None, Result, Ok, Err}
+use Rattle.std.specs.Prelude.{IfOk, MatchResult, Option, Result, Ok, Err}
 use Rattle.std.specs.Io.KnownBytes.{Appends, Keeps}
 use Rattle.press_apply.specs.declared.command.Stamped.{Stamped}
 use Rattle.press_client.specs.Reporting.{counts_of, report_of}
@@ -20,10 +20,6 @@ pub site_of : (remaining : Option (List ℕ)) (result : Result (List Stamped) Re
 unfolding ReadsAs
 site_of remaining (Ok commands) h = (h.0, h.1, h.2)
 site_of remaining (Err fault) h = tt
-
-pub site_untold : (remaining : Option (List ℕ)) (result : Result (List Stamped) ReplayFault) → IfOk result (λ commands. IsSite remaining commands) → IfOk result (λ commands. IsSite None commands)
-site_untold remaining (Ok commands) h = (h.0, tt, h.2)
-site_untold remaining (Err fault) h = tt
 
 -- ---- what is printed
 

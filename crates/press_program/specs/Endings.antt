@@ -1,5 +1,5 @@
 -- What the program does for its words and its input (own).
-use Rattle.std.specs.Prelude.{◌≡◌, ◌⊎◌, ℕ, List, [], ◌∷◌, length, map, nat_eq, if◌then◌else◌, false, Option, Some, None, Result, Ok, Err, codes}
+use Rattle.std.specs.Prelude.{◌≡◌, ◌⊎◌, ℕ, List, [], ◌∷◌, ◌++◌, length, map, nat_eq, if◌then◌else◌, false, Option, Some, None, Result, Ok, Err, codes}
 use Rattle.std.specs.Io.KnownBytes.{Appends, Keeps}
 use Rattle.press_callbacks.specs.Kits.{KitView}
 use Rattle.press_apply.specs.declared.command.Stamped.{Stamped}
@@ -11,7 +11,8 @@ use Rattle.press_page.specs.Page.{page_of}
 use Rattle.press_client.specs.Reporting.{are_done, counts_of, report_of}
 use Rattle.press_client.specs.declared.counts.Counts.{Counts}
 use Rattle.press_client.specs.declared.ending.Ending.{Ending as Ended}
-use Rattle.press_world.specs.ReadingFiles.{Has}
+use Rattle.press_text.specs.Gives.{Gives}
+use Rattle.press_world.specs.ReadingFiles.{Has, Refuses}
 use Rattle.press_world.specs.Replays.{Replays, transcript}
 use Rattle.press_world.specs.ScheduleFile.{schedule_in}
 use Rattle.press_world.specs.declared.replay_fault.ReplayFault.TheVariants.{NoMemory, ReadFault, WriteFault, BadSchedule}
@@ -25,7 +26,7 @@ use Rattle.press_server.specs.declared.serve_fault.ServeFault.{ServeFault}
 use Rattle.press_server.specs.declared.serve_fault.ServeFault.TheVariants as fault
 use Rattle.press_loop.specs.Loops.{Loops}
 use Rattle.press_program.specs.Exports.{Makes, TellsUnmade}
-use Rattle.press_program.specs.Words.{Asked, Export, Job, Mail, OfFile, Server, export, of_file, send, serve, is_input}
+use Rattle.press_program.specs.Words.{Asked, Export, Job, Mail, OfFile, OfFiles, Server, export, of_file, of_files, send, serve, is_input}
 use Rattle.press_program.specs.declared.task.Task.{Task}
 use Rattle.press_program.specs.declared.task.Task.TheVariants.{Page, Replay, Loop}
 use Rattle.press_text.specs.Streams.{AppendsFront}
@@ -126,6 +127,7 @@ RefusesWords None result input input' out out' err err' = Keeps input input' × 
 -- The standard input is read only where it is asked for. A server reads nothing of it.
 abbrev pub ReadsFor : Job → Option (List ℕ) → Option (List ℕ) → Type 0
 ReadsFor (of_file wanted) input input' = is_input wanted.0 ≡ false → Keeps input input'
+ReadsFor (of_files files) input input' = is_input files.first ≡ false → Keeps input input'
 ReadsFor (serve server) input input' = Keeps input input'
 ReadsFor (send mail) input input' = is_input mail.0 ≡ false → Keeps input input'
 ReadsFor (export it) input input' = Keeps input input'
@@ -159,6 +161,39 @@ server_status (Err fault) = 2
 -- A server's run, and its status. Contracts see no bytes of sockets, and its lines on standard error depend on them.
 abbrev pub Listens : Served → KitView → Server → ℕ → Option (List ℕ) → Option (List ℕ) → Type 0
 Listens served kit server result out out' = (ended : Result (Unit {0}) ServeFault) × IsServed served kit server ended out out' × (result ≡ server_status ended)
+
+-- ---- several files
+
+-- commands with others behind them; what is bad in front decides
+abbrev pub joined : Result (List Stamped) Place → Result (List Stamped) Place → Result (List Stamped) Place
+joined (Err place) more = Err place
+joined (Ok commands) (Err place) = Err place
+joined (Ok commands) (Ok more) = Ok (commands ++ more)
+
+-- The commands of files, one behind the other; the first that is bad decides.
+unfoldable pub sites_in : List (List ℕ) → Result (List Stamped) Place
+sites_in [] = Ok []
+sites_in (bytes ∷ files) = joined (site_in bytes) (sites_in files)
+
+-- What a reading answers of so many files, which are opened by their names and have some bytes.
+unfoldable pub ReadsNamed : ℕ → Result (List Stamped) ReplayFault → Type 0
+ReadsNamed count result = (files : List (List ℕ)) × (length files ≡ count) × Gives Refuses Ok result (sites_in files)
+
+-- The same of the file that a reader has left, with so many behind it.
+unfoldable pub ReadsBehind : Option (List ℕ) → ℕ → Result (List Stamped) ReplayFault → Type 0
+ReadsBehind remaining count result =
+    (input : List ℕ) × Has remaining input × (files : List (List ℕ)) × (length files ≡ count) × Gives Refuses Ok result (sites_in (input ∷ files))
+
+-- The end of a page's run on several files, of which the first is known as `known_of` has it.
+unfoldable pub EndsBehind : KitView → Target → Option (List ℕ) → ℕ → Ending → Type 0
+EndsBehind kit target remaining count end =
+    (input : List ℕ) × Has remaining input × (files : List (List ℕ)) × (length files ≡ count)
+    × ((end ≡ page_ending kit target (sites_in (input ∷ files))) ⊎ IsOutside end)
+
+-- a run for what is asked of several files: its end, and what is written of that
+abbrev pub ShowsFiles : KitView → OfFiles → Option (List ℕ) → ℕ → Option (List ℕ) → Option (List ℕ) → Option (List ℕ) → Option (List ℕ) → Type 0
+ShowsFiles kit it remaining result out out' err err' =
+    (end : Ending) × EndsBehind kit it.target (known_of it.first remaining) (length it.further) end × Finishes end result out out' err err'
 
 -- ---- commands that go to members
 
@@ -197,6 +232,7 @@ Exports it result out out' err err' =
 -- what is to be done, over a kit
 abbrev pub Does : Served → KitView → Job → Option (List ℕ) → ℕ → Option (List ℕ) → Option (List ℕ) → Option (List ℕ) → Option (List ℕ) → Type 0
 Does served kit (of_file wanted) remaining result out out' err err' = Shows kit wanted remaining result out out' err err'
+Does served kit (of_files files) remaining result out out' err err' = ShowsFiles kit files remaining result out out' err err'
 Does served kit (serve server) remaining result out out' err err' = Listens served kit server result out out'
 Does served kit (export it) remaining result out out' err err' = Exports it result out out' err err'
 Does served kit (send mail) remaining result out out' err err' = Mails (known_of mail.0 remaining) result out out' err err'

@@ -1,10 +1,13 @@
--- What the words after the program's name ask for: `page FILE TARGET`, `replay FILE`, `loop FILE`, or `serve` with words by their names, each of them with kit files or without; or
--- `send FILE MEMBERS`, or `export MEMBER FILE`; as `clap` reads words; without any, post 1 of the standard input (own).
-use Rattle.std.specs.Prelude.{ℕ, List, [], ◌∷◌, ◌&&◌, Bool, true, false, bytes_eq, nat_le, if◌then◌else◌, Option, Some, None, map, option_and_then, option_map, codes}
+-- What the words after the program's name ask for: `page FILE TARGET`, with further files or
+-- without, `replay FILE`, `loop FILE`, or `serve` with words by their names, each of them with kit
+-- files or without; or `send FILE MEMBERS`; or `export MEMBER`, with the name of a file or without;
+-- as `clap` reads words; without any, post 1 of the standard input (own).
+use Rattle.std.specs.Prelude.{ℕ, List, [], ◌∷◌, ◌&&◌, Bool, true, false, bytes_eq, nat_le, if◌then◌else◌, Option, Some, None, map, option_and_then, option_map, unwrap_or, codes}
 use Rattle.clap.specs.Kinds.{Kinds}
 use Rattle.clap.specs.declared.builder.action.ArgAction.TheVariants.{SetTrue, Append}
 use Rattle.clap.specs.Words.{App, Row, Rule, Text, all_of, fault_of, first_of, new_app, new_rule, subcommand_of, with_rule, with_subcommand}
 use Rattle.press_page.specs.declared.reply.Target.TheVariants.{Post}
+use Rattle.press_page.specs.declared.reply.Target.{Target}
 use Rattle.press_page.specs.Targets.{target_in}
 use Rattle.press_text.specs.Decimals.{decimal_in}
 use Rattle.press_program.specs.declared.wanted.Asked as asked
@@ -17,6 +20,7 @@ use Rattle.press_server.specs.declared.setup.Place.{Place}
 use Rattle.press_server.specs.declared.setup.Setup.{Setup}
 use Rattle.press_program.specs.declared.wanted.Exporting.{Exporting}
 use Rattle.press_program.specs.declared.wanted.Mailing.{Mailing}
+use Rattle.press_program.specs.declared.wanted.SeveralFiles.{SeveralFiles}
 use Rattle.press_program.specs.declared.wanted.Wanted.{Wanted}
 use Rattle.press_program.specs.declared.task.Task.{Task}
 use Rattle.press_program.specs.declared.task.Task.TheVariants.{Page, Replay, Loop}
@@ -48,12 +52,15 @@ helpless name = record { top = record (new_app name).top { disable_help_flag = t
 abbrev pub repeated : Text → Rule
 repeated id = record (named id) { action = Some Append }
 
+abbrev pub with_names : App → Text → App
+with_names app id = with_rule app (repeated id)
+
 -- a command, over kit files where they are named
 abbrev pub with_kit : App → App
-with_kit app = with_rule app (repeated (codes "kit"))
+with_kit app = with_names app (codes "kit")
 
 abbrev pub page_words : App
-page_words = with_kit (with_rule (with_rule (helpless (codes "page")) (needed (codes "FILE"))) (needed (codes "TARGET")))
+page_words = with_kit (with_names (with_rule (with_rule (helpless (codes "page")) (needed (codes "FILE"))) (needed (codes "TARGET"))) (codes "then"))
 
 -- a command with a file alone
 abbrev pub file_words : Text → App
@@ -78,7 +85,7 @@ abbrev pub send_words : App
 send_words = with_rule (with_rule (helpless (codes "send")) (needed (codes "FILE"))) (needed (codes "MEMBERS"))
 
 abbrev pub export_words : App
-export_words = with_rule (with_rule (helpless (codes "export")) (needed (codes "MEMBER"))) (needed (codes "FILE"))
+export_words = with_rule (with_rule (helpless (codes "export")) (needed (codes "MEMBER"))) (new_rule (codes "FILE"))
 
 abbrev pub bare : App
 bare = record {
@@ -96,6 +103,12 @@ program =
 -- a file, and what is asked of it
 abbrev pub OfFile : Type 0
 OfFile = List ℕ × Task
+
+-- a file with one or more behind it, and what is asked of the site that their commands make
+pub record OfFiles : Type 0 where
+  pub first : List ℕ
+  pub further : List (List ℕ)
+  pub target : Target
 
 -- a server: its place, with the milliseconds of its tick; for so many connections, or until it is ended; over the store in a file, or in memory; with the file of a page for
 -- editors; how many seconds ahead a command may be; whether a member stays whose store has failed; and whether it tells how it stands
@@ -119,6 +132,7 @@ Export = List ℕ × List ℕ
 
 pub data Job : Type 0 where
   of_file : OfFile → Job
+  of_files : OfFiles → Job
   serve : Server → Job
   send : Mail → Job
   export : Export → Job
@@ -128,12 +142,24 @@ pub record Asked : Type 0 where
   pub kits : List (List ℕ)
   pub job : Job
 
-abbrev pub page_in : List Row → Option OfFile
+abbrev pub values_of : Option (List Text) → List Text
+values_of None = []
+values_of (Some values) = values
+
+abbrev pub names_in : Text → List Row → List Text
+names_in id rows = values_of (all_of id rows)
+
+-- a page of a file's site, or of that of several, where others stand behind it
+abbrev pub page_job : List ℕ → List (List ℕ) → Target → Job
+page_job file [] target = of_file (file, Page target)
+page_job file (name ∷ names) target = of_files (record { first = file; further = name ∷ names; target = target })
+
+abbrev pub page_in : List Row → Option Job
 page_in rows = do
   file ← first_of (codes "FILE") rows
   text ← first_of (codes "TARGET") rows
   target ← target_in text
-  Some (file, Page target)
+  Some (page_job file (names_in (codes "then") rows) target)
 
 -- what is asked of the file that is named
 abbrev pub file_in : Task → List Row → Option OfFile
@@ -208,31 +234,27 @@ mailing_in rows = do
   members ← first_of (codes "MEMBERS") rows
   Some (file, members)
 
+-- the first site file of a log, where no name is given
+abbrev pub site_name : Text
+site_name = codes "site.json"
+
 abbrev pub export_in : List Row → Option Export
 export_in rows = do
   member ← first_of (codes "MEMBER") rows
-  file ← first_of (codes "FILE") rows
-  Some (member, file)
+  Some (member, unwrap_or (first_of (codes "FILE") rows) site_name)
 
 -- by the name of the subcommand
 abbrev pub job_in : Text → List Row → Option Job
 job_in name rows =
-    if bytes_eq name (codes "page") then option_map of_file (page_in rows) else
+    if bytes_eq name (codes "page") then page_in rows else
     (if bytes_eq name (codes "replay") then option_map of_file (file_in Replay rows) else
     (if bytes_eq name (codes "loop") then option_map of_file (file_in Loop rows) else
     (if bytes_eq name (codes "serve") then option_map serve (server_in rows) else
     (if bytes_eq name (codes "send") then option_map send (mailing_in rows) else
     (if bytes_eq name (codes "export") then option_map export (export_in rows) else None)))))
 
-abbrev pub values_of : Option (List Text) → List Text
-values_of None = []
-values_of (Some values) = values
-
-abbrev pub kits_in : List Row → List Text
-kits_in rows = values_of (all_of (codes "kit") rows)
-
 abbrev pub asked_in : Text → List Row → Option Asked
-asked_in name rows = option_map (λ job. record { kits = kits_in rows; job = job }) (job_in name rows)
+asked_in name rows = option_map (λ job. record { kits = names_in (codes "kit") rows; job = job }) (job_in name rows)
 
 -- nothing where `clap` has a fault
 abbrev pub asked_where : Kinds → Option (Text × List Row) → Option Asked
@@ -251,6 +273,9 @@ is_input file = bytes_eq file (codes "-")
 
 abbrev pub wanted_of : Wanted → OfFile
 wanted_of w = (w.file.now, w.task)
+
+abbrev pub several_of : SeveralFiles → OfFiles
+several_of f = record { first = f.file.now; further = map (λ name. name.now) f.further.items; target = f.target }
 
 -- a node by itself has no tick
 abbrev pub place_of : Place → Where × ℕ
@@ -277,6 +302,7 @@ export_of e = (e.member.now, e.file.now)
 
 abbrev pub job_of : declared.Job → Job
 job_of (told.OfFile w) = of_file (wanted_of w)
+job_of (told.OfFiles f) = of_files (several_of f)
 job_of (told.Serve s) = serve (server_of s)
 job_of (told.Send m) = send (mailing_of m)
 job_of (told.Export e) = export (export_of e)

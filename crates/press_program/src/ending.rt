@@ -37,8 +37,8 @@ fn printed(reply: Reply) -> Ending
     }
 }
 
-// The reply to what is asked, after the commands.
-fn page_after(
+/// The reply to what is asked, after the commands.
+pub(crate) fn page_after(
     alloc: Global,
     kit: &Kit,
     target: &Target,

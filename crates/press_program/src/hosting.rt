@@ -168,6 +168,7 @@ impl<S: Serves> Hosting<'_, '_, S> {
     {
         match job {
             Job::OfFile(wanted) => self.over.show(wanted, reader, writer, error),
+            Job::OfFiles(files) => self.over.show_several(files, reader, writer, error),
             Job::Serve(setup) => self.serve(setup, writer, error),
             Job::Send(mailing) => mailing.send(self.over.rt, reader, writer, error),
             Job::Export(exporting) => exporting.export(self.over.rt, writer, error),

@@ -12,6 +12,8 @@ mod over;
 mod reasons;
 mod running;
 mod serves;
+mod several;
+mod sites;
 mod task;
 mod telling;
 mod wanted;

@@ -1,6 +1,6 @@
 //! Commands of a file that go to members.
 
-ghost use Rattle.std.specs.Prelude.{ℕ, ◌≡◌, ◌+◌, IfOk, List, MatchResult, None, Option, false, length};
+ghost use Rattle.std.specs.Prelude.{ℕ, ◌≡◌, ◌+◌, IfOk, List, MatchResult, Option, false, length};
 ghost use Rattle.std.specs.Io.KnownBytes.{Appends, Keeps};
 ghost use Rattle.press_client.specs.Reporting.{counts_of, report_of};
 ghost use Rattle.press_kit.specs.KitFile.{file_limit};
@@ -8,15 +8,15 @@ ghost use Rattle.press_text.specs.Streams.{AppendsFront, TakesAtMost};
 ghost use Rattle.press_program.specs.Endings.{IsSite, Mails, Reports, known_of, mail_status};
 ghost use Rattle.press_program.specs.Words.{is_input};
 
+use crate::sites::site_of;
 use crate::telling::{fail, refuse};
 use crate::wanted::Mailing;
 use press_apply::Stamped;
 use press_client::{Counts, Ending, MembersFault, Sockets, deliver, report};
 use press_text::{Items, write_once};
-use press_world::{ReplayFault, read_site};
+use press_world::ReplayFault;
 use std::alloc::Global;
 use std::io::{Read, Write};
-use std::{fs, io};
 
 fn status_of(counts: Counts) -> u8
     ensures { result ≡ mail_status counts }
@@ -48,29 +48,9 @@ fn print<W: Write>(
     Ok(status_of(counts))
 }
 
-// The commands of the file that a reader has left.
-#[tactic(auto, using(crate::proofs::Mails::site_of))]
-fn commands_in<R: Read>(alloc: Global, reader: &mut R) -> Result<Items<Stamped>, ReplayFault>
-    ensures took { TakesAtMost (R.remaining reader.old) (R.remaining reader.new) (file_limit + 1) }
-    ensures site { IfOk result (λ commands. IsSite (R.remaining reader.old) commands) }
-{
-    read_site(alloc, reader)
-}
-
-// Those of a file by its name. One that can't be opened counts as one that can't be read.
-#[tactic(auto, using(crate::proofs::Mails::site_untold))]
-fn commands_of(rt: &HostRuntime, file: &str) -> Result<Items<Stamped>, ReplayFault>
-    ensures { IfOk result (λ commands. IsSite None commands) }
-{
-    match fs::open(rt, file) {
-        Ok(mut file) => commands_in(rt.alloc(), &mut file),
-        Err(e) if e.kind() == io::ErrorKind::OutOfMemory => Err(ReplayFault::NoMemory),
-        Err(_) => Err(ReplayFault::ReadFault),
-    }
-}
-
 impl Mailing<'_> {
     // Its commands.
+    #[tactic(auto, using(crate::proofs::Mails::site_of))]
     fn commands<R: Read>(
         &self,
         rt: &HostRuntime,
@@ -83,11 +63,7 @@ impl Mailing<'_> {
         ensures site { IfOk result (λ commands.
             IsSite (known_of self.now.file.now (R.remaining reader.old)) commands) }
     {
-        if self.file == "-" {
-            commands_in(rt.alloc(), reader)
-        } else {
-            commands_of(rt, self.file)
-        }
+        site_of(rt, self.file, reader)
     }
 
     // Sends commands, and prints what became of them.

@@ -113,19 +113,27 @@ impl<S: Serves> Program<'_, S> {
     }
 }
 
-/// One run over an input and two outputs: `page FILE TARGET` prints the reply to what is asked after the commands of a
-/// site file, which is the standard input for `-`; without arguments that is `page - post:1`. The status is 0 for a
-/// reply of status 200, and 1 for another. `replay FILE` prints the transcript of a schedule over at most seven nodes,
-/// with status 0, and so does `loop FILE`, where each command, message and request for a page comes over a socket of
-/// the loopback. `serve --port N [--store FILE]` serves a node of a cluster of one at a port of 127.0.0.1, and `serve
-/// --id N --peers HOST:PORT,.. --store FILE [--tick N]` one of a cluster of up to seven at its own address among these;
-/// with `--turns N` for N connections, and then it ends with status 0; with `--editor FILE` that file is shown at
-/// `/editor`, and with `--ahead N` no command is taken that is more than N seconds ahead of the machine's clock. A member
-/// whose store fails ends with its fault, and with `--stay` answers 503. With `--status` a server tells how it stands. With
-/// `--kit FILE` each of them plays the callbacks and plugins of a kit file in place of the demonstration kit, and with
-/// several of these those of all the files together; what is wrong is reported with the file and the place in it, and
-/// what is surely a slip is a line `press: warning in FILE: ..` before anything else. A fault is a line `press: fault N` on standard error, and status 2; so is `press: usage`
-/// for any other arguments, and then nothing is read.
+/// One run over an input and two outputs: `page FILE TARGET` prints the reply to what is asked
+/// after the commands of a site file, which is the standard input for `-`; without arguments that
+/// is `page - post:1`. With `--then FILE2`, which may be given more than once, the commands of
+/// further files come behind those of FILE, in this order. The status is 0 for a reply of status
+/// 200, and 1 for another. `replay FILE` prints the transcript of a schedule over at most seven
+/// nodes, with status 0, and so does `loop FILE`, where each command, message and request for a
+/// page comes over a socket of the loopback. `serve --port N [--store FILE]` serves a node of a
+/// cluster of one at a port of 127.0.0.1, and `serve --id N --peers HOST:PORT,.. --store FILE
+/// [--tick N]` one of a cluster of up to seven at its own address among these; with `--turns N`
+/// for N connections, and then it ends with status 0; with `--editor FILE` that file is shown at
+/// `/editor`, and with `--ahead N` no command is taken that is more than N seconds ahead of the
+/// machine's clock. A member whose store fails ends with its fault, and with `--stay` answers 503.
+/// With `--status` a server tells how it stands. `send FILE MEMBERS` sends the commands of a site
+/// file to members, and prints what became of them; `export MEMBER [FILE]` makes site files of the
+/// log of a member, of which the first is `site.json` where no FILE is named, and prints a line
+/// for each. With `--kit FILE` each of the others plays the callbacks and plugins of a kit file in
+/// place of the demonstration kit, and with several of these those of all the files together; what
+/// is wrong is reported with the file and the place in it, and what is surely a slip is a line
+/// `press: warning in FILE: ..` before anything else. A fault is a line `press: fault N` on
+/// standard error, and status 2; so is `press: usage` for any other arguments, and then nothing is
+/// read.
 ///
 /// A server runs over the sockets and files of the operating system (`Sockets`). Of it `Program::run` says over what it
 /// is, with which line and which status: what goes over its sockets is outside the clauses, since contracts see no bytes

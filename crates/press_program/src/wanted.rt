@@ -1,4 +1,5 @@
 use crate::task::Task;
+use press_page::Target;
 use press_server::Setup;
 
 /// A file, and what is asked of it.
@@ -7,6 +8,16 @@ pub struct Wanted<'a> {
     /// The file's name, or `-` for the standard input.
     pub file: &'a str,
     pub task: Task,
+}
+
+/// A file with others behind it, and what is asked of the site that their commands make together.
+#[derive(Debug, Drop)]
+pub struct SeveralFiles<'a> {
+    /// The first file's name, or `-` for the standard input.
+    pub file: &'a str,
+    /// The names of those behind it, in their order: none of them is the standard input.
+    pub further: Vec<&'a str>,
+    pub target: Target,
 }
 
 /// A file whose commands go to members.
@@ -31,6 +42,7 @@ pub struct Exporting<'a> {
 #[derive(Debug, Drop)]
 pub enum Job<'a> {
     OfFile(Wanted<'a>),
+    OfFiles(SeveralFiles<'a>),
     Serve(Setup<'a>),
     Send(Mailing<'a>),
     Export(Exporting<'a>),

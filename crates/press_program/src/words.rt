@@ -7,7 +7,7 @@ ghost use Rattle.clap.specs.Values.{kind_of};
 ghost use Rattle.press_program.specs.Words as spec;
 
 use crate::task::Task;
-use crate::wanted::{Asked, Exporting, Job, Mailing, Wanted};
+use crate::wanted::{Asked, Exporting, Job, Mailing, SeveralFiles, Wanted};
 use clap::error::ErrorKind;
 use clap::{Arg, ArgAction, ArgMatches, Command, Error};
 use press_page::Target;
@@ -15,15 +15,32 @@ use press_server::{Place, Setup};
 use press_text::dec_u64;
 use std::alloc::{AllocError, Global};
 
-// The option for kit files, after the other arguments of a command.
+// The first file of an export, where no name is given.
+const SITE_NAME: &str = "site.json";
+
+// An option for names of files, after the other arguments of a command.
+fn with_names<'a>(
+    alloc: Global,
+    command: Command<'a>,
+    id: &'a str,
+) -> Result<Command<'a>, AllocError>
+    requires local { (out-Command command).has_globals ≡ false }
+    ensures app { IfOk result (λ c. app_of c
+        ≡ spec.with_names (app_of command.entry) id.now) }
+    ensures local { IfOk result (λ c. (out-Command c).has_globals ≡ false) }
+{
+    let names = Arg::new(alloc, id).long(id);
+    let with = command.arg(names.action(ArgAction::Append))?;
+    Ok(with)
+}
+
+// The option for kit files.
 fn with_kit<'a>(alloc: Global, command: Command<'a>) -> Result<Command<'a>, AllocError>
     requires local { (out-Command command).has_globals ≡ false }
     ensures app { IfOk result (λ c. app_of c ≡ spec.with_kit (app_of command.entry)) }
     ensures local { IfOk result (λ c. (out-Command c).has_globals ≡ false) }
 {
-    let kit = Arg::new(alloc, "kit").long("kit");
-    let with = command.arg(kit.action(ArgAction::Append))?;
-    Ok(with)
+    with_names(alloc, command, "kit")
 }
 
 fn page_words<'a>(alloc: Global) -> Result<Command<'a>, AllocError>
@@ -36,7 +53,8 @@ fn page_words<'a>(alloc: Global) -> Result<Command<'a>, AllocError>
         .disable_help_flag(true)
         .arg(file)?
         .arg(target)?;
-    let whole = with_kit(alloc, page)?;
+    let several = with_names(alloc, page, "then")?;
+    let whole = with_kit(alloc, several)?;
     Ok(whole)
 }
 
@@ -117,7 +135,7 @@ fn export_words<'a>(alloc: Global) -> Result<Command<'a>, AllocError>
     ensures local { IfOk result (λ c. (out-Command c).has_globals ≡ false) }
 {
     let member = Arg::new(alloc, "MEMBER").required(true);
-    let file = Arg::new(alloc, "FILE").required(true);
+    let file = Arg::new(alloc, "FILE");
     let export = Command::new(alloc, "export")
         .disable_help_flag(true)
         .arg(member)?
@@ -158,19 +176,54 @@ fn parsed<'a>(alloc: Global, words: &'a [String]) -> Result<ArgMatches<'a>, Erro
     program.try_get_matches_from(words)
 }
 
+// The names that stand behind an option, in their order.
+#[tactic(auto, using(crate::proofs::FirstValue::all_are))]
+fn names_in<'a>(
+    alloc: Global,
+    inside: &ArgMatches<'a>,
+    id: &str,
+) -> Result<Vec<&'a str>, AllocError>
+    ensures { IfOk result (λ names. map (λ name. name.now) names.items
+        ≡ spec.names_in id.now (rows_of (found_of inside.now))) }
+{
+    match inside.get_strs(id) {
+        Some(names) => Vec::from_slice(alloc, names),
+        None => Ok(Vec::new(alloc)),
+    }
+}
+
+// A page of a file's site, or of that of several.
+#[tactic(auto, using(crate::proofs::Behind::job_alone, crate::proofs::Behind::job_behind))]
+fn page_job<'a>(file: &'a str, further: Vec<&'a str>, target: Target) -> Job<'a>
+    ensures { spec.job_of result
+        ≡ spec.page_job file.now (map (λ name. name.now) further.entry.items) target }
+{
+    if further.is_empty() {
+        return Job::OfFile(Wanted {
+            file,
+            task: Task::Page(target),
+        });
+    }
+    Job::OfFiles(SeveralFiles {
+        file,
+        further,
+        target,
+    })
+}
+
 #[tactic(auto, using(crate::proofs::FirstValue::first_is))]
-fn page_in<'a>(alloc: Global, inside: &ArgMatches<'a>) -> Result<Option<Wanted<'a>>, AllocError>
-    ensures { IfOk result (λ w. option_map (λ w. spec.wanted_of w) w
+fn page_in<'a>(alloc: Global, inside: &ArgMatches<'a>) -> Result<Option<Job<'a>>, AllocError>
+    ensures { IfOk result (λ j. option_map (λ j. spec.job_of j) j
         ≡ spec.page_in (rows_of (found_of inside.now))) }
 {
     let (Some(file), Some(text)) = (inside.get_str("FILE"), inside.get_str("TARGET")) else {
         return Ok(None);
     };
-    let target = Target::from_text(alloc, text)?;
-    Ok(target.map(|target| Wanted {
-        file,
-        task: Task::Page(target),
-    }))
+    let further = names_in(alloc, inside, "then")?;
+    match Target::from_text(alloc, text)? {
+        Some(target) => Ok(Some(page_job(file, further, target))),
+        None => Ok(None),
+    }
 }
 
 #[tactic(auto, using(crate::proofs::FirstValue::first_is))]
@@ -315,7 +368,7 @@ fn export_in<'a>(inside: &ArgMatches<'a>) -> Option<Exporting<'a>>
         ≡ spec.export_in (rows_of (found_of inside.now)) }
 {
     let member = inside.get_str("MEMBER")?;
-    let file = inside.get_str("FILE")?;
+    let file = inside.get_str("FILE").unwrap_or(SITE_NAME);
     Some(Exporting { member, file })
 }
 
@@ -328,8 +381,7 @@ fn job_in<'a>(
         ≡ spec.job_in name.now (rows_of (found_of inside.now))) }
 {
     if name == "page" {
-        let wanted = page_in(alloc, inside)?;
-        Ok(wanted.map(Job::OfFile))
+        page_in(alloc, inside)
     } else if name == "replay" {
         Ok(file_in(inside, Task::Replay).map(Job::OfFile))
     } else if name == "loop" {
@@ -345,18 +397,6 @@ fn job_in<'a>(
     }
 }
 
-// The names of the kit files, in their order.
-#[tactic(auto, using(crate::proofs::FirstValue::all_are))]
-fn kits_in<'a>(alloc: Global, inside: &ArgMatches<'a>) -> Result<Vec<&'a str>, AllocError>
-    ensures { IfOk result (λ kits. map (λ kit. kit.now) kits.items
-        ≡ spec.kits_in (rows_of (found_of inside.now))) }
-{
-    match inside.get_strs("kit") {
-        Some(kits) => Vec::from_slice(alloc, kits),
-        None => Ok(Vec::new(alloc)),
-    }
-}
-
 fn asked_in<'a>(
     alloc: Global,
     name: &str,
@@ -367,7 +407,7 @@ fn asked_in<'a>(
 {
     match job_in(alloc, name, inside)? {
         Some(job) => {
-            let kits = kits_in(alloc, inside)?;
+            let kits = names_in(alloc, inside, "kit")?;
             Ok(Some(Asked { kits, job }))
         }
         None => Ok(None),

@@ -1,6 +1,14 @@
 use crate::tests::fixtures::{FAILED, LETTERS, LOOPING, asked, asked_of};
+use std::fs;
 use std::fs::File;
 use std::test::Fail;
+
+// The commands of the stored run, one in each of two files.
+const FRONT: &[u8] =
+    b"{\"commands\":[{\"editor\":\"ann\",\"seq\":1,\"at\":10,\"kind\":\"activate\",\"plugin\":\"letters\"}]}";
+
+const BEHIND: &[u8] =
+    b"{\"commands\":[{\"editor\":\"ann\",\"seq\":2,\"at\":10,\"kind\":\"insert\",\"title\":\"x\",\"content\":\"Hello\",\"status\":\"publish\",\"date\":10}]}";
 
 #[test]
 fn words_ask_for_replies(rt: HostRuntime) -> Result<(), Fail> {
@@ -15,6 +23,31 @@ fn words_ask_for_replies(rt: HostRuntime) -> Result<(), Fail> {
     }
     let missing = asked(&rt, &["page", "--", "-", "json:2"])?;
     assert!(rt; missing.left(1, "{\"code\":404}", ""));
+    Ok(())
+}
+
+#[test]
+fn files_behind_another_make_one_site_with_it(rt: HostRuntime) -> Result<(), Fail> {
+    fs::write(&rt, "behind.json", BEHIND)?;
+    let whole = asked(&rt, &["page", "-", "post:1"])?;
+    let words = ["page", "-", "post:1", "--then", "behind.json"];
+    let parted = asked_of(&rt, &words, FRONT)?;
+    assert_eq!(rt; parted.status, 0);
+    assert_eq!(rt; parted.out.as_slice(), whole.out.as_slice());
+    Ok(())
+}
+
+// The first that is bad is told, with nothing of the site.
+#[test]
+fn a_bad_file_behind_another_is_told(rt: HostRuntime) -> Result<(), Fail> {
+    fs::write(&rt, "bad.json", b"{}")?;
+    for (then, told) in [
+        ("bad.json", "press: fault 72\n"),
+        ("no/such/file", "press: fault 40\n"),
+    ] {
+        let words = ["page", "-", "post:1", "--then", then];
+        assert!(rt; asked(&rt, &words)?.left(2, "", told), "at {then}");
+    }
     Ok(())
 }
 
@@ -154,12 +187,17 @@ fn words_ask_for_commands_to_be_sent(rt: HostRuntime) -> Result<(), Fail> {
 // Nothing listens at that port.
 #[test]
 fn words_ask_for_a_log_as_files(rt: HostRuntime) -> Result<(), Fail> {
-    assert!(rt; asked(&rt, &["export", "127.0.0.1:1"])?.is_refused());
+    assert!(rt; asked(&rt, &["export"])?.is_refused());
     assert!(rt; asked(&rt, &["export", "here", "f"])?.is_refused());
     assert!(rt; asked(&rt, &["export", "127.0.0.1:1,127.0.0.1:2", "f"])?.is_refused());
-    let away = asked(&rt, &["export", "127.0.0.1:1", "f"])?;
     let told = "press: fault 40\npress: 127.0.0.1:1 is away\n";
-    assert!(rt; away.left(2, "", told));
+    for words in [
+        &["export", "127.0.0.1:1", "f"][..],
+        &["export", "127.0.0.1:1"][..],
+    ] {
+        assert!(rt; asked(&rt, words)?.left(2, "", told));
+    }
     assert!(rt; File::open(&rt, "f").is_err());
+    assert!(rt; File::open(&rt, "site.json").is_err());
     Ok(())
 }

@@ -10,4 +10,5 @@ returns-clause-app c =
     let helpless_is : app_of c.disable_help_flag.result ≡ spec.helpless (codes "page") = search rules in
     let one = c.in_ok-arg.ensures.shape (search rules) ∙ ap₂ with_rule helpless_is file_is in
     let two = c.in_ok-page.ensures.shape (search rules) ∙ ap₂ with_rule one target_is in
-    c.in_ok-whole.ensures.app ∙ ap spec.with_kit two
+    let three = c.in_ok-several.ensures.app ∙ ap (λ app. spec.with_names app (codes "then")) two in
+    c.in_ok-whole.ensures.app ∙ ap spec.with_kit three
