@@ -1,6 +1,7 @@
-//! The program: `press page FILE TARGET` prints a page of the site that the commands of a file make, `press replay
-//! FILE` the transcript of a schedule, which `press loop FILE` carries over sockets; `press serve` serves a node, by
-//! itself or as a member of a cluster. Each of them takes `--kit FILE`, once for each kit file.
+//! The program: `press page FILE TARGET` prints a page of the site that the commands of a file
+//! make, `press replay FILE` the transcript of a schedule, which `press loop FILE` carries over
+//! sockets; `press serve` serves a node, by itself or as a member of a cluster. Each of them takes
+//! `--kit FILE`, once for each kit file.
 #![tactic(auto)]
 
 #[cfg(test)]

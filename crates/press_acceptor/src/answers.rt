@@ -14,24 +14,24 @@ use crate::fault::StoreFault;
 use crate::messages::{Heading, to_all, to_one};
 use crate::said::Said;
 use crate::store::PromiseStore;
-use press_wire::{Ballot, Body, Message, Node, Slot};
+use press_wire::{Ballot, Body, MemberId, Message, Slot};
 use std::alloc::{AllocError, Global};
 
 // Which node is asked, among so many members, about which slot, and by whom.
 #[derive(Clone, Copy)]
-struct Asked {
+struct Question {
     members: u8,
-    id: Node,
+    id: MemberId,
     slot: Slot,
-    asker: Node,
+    asker: MemberId,
 }
 
-impl Asked {
-    fn about(self, slot: Slot) -> Asked
+impl Question {
+    fn about(self, slot: Slot) -> Question
         ensures { result
             ≡ record { members = self.members; id = self.id; slot = slot; asker = self.asker } }
     {
-        Asked {
+        Question {
             members: self.members,
             id: self.id,
             slot,
@@ -60,7 +60,7 @@ impl Acceptor {
         alloc: Global,
         store: &mut S,
         members: u8,
-        id: Node,
+        id: MemberId,
         message: &Message,
     ) -> Result<Vec<Message>, StoreFault>
         requires { members ≤ 7 }
@@ -71,7 +71,7 @@ impl Acceptor {
             (moved S.seen store.old store.new) (fault_in result) }
     {
         let (asker, slot) = (message.from, message.slot);
-        let asked = Asked {
+        let asked = Question {
             members,
             id,
             slot,
@@ -107,7 +107,7 @@ impl Acceptor {
 // What is said to a prepare or accept request in the ballot.
 fn request_messages(
     alloc: Global,
-    asked: Asked,
+    asked: Question,
     ballot: Ballot,
     said: Said,
 ) -> Result<Vec<Message>, AllocError>
@@ -133,7 +133,7 @@ fn request_messages(
 }
 
 // What is said to a query.
-fn query_messages(alloc: Global, asked: Asked, said: Said) -> Result<Vec<Message>, AllocError>
+fn query_messages(alloc: Global, asked: Question, said: Said) -> Result<Vec<Message>, AllocError>
     ensures out { IfOk result (λ out. out.items ≡ query_out asked.id asked.slot asked.asker said) }
     ensures memory { OnErr result ((vote : Vote) × (said ≡ says.Accepted vote)) }
 {

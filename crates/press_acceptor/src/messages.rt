@@ -3,16 +3,16 @@
 ghost use Rattle.std.specs.Prelude.{◌≡◌, ◌≤◌, IfOk};
 ghost use Rattle.press_acceptor.specs.Messages as model;
 
-use press_wire::{Body, Message, Node, Slot};
+use press_wire::{Body, MemberId, Message, Slot};
 use std::alloc::{AllocError, Global};
 
 // The member with that number.
-fn member(number: u8) -> Node
+fn member(number: u8) -> MemberId
     requires least { 1 ≤ number }
     requires most { number ≤ 7 }
     ensures { result ≡ number }
 {
-    let Some(node) = Node::new(number) else {
+    let Some(node) = MemberId::new(number) else {
         unreachable!()
     };
     node
@@ -31,7 +31,7 @@ pub fn to_one(alloc: Global, message: Message) -> Result<Vec<Message>, AllocErro
 /// Who sends messages, and about which slot.
 #[derive(Clone, Copy, Debug)]
 pub struct Heading {
-    pub from: Node,
+    pub from: MemberId,
     pub slot: Slot,
 }
 

@@ -96,7 +96,7 @@ fn apply_new(
     let before = site.now();
     site.set_now(later(before, stamped.at));
     let own = mem::replace(site, Site::new(alloc));
-    let (after, outcome) = tried(alloc, kit, own, stamped);
+    let (after, outcome) = try_command(alloc, kit, own, stamped);
     *site = after;
     match outcome {
         Ok(outcome) => Ok(outcome),
@@ -108,7 +108,7 @@ fn apply_new(
 }
 
 // The command on a site at its moment; after want of memory this is as it was.
-fn tried(
+fn try_command(
     alloc: Global,
     kit: &Kit,
     site: Site,
@@ -126,7 +126,7 @@ fn tried(
     } = work(alloc, kit, site.begin(), &stamped.command);
     match outcome(id) {
         Ok(Outcome::Done(id)) => done(alloc, site, &stamped.token, id),
-        Ok(Outcome::Refused(fault)) => refused(alloc, site.back(), &stamped.token, fault),
+        Ok(Outcome::Refused(fault)) => refusal(alloc, site.back(), &stamped.token, fault),
         Err(fault) => (site.back(), Err(fault)),
     }
 }
@@ -166,7 +166,7 @@ fn done(
 }
 
 // A refused command leaves the site as it was before its work, but for the outcome under its token.
-fn refused(
+fn refusal(
     alloc: Global,
     mut site: Site,
     token: &Token,
@@ -227,10 +227,10 @@ fn insert(alloc: Global, kit: &Kit, site: OpenSite, draft: &Draft) -> Worked
         (inserts (meaning_in kit.now) draft.now)) site result }
     ensures limits { TellsItsLimit result }
 {
-    match Work::booted(alloc, kit, site) {
+    match Work::begin(alloc, kit, site) {
         Ok(mut work) => {
             let id = work.insert(kit, draft);
-            work.ended(id)
+            work.end(id)
         }
         Err(stopped) => stopped,
     }
@@ -242,10 +242,10 @@ fn update(alloc: Global, kit: &Kit, site: OpenSite, edit: Edit<'_>) -> Worked
         (updates (meaning_in kit.now) edit.entry.id edit.entry.draft.now)) site result }
     ensures limits { TellsItsLimit result }
 {
-    match Work::booted(alloc, kit, site) {
+    match Work::begin(alloc, kit, site) {
         Ok(mut work) => {
             let id = work.update(kit, edit);
-            work.ended(id)
+            work.end(id)
         }
         Err(stopped) => stopped,
     }
@@ -257,10 +257,10 @@ fn trash(alloc: Global, kit: &Kit, site: OpenSite, id: u64) -> Worked
         site result }
     ensures limits { TellsItsLimit result }
 {
-    match Work::booted(alloc, kit, site) {
+    match Work::begin(alloc, kit, site) {
         Ok(mut work) => {
             let id = work.trash(kit, id);
-            work.ended(id)
+            work.end(id)
         }
         Err(stopped) => stopped,
     }
@@ -272,10 +272,10 @@ fn untrash(alloc: Global, kit: &Kit, site: OpenSite, id: u64) -> Worked
         site result }
     ensures limits { TellsItsLimit result }
 {
-    match Work::booted(alloc, kit, site) {
+    match Work::begin(alloc, kit, site) {
         Ok(mut work) => {
             let id = work.untrash(kit, id);
-            work.ended(id)
+            work.end(id)
         }
         Err(stopped) => stopped,
     }
@@ -287,10 +287,10 @@ fn delete(alloc: Global, kit: &Kit, site: OpenSite, id: u64) -> Worked
         site result }
     ensures limits { TellsItsLimit result }
 {
-    match Work::booted(alloc, kit, site) {
+    match Work::begin(alloc, kit, site) {
         Ok(mut work) => {
             let id = work.delete(kit, id);
-            work.ended(id)
+            work.end(id)
         }
         Err(stopped) => stopped,
     }
@@ -303,10 +303,10 @@ fn set_option(alloc: Global, kit: &Kit, site: OpenSite, setting: Setting<'_>) ->
         (Effect.SetOption setting.entry.name.now setting.entry.value.now))) site result }
     ensures limits { TellsItsLimit result }
 {
-    match Work::booted(alloc, kit, site) {
+    match Work::begin(alloc, kit, site) {
         Ok(mut work) => {
             let id = work.set_option(kit, setting.name, setting.value);
-            work.ended(id)
+            work.end(id)
         }
         Err(stopped) => stopped,
     }
@@ -318,10 +318,10 @@ fn tick(alloc: Global, kit: &Kit, site: OpenSite) -> Worked
         result }
     ensures limits { TellsItsLimit result }
 {
-    match Work::booted(alloc, kit, site) {
+    match Work::begin(alloc, kit, site) {
         Ok(mut work) => {
             let id = work.tick(kit);
-            work.ended(id)
+            work.end(id)
         }
         Err(stopped) => stopped,
     }
@@ -383,7 +383,7 @@ fn alone(mut site: OpenSite, effect: Effect) -> Worked
     ensures memory { GrowsBehind result.id (alone (effect_on site.site effect)) }
     ensures profile { (to : ℕ) → effect ≡ Effect.Profile to → result.id ≢ Err ApplyFault.NoMemory }
 {
-    let id = changed(&mut site, effect);
+    let id = change_site(&mut site, effect);
     without_run(site, id)
 }
 
@@ -399,7 +399,7 @@ fn without_run(site: OpenSite, id: Result<u64, ApplyFault>) -> Worked
 }
 
 #[tactic(auto, using(crate::proofs::Refusals::alone_refused))]
-fn changed(site: &mut OpenSite, effect: Effect) -> Result<u64, ApplyFault>
+fn change_site(site: &mut OpenSite, effect: Effect) -> Result<u64, ApplyFault>
     ensures does { MatchResult result
         (λ id. alone (effect_on site.old.site effect) ≡ Ok (site.new.site, id))
         (λ fault. Refuses fault (alone (effect_on site.old.site effect))) }

@@ -69,7 +69,7 @@ fn passes(fault: Option<SiteFault>) -> Result<(), ApplyFault>
 
 impl Work {
     /// After a boot of the site and its three actions; a refusal hands the site back.
-    pub fn booted(alloc: Global, kit: &Kit, site: OpenSite) -> Result<Work, Worked>
+    pub fn begin(alloc: Global, kit: &Kit, site: OpenSite) -> Result<Work, Worked>
         ensures boots { Boots (boots (meaning_in kit.now) (kit_view kit.now) site.site) site
             result }
         ensures limit { IfOk result (λ work. work.machine.met_limit ≢ true) }
@@ -90,7 +90,7 @@ impl Work {
         let mut work = Work { alloc, machine };
         match work.boot(kit) {
             Ok(()) => Ok(work),
-            Err(fault) => Err(work.ended(Err(fault))),
+            Err(fault) => Err(work.end(Err(fault))),
         }
     }
 
@@ -118,7 +118,7 @@ impl Work {
     }
 
     // What a filter gives for a text.
-    fn filtered(&mut self, kit: &Kit, hook: &str, text: &Text) -> Result<Text, ApplyFault>
+    fn filter_text(&mut self, kit: &Kit, hook: &str, text: &Text) -> Result<Text, ApplyFault>
         requires { name_fault 64 hook.now ≡ None }
         ensures steps { Steps (λ s text. record { text = text; state = s })
             (filtered (meaning_in kit.now) hook.now text.now (state_in self.old))
@@ -172,7 +172,7 @@ impl Work {
         ensures memory { GrowsBehind result (passes (wanted_fault draft.now.status)) }
     {
         passes(wanted_fault(draft.status))?;
-        let draft = self.prepared(kit, draft)?;
+        let draft = self.prepare(kit, draft)?;
         Ok(self.does(kit, Effect::Insert(draft))?)
     }
 
@@ -189,21 +189,21 @@ impl Work {
     {
         let Edit { id, draft } = edit;
         passes(update_fault(draft.status, self.machine.site.site().post(id)))?;
-        let draft = self.prepared(kit, draft)?;
+        let draft = self.prepare(kit, draft)?;
         Ok(self.does(kit, Effect::Edit { id, draft })?)
     }
 
     // A draft whose title and content are filtered.
     #[tactic(auto, unfolding(crate::specs::Apply::prepared), using(crate::proofs::Refusals::handed_on))]
-    fn prepared(&mut self, kit: &Kit, draft: &Draft) -> Result<Draft, ApplyFault>
+    fn prepare(&mut self, kit: &Kit, draft: &Draft) -> Result<Draft, ApplyFault>
         ensures steps { Steps (λ s d. (s, d))
             (prepared (meaning_in kit.now) draft.now (state_in self.old)) self.new result }
         ensures back { GoesBack self.old self.new }
         ensures limit { TellsLimits result self.old self.new }
     {
         Ok(Draft {
-            title: self.filtered(kit, "title_save_pre", &draft.title)?,
-            content: self.filtered(kit, "content_save_pre", &draft.content)?,
+            title: self.filter_text(kit, "title_save_pre", &draft.title)?,
+            content: self.filter_text(kit, "content_save_pre", &draft.content)?,
             status: draft.status,
             date: draft.date,
         })
@@ -287,7 +287,7 @@ impl Work {
         Ok(self.between(kit, &Hooks { before, after }, effect, id)?)
     }
 
-    fn taken(&mut self, event: &Event) -> Result<Changed, ApplyFault>
+    fn take_event(&mut self, event: &Event) -> Result<Changed, ApplyFault>
         ensures steps { Steps (λ s changed. (s, changed))
             (changes (Effect.Take event.now) (state_in self.old))
             self.new result }
@@ -306,7 +306,7 @@ impl Work {
         ensures back { GoesBack self.old self.new }
         ensures limit { TellsLimits result self.old self.new }
     {
-        let taken = self.taken(event)?;
+        let taken = self.take_event(event)?;
         let actions = event_fires(self.alloc, taken.did, event)?;
         self.fires(kit, actions)?;
         Ok(())
@@ -337,7 +337,7 @@ impl Work {
     }
 
     /// The work at its end, with what it answered.
-    pub fn ended(self, id: Result<u64, ApplyFault>) -> Worked
+    pub fn end(self, id: Result<u64, ApplyFault>) -> Worked
         ensures { result ≡ ended self id }
     {
         let Work { alloc: _, machine } = self;

@@ -7,7 +7,7 @@ use Rattle.std.proofs.lemmas.List.{append-nil, length-append, take_at, drop_at}
 use Rattle.std.proofs.lemmas.Nat.{from_be_bytes-to_be_bytes_4, from_be_bytes-to_be_bytes_8}
 use Rattle.press_wire.specs.declared.message.Message.{Message}
 use Rattle.press_wire.specs.Held.{IsNode}
-use Rattle.press_wire.specs.Ranges.{node_of, is_within}
+use Rattle.press_wire.specs.Ranges.{member_id_of, is_within}
 use Rattle.press_wire.specs.Reading.{read_message}
 use Rattle.press_wire.specs.Spelling.{number4, number8, spelled_message}
 use Rattle.press_wire.proofs.Codec.{passes_only}
@@ -41,7 +41,7 @@ version_again : (rest : List ℕ) → version_at (1 ∷ rest) ≡ Ok (1, rest)
 unfolding version_at
 version_again rest = refl
 
-node_again : (n : ℕ) → IsNode n → node_of n ≡ Some n
+node_again : (n : ℕ) → IsNode n → member_id_of n ≡ Some n
 node_again n node = passes_only (is_within 1 7) n (grind (arith, nat_tests))
 
 member_again : (n : ℕ) (rest : List ℕ) → IsNode n → member_at (n ∷ rest) ≡ Ok (n, rest)

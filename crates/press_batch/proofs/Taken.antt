@@ -6,7 +6,7 @@ use Rattle.std.proofs.lemmas.List.{append-nil, nil_from_length, take-append-drop
 use Rattle.std.proofs.lemmas.Nat.{be_bytes_4, be_bytes_8}
 use Rattle.press_wire.specs.declared.message.Message.{Message}
 use Rattle.press_wire.specs.Held.{IsBytes}
-use Rattle.press_wire.specs.Ranges.{is_within, node_of}
+use Rattle.press_wire.specs.Ranges.{is_within, member_id_of}
 use Rattle.press_wire.specs.Reading.{read_message}
 use Rattle.press_wire.specs.Spelling.{number4, number8, spelled_message}
 use Rattle.press_wire.proofs.Codec.{IsBytes-drop, IsBytes-take, IsBytes-rest, IsBytes-front, IsBytes-back, join, only_named, only_passes}
@@ -66,7 +66,7 @@ member_takes : (bytes : List ℕ) (n : ℕ) (rest : List ℕ) → IsBytes bytes 
 unfolding member_at
 member_takes [] n rest fits e = absurd cc
 member_takes (b ∷ bytes) n rest fits e =
-    let w = or_ok BadMember (node_of b) bytes (n, rest) e in
+    let w = or_ok BadMember (member_id_of b) bytes (n, rest) e in
     let is : b ≡ n = only_named (is_within 1 7) b n w.0 in
     (ap (λ (m : ℕ). m ∷ bytes) is ∙ ap (λ (t : List ℕ). n ∷ t) w.1, subst IsBytes w.1 (IsBytes-rest b bytes fits))
 

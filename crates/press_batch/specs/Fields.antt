@@ -1,7 +1,7 @@
 -- Fields are read off the front of bytes, one after another; the first that fails gives the fault (own).
 use Rattle.std.specs.Prelude.{ℕ, ◌==◌, List, [], ◌∷◌, length, take, drop, nat_lt, Bool, Option, Some, None, Result, Ok, Err, if◌then◌else◌}
 use Rattle.std.specs.Int.{Width, w32, w64, byte_len, from_be_bytes}
-use Rattle.press_wire.specs.Ranges.{only, node_of}
+use Rattle.press_wire.specs.Ranges.{only, member_id_of}
 use Rattle.press_batch.specs.declared.fault.BatchFault.{BatchFault}
 use Rattle.press_batch.specs.declared.fault.BatchFault.TheVariants.{Short, BadVersion, BadMember}
 use Rattle.press_batch.specs.Spelling.{version}
@@ -46,7 +46,7 @@ unfoldable pub version_at : Reading ℕ
 version_at bytes = byte_at bytes >>= λ n. or_fault BadVersion (only is_version n.0) n.1
 
 unfoldable pub member_at : Reading ℕ
-member_at bytes = byte_at bytes >>= λ n. or_fault BadMember (node_of n.0) n.1
+member_at bytes = byte_at bytes >>= λ n. or_fault BadMember (member_id_of n.0) n.1
 
 -- bytes behind their length in four bytes
 unfoldable pub piece_at : Reading (List ℕ)

@@ -6,7 +6,7 @@ ghost use Rattle.press_batch.specs.Spelling.{begun, fits, most_bytes, with_messa
 use crate::fault::BatchFault;
 use crate::pieces::{MOST_BATCH_BYTES, message_bytes, put_piece, report_bytes};
 use crate::report::Report;
-use press_wire::{Message, Node};
+use press_wire::{MemberId, Message};
 use std::alloc::Global;
 use std::marker::Model;
 
@@ -42,7 +42,7 @@ impl Model for BatchWriter {
 impl BatchWriter {
     /// The report, with no message yet.
     #[tactic(auto, using(crate::proofs::Lengths::length_report))]
-    pub fn new(alloc: Global, from: Node, report: &Report) -> Result<BatchWriter, BatchFault>
+    pub fn new(alloc: Global, from: MemberId, report: &Report) -> Result<BatchWriter, BatchFault>
         ensures begun { IfOk result (λ w. w ≡ begun from report.now) }
         ensures fault { IfErr result (λ fault. fault ≡ BatchFault.NoMemory) }
     {

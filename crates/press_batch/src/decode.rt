@@ -13,12 +13,12 @@ use crate::fault::BatchFault;
 use crate::pieces::MOST_BATCH_BYTES;
 use crate::reader::Reader;
 use crate::report::Report;
-use press_wire::Node;
+use press_wire::MemberId;
 use std::alloc::Global;
 
 /// The report that all of the bytes spell, and who sends it; else the fault of the first field that fails. It takes no memory.
 #[tactic(auto, unfolding(crate::specs::Reading::read_report))]
-pub fn decode_report(bytes: &[u8]) -> Result<(Node, Report), BatchFault>
+pub fn decode_report(bytes: &[u8]) -> Result<(MemberId, Report), BatchFault>
     ensures read { Gives Refuses Ok result (read_report bytes.now) }
     ensures memory { result ≢ Err BatchFault.NoMemory }
     // No other bytes are read as this report.

@@ -12,11 +12,11 @@ use crate::batch_writer::BatchWriter;
 use crate::fault::BatchFault;
 use crate::pieces::{hold_report, report_bytes};
 use crate::report::Report;
-use press_wire::{Message, Node};
+use press_wire::{MemberId, Message};
 use std::alloc::Global;
 
 /// The bytes that spell who sends it and the report.
-pub fn encode_report(alloc: Global, from: Node, report: &Report) -> Result<Vec<u8>, BatchFault>
+pub fn encode_report(alloc: Global, from: MemberId, report: &Report) -> Result<Vec<u8>, BatchFault>
     ensures spelled { IfOk result (λ bytes. bytes.items ≡ spelled_report from report.now) }
     // What is written is read as the report.
     ensures reads { IfOk result (λ bytes. read_report bytes.items ≡ Ok (from, report.now)) }

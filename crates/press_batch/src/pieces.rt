@@ -8,7 +8,7 @@ ghost use Rattle.press_batch.specs.Spelling.{spelled_piece, spelled_report};
 
 use crate::fault::BatchFault;
 use crate::report::Report;
-use press_wire::{Message, Node, WireFault, encode_msg};
+use press_wire::{MemberId, Message, WireFault, encode_msg};
 use std::alloc::{AllocError, Global};
 
 /// The most bytes of a batch.
@@ -19,7 +19,7 @@ pub const VERSION: u8 = 1;
 const REPORT_BYTES: usize = 34;
 
 #[tactic(auto, using(crate::proofs::Lengths::regroup), unfolding(crate::specs::Spelling::spelled_report))]
-pub fn report_bytes(alloc: Global, from: Node, report: &Report) -> Result<Vec<u8>, AllocError>
+pub fn report_bytes(alloc: Global, from: MemberId, report: &Report) -> Result<Vec<u8>, AllocError>
     ensures { IfOk result (λ bytes. bytes.items ≡ spelled_report from report.now) }
 {
     let mut bytes = Vec::with_capacity(alloc, REPORT_BYTES)?;
@@ -73,7 +73,7 @@ pub fn message_bytes(alloc: Global, message: &Message) -> Result<Vec<u8>, BatchF
 }
 
 /// What a node and a report hold, for the law that batches are read back. It does nothing.
-pub fn hold_report(from: Node, report: &Report)
+pub fn hold_report(from: MemberId, report: &Report)
     ensures from { IsNode from }
     ensures report { IsReport report.now }
 {

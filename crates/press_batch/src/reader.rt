@@ -9,7 +9,7 @@ ghost use Rattle.press_batch.specs.Refusals.{Refuses};
 use crate::fault::BatchFault;
 use crate::pieces::VERSION;
 use crate::report::{Digests, Report};
-use press_wire::{Message, Node, WireFault, decode_msg};
+use press_wire::{MemberId, Message, WireFault, decode_msg};
 use std::alloc::Global;
 use std::marker::Model;
 
@@ -99,11 +99,11 @@ impl<'a> Reader<'a> {
     }
 
     #[tactic(auto, unfolding(crate::specs::Fields::member_at))]
-    fn member(&mut self) -> Result<Node, BatchFault>
+    fn member(&mut self) -> Result<MemberId, BatchFault>
         ensures read { Gives Refuses (λ x. Ok (x, self.new)) result (member_at self.old) }
         ensures memory { result ≢ Err BatchFault.NoMemory }
     {
-        match Node::new(self.byte()?) {
+        match MemberId::new(self.byte()?) {
             Some(node) => Ok(node),
             None => Err(BatchFault::BadMember),
         }
@@ -136,7 +136,7 @@ impl<'a> Reader<'a> {
 
     /// A report and who sends it.
     #[tactic(auto, unfolding(crate::specs::Reading::head_at))]
-    pub fn head(&mut self) -> Result<(Node, Report), BatchFault>
+    pub fn head(&mut self) -> Result<(MemberId, Report), BatchFault>
         ensures read { Gives Refuses (λ x. Ok (x, self.new)) result (head_at self.old) }
         ensures memory { result ≢ Err BatchFault.NoMemory }
     {

@@ -2,7 +2,7 @@
 use Rattle.std.proofs.Common.{ℕ, ◌≡◌, ◌<◌, ◌≤◌, ◌+◌, ◌-◌, List, [], ◌∷◌, ◌++◌, Ok, Err, inl, inr, length, take, refl, sym, subst, ap, ◌∙◌, arith, length-append}
 use Rattle.std.proofs.Math.Seq.{take-append-add}
 use Rattle.std.proofs.lemmas.List.{nil_from_length, take_all}
-use Rattle.press_client.specs.Exporting.{Writing, begun, files_in, files_of, put, put_all}
+use Rattle.press_client.specs.Exporting.{Writing, first_file, files_in, files_of, with_entry, put_all}
 use Rattle.press_client.specs.Telling.{Asks, HoldsNothing, IsExport, IsMissing, IsUnanswered, Question, entries_of}
 use Rattle.press_client.specs.declared.entry.Entry.{Entry}
 use Rattle.press_client.specs.declared.log.LogFault.{LogFault}
@@ -12,9 +12,10 @@ use Rattle.press_client.specs.declared.site_files.SiteFile.{SiteFile}
 
 put_on : (limits : Limits) (es fs : List Entry) (w : Writing) → put_all limits (es ++ fs) w ≡ put_all limits fs (put_all limits es w)
 put_on limits [] fs w = refl
-put_on limits (e ∷ es) fs w = put_on limits es fs (put limits e w)
+put_on limits (e ∷ es) fs w = put_on limits es fs (with_entry limits e w)
 
--- where some are missing, the first so many of all with more behind them are all, and the first of those that are behind
+-- where some are missing, the first so many of all with more behind them are all, and the first of
+-- those that are behind
 take_on : (n : ℕ) (es fs : List Entry) → length es < n → take n (es ++ fs) ≡ take n es ++ take (n - length es) fs
 take_on n es fs short =
     let k = n - length es in
@@ -22,15 +23,16 @@ take_on n es fs short =
     let all : take n es ≡ es = take_all n es (omega (arith, short)) in
     ap (λ m. take m (es ++ fs)) is ∙ (take-append-add es fs k ∙ ap (λ front. front ++ take k fs) (sym all))
 
--- all that was told by now is put, within these limits; so many of what had been applied by the first piece are left
+-- all that was told by now is put, within these limits; so many of what had been applied by the
+-- first piece are left
 abbrev pub IsOnTheWay : {Node : Type 0} → Question Node → Limits → Limits → ℕ → ℕ → Node → Node → Writing → Type 0
 IsOnTheWay tells limits own applied left old now w =
     (first : Piece) × (more : List Piece) × Asks tells first more old now × (own ≡ limits) × (first.applied ≡ applied)
-    × (left ≡ applied - length (entries_of first more)) × (w ≡ put_all limits (take applied (entries_of first more)) begun)
+    × (left ≡ applied - length (entries_of first more)) × (w ≡ put_all limits (take applied (entries_of first more)) first_file)
 
 module _ {Node : Type 0} (tells : Question Node) (limits : Limits) where
   pub first_is : (own own' : Limits) (left : ℕ) (first : Piece) (old now : Node) (w w' : Writing) → tells old 0 (Ok first) now → own ≡ limits → own' ≡ own
-      → left ≡ first.applied - length first.entries.items → w ≡ begun → w' ≡ put_all own (take first.applied first.entries.items) w
+      → left ≡ first.applied - length first.entries.items → w ≡ first_file → w' ≡ put_all own (take first.applied first.entries.items) w
       → IsOnTheWay tells limits own' first.applied left old now w'
   first_is own own' left first old now w w' told same kept is from put = (
     first,
@@ -56,15 +58,15 @@ module _ {Node : Type 0} (tells : Question Node) (limits : Limits) where
         is,
         omega (arith, fewer, rest, length-append es piece.entries.items),
         more_put ∙ (ap (λ l. put_all l (take left piece.entries.items) w) same ∙ (ap (put_all limits (take left piece.entries.items)) put
-            ∙ (sym (put_on limits (take applied es) (take left piece.entries.items) begun)
-            ∙ ap (λ front. put_all limits front begun) (ap (λ n. take applied es ++ take n piece.entries.items) rest ∙ sym (take_on applied es piece.entries.items short))))),
+            ∙ (sym (put_on limits (take applied es) (take left piece.entries.items) first_file)
+            ∙ ap (λ front. put_all limits front first_file) (ap (λ n. take applied es ++ take n piece.entries.items) rest ∙ sym (take_on applied es piece.entries.items short))))),
       )
 
   pub ended : (own : Limits) (applied left : ℕ) (old now : Node) (w : Writing) (files : List SiteFile) → left ≡ 0 → IsOnTheWay tells limits own applied left old now w → files ≡ files_in w
       → IsExport tells limits old now files
   unfolding files_of
   ended own applied left old now w files none (first, more, asks, same, is, rest, put) are =
-      (first, more, asks, omega (arith, is, rest, none), are ∙ (ap files_in put ∙ ap (λ n. files_in (put_all limits (take n (entries_of first more)) begun)) (sym is)))
+      (first, more, asks, omega (arith, is, rest, none), are ∙ (ap files_in put ∙ ap (λ n. files_in (put_all limits (take n (entries_of first more)) first_file)) (sym is)))
 
   pub is_unanswered : (own : Limits) (applied left : ℕ) (old before now : Node) (w : Writing) (fault : LogFault) → 0 < left → IsOnTheWay tells limits own applied left old before w
       → tells before (applied - left) (Err fault) now → IsUnanswered tells fault old now

@@ -4,7 +4,7 @@ use Rattle.std.proofs.lemmas.Option.{slice_get_within}
 use Rattle.press_apply.specs.declared.command.Stamped.{Stamped}
 use Rattle.press_site.specs.declared.token.Outcome.{Outcome}
 use Rattle.press_site.specs.declared.token.Outcome.TheVariants as outcome
-use Rattle.press_client.specs.Course.{Course, GoesOn, Hears, IsTurned, Stands, Takes, begun, ended_by}
+use Rattle.press_client.specs.Course.{Course, GoesOn, Hears, IsTurned, Stands, Takes, first_course, ended_by}
 use Rattle.press_client.specs.Delivering.{AreEndings, AreInOrder, Delivers, Ends, IsSettled, ending_of}
 use Rattle.press_client.specs.Saying.{Adds, Has, Said, Says, SaysNothing, asks, sends}
 use Rattle.press_client.specs.declared.ending.Ending.{Ending}
@@ -236,7 +236,7 @@ going_on x y z first mid last one two = (
 
 -- ---- the whole
 
-new_stands : (commands : List Stamped) → Stands [] (begun commands)
+new_stands : (commands : List Stamped) → Stands [] (first_course commands)
 new_stands commands = record {
   in_order = tt;
   ended = λ i command ending at got. cc;
@@ -245,13 +245,13 @@ new_stands commands = record {
   settled = λ i command less at. absurd (omega (arith, less));
 }
 
-few_of : (x y : Option (List Said)) (commands : List Stamped) (last : Course) → GoesOn x y (begun commands) last → length last.endings ≤ length commands
+few_of : (x y : Option (List Said)) (commands : List Stamped) (last : Course) → GoesOn x y (first_course commands) last → length last.endings ≤ length commands
 few_of x y commands last goes =
     let a = goes.1 [] (new_stands commands) in
     let same : length last.commands ≡ length commands = ap length goes.0 in
     omega (arith, a.2.ahead, a.2.within, same)
 
-delivered_of : (x y : Option (List Said)) (commands : List Stamped) (last : Course) → GoesOn x y (begun commands) last → Delivers commands last.endings x y
+delivered_of : (x y : Option (List Said)) (commands : List Stamped) (last : Course) → GoesOn x y (first_course commands) last → Delivers commands last.endings x y
 delivered_of x y commands last goes =
     let a = goes.1 [] (new_stands commands) in
     let stands : Stands a.0 last = subst (λ (l : List Said). Stands l last) (append-nil a.0) a.2 in
@@ -262,14 +262,14 @@ delivered_of x y commands last goes =
       ended = subst (λ (cs : List Stamped). AreEndings cs a.0 last.endings) goes.0 stands.ended;
     }
 
-pub few : (x y : Option (List Said)) (commands : List Stamped) (first last : Course) → first ≡ begun commands → GoesOn x y first last → (endings : List Ending) → endings ≡ last.endings → length endings ≤ length commands
+pub few : (x y : Option (List Said)) (commands : List Stamped) (first last : Course) → first ≡ first_course commands → GoesOn x y first last → (endings : List Ending) → endings ≡ last.endings → length endings ≤ length commands
 few x y commands first last is goes endings same =
-    let begins : GoesOn x y (begun commands) last = subst (λ (c : Course). GoesOn x y c last) is goes in
+    let begins : GoesOn x y (first_course commands) last = subst (λ (c : Course). GoesOn x y c last) is goes in
     let short = few_of x y commands last begins in
     let long : length endings ≡ length last.endings = ap length same in
     omega (arith, short, long)
 
-pub delivered : (x y : Option (List Said)) (commands : List Stamped) (first last : Course) → first ≡ begun commands → GoesOn x y first last → (endings : List Ending) → endings ≡ last.endings → Delivers commands endings x y
+pub delivered : (x y : Option (List Said)) (commands : List Stamped) (first last : Course) → first ≡ first_course commands → GoesOn x y first last → (endings : List Ending) → endings ≡ last.endings → Delivers commands endings x y
 delivered x y commands first last is goes endings same =
-    let begins : GoesOn x y (begun commands) last = subst (λ (c : Course). GoesOn x y c last) is goes in
+    let begins : GoesOn x y (first_course commands) last = subst (λ (c : Course). GoesOn x y c last) is goes in
     subst (λ (es : List Ending). Delivers commands es x y) (sym same) (delivered_of x y commands last begins)

@@ -1,5 +1,5 @@
--- The requests of a client: a request line, fields, an empty line and a body (RFC 9112, 2.1, 3 and 3.2.1). The host is as it was named (RFC 9110, 7.2); the form
--- and the paths are own.
+-- The requests of a client: a request line, fields, an empty line and a body (RFC 9112, 2.1, 3 and
+-- 3.2.1). The host is as it was named (RFC 9110, 7.2); the form and the paths are own.
 use Rattle.std.specs.Prelude.{ℕ, List, ◌++◌, codes, decimal, length}
 use Rattle.press_apply.specs.declared.command.Stamped.{Stamped}
 use Rattle.press_forms.specs.Forms.{form_of}

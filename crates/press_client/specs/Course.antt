@@ -21,8 +21,8 @@ pub record Course : Type 0 where
 abbrev pub course_of : Delivery → Course
 course_of d = record { commands = d.commands.now; place = d.place; endings = d.endings.items; sent = d.sent }
 
-abbrev pub begun : List Stamped → Course
-begun commands = record { commands = commands; place = 0; endings = []; sent = 0 }
+abbrev pub first_course : List Stamped → Course
+first_course commands = record { commands = commands; place = 0; endings = []; sent = 0 }
 
 -- ---- what an answer does to it
 

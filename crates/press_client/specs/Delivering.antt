@@ -1,5 +1,7 @@
--- *Delivery*: how commands go to the members of a cluster, and what becomes of each (own). A member proposes its commands in the order in which it took them, and one
--- leaves its queue once it is applied; so commands are chosen in their order if a member gets none before it has all in front of it, but for those that have an outcome.
+-- *Delivery*: how commands go to the members of a cluster, and what becomes of each (own). A member
+-- proposes its commands in the order in which it took them, and one
+-- leaves its queue once it is applied; so commands are chosen in their order if a member gets none
+-- before it has all in front of it, but for those that have an outcome.
 use Rattle.std.specs.Prelude.{ℕ, ◌≡◌, ◌<◌, ◌⊎◌, List, [], ◌∷◌, Option, Some, slice_get}
 use Rattle.press_apply.specs.declared.command.Stamped.{Stamped}
 use Rattle.press_site.specs.declared.token.Outcome.{Outcome}

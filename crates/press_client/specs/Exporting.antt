@@ -23,8 +23,9 @@ tick_fields editor seq = codes "\"editor\":\"" ++ (editor ++ (codes "\",\"kind\"
 
 -- ---- files
 
--- site files while they are written: those that are whole; the next one as far as it is, and how many commands it has; the latest moment by then, and the token of the command
--- before, if there was one
+-- site files while they are written: those that are whole; the next one as far as it is, and how
+-- many commands it has; the latest moment by then, and the token of the command before, if there
+-- was one
 pub record Writing : Type 0 where
   pub done : List SiteFile
   pub text : List ℕ
@@ -42,26 +43,27 @@ end = codes "\n]}\n"
 abbrev pub between : ℕ → List ℕ
 between commands = if nat_eq commands 0 then codes "" else codes ",\n"
 
-abbrev pub begun : Writing
-begun = record { done = []; text = front; commands = 0; latest = 0; last = None }
+abbrev pub first_file : Writing
+first_file = record { done = []; text = front; commands = 0; latest = 0; last = None }
 
 -- a file that ends here
-abbrev pub closed : List ℕ → ℕ → SiteFile
-closed text commands = record { text = text ++ end; commands = commands }
+abbrev pub closed_file : List ℕ → ℕ → SiteFile
+closed_file text commands = record { text = text ++ end; commands = commands }
 
-abbrev pub turned : Writing → Writing
-turned w = record w { done = w.done ++ closed w.text w.commands ∷ []; text = front; commands = 0 }
+abbrev pub next_file : Writing → Writing
+next_file w = record w { done = w.done ++ closed_file w.text w.commands ∷ []; text = front; commands = 0 }
 
--- whether a command with a text of this length goes to the next file as far as it is, with six bytes around it at most; a file takes one at least
+-- whether a command with a text of this length goes to the next file as far as it is, with six
+-- bytes around it at most; a file takes one at least
 abbrev pub fits : Limits → ℕ → Writing → Bool
 fits limits count w = nat_eq w.commands 0 || (nat_lt w.commands limits.commands && nat_lt count (limits.bytes - length w.text - 6))
 
-abbrev pub added : List ℕ → Writing → Writing
-added text w = record w { text = w.text ++ (between w.commands ++ text); commands = w.commands + 1 }
+abbrev pub with_text : List ℕ → Writing → Writing
+with_text text w = record w { text = w.text ++ (between w.commands ++ text); commands = w.commands + 1 }
 
 -- in that file, or in one behind it
-abbrev pub written : Limits → List ℕ → Writing → Writing
-written limits text w = if fits limits (length text) w then added text w else added text (turned w)
+abbrev pub with_command : Limits → List ℕ → Writing → Writing
+with_command limits text w = if fits limits (length text) w then with_text text w else with_text text (next_file w)
 
 -- ---- entries
 
@@ -72,31 +74,31 @@ moment_for (Some token) latest at = at
 
 abbrev pub put_command : Limits → Token → ℕ → List ℕ → Writing → Writing
 put_command limits token at fields w =
-    record (written limits (command_text (moment_for w.last w.latest at) fields) w) { latest = max w.latest at; last = Some token }
+    record (with_command limits (command_text (moment_for w.last w.latest at) fields) w) { latest = max w.latest at; last = Some token }
 
 -- a tick under the token of the command before, if there was one
-abbrev pub ticked : Limits → ℕ → Option Token → Writing → Writing
-ticked limits at None w = w
-ticked limits at (Some token) w = written limits (command_text at (tick_fields token.editor token.seq)) w
+abbrev pub with_tick : Limits → ℕ → Option Token → Writing → Writing
+with_tick limits at None w = w
+with_tick limits at (Some token) w = with_command limits (command_text at (tick_fields token.editor token.seq)) w
 
 -- a filler moves the site's moment alone, and so does a command under a token that is known
 abbrev pub put_filler : Limits → ℕ → Writing → Writing
-put_filler limits at w = if nat_le at w.latest then w else record (ticked limits at w.last w) { latest = at }
+put_filler limits at w = if nat_le at w.latest then w else record (with_tick limits at w.last w) { latest = at }
 
-abbrev pub put : Limits → Entry → Writing → Writing
-put limits (Command token at fields) w = put_command limits token at fields w
-put limits (Filler at) w = put_filler limits at w
+abbrev pub with_entry : Limits → Entry → Writing → Writing
+with_entry limits (Command token at fields) w = put_command limits token at fields w
+with_entry limits (Filler at) w = put_filler limits at w
 
 abbrev pub put_all : Limits → List Entry → Writing → Writing
 put_all limits [] w = w
-put_all limits (e ∷ es) w = put_all limits es (put limits e w)
+put_all limits (e ∷ es) w = put_all limits es (with_entry limits e w)
 
 abbrev pub files_in : Writing → List SiteFile
-files_in w = w.done ++ closed w.text w.commands ∷ []
+files_in w = w.done ++ closed_file w.text w.commands ∷ []
 
 -- Site files of these entries, each within the limits.
 unfoldable pub files_of : Limits → List Entry → List SiteFile
-files_of limits entries = files_in (put_all limits entries begun)
+files_of limits entries = files_in (put_all limits entries first_file)
 
 -- ---- as they are in memory
 

@@ -1,4 +1,5 @@
--- What a text says of the log of a node: an object (RFC 8259) with how many values were applied, and entries (own).
+-- What a text says of the log of a node: an object (RFC 8259) with how many values were applied,
+-- and entries (own).
 use Rattle.std.specs.Prelude.{ℕ, ◌≡◌, ◌≤◌, List, [], ◌∷◌, ◌++◌, Option, Some, None, option_and_then, codes}
 use Rattle.serde_json.specs.Data.{Data, depth}
 use Rattle.serde_json.specs.Find.{as_array, as_number, as_str, as_u64, get}
@@ -16,7 +17,8 @@ number_at key d = option_and_then as_u64 (option_and_then as_number (get key d))
 abbrev pub IsToken : Token → Data → Type 0
 IsToken token d = (option_and_then as_str (get (codes "editor") d) ≡ Some token.editor) × (number_at (codes "seq") d ≡ Some token.seq)
 
--- behind the moment stand fields with which the whole is read as this again; one that nests too deep isn't read
+-- behind the moment stand fields with which the whole is read as this again; one that nests too
+-- deep isn't read
 abbrev pub AreFields : ℕ → List ℕ → Data → Type 0
 AreFields at fields d = depth d ≤ max_depth → read (command_text at fields) ≡ Some d
 

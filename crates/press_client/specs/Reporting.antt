@@ -1,4 +1,5 @@
--- What is told of commands that were sent: a line for each that was not done, and how many ended how (own).
+-- What is told of commands that were sent: a line for each that was not done, and how many ended
+-- how (own).
 use Rattle.std.specs.Prelude.{ℕ, ◌-◌, suc, ◌==◌, ◌&&◌, Bool, true, false, List, [], ◌∷◌, ◌++◌, length, count_by, codes, decimal}
 use Rattle.press_apply.specs.Kinds.{kind_of_command}
 use Rattle.press_apply.specs.declared.command.Stamped.{Stamped}

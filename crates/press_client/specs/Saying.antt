@@ -5,7 +5,8 @@ use Rattle.press_site.specs.declared.token.Token.{Token}
 use Rattle.press_client.specs.declared.newsroom.Taken.{Taken}
 use Rattle.press_client.specs.declared.newsroom.Told.{Told}
 
--- a command goes to the member at a place, which makes this of it; or a member is asked for the outcome under a token, and says this
+-- a command goes to the member at a place, which makes this of it; or a member is asked for the
+-- outcome under a token, and says this
 pub data Said : Type 0 where
   sends : ℕ → Stamped → Taken → Said
   asks : ℕ → Token → Told → Said
@@ -15,7 +16,8 @@ abbrev pub Has : List Said → Said → Type 0
 Has [] one = ⊥
 Has (newest ∷ earlier) one = (one ≡ newest) ⊎ Has earlier one
 
--- These were said, the last first, since what was known by then; of what isn't known nothing is claimed.
+-- These were said, the last first, since what was known by then; of what isn't known nothing is
+-- claimed.
 abbrev pub Says : Option (List Said) → Option (List Said) → List Said → Type 0
 Says None new more = Unit {0}
 Says (Some old) new more = new ≡ Some (more ++ old)

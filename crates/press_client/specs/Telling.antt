@@ -1,4 +1,5 @@
--- What a node tells of its log, by questions each of which is asked behind all that was told before (own).
+-- What a node tells of its log, by questions each of which is asked behind all that was told before
+-- (own).
 use Rattle.std.specs.Prelude.{ℕ, ◌≡◌, ◌⊎◌, ◌<◌, ◌≤◌, List, [], ◌∷◌, ◌++◌, length, take, Result, Ok, Err}
 use Rattle.press_client.specs.Exporting.{files_of}
 use Rattle.press_client.specs.declared.entry.Entry.{Entry}
@@ -17,7 +18,8 @@ entries_of first (piece ∷ earlier) = entries_of first earlier ++ piece.entries
 abbrev pub IsMissing : Piece → List Piece → Type 0
 IsMissing first more = length (entries_of first more) < first.applied
 
--- that a question behind so many entries leads from one state of a node to another, and what comes of it
+-- that a question behind so many entries leads from one state of a node to another, and what comes
+-- of it
 abbrev pub Question : Type 0 → Type 1
 Question Node = Node → ℕ → Result Piece LogFault → Node → Type 0
 

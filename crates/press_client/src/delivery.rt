@@ -1,7 +1,8 @@
-//! Commands that go to a member in their order, ahead of their outcomes, and to another where that one is away.
+//! Commands that go to a member in their order, ahead of their outcomes, and to another where that
+//! one is away.
 
 ghost use Rattle.std.specs.Prelude.{◌≡◌, ◌<◌, ◌≤◌, IfOk, IfSome, Some, length, nat_le, slice_get};
-ghost use Rattle.press_client.specs.Course.{GoesOn, Hears, IsTurned, Takes, begun, course_of, ended_by};
+ghost use Rattle.press_client.specs.Course.{GoesOn, Hears, IsTurned, Takes, first_course, course_of, ended_by};
 ghost use Rattle.press_client.specs.Delivering.{Delivers};
 ghost use Rattle.press_client.specs.Saying.{SaysNothing};
 
@@ -61,7 +62,7 @@ impl Drop for Delivery<'_> {
 
 impl<'a> Delivery<'a> {
     fn new(alloc: Global, commands: &'a [Stamped], members: usize) -> Delivery<'a>
-        ensures { course_of result ≡ begun commands.now }
+        ensures { course_of result ≡ first_course commands.now }
     {
         Delivery {
             commands,
@@ -143,7 +144,8 @@ impl<'a> Delivery<'a> {
         Ok(())
     }
 
-    // The member takes no more now: it is asked again once all that it has have ended, and if it has none the next one is.
+    // The member takes no more now: it is asked again once all that it has have ended, and if it
+    // has none the next one is.
     fn hold(&mut self) -> Next
         ensures { Takes Taken.Busy (course_of self.old) (course_of self.new) }
     {
@@ -155,7 +157,8 @@ impl<'a> Delivery<'a> {
         Next::On
     }
 
-    // The member doesn't take the command, which has ended so only once those before it have ended; then it is asked again.
+    // The member doesn't take the command, which has ended so only once those before it have ended;
+    // then it is asked again.
     fn refuse(&mut self, status: u16) -> Result<Next, AllocError>
         ensures { IfOk result
             (λ _. Takes (Taken.Refused status) (course_of self.old) (course_of self.new)) }
@@ -288,11 +291,12 @@ impl<'a> Delivery<'a> {
     }
 }
 
-/// Sends commands to the members of a cluster, and returns what became of the first of them: of all, or of as many as
-/// had ended when it was no longer worth while to go on.
+/// Sends commands to the members of a cluster, and returns what became of the first of them: of
+/// all, or of as many as had ended when it was no longer worth while to go on.
 ///
-/// All go to one member, in their order, up to 128 ahead of the oldest that hasn't ended. Behind a loss, and where no
-/// outcome comes, the next member gets all that haven't ended, from the oldest on.
+/// All go to one member, in their order, up to 128 ahead of the oldest that hasn't ended. Behind a
+/// loss, and where no outcome comes, the next member gets all that haven't ended, from the oldest
+/// on.
 pub fn deliver<N: Newsroom>(
     alloc: Global,
     room: &mut N,

@@ -46,7 +46,8 @@ fn put_first(files: &mut SiteFiles, mut entries: Vec<Entry>, most: u64) -> Resul
     Ok(left)
 }
 
-/// What a node has applied by the first reply, as site files, whose commands make the same site: what comes later is left out.
+/// What a node has applied by the first reply, as site files, whose commands make the same site:
+/// what comes later is left out.
 pub fn export<T: Teller>(
     alloc: Global,
     teller: &mut T,

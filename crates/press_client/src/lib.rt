@@ -1,4 +1,5 @@
-//! Who sends commands to the members of a cluster: each in its turn, again where a member is away, until each has an outcome.
+//! Who sends commands to the members of a cluster: each in its turn, again where a member is away,
+//! until each has an outcome.
 #![tactic(auto)]
 
 mod counts;
@@ -21,7 +22,7 @@ pub use entry::Entry;
 pub use exporting::{Teller, export};
 pub use log::{LogFault, Piece};
 pub use newsroom::{Newsroom, Taken, Told};
-pub use replies::{piece_told, taken_by, told_by};
+pub use replies::{piece_of_reply, taken_by, told_by};
 pub use reporting::report;
 pub use site_files::{Limits, SiteFile, SiteFiles};
 pub use sockets::{MembersFault, Sockets};

@@ -51,7 +51,8 @@ pub trait Newsroom {
     fn note(&mut self, told: usize)
         ensures { SaysNothing (said self.old) (said self.new) };
 
-    /// Waits for a moment, shorter behind an answer than behind none; returns whether it is worth while to go on.
+    /// Waits for a moment, shorter behind an answer than behind none; returns whether it is worth
+    /// while to go on.
     fn rest(&mut self, answered: bool) -> bool
         ensures { SaysNothing (said self.old) (said self.new) };
 }

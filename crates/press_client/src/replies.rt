@@ -61,7 +61,7 @@ fn outcome_in(body: &str) -> Option<Outcome>
     }
 }
 
-fn outcome_told(reply: &[u8]) -> Option<Outcome>
+fn outcome_of_reply(reply: &[u8]) -> Option<Outcome>
     ensures { IfSome result (λ outcome. TellsOutcome outcome reply.now) }
 {
     let text = from_utf8(reply).ok()?;
@@ -86,7 +86,7 @@ pub fn told_by(reply: &[u8]) -> Told
 {
     match status_in(reply) {
         Some(404) => Told::NotYet,
-        Some(200) => match outcome_told(reply) {
+        Some(200) => match outcome_of_reply(reply) {
             Some(outcome) => Told::Outcome(outcome),
             None => Told::Lost,
         },
@@ -95,7 +95,7 @@ pub fn told_by(reply: &[u8]) -> Told
 }
 
 /// The piece of a log that a member tells, by its reply.
-pub fn piece_told(alloc: Global, reply: &[u8]) -> Result<Piece, LogFault>
+pub fn piece_of_reply(alloc: Global, reply: &[u8]) -> Result<Piece, LogFault>
     ensures status { IfOk result (λ _. Spells reply.now 200) }
     ensures piece { IfOk result (λ piece. TellsPiece piece reply.now) }
 {

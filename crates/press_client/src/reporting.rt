@@ -104,7 +104,11 @@ fn counts_line(alloc: Global, counts: Counts) -> Result<String, AllocError>
 
 // A line for each that was not done.
 #[tactic(auto, using(crate::proofs::Lines::lines_on, crate::proofs::Lines::lines_end))]
-fn lines(alloc: Global, commands: &[Stamped], endings: &[Ending]) -> Result<String, AllocError>
+fn lines_of_endings(
+    alloc: Global,
+    commands: &[Stamped],
+    endings: &[Ending],
+) -> Result<String, AllocError>
     ensures { IfOk result (λ t. string_bytes t ≡ spec.lines_from 0 commands.now endings.now) }
 {
     let mut text = String::new(alloc);
@@ -118,11 +122,12 @@ fn lines(alloc: Global, commands: &[Stamped], endings: &[Ending]) -> Result<Stri
     Ok(text)
 }
 
-/// A line for each command that was not done, with its place in the file, its token and its kind, and how many ended how.
+/// A line for each command that was not done, with its place in the file, its token and its kind,
+/// and how many ended how.
 pub fn report(alloc: Global, commands: &[Stamped], endings: &[Ending]) -> Result<String, AllocError>
     ensures { IfOk result (λ t. string_bytes t ≡ report_of commands.now endings.now) }
 {
-    let mut text = lines(alloc, commands, endings)?;
+    let mut text = lines_of_endings(alloc, commands, endings)?;
     let counts = counts_line(alloc, Counts::of(commands.len(), endings))?;
     text.push_str(&counts)?;
     Ok(text)

@@ -76,8 +76,8 @@ fn tick_text(alloc: Global, at: u64, token: &Token) -> Result<String, AllocError
 }
 
 // A file that ends here.
-fn closed(mut text: String, commands: usize) -> Result<SiteFile, AllocError>
-    ensures { IfOk result (λ file. file ≡ spec.closed (string_bytes text) commands) }
+fn close_file(mut text: String, commands: usize) -> Result<SiteFile, AllocError>
+    ensures { IfOk result (λ file. file ≡ spec.closed_file (string_bytes text) commands) }
 {
     text.push_str(END)?;
     Ok(SiteFile {
@@ -121,7 +121,7 @@ impl Drop for SiteFiles {
 
 impl SiteFiles {
     pub fn new(alloc: Global, limits: Limits) -> Result<SiteFiles, AllocError>
-        ensures begun { IfOk result (λ files. writing_of files ≡ spec.begun) }
+        ensures begun { IfOk result (λ files. writing_of files ≡ spec.first_file) }
         ensures limits { IfOk result (λ files. files.limits ≡ limits) }
     {
         Ok(SiteFiles {
@@ -147,12 +147,12 @@ impl SiteFiles {
 
     // The next file is whole.
     fn turn(&mut self) -> Result<(), AllocError>
-        ensures turned { IfOk result (λ _. writing_of self.new ≡ spec.turned (writing_of self.old)) }
+        ensures turned { IfOk result (λ _. writing_of self.new ≡ spec.next_file (writing_of self.old)) }
         ensures limits { self.new.limits ≡ self.old.limits }
     {
         let front = String::from_str(self.alloc, FRONT)?;
         let text = mem::replace(&mut self.text, front);
-        let file = closed(text, self.commands)?;
+        let file = close_file(text, self.commands)?;
         self.done.push(file)?;
         self.commands = 0;
         Ok(())
@@ -162,7 +162,7 @@ impl SiteFiles {
     fn add(&mut self, text: &str) -> Result<(), AllocError>
         requires { self.old.commands + 1 < 2 ^ 64 }
         ensures added { IfOk result (λ _.
-            writing_of self.new ≡ spec.added text.now (writing_of self.old)) }
+            writing_of self.new ≡ spec.with_text text.now (writing_of self.old)) }
         ensures limits { self.new.limits ≡ self.old.limits }
     {
         self.text.push_str(between(self.commands))?;
@@ -173,7 +173,7 @@ impl SiteFiles {
 
     fn write(&mut self, text: &str) -> Result<(), AllocError>
         ensures written { IfOk result (λ _. writing_of self.new
-            ≡ spec.written self.old.limits text.now (writing_of self.old)) }
+            ≡ spec.with_command self.old.limits text.now (writing_of self.old)) }
         ensures limits { self.new.limits ≡ self.old.limits }
     {
         if self.fits(text.len()) {
@@ -221,7 +221,7 @@ impl SiteFiles {
     /// One entry more. Without memory for it they are of no use any more.
     pub fn put(&mut self, entry: Entry) -> Result<(), AllocError>
         ensures put { IfOk result (λ _. writing_of self.new
-            ≡ spec.put self.old.limits entry (writing_of self.old)) }
+            ≡ spec.with_entry self.old.limits entry (writing_of self.old)) }
         ensures limits { self.new.limits ≡ self.old.limits }
     {
         match entry {
@@ -243,7 +243,7 @@ impl SiteFiles {
             latest: _,
             last: _,
         } = self;
-        let file = closed(text, commands)?;
+        let file = close_file(text, commands)?;
         done.push(file)?;
         Ok(done)
     }

@@ -5,7 +5,7 @@ ghost use Rattle.std.specs.Prelude.{◌<◌, ◌^◌, None};
 use crate::exporting::Teller;
 use crate::log::{LogFault, Piece};
 use crate::newsroom::{Newsroom, Taken, Told};
-use crate::replies::{piece_told, taken_by, told_by};
+use crate::replies::{piece_of_reply, taken_by, told_by};
 use crate::requests::{command_request, log_request, outcome_request};
 use press_apply::Stamped;
 use press_net::{AddressBook, Listed};
@@ -24,12 +24,14 @@ const MOST: usize = 7;
 // How long a member may take to be reached, and for each read and write.
 const SECONDS: u64 = 2;
 
-// The longest reply that is read to a command or a question, and to one for a piece of a log: 64 commands whose bytes are all escaped.
+// The longest reply that is read to a command or a question, and to one for a piece of a log: 64
+// commands whose bytes are all escaped.
 const LONGEST: usize = 65_536;
 
 const LONGEST_LOG: usize = 33_554_432;
 
-// Milliseconds until an outcome is asked for again, and until the next member is asked behind a loss.
+// Milliseconds until an outcome is asked for again, and until the next member is asked behind a
+// loss.
 const SOON: u64 = 4;
 
 const LATER: u64 = 50;
@@ -80,7 +82,8 @@ impl Watch {
     }
 }
 
-/// The members of a cluster, by their addresses, with a line of progress where the standard error is a terminal.
+/// The members of a cluster, by their addresses, with a line of progress where the standard error
+/// is a terminal.
 pub struct Sockets<'r> {
     rt: &'r HostRuntime,
     hosts: Vec<String>,
@@ -107,8 +110,8 @@ impl Drop for Sockets<'_> {
     }
 }
 
-// Sends a request to an address, and returns its whole reply. There may be one though not all was written: a form that is too
-// long is refused by its head.
+// Sends a request to an address, and returns its whole reply. There may be one though not all was
+// written: a form that is too long is refused by its head.
 fn ask(rt: &HostRuntime, to: SocketAddr, request: &[u8], longest: usize) -> io::Result<Vec<u8>>
     requires { longest < 2 ^ 62 }
 {
@@ -263,7 +266,7 @@ impl Teller for Sockets<'_> {
         let alloc = self.rt.alloc();
         let request = log_request(alloc, self.host(0), from)?;
         match self.reply(0, request.as_bytes(), LONGEST_LOG) {
-            Some(reply) => piece_told(alloc, &reply),
+            Some(reply) => piece_of_reply(alloc, &reply),
             None => Err(LogFault::Away),
         }
     }

@@ -1,5 +1,6 @@
--- The demonstration kit: filters that append a letter, one that grows its own hook while it runs, two that run their own hook again, an action that
--- sets an option, two shortcodes, and a filter that marks what shortcodes answer (own).
+-- The demonstration kit: filters that append a letter, one that grows its own hook while it runs,
+-- two that run their own hook again, an action that sets an option, two shortcodes, and a filter
+-- that marks what shortcodes answer (own).
 use Rattle.std.specs.Prelude.{ℕ, pos, List, [], ◌∷◌, ◌++◌, map, codes}
 use Rattle.press_scan.specs.declared.att_key.AttKey.TheVariants.{Name}
 use Rattle.press_callbacks.specs.declared.script.Source.TheVariants.{Arg, Att, Content, Value, Last}
@@ -69,11 +70,11 @@ others =
     ∷ (codes "mark", marking)
     ∷ []
 
-abbrev pub played : Scripts
-played = letters ++ others
+abbrev pub play_scripts : Scripts
+play_scripts = letters ++ others
 
 abbrev pub scripts : Scripts
-scripts = (codes "grow", growing) ∷ played
+scripts = (codes "grow", growing) ∷ play_scripts
 
 abbrev pub on_hook : List ℕ → ℕ → List ℕ → Load
 on_hook hook priority callback = Hook hook (pos priority) callback 1
@@ -110,8 +111,8 @@ abbrev pub plugins : List Plugin
 plugins = grow_plugin ∷ letters_plugin ∷ loop_plugin ∷ marks_plugin ∷ notes_plugin ∷ tags_plugin ∷ []
 
 -- names and scripts
-abbrev pub told : List Scripted → Scripts
-told scripted = map (λ (s : Scripted). (s.id, s.script)) scripted
+abbrev pub scripts_of : List Scripted → Scripts
+scripts_of scripted = map (λ (s : Scripted). (s.id, s.script)) scripted
 
 abbrev pub demonstration : KitView
 demonstration = view_of scripts plugins

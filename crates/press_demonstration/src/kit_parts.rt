@@ -19,7 +19,7 @@ pub struct DemonstrationParts {
 /// The parts of the kit, made anew: nothing is shared between two calls.
 pub fn parts(alloc: Global) -> Result<DemonstrationParts, AllocError>
     ensures growing { IfOk result (λ p. p.growing ≡ spec.growing) }
-    ensures played { IfOk result (λ p. spec.told p.played.items ≡ spec.played) }
+    ensures played { IfOk result (λ p. spec.scripts_of p.played.items ≡ spec.play_scripts) }
     ensures plugins { IfOk result (λ p. p.plugins.items ≡ spec.plugins) }
 {
     Ok(DemonstrationParts {

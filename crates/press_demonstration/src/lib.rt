@@ -1,6 +1,7 @@
 //! The demonstration kit of `press`: the scripts and plugins that it is made of.
 //!
-//! Its closures are boxed, and a function can't return a box: a caller makes them from these parts and builds the kit.
+//! Its closures are boxed, and a function can't return a box: a caller makes them from these parts
+//! and builds the kit.
 #![tactic(auto)]
 
 mod growing;

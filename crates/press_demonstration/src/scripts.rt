@@ -13,7 +13,7 @@ use std::alloc::{AllocError, Global};
 
 /// The callbacks whose closures play their scripts.
 pub fn played(alloc: Global) -> Result<Vec<Scripted>, AllocError>
-    ensures { IfOk result (λ v. spec.told v.items ≡ spec.played) }
+    ensures { IfOk result (λ v. spec.scripts_of v.items ≡ spec.play_scripts) }
 {
     let mut scripts = Vec::new(alloc);
     push_letter(alloc, &mut scripts, "add_a", "a")?;
@@ -32,7 +32,7 @@ pub fn played(alloc: Global) -> Result<Vec<Scripted>, AllocError>
 }
 
 fn push_greet(alloc: Global, scripts: &mut Vec<Scripted>) -> Result<(), AllocError>
-    ensures { OnOk result (spec.told scripts.new.items ≡ spec.told scripts.old.items
+    ensures { OnOk result (spec.scripts_of scripts.new.items ≡ spec.scripts_of scripts.old.items
         ++ (codes "greet", spec.greeting) ∷ []) }
 {
     let greet = greet(alloc)?;
@@ -40,7 +40,7 @@ fn push_greet(alloc: Global, scripts: &mut Vec<Scripted>) -> Result<(), AllocErr
 }
 
 fn push_box(alloc: Global, scripts: &mut Vec<Scripted>) -> Result<(), AllocError>
-    ensures { OnOk result (spec.told scripts.new.items ≡ spec.told scripts.old.items
+    ensures { OnOk result (spec.scripts_of scripts.new.items ≡ spec.scripts_of scripts.old.items
         ++ (codes "box", spec.boxing) ∷ []) }
 {
     let of_content = box_of_content(alloc)?;
@@ -55,7 +55,7 @@ fn push_again(
 ) -> Result<(), AllocError>
     requires name { name_fault 32 name.now ≡ None }
     requires hook { name_fault 64 hook.now ≡ None }
-    ensures { OnOk result (spec.told scripts.new.items ≡ spec.told scripts.old.items
+    ensures { OnOk result (spec.scripts_of scripts.new.items ≡ spec.scripts_of scripts.old.items
         ++ (name.now, spec.running hook.now) ∷ []) }
 {
     let again = again(alloc, name, hook)?;
@@ -63,7 +63,7 @@ fn push_again(
 }
 
 fn push_note(alloc: Global, scripts: &mut Vec<Scripted>) -> Result<(), AllocError>
-    ensures { OnOk result (spec.told scripts.new.items ≡ spec.told scripts.old.items
+    ensures { OnOk result (spec.scripts_of scripts.new.items ≡ spec.scripts_of scripts.old.items
         ++ (codes "note", spec.noting) ∷ []) }
 {
     let note = note(alloc)?;
@@ -71,7 +71,7 @@ fn push_note(alloc: Global, scripts: &mut Vec<Scripted>) -> Result<(), AllocErro
 }
 
 fn push_mark(alloc: Global, scripts: &mut Vec<Scripted>) -> Result<(), AllocError>
-    ensures { OnOk result (spec.told scripts.new.items ≡ spec.told scripts.old.items
+    ensures { OnOk result (spec.scripts_of scripts.new.items ≡ spec.scripts_of scripts.old.items
         ++ (codes "mark", spec.marking) ∷ []) }
 {
     let mark = mark(alloc)?;
@@ -85,7 +85,7 @@ fn push_letter(
     text: &str,
 ) -> Result<(), AllocError>
     requires { name_fault 32 name.now ≡ None }
-    ensures { OnOk result (spec.told scripts.new.items ≡ spec.told scripts.old.items
+    ensures { OnOk result (spec.scripts_of scripts.new.items ≡ spec.scripts_of scripts.old.items
         ++ (name.now, spec.appending text.now) ∷ []) }
 {
     let letter = letter(alloc, name, text)?;
@@ -94,7 +94,7 @@ fn push_letter(
 
 #[tactic(auto, using(crate::proofs::Pushes::one_more))]
 fn push_scripted(scripts: &mut Vec<Scripted>, scripted: Scripted) -> Result<(), AllocError>
-    ensures { OnOk result (spec.told scripts.new.items ≡ spec.told scripts.old.items
+    ensures { OnOk result (spec.scripts_of scripts.new.items ≡ spec.scripts_of scripts.old.items
         ++ (scripted.id, scripted.script) ∷ []) }
 {
     scripts.push(scripted)?;

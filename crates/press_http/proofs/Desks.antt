@@ -1,11 +1,11 @@
 -- What editors ask for, step by step.
 use Rattle.std.proofs.Common.{◌≡◌, List, Ok, ℕ, refl, subst, sym}
-use Rattle.press_http.specs.declared.desk.DeskPlace.{DeskPlace}
+use Rattle.press_http.specs.declared.desk.DeskEndpoint.{DeskEndpoint}
 use Rattle.press_http.specs.Meanings.{◌>>=◌}
 use Rattle.press_http.specs.Desk as spec
 use Rattle.press_http.specs.Routes.{path_of}
 
-pub asked_is : (method target : List ℕ) (found served : DeskPlace) → spec.desk_place_at (path_of target) ≡ Ok found → spec.desk_allowed method found ≡ Ok served →
+pub asked_is : (method target : List ℕ) (found served : DeskEndpoint) → spec.desk_place_at (path_of target) ≡ Ok found → spec.desk_allowed method found ≡ Ok served →
     spec.desk_asked method target ≡ spec.desk_at served target
 unfolding spec.desk_asked
 asked_is method target found served at is =

@@ -7,26 +7,26 @@ use Rattle.press_text.specs.Decimals.{decimal_in}
 use Rattle.press_page.specs.declared.desk.Desk.TheVariants as desk
 use Rattle.press_http.specs.declared.fault.HttpFault.{HttpFault}
 use Rattle.press_http.specs.declared.fault.HttpFault.TheVariants.{NotAllowed}
-use Rattle.press_http.specs.declared.desk.DeskPlace.{DeskPlace}
-use Rattle.press_http.specs.declared.desk.DeskPlace.TheVariants as place
+use Rattle.press_http.specs.declared.desk.DeskEndpoint.{DeskEndpoint}
+use Rattle.press_http.specs.declared.desk.DeskEndpoint.TheVariants as endpoint
 use Rattle.press_http.specs.declared.desk.DeskRequest.{DeskRequest}
 use Rattle.press_http.specs.declared.desk.DeskRequest.TheVariants as request
 use Rattle.press_http.specs.Forms.{first_named, LacksPlainly}
 use Rattle.press_http.specs.Meanings.{◌>>=◌, made}
 use Rattle.press_http.specs.Routes.{behind, or_missing, path_of, place_in, query_of, with_route}
 
-unfoldable pub desk_table : RowsOf (RouteOf DeskPlace)
+unfoldable pub desk_table : RowsOf (RouteOf DeskEndpoint)
 desk_table =
-    with_route (codes "/desk/site") place.Site
-    (with_route (codes "/desk/preview/{id}") place.Preview
-    (with_route (codes "/desk/posts/{id}") place.Post
-    (with_route (codes "/desk/posts") place.Posts
-    (with_route (codes "/desk/log") place.Log []))))
+    with_route (codes "/desk/site") endpoint.Site
+    (with_route (codes "/desk/preview/{id}") endpoint.Preview
+    (with_route (codes "/desk/posts/{id}") endpoint.Post
+    (with_route (codes "/desk/posts") endpoint.Posts
+    (with_route (codes "/desk/log") endpoint.Log []))))
 
-unfoldable pub desk_place_at : List ℕ → Result DeskPlace HttpFault
+unfoldable pub desk_place_at : List ℕ → Result DeskEndpoint HttpFault
 desk_place_at path = place_in (first desk_table path)
 
-abbrev pub desk_allowed : List ℕ → DeskPlace → Result DeskPlace HttpFault
+abbrev pub desk_allowed : List ℕ → DeskEndpoint → Result DeskEndpoint HttpFault
 desk_allowed method at = if bytes_eq method (codes "GET") then Ok at else Err NotAllowed
 
 -- a number that a query gives, or this one
@@ -47,12 +47,12 @@ posts_of query = do
 abbrev pub id_in : List ℕ → Result ℕ HttpFault
 id_in path = or_missing (decimal_in (behind 3 path))
 
-unfoldable pub desk_at : DeskPlace → List ℕ → Result DeskRequest HttpFault
-desk_at place.Log t = made request.Log (number_of (codes "from") 0 (query_of t))
-desk_at place.Posts t = posts_of (query_of t)
-desk_at place.Post t = made (λ id. request.Show (desk.Post id)) (id_in (path_of t))
-desk_at place.Preview t = made (λ id. request.Show (desk.Preview id)) (id_in (path_of t))
-desk_at place.Site t = Ok (request.Show desk.Site)
+unfoldable pub desk_at : DeskEndpoint → List ℕ → Result DeskRequest HttpFault
+desk_at endpoint.Log t = made request.Log (number_of (codes "from") 0 (query_of t))
+desk_at endpoint.Posts t = posts_of (query_of t)
+desk_at endpoint.Post t = made (λ id. request.Show (desk.Post id)) (id_in (path_of t))
+desk_at endpoint.Preview t = made (λ id. request.Show (desk.Preview id)) (id_in (path_of t))
+desk_at endpoint.Site t = Ok (request.Show desk.Site)
 
 -- by method and target
 unfoldable pub desk_asked : List ℕ → List ℕ → Result DeskRequest HttpFault
@@ -67,13 +67,13 @@ abbrev pub LacksBoth : List ℕ → Type 0
 LacksBoth query = LacksPlainly (codes "before") query × LacksPlainly (codes "count") query
 
 -- a field that may be the one that is looked for takes memory
-abbrev pub TakesMemory : DeskPlace → List ℕ → Type 0
-TakesMemory place.Log t = LacksPlainly (codes "from") (query_of t) → ⊥
-TakesMemory place.Posts t = LacksBoth (query_of t) → ⊥
-TakesMemory place.Post t = ⊥
-TakesMemory place.Preview t = ⊥
-TakesMemory place.Site t = ⊥
+abbrev pub TakesMemory : DeskEndpoint → List ℕ → Type 0
+TakesMemory endpoint.Log t = LacksPlainly (codes "from") (query_of t) → ⊥
+TakesMemory endpoint.Posts t = LacksBoth (query_of t) → ⊥
+TakesMemory endpoint.Post t = ⊥
+TakesMemory endpoint.Preview t = ⊥
+TakesMemory endpoint.Site t = ⊥
 
 -- its path is served by its method, and that takes some
 abbrev pub MayTakeMemory : List ℕ → List ℕ → Type 0
-MayTakeMemory method t = (at : DeskPlace) × ((desk_place_at (path_of t) >>= desk_allowed method) ≡ Ok at) × TakesMemory at t
+MayTakeMemory method t = (at : DeskEndpoint) × ((desk_place_at (path_of t) >>= desk_allowed method) ≡ Ok at) × TakesMemory at t

@@ -41,11 +41,11 @@ reply_bytes r = reply_head r ++ r.body
 -- ---- replies with a fixed body
 
 -- the statuses that have such a body
-abbrev pub told : List ℕ
-told = 200 ∷ 202 ∷ 400 ∷ 404 ∷ 405 ∷ 411 ∷ 413 ∷ 431 ∷ 500 ∷ 501 ∷ 503 ∷ []
+abbrev pub reply_statuses : List ℕ
+reply_statuses = 200 ∷ 202 ∷ 400 ∷ 404 ∷ 405 ∷ 411 ∷ 413 ∷ 431 ∷ 500 ∷ 501 ∷ 503 ∷ []
 
-abbrev pub IsTold : ℕ → Type 0
-IsTold status = list_any (λ s. status == s) told ≡ true
+abbrev pub IsReplyStatus : ℕ → Type 0
+IsReplyStatus status = list_any (λ s. status == s) reply_statuses ≡ true
 
 -- a status and its phrase
 abbrev pub status_line : ℕ → List ℕ

@@ -21,8 +21,8 @@ use Rattle.press_http.specs.declared.fault.HttpFault.{HttpFault}
 use Rattle.press_http.specs.declared.fault.HttpFault.TheVariants.{NotFound, NotAllowed, BadPeer}
 use Rattle.press_http.specs.declared.asked.Asked.{Asked}
 use Rattle.press_http.specs.declared.asked.Asked.TheVariants.{Page, Command, Peer}
-use Rattle.press_http.specs.declared.place.Place.{Place}
-use Rattle.press_http.specs.declared.place.Place.TheVariants as place
+use Rattle.press_http.specs.declared.endpoint.Endpoint.{Endpoint}
+use Rattle.press_http.specs.declared.endpoint.Endpoint.TheVariants as endpoint
 use Rattle.press_http.specs.Forms.{first_named, command_in, LacksPlainly}
 use Rattle.press_http.specs.Meanings.{◌>>=◌, or_fault, made}
 
@@ -44,14 +44,14 @@ with_read (Err e) at routes = routes
 unfoldable pub with_route : {P : Type 0} → List ℕ → P → RowsOf (RouteOf P) → RowsOf (RouteOf P)
 with_route path at routes = with_read (parse_route path) at routes
 
-unfoldable pub pages : RowsOf (RouteOf Place)
+unfoldable pub pages : RowsOf (RouteOf Endpoint)
 pages =
-    with_route (codes "/result/{editor}/{seq}") place.Outcome
-    (with_route (codes "/wp-json/wp/v2/posts/{id}") place.Post
-    (with_route (codes "/") place.Front []))
+    with_route (codes "/result/{editor}/{seq}") endpoint.Outcome
+    (with_route (codes "/wp-json/wp/v2/posts/{id}") endpoint.Post
+    (with_route (codes "/") endpoint.Front []))
 
-unfoldable pub table : RowsOf (RouteOf Place)
-table = with_route (codes "/peer") place.Peers (with_route (codes "/command") place.Commands pages)
+unfoldable pub table : RowsOf (RouteOf Endpoint)
+table = with_route (codes "/peer") endpoint.Peers (with_route (codes "/command") endpoint.Commands pages)
 
 abbrev pub or_missing : {A : Type 0} → Option A → Result A HttpFault
 or_missing found = or_fault NotFound found
@@ -60,19 +60,19 @@ abbrev pub place_in : {P : Type 0} → Option (RouteOf P) → Result P HttpFault
 place_in None = Err NotFound
 place_in (Some route) = Ok route.value
 
-unfoldable pub place_at : List ℕ → Result Place HttpFault
+unfoldable pub place_at : List ℕ → Result Endpoint HttpFault
 place_at path = place_in (first table path)
 
 -- ---- methods
 
-abbrev pub method_at : Place → List ℕ
-method_at place.Front = codes "GET"
-method_at place.Post = codes "GET"
-method_at place.Outcome = codes "GET"
-method_at place.Commands = codes "POST"
-method_at place.Peers = codes "POST"
+abbrev pub method_at : Endpoint → List ℕ
+method_at endpoint.Front = codes "GET"
+method_at endpoint.Post = codes "GET"
+method_at endpoint.Outcome = codes "GET"
+method_at endpoint.Commands = codes "POST"
+method_at endpoint.Peers = codes "POST"
 
-abbrev pub allowed : List ℕ → Place → Result Place HttpFault
+abbrev pub allowed : List ℕ → Endpoint → Result Endpoint HttpFault
 allowed method at = if bytes_eq method (method_at at) then Ok at else Err NotAllowed
 
 -- ---- pages
@@ -124,12 +124,12 @@ message_in body = or_bad_peer (read_message body)
 
 -- ---- requests
 
-unfoldable pub asked_at : Place → List ℕ → List ℕ → Result Asked HttpFault
-asked_at place.Front t body = made Page (front_of (query_of t))
-asked_at place.Post t body = made Page (post_of (path_of t))
-asked_at place.Outcome t body = made Page (outcome_of (path_of t))
-asked_at place.Commands t body = made Command (command_in body)
-asked_at place.Peers t body = made Peer (message_in body)
+unfoldable pub asked_at : Endpoint → List ℕ → List ℕ → Result Asked HttpFault
+asked_at endpoint.Front t body = made Page (front_of (query_of t))
+asked_at endpoint.Post t body = made Page (post_of (path_of t))
+asked_at endpoint.Outcome t body = made Page (outcome_of (path_of t))
+asked_at endpoint.Commands t body = made Command (command_in body)
+asked_at endpoint.Peers t body = made Peer (message_in body)
 
 -- by method, target and body
 unfoldable pub asked : List ℕ → List ℕ → List ℕ → Result Asked HttpFault
@@ -141,13 +141,13 @@ asked method t body = do
 -- ---- memory
 
 -- what has to be there before what a request carries takes memory: a field that may be the one that is looked for, or an editor's name
-abbrev pub TakesMemory : Place → List ℕ → List ℕ → Type 0
-TakesMemory place.Front t body = LacksPlainly (codes "p") (query_of t) → ⊥
-TakesMemory place.Post t body = ⊥
-TakesMemory place.Outcome t body = IsOk (first_in (behind 2 (path_of t)))
-TakesMemory place.Commands t body = LacksPlainly (codes "editor") body → ⊥
-TakesMemory place.Peers t body = IsOk (editor_of_message body)
+abbrev pub TakesMemory : Endpoint → List ℕ → List ℕ → Type 0
+TakesMemory endpoint.Front t body = LacksPlainly (codes "p") (query_of t) → ⊥
+TakesMemory endpoint.Post t body = ⊥
+TakesMemory endpoint.Outcome t body = IsOk (first_in (behind 2 (path_of t)))
+TakesMemory endpoint.Commands t body = LacksPlainly (codes "editor") body → ⊥
+TakesMemory endpoint.Peers t body = IsOk (editor_of_message body)
 
 -- whether what a request carries may take memory: where its path is served by its method, and that takes some
 abbrev pub MayTakeMemory : List ℕ → List ℕ → List ℕ → Type 0
-MayTakeMemory method t body = (at : Place) × ((place_at (path_of t) >>= allowed method) ≡ Ok at) × TakesMemory at t body
+MayTakeMemory method t body = (at : Endpoint) × ((place_at (path_of t) >>= allowed method) ≡ Ok at) × TakesMemory at t body

@@ -6,9 +6,9 @@ ghost use Rattle.press_http.specs.Forms.{LacksPlainly};
 ghost use Rattle.press_http.specs.Meanings.{Refuses};
 ghost use Rattle.press_http.specs.Desk as spec;
 
+use crate::endpoint::{add_route, place_in};
 use crate::fault::HttpFault;
 use crate::form::first_value;
-use crate::place::{add_route, place_in};
 use crate::request::Request;
 use crate::routing::{behind, path, query};
 use matchit::Router;
@@ -21,7 +21,7 @@ const MOST: u64 = 100;
 
 /// What a path of editors is for.
 #[derive(Clone, Copy, Debug, PartialEq, Eq)]
-pub(crate) enum DeskPlace {
+pub(crate) enum DeskEndpoint {
     Log,
     Posts,
     Post,
@@ -39,19 +39,19 @@ pub enum DeskRequest {
 }
 
 #[tactic(auto, unfolding(crate::specs::Desk::desk_table))]
-fn table(alloc: Global) -> Result<Router<DeskPlace>, AllocError>
+fn table(alloc: Global) -> Result<Router<DeskEndpoint>, AllocError>
     ensures { IfOk result (λ r. r ≡ spec.desk_table) }
 {
     let mut router = Router::new(alloc);
-    add_route(&mut router, "/desk/log", DeskPlace::Log)?;
-    add_route(&mut router, "/desk/posts", DeskPlace::Posts)?;
-    add_route(&mut router, "/desk/posts/{id}", DeskPlace::Post)?;
-    add_route(&mut router, "/desk/preview/{id}", DeskPlace::Preview)?;
-    add_route(&mut router, "/desk/site", DeskPlace::Site)?;
+    add_route(&mut router, "/desk/log", DeskEndpoint::Log)?;
+    add_route(&mut router, "/desk/posts", DeskEndpoint::Posts)?;
+    add_route(&mut router, "/desk/posts/{id}", DeskEndpoint::Post)?;
+    add_route(&mut router, "/desk/preview/{id}", DeskEndpoint::Preview)?;
+    add_route(&mut router, "/desk/site", DeskEndpoint::Site)?;
     Ok(router)
 }
 
-fn allowed(method: &str, place: DeskPlace) -> Result<DeskPlace, HttpFault>
+fn check_method(method: &str, place: DeskEndpoint) -> Result<DeskEndpoint, HttpFault>
     ensures place { Gives Refuses Ok result (spec.desk_allowed method.now place) }
     ensures memory { result ≢ Err HttpFault.NoMemory }
 {
@@ -98,25 +98,25 @@ fn id(path: &str) -> Result<u64, HttpFault>
 }
 
 #[tactic(auto, unfolding(crate::specs::Desk::desk_at))]
-fn asked_at(alloc: Global, place: DeskPlace, target: &str) -> Result<DeskRequest, HttpFault>
+fn asked_at(alloc: Global, place: DeskEndpoint, target: &str) -> Result<DeskRequest, HttpFault>
     ensures asked { Gives Refuses Ok result (spec.desk_at place target.now) }
     ensures memory { result ≡ Err HttpFault.NoMemory → spec.TakesMemory place target.now }
 {
     match place {
-        DeskPlace::Log => Ok(DeskRequest::Log {
+        DeskEndpoint::Log => Ok(DeskRequest::Log {
             from: number(alloc, query(target), "from", 0)?,
         }),
-        DeskPlace::Posts => posts(alloc, query(target)),
-        DeskPlace::Post => Ok(DeskRequest::Show(Desk::Post(id(path(target))?))),
-        DeskPlace::Preview => Ok(DeskRequest::Show(Desk::Preview(id(path(target))?))),
-        DeskPlace::Site => Ok(DeskRequest::Show(Desk::Site)),
+        DeskEndpoint::Posts => posts(alloc, query(target)),
+        DeskEndpoint::Post => Ok(DeskRequest::Show(Desk::Post(id(path(target))?))),
+        DeskEndpoint::Preview => Ok(DeskRequest::Show(Desk::Preview(id(path(target))?))),
+        DeskEndpoint::Site => Ok(DeskRequest::Show(Desk::Site)),
     }
 }
 
 /// The table of the paths that editors have beside those of a site.
 #[derive(Drop)]
 pub struct DeskRoutes {
-    router: Router<DeskPlace>,
+    router: Router<DeskEndpoint>,
     ghost whole: { router ≡ spec.desk_table },
 }
 
@@ -129,7 +129,7 @@ impl DeskRoutes {
     }
 
     #[tactic(auto, unfolding(crate::specs::Desk::desk_place_at))]
-    fn at(&self, path: &str) -> Result<DeskPlace, HttpFault>
+    fn at(&self, path: &str) -> Result<DeskEndpoint, HttpFault>
         ensures place { result ≡ spec.desk_place_at path.now }
         ensures memory { result ≢ Err HttpFault.NoMemory }
     {
@@ -148,7 +148,7 @@ impl DeskRoutes {
     {
         let target = request.target.as_str();
         let place = self.at(path(target))?;
-        let place = allowed(request.method.as_str(), place)?;
+        let place = check_method(request.method.as_str(), place)?;
         asked_at(alloc, place, target)
     }
 }

@@ -1,6 +1,6 @@
 ghost use Rattle.std.specs.Prelude.{◌≡◌, IfSome};
 ghost use Rattle.press_http.specs.Faults.{http_fault_number, status_of};
-ghost use Rattle.press_http.specs.Replies.{IsTold};
+ghost use Rattle.press_http.specs.Replies.{IsReplyStatus};
 ghost use Rattle.press_http.specs.declared.fault.HttpFault.TheVariants.{NoMemory};
 
 use std::alloc::{AllocError, AllocFailed};
@@ -44,7 +44,7 @@ impl HttpFault {
     pub fn status(self) -> Option<u16>
         ensures value { result ≡ status_of self }
         // It has a fixed reply.
-        ensures told { IfSome result IsTold }
+        ensures told { IfSome result IsReplyStatus }
     {
         match self {
             HttpFault::ReadFault | HttpFault::Ended | HttpFault::WriteFault => None,

@@ -6,12 +6,12 @@
 mod asked;
 mod body;
 mod desk;
+mod endpoint;
 mod fault;
 mod fields;
 mod form;
 mod head;
 mod pieces;
-mod place;
 mod reading;
 mod reply;
 mod request;
@@ -21,10 +21,10 @@ mod streams;
 
 pub use asked::Asked;
 pub use desk::{DeskRequest, DeskRoutes};
+pub use endpoint::{Routes, add_route};
 pub use fault::HttpFault;
 pub use form::{first_value, form_command};
 pub use pieces::Pieces;
-pub use place::{Routes, add_route};
 pub use reading::{read_pieces, read_request};
 pub use reply::{write_fault, write_reply};
 pub use request::Request;

@@ -3,7 +3,7 @@
 ghost use Rattle.std.specs.Prelude.{◌≡◌, IfOk, IfErr, ◌⊎◌, ◌++◌, OnOk, OnErr, IsErrOf, string_bytes};
 ghost use Rattle.std.specs.Io.KnownBytes.{Appends, Keeps};
 ghost use Rattle.press_text.specs.Streams.{AppendsFront, AppendsProperFront};
-ghost use Rattle.press_http.specs.Replies.{content_type, fault_bytes, head_bytes, phrase_of, reply_bytes, reply_head, IsTold};
+ghost use Rattle.press_http.specs.Replies.{content_type, fault_bytes, head_bytes, phrase_of, reply_bytes, reply_head, IsReplyStatus};
 
 use crate::fault::HttpFault;
 use http::StatusCode;
@@ -125,7 +125,7 @@ macro_rules! fixed {
 
 // The whole reply of a status, which takes no memory.
 fn fixed_reply(status: u16) -> &'static str
-    requires { IsTold status }
+    requires { IsReplyStatus status }
     ensures { result.now ≡ fault_bytes status }
 {
     match status {
@@ -147,7 +147,7 @@ fn fixed_reply(status: u16) -> &'static str
 /// Writes the reply of a status with its fixed body, each byte once, and takes no memory. A write that failed, or took
 /// nothing, is not tried again.
 pub fn write_fault<W: Write>(writer: &mut W, status: u16) -> Result<(), HttpFault>
-    requires { IsTold status }
+    requires { IsReplyStatus status }
     ensures ok { OnOk result (Appends (W.contents writer.old) (W.contents writer.new)
         (fault_bytes status)) }
     ensures err { OnErr result (AppendsFront (W.contents writer.old) (W.contents writer.new)

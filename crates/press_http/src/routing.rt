@@ -9,9 +9,9 @@ ghost use Rattle.press_http.specs.Routes as spec;
 ghost use Rattle.press_wire.specs.Memory.{editor_of_message};
 
 use crate::asked::Asked;
+use crate::endpoint::{Endpoint, Routes};
 use crate::fault::HttpFault;
 use crate::form::{first_value, form_command};
-use crate::place::{Place, Routes};
 use crate::request::Request;
 use press_page::Target;
 use press_site::Token;
@@ -135,20 +135,20 @@ fn message(alloc: Global, body: &[u8]) -> Result<Message, HttpFault>
 }
 
 #[tactic(auto, unfolding(crate::specs::Routes::asked_at))]
-fn asked_at(alloc: Global, place: Place, target: &str, body: &[u8]) -> Result<Asked, HttpFault>
+fn asked_at(alloc: Global, place: Endpoint, target: &str, body: &[u8]) -> Result<Asked, HttpFault>
     ensures asked { Gives Refuses Ok result (spec.asked_at place target.now body.now) }
     ensures memory { result ≡ Err HttpFault.NoMemory → spec.TakesMemory place target.now body.now }
 {
     match place {
-        Place::Front => Ok(Asked::Page(front(alloc, query(target))?)),
-        Place::Post => Ok(Asked::Page(post(path(target))?)),
-        Place::Outcome => Ok(Asked::Page(outcome(alloc, path(target))?)),
-        Place::Commands => Ok(Asked::Command(form_command(alloc, body)?)),
-        Place::Peers => Ok(Asked::Peer(message(alloc, body)?)),
+        Endpoint::Front => Ok(Asked::Page(front(alloc, query(target))?)),
+        Endpoint::Post => Ok(Asked::Page(post(path(target))?)),
+        Endpoint::Outcome => Ok(Asked::Page(outcome(alloc, path(target))?)),
+        Endpoint::Commands => Ok(Asked::Command(form_command(alloc, body)?)),
+        Endpoint::Peers => Ok(Asked::Peer(message(alloc, body)?)),
     }
 }
 
-fn allowed(method: &str, place: Place) -> Result<Place, HttpFault>
+fn check_method(method: &str, place: Endpoint) -> Result<Endpoint, HttpFault>
     ensures place { Gives Refuses Ok result (spec.allowed method.now place) }
     ensures memory { result ≢ Err HttpFault.NoMemory }
 {
@@ -172,7 +172,7 @@ impl Routes {
     {
         let target = request.target.as_str();
         let place = self.at(path(target))?;
-        let place = allowed(request.method.as_str(), place)?;
+        let place = check_method(request.method.as_str(), place)?;
         asked_at(alloc, place, target, request.body.as_slice())
     }
 }

@@ -88,7 +88,7 @@ fn parts(
 }
 
 // The length of the body is judged before memory is taken for it.
-fn begun(
+fn start_of_head(
     alloc: Global,
     seen: &[u8],
     headers: &[HeaderSpan],
@@ -116,5 +116,5 @@ pub fn read_start<R: Pieces>(alloc: Global, reader: &mut R) -> Result<Start, Htt
 {
     let mut headers = [EMPTY_HEADER_SPAN; MOST_FIELDS];
     let (seen, spans) = read_head(alloc, reader, &mut headers)?;
-    begun(alloc, &seen, &headers, &spans)
+    start_of_head(alloc, &seen, &headers, &spans)
 }

@@ -7,7 +7,7 @@ ghost use Rattle.press_learner.specs.Kept.{IsInPlace, IsWindow, KeepsNone, new_l
 
 use crate::ring::{WINDOW, empty_slot, has_other, make_room, put_vote, vote_in};
 use press_apply::Value;
-use press_wire::{Ballot, Node, Slot, Vote};
+use press_wire::{Ballot, MemberId, Slot, Vote};
 use std::alloc::{AllocError, Global};
 use std::marker::Model;
 
@@ -167,7 +167,7 @@ impl Learner {
 
     /// Takes a vote that came. It is kept if its slot is one of the next 64 and the member has no kept vote of as great a ballot for it,
     /// and else dropped. The first vote that is kept takes memory, for all that come.
-    pub fn on_vote(&mut self, from: Node, slot: Slot, vote: Vote) -> Result<(), AllocError>
+    pub fn on_vote(&mut self, from: MemberId, slot: Slot, vote: Vote) -> Result<(), AllocError>
         requires { from ≤ self.old.members }
         ensures ok { OnOk result (self.new ≡ with_vote self.old from slot vote) }
         ensures err { OnErr result (self.new ≡ self.old) }

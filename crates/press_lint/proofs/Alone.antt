@@ -3,9 +3,9 @@ use Rattle.std.proofs.Common.{◌≡◌, ◌∙◌, ℕ, List, [], ◌++◌, Opt
 use Rattle.std.proofs.Math.Seq.{take-length}
 use Rattle.press_kit.specs.declared.kit_parts.KitParts.{KitParts}
 use Rattle.press_kit.specs.declared.place.Place.{Place}
-use Rattle.press_lint.specs.Files.{Message, file_front, named_told, sharer, slips_from, told_from, told_of, turned}
+use Rattle.press_lint.specs.Files.{Message, file_front, tell_named, sharer, slips_from, message_from, message_about, turn_parts}
 use Rattle.press_lint.specs.Joints.{File, alone, share_in}
-use Rattle.press_lint.specs.Mistakes.{mistake_told}
+use Rattle.press_lint.specs.Mistakes.{tell_mistake}
 use Rattle.press_lint.specs.Slips.{along, callback_slips, plugin_slips, slips}
 use Rattle.press_lint.specs.Told.{name_at}
 use Rattle.press_lint.specs.declared.mistake.Mistake.{Mistake}
@@ -18,19 +18,19 @@ mistake_by at why = record { at = at; why = why }
 abbrev pub message : File → List ℕ → Message
 message file text = record { file = file.name; text = text }
 
-unshared : (at : Place) (name : Option (List ℕ)) (kit : KitParts) → named_told at name [] kit ≡ []
+unshared : (at : Place) (name : Option (List ℕ)) (kit : KitParts) → tell_named at name [] kit ≡ []
 unfolding sharer
 unshared at None kit = refl
 unshared at (Some name) kit = refl
 
-pub alone_told : (file : File) (kit : KitParts) (at : Place) (why : Why) → told_of (alone file kit) (mistake_by at why) ≡ message file (mistake_told kit (mistake_by at why))
-unfolding told_from sharer
-alone_told file kit at SameName =
-    let text = mistake_told kit (mistake_by at SameName) in
-    ap (message file) (ap (λ (more : List ℕ). text ++ more) (unshared at (name_at kit at) (turned (share_in file kit) kit)) ∙ append-nil text)
-alone_told file kit at BuiltInName = ap (message file) (append-nil (mistake_told kit (mistake_by at BuiltInName)))
-alone_told file kit at (Unknown id) = ap (message file) (append-nil (mistake_told kit (mistake_by at (Unknown id))))
-alone_told file kit at (TooMany sort) = ap (message file) (append-nil (mistake_told kit (mistake_by at (TooMany sort))))
+pub tell_alone : (file : File) (kit : KitParts) (at : Place) (why : Why) → message_about (alone file kit) (mistake_by at why) ≡ message file (tell_mistake kit (mistake_by at why))
+unfolding message_from sharer
+tell_alone file kit at SameName =
+    let text = tell_mistake kit (mistake_by at SameName) in
+    ap (message file) (ap (λ (more : List ℕ). text ++ more) (unshared at (name_at kit at) (turn_parts (share_in file kit) kit)) ∙ append-nil text)
+tell_alone file kit at BuiltInName = ap (message file) (append-nil (tell_mistake kit (mistake_by at BuiltInName)))
+tell_alone file kit at (Unknown id) = ap (message file) (append-nil (tell_mistake kit (mistake_by at (Unknown id))))
+tell_alone file kit at (TooMany sort) = ap (message file) (append-nil (tell_mistake kit (mistake_by at (TooMany sort))))
 
 pub alone_slips : (before : List ℕ) (file : File) (kit : KitParts) → slips_from before (alone file kit).shares kit ≡ slips (file_front before file.name) kit []
 unfolding slips_from

@@ -14,7 +14,7 @@ use Rattle.press_callbacks.specs.declared.script.Op as script
 use Rattle.press_kit.specs.declared.kit_parts.Scripted.{Scripted}
 use Rattle.press_kit.specs.declared.place.Place.{Place}
 use Rattle.press_kit.specs.declared.place.Place.TheVariants as place
-use Rattle.press_lint.specs.Mistakes.{built_in_name, first, is_of, loads_mistaken, loads_of, mistake, mistake_by, names_mistaken, or_else, same_name, too_many, unknown_at, unknown_in, unknown_in_plugin, unknown_in_script, unknown_load, unknown_op, why_number}
+use Rattle.press_lint.specs.Mistakes.{built_in_name, first, is_of, mistake_in_loads, loads_of, mistake, mistake_by, mistake_in_names, or_else, same_name, too_many, unknown_at, unknown_in, unknown_in_plugin, unknown_in_script, unknown_load, unknown_op, why_number}
 use Rattle.press_lint.specs.declared.mistake.Mistake.{Mistake}
 use Rattle.press_lint.specs.declared.mistake.Sort.{Sort}
 use Rattle.press_lint.specs.declared.mistake.Sort.TheVariants.{Hooks, Tags}
@@ -32,9 +32,9 @@ numbers_or : (a b : Option Mistake) → numbers (or_else a b) ≡ or_else (numbe
 numbers_or (Some x) b = refl
 numbers_or None b = refl
 
-or_told : (a b : Bool) (n : ℕ) → or_else (told a n) (told b n) ≡ told (a || b) n
-or_told true b n = refl
-or_told false b n = refl
+tell_or : (a b : Bool) (n : ℕ) → or_else (told a n) (told b n) ≡ told (a || b) n
+tell_or true b n = refl
+tell_or false b n = refl
 
 -- along a list, where each item tells the same number
 found_along : {A : Type 0} (found : ℕ → A → List A → Option Mistake) (test : A → List A → Bool) (all : List A → Bool) (number : ℕ)
@@ -45,15 +45,15 @@ found_along found test all number none step one n [] = ap (λ b. told b number) 
 found_along found test all number none step one n (x ∷ xs) =
     numbers_or (found n x xs) (first found (n + 1) xs)
     ∙ ap₂ (λ (a b : Option ℕ). or_else a b) (one n x xs) (found_along found test all number none step one (n + 1) xs)
-    ∙ or_told (test x xs) (all xs) number
+    ∙ tell_or (test x xs) (all xs) number
     ∙ ap (λ b. told b number) (sym (step x xs))
 
 not_and : (a b : Bool) → not (a && b) ≡ (not a || not b)
 not_and true b = refl
 not_and false b = refl
 
-same_told : {A : Type 0} (name : A → List ℕ) (at : ℕ → Place) (n : ℕ) (xs : List A) → numbers (first (same_name name at) n xs) ≡ told (has_two name xs) 3
-same_told {A} name at n xs =
+tell_same : {A : Type 0} (name : A → List ℕ) (at : ℕ → Place) (n : ℕ) (xs : List A) → numbers (first (same_name name at) n xs) ≡ told (has_two name xs) 3
+tell_same {A} name at n xs =
     found_along (same_name name at) (λ x behind. is_named name behind (name x)) (has_two name) 3 refl (λ x behind. refl) one n xs
   where
     go : (n : ℕ) (x : A) (b : Bool) → numbers (if b then mistake (at n) SameName else None) ≡ told b 3
@@ -63,8 +63,8 @@ same_told {A} name at n xs =
     one : (n : ℕ) (x : A) (behind : List A) → numbers (same_name name at n x behind) ≡ told (is_named name behind (name x)) 3
     one n x behind = go n x (is_named name behind (name x))
 
-built_in_told : (n : ℕ) (cs : List Scripted) → numbers (first built_in_name n cs) ≡ told (list_any (λ (c : Scripted). is_built_in c.id) cs) 3
-built_in_told n cs =
+tell_built_in : (n : ℕ) (cs : List Scripted) → numbers (first built_in_name n cs) ≡ told (list_any (λ (c : Scripted). is_built_in c.id) cs) 3
+tell_built_in n cs =
     found_along built_in_name (λ (c : Scripted) behind. is_built_in c.id) (list_any (λ (c : Scripted). is_built_in c.id)) 3 refl (λ x behind. refl) one n cs
   where
     go : (n : ℕ) (b : Bool) → numbers (if b then mistake (place.Callback n) BuiltInName else None) ≡ told b 3
@@ -77,9 +77,9 @@ built_in_told n cs =
 abbrev id_of : Scripted → List ℕ
 id_of c = c.id
 
-unknown_told : (cs : List Scripted) (at : Place) (named : Option (List ℕ)) → numbers (unknown_at cs at named) ≡ told (not (is_known_where id_of cs named)) 4
-unknown_told cs at None = refl
-unknown_told cs at (Some id) = go (is_known id_of cs id)
+tell_unknown : (cs : List Scripted) (at : Place) (named : Option (List ℕ)) → numbers (unknown_at cs at named) ≡ told (not (is_known_where id_of cs named)) 4
+tell_unknown cs at None = refl
+tell_unknown cs at (Some id) = go (is_known id_of cs id)
   where
     go : (b : Bool) → numbers (if b then None else mistake at (Unknown id)) ≡ told (not b) 4
     go true = refl
@@ -89,25 +89,25 @@ unknown_told cs at (Some id) = go (is_known id_of cs id)
 unless_all : {A : Type 0} (p : A → Bool) (x : A) (xs : List A) → not (list_all p (x ∷ xs)) ≡ (not (p x) || not (list_all p xs))
 unless_all p x xs = not_and (p x) (list_all p xs)
 
-script_told : (cs : List Scripted) (c n : ℕ) (script : List script.Op) → numbers (first (unknown_op cs c) n script) ≡ told (not (knows_script id_of cs script)) 4
-script_told cs c n script =
+tell_script : (cs : List Scripted) (c n : ℕ) (script : List script.Op) → numbers (first (unknown_op cs c) n script) ≡ told (not (knows_script id_of cs script)) 4
+tell_script cs c n script =
     found_along (unknown_op cs c) (λ op behind. not (is_known_where id_of cs (callback_named op))) (λ ops. not (knows_script id_of cs ops)) 4 refl
-    (λ op behind. unless_all (λ o. is_known_where id_of cs (callback_named o)) op behind) (λ o op behind. unknown_told cs (place.Op c o) (callback_named op)) n script
+    (λ op behind. unless_all (λ o. is_known_where id_of cs (callback_named o)) op behind) (λ o op behind. tell_unknown cs (place.Op c o) (callback_named op)) n script
 
-scripts_told : (cs : List Scripted) (n : ℕ) (some : List Scripted) → numbers (first (unknown_in_script cs) n some) ≡ told (not (list_all (λ (c : Scripted). knows_script id_of cs c.script) some)) 4
-scripts_told cs n some =
+tell_scripts : (cs : List Scripted) (n : ℕ) (some : List Scripted) → numbers (first (unknown_in_script cs) n some) ≡ told (not (list_all (λ (c : Scripted). knows_script id_of cs c.script) some)) 4
+tell_scripts cs n some =
     found_along (unknown_in_script cs) (λ c behind. not (knows_script id_of cs c.script)) (λ some. not (list_all (λ (c : Scripted). knows_script id_of cs c.script) some)) 4 refl
-    (λ c behind. unless_all (λ (c : Scripted). knows_script id_of cs c.script) c behind) (λ n c behind. script_told cs n 0 c.script) n some
+    (λ c behind. unless_all (λ (c : Scripted). knows_script id_of cs c.script) c behind) (λ n c behind. tell_script cs n 0 c.script) n some
 
-loads_told : (cs : List Scripted) (p n : ℕ) (loads : List Load) → numbers (first (unknown_load cs p) n loads) ≡ told (not (list_all (λ l. is_known id_of cs (callback_loaded l)) loads)) 4
-loads_told cs p n loads =
+tell_loads : (cs : List Scripted) (p n : ℕ) (loads : List Load) → numbers (first (unknown_load cs p) n loads) ≡ told (not (list_all (λ l. is_known id_of cs (callback_loaded l)) loads)) 4
+tell_loads cs p n loads =
     found_along (unknown_load cs p) (λ l behind. not (is_known id_of cs (callback_loaded l))) (λ ls. not (list_all (λ l. is_known id_of cs (callback_loaded l)) ls)) 4 refl
-    (λ l behind. unless_all (λ l. is_known id_of cs (callback_loaded l)) l behind) (λ o l behind. unknown_told cs (place.Load p o) (Some (callback_loaded l))) n loads
+    (λ l behind. unless_all (λ l. is_known id_of cs (callback_loaded l)) l behind) (λ o l behind. tell_unknown cs (place.Load p o) (Some (callback_loaded l))) n loads
 
-plugins_told : (cs : List Scripted) (n : ℕ) (ps : List Plugin) → numbers (first (unknown_in_plugin cs) n ps) ≡ told (not (list_all (knows_plugin id_of cs) ps)) 4
-plugins_told cs n ps =
+tell_plugins : (cs : List Scripted) (n : ℕ) (ps : List Plugin) → numbers (first (unknown_in_plugin cs) n ps) ≡ told (not (list_all (knows_plugin id_of cs) ps)) 4
+tell_plugins cs n ps =
     found_along (unknown_in_plugin cs) (λ p behind. not (knows_plugin id_of cs p)) (λ ps. not (list_all (knows_plugin id_of cs) ps)) 4 refl
-    (λ p behind. unless_all (knows_plugin id_of cs) p behind) (λ n p behind. loads_told cs n 0 p.load) n ps
+    (λ p behind. unless_all (knows_plugin id_of cs) p behind) (λ n p behind. tell_loads cs n 0 p.load) n ps
 
 -- ---- loads
 
@@ -145,11 +145,11 @@ many_is ps =
     ap₂ (λ (a b : ℕ). nat_lt most_hook_loads a || nat_lt most_tag_loads b)
     (hook_loads _ (λ h i c a. refl) (λ t c. refl) ps) (tag_loads _ (λ h i c a. refl) (λ t c. refl) ps)
 
-many_told : (ps : List Plugin) → numbers (loads_mistaken ps) ≡ told (has_many_loads ps) 5
-many_told ps =
+tell_many : (ps : List Plugin) → numbers (mistake_in_loads ps) ≡ told (has_many_loads ps) 5
+tell_many ps =
     numbers_or (too_many Hooks ps) (too_many Tags ps)
     ∙ ap₂ (λ (a b : Option ℕ). or_else a b) (one Hooks (nat_lt most_hook_loads (loads_of Hooks ps))) (one Tags (nat_lt most_tag_loads (loads_of Tags ps)))
-    ∙ or_told _ _ 5
+    ∙ tell_or _ _ 5
     ∙ ap (λ b. told b 5) (sym (many_is ps))
   where
     one : (sort : Sort) (b : Bool) → numbers (if b then mistake place.Plugins (TooMany sort) else None) ≡ told b 5
@@ -158,13 +158,13 @@ many_told ps =
 
 -- ---- all together
 
-names_told : (cs : List Scripted) (ps : List Plugin) → numbers (names_mistaken cs ps) ≡ told (has_two_names id_of cs ps) 3
-names_told cs ps = assoc (has_two id_of cs) (list_any (λ (c : Scripted). is_built_in c.id) cs) (has_two (λ (p : Plugin). p.name) ps) _ _ _
-    (same_told id_of place.Callback 0 cs) (built_in_told 0 cs) (same_told (λ (p : Plugin). p.name) place.Plugin 0 ps)
+tell_names : (cs : List Scripted) (ps : List Plugin) → numbers (mistake_in_names cs ps) ≡ told (has_two_names id_of cs ps) 3
+tell_names cs ps = assoc (has_two id_of cs) (list_any (λ (c : Scripted). is_built_in c.id) cs) (has_two (λ (p : Plugin). p.name) ps) _ _ _
+    (tell_same id_of place.Callback 0 cs) (tell_built_in 0 cs) (tell_same (λ (p : Plugin). p.name) place.Plugin 0 ps)
   where
     assoc : (a b d : Bool) (x y z : Option Mistake) → numbers x ≡ told a 3 → numbers y ≡ told b 3 → numbers z ≡ told d 3 → numbers (or_else x (or_else y z)) ≡ told (a || b || d) 3
     assoc a b d x y z p q r =
-        numbers_or x (or_else y z) ∙ ap₂ (λ (u v : Option ℕ). or_else u v) p (numbers_or y z ∙ ap₂ (λ (u v : Option ℕ). or_else u v) q r ∙ or_told b d 3) ∙ grouped a b d
+        numbers_or x (or_else y z) ∙ ap₂ (λ (u v : Option ℕ). or_else u v) p (numbers_or y z ∙ ap₂ (λ (u v : Option ℕ). or_else u v) q r ∙ tell_or b d 3) ∙ grouped a b d
       where
         grouped : (a b d : Bool) → or_else (told a 3) (told (b || d) 3) ≡ told (a || b || d) 3
         grouped true true d = refl
@@ -172,11 +172,11 @@ names_told cs ps = assoc (has_two id_of cs) (list_any (λ (c : Scripted). is_bui
         grouped false true d = refl
         grouped false false d = refl
 
-unknowns_told : (cs : List Scripted) (ps : List Plugin) → numbers (unknown_in cs ps) ≡ told (not (knows_all id_of (λ (c : Scripted). c.script) cs ps)) 4
-unknowns_told cs ps =
+tell_unknowns : (cs : List Scripted) (ps : List Plugin) → numbers (unknown_in cs ps) ≡ told (not (knows_all id_of (λ (c : Scripted). c.script) cs ps)) 4
+tell_unknowns cs ps =
     numbers_or (first (unknown_in_script cs) 0 cs) (first (unknown_in_plugin cs) 0 ps)
-    ∙ ap₂ (λ (a b : Option ℕ). or_else a b) (scripts_told cs 0 cs) (plugins_told cs 0 ps)
-    ∙ or_told _ _ 4
+    ∙ ap₂ (λ (a b : Option ℕ). or_else a b) (tell_scripts cs 0 cs) (tell_plugins cs 0 ps)
+    ∙ tell_or _ _ 4
     ∙ ap (λ b. told b 4) (sym (not_and _ _))
 
 by_cases : (a b d : Bool) → or_else (told a 3) (or_else (told b 4) (told d 5))
@@ -189,8 +189,8 @@ by_cases false false false = refl
 pub mistakes_are : (cs : List Scripted) (ps : List Plugin)
     → option_map (λ (m : Mistake). why_number m.why) (mistake_by cs ps) ≡ option_map kit_fault_number (kit_fault (map (λ c. (c.id, c.script)) cs) ps)
 mistakes_are cs ps =
-    numbers_or (names_mistaken cs ps) (or_else (unknown_in cs ps) (loads_mistaken ps))
-    ∙ ap₂ (λ (a b : Option ℕ). or_else a b) (names_told cs ps)
-    (numbers_or (unknown_in cs ps) (loads_mistaken ps) ∙ ap₂ (λ (a b : Option ℕ). or_else a b) (unknowns_told cs ps) (many_told ps))
+    numbers_or (mistake_in_names cs ps) (or_else (unknown_in cs ps) (mistake_in_loads ps))
+    ∙ ap₂ (λ (a b : Option ℕ). or_else a b) (tell_names cs ps)
+    (numbers_or (unknown_in cs ps) (mistake_in_loads ps) ∙ ap₂ (λ (a b : Option ℕ). or_else a b) (tell_unknowns cs ps) (tell_many ps))
     ∙ by_cases (has_two_names id_of cs ps) (not (knows_all id_of (λ (c : Scripted). c.script) cs ps)) (has_many_loads ps)
     ∙ ap (λ f. option_map kit_fault_number f) (sym (fault-map (λ (c : Scripted). (c.id, c.script)) (λ p. p.0) (λ p. p.1) cs ps))

@@ -5,7 +5,7 @@ use Rattle.std.proofs.lemmas.List.{length-drop, take_all}
 use Rattle.press_kit.specs.KitFile.{kit_in}
 use Rattle.press_kit.specs.declared.kit_parts.KitParts.{KitParts}
 use Rattle.press_kit.specs.declared.place.Place.{Place}
-use Rattle.press_lint.specs.Files.{Message, file_front, first_slips, has_name, own_told, sharer, side_before, slips_from, told_at, told_from, turned}
+use Rattle.press_lint.specs.Files.{Message, file_front, first_slips, has_name, tell_own, sharer, side_before, slips_from, tell_at, message_from, turn_parts}
 use Rattle.press_lint.specs.Joints.{File, Joint, Share as Part, file_of, files_of, read_behind, share_of, with_file}
 use Rattle.press_lint.specs.declared.joint.NamedFile.{NamedFile}
 use Rattle.press_lint.specs.declared.joint.Share.{Share}
@@ -70,10 +70,10 @@ module _ (shares : List Share) (kit : KitParts) (i : ℕ) where
       sym one ∙ so_far
 
   pub lacks_it : (at : Place) (name : List ℕ) (d : Share) (total : Option (List ℕ)) → i < length shares
-      → has_name at name (here d) kit ≡ false → sharer at name (rest i) kit ≡ total → sharer at name (rest (i + 1)) (turned (here d) kit) ≡ total
+      → has_name at name (here d) kit ≡ false → sharer at name (rest i) kit ≡ total → sharer at name (rest (i + 1)) (turn_parts (here d) kit) ≡ total
   unfolding sharer
   lacks_it at name d total lt has so_far =
-      let one : sharer at name (rest i) kit ≡ sharer at name (rest (i + 1)) (turned (here d) kit) = rw (found d lt, has) refl in
+      let one : sharer at name (rest i) kit ≡ sharer at name (rest (i + 1)) (turn_parts (here d) kit) = rw (found d lt, has) refl in
       sym one ∙ so_far
 
   pub nobody_has_it : (at : Place) (name : List ℕ) (total : Option (List ℕ)) → length shares ≤ i → sharer at name (rest i) kit ≡ total → None ≡ total
@@ -83,31 +83,31 @@ module _ (shares : List Share) (kit : KitParts) (i : ℕ) where
       sym one ∙ so_far
 
   pub tells_own : (m : Mistake) (at own : Place) (d : Share) (total : Message) → i < length shares
-      → side_before (rest (i + 1)) (here d) at ≡ Own own → told_from m at (rest i) kit ≡ total → own_told m (here d) (rest (i + 1)) kit own ≡ total
-  unfolding told_from
+      → side_before (rest (i + 1)) (here d) at ≡ Own own → message_from m at (rest i) kit ≡ total → tell_own m (here d) (rest (i + 1)) kit own ≡ total
+  unfolding message_from
   tells_own m at own d total lt side so_far =
-      let one : told_from m at (rest i) kit ≡ own_told m (here d) (rest (i + 1)) kit own = rw (found d lt, side) refl in
+      let one : message_from m at (rest i) kit ≡ tell_own m (here d) (rest (i + 1)) kit own = rw (found d lt, side) refl in
       sym one ∙ so_far
 
   pub tells_behind : (m : Mistake) (at behind : Place) (d : Share) (total : Message) → i < length shares
-      → side_before (rest (i + 1)) (here d) at ≡ Behind behind → told_from m at (rest i) kit ≡ total → told_from m behind (rest (i + 1)) (turned (here d) kit) ≡ total
-  unfolding told_from
+      → side_before (rest (i + 1)) (here d) at ≡ Behind behind → message_from m at (rest i) kit ≡ total → message_from m behind (rest (i + 1)) (turn_parts (here d) kit) ≡ total
+  unfolding message_from
   tells_behind m at behind d total lt side so_far =
-      let one : told_from m at (rest i) kit ≡ told_from m behind (rest (i + 1)) (turned (here d) kit) = rw (found d lt, side) refl in
+      let one : message_from m at (rest i) kit ≡ message_from m behind (rest (i + 1)) (turn_parts (here d) kit) = rw (found d lt, side) refl in
       sym one ∙ so_far
 
-  pub tells_nobody : (m : Mistake) (at : Place) (total : Message) → length shares ≤ i → told_from m at (rest i) kit ≡ total → of_nobody (told_at kit m at) ≡ total
-  unfolding told_from
+  pub tells_nobody : (m : Mistake) (at : Place) (total : Message) → length shares ≤ i → message_from m at (rest i) kit ≡ total → of_nobody (tell_at kit m at) ≡ total
+  unfolding message_from
   tells_nobody m at total le so_far =
-      let one : told_from m at (rest i) kit ≡ of_nobody (told_at kit m at) = rw (done share_of shares i le) refl in
+      let one : message_from m at (rest i) kit ≡ of_nobody (tell_at kit m at) = rw (done share_of shares i le) refl in
       sym one ∙ so_far
 
   pub slips_on : (before told more : List ℕ) (d : Share) (total : List ℕ) → i < length shares → more ≡ first_slips (file_front before (here d).file) (here d) kit
-      → told ++ slips_from before (rest i) kit ≡ total → (told ++ more) ++ slips_from before (rest (i + 1)) (turned (here d) kit) ≡ total
+      → told ++ slips_from before (rest i) kit ≡ total → (told ++ more) ++ slips_from before (rest (i + 1)) (turn_parts (here d) kit) ≡ total
   unfolding slips_from
   slips_on before told more d total lt is so_far =
-      let one : slips_from before (rest i) kit ≡ more ++ slips_from before (rest (i + 1)) (turned (here d) kit) = rw (found d lt, is) refl in
-      append_assoc told more (slips_from before (rest (i + 1)) (turned (here d) kit)) ∙ sym (ap (λ (ys : List ℕ). told ++ ys) one) ∙ so_far
+      let one : slips_from before (rest i) kit ≡ more ++ slips_from before (rest (i + 1)) (turn_parts (here d) kit) = rw (found d lt, is) refl in
+      append_assoc told more (slips_from before (rest (i + 1)) (turn_parts (here d) kit)) ∙ sym (ap (λ (ys : List ℕ). told ++ ys) one) ∙ so_far
 
   pub slips_end : (before told total : List ℕ) → length shares ≤ i → told ++ slips_from before (rest i) kit ≡ total → told ≡ total
   unfolding slips_from

@@ -1,4 +1,5 @@
--- How many arguments a callback gets at most: as many as the greatest `accepted` with which a load or a step puts it on a hook, and none under a tag (Plugin Handbook, Hooks: `add_filter`).
+-- How many arguments a callback gets at most: as many as the greatest `accepted` with which a load
+-- or a step puts it on a hook, and none under a tag (Plugin Handbook, Hooks: `add_filter`).
 use Rattle.std.specs.Prelude.{ℕ, List, bytes_eq, if◌then◌else◌, fold, nat_le, Option, Some, None}
 use Rattle.std.specs.BTreeMap.{get_by}
 use Rattle.std.specs.Cmp.Lexicographic.{slice_cmp}

@@ -1,4 +1,5 @@
--- How a place is written at which a file is bad: with the name of what is there, where that is one, and what is wrong with it, as far as its keys and their values show (own).
+-- How a place is written at which a file is bad: with the name of what is there, where that is one,
+-- and what is wrong with it, as far as its keys and their values show (own).
 use Rattle.std.specs.Prelude.{ℕ, List, [], ◌∷◌, ◌++◌, Bool, true, false, not, ◌&&◌, ◌||◌, if◌then◌else◌, is_none, is_some, Option, Some, None, option_and_then, option_map, slice_get, codes, bytes_eq, decimal, length, nat_lt, take}
 use Rattle.serde_json.specs.Data.{Data, Members, no_members, member}
 use Rattle.serde_json.specs.Find.{as_object, as_str, get}
@@ -8,20 +9,20 @@ use Rattle.press_kit.specs.Ops.{keys_of, kind_of}
 use Rattle.press_kit.specs.PlayFile as play
 use Rattle.press_kit.specs.declared.place.Place.{Place}
 use Rattle.press_kit.specs.declared.place.Place.TheVariants.{File, Callbacks, Callback, Op, Plugins, Plugin, Load, Active, ActiveName, Commands, Command, Pages, Page, Plays, Play, Steps, Step}
-use Rattle.press_lint.specs.Told.{place_told}
-use Rattle.press_lint.specs.Unfit.{found_told, unfit, wanted_told}
+use Rattle.press_lint.specs.Told.{tell_place}
+use Rattle.press_lint.specs.Unfit.{tell_found, unfit, tell_wanted}
 use Rattle.press_lint.specs.declared.wanted.Wanted.TheVariants.{Name}
 
 -- ---- items by their places
 
-abbrev pub listed : List ℕ → ℕ → Data → Option Data
-listed list n whole = option_and_then (λ items. slice_get items n) (option_and_then list_in (get list whole))
+abbrev pub item_in : List ℕ → ℕ → Data → Option Data
+item_in list n whole = option_and_then (λ items. slice_get items n) (option_and_then list_in (get list whole))
 
 abbrev pub callback_where : Data → ℕ → Option Data
-callback_where kit n = listed (codes "callbacks") n kit
+callback_where kit n = item_in (codes "callbacks") n kit
 
 abbrev pub plugin_where : Data → ℕ → Option Data
-plugin_where kit n = listed (codes "plugins") n kit
+plugin_where kit n = item_in (codes "plugins") n kit
 
 -- the callback or the plugin that a place is of
 abbrev pub owner_where : Data → Place → Option Data
@@ -46,20 +47,20 @@ owner_where kit (Step n) = None
 -- what is at a place
 abbrev pub item_where : Data → Place → Option Data
 item_where kit (Callback n) = callback_where kit n
-item_where kit (Op c o) = option_and_then (listed (codes "script") o) (callback_where kit c)
+item_where kit (Op c o) = option_and_then (item_in (codes "script") o) (callback_where kit c)
 item_where kit (Plugin n) = plugin_where kit n
-item_where kit (Load p l) = option_and_then (listed (codes "load") l) (plugin_where kit p)
+item_where kit (Load p l) = option_and_then (item_in (codes "load") l) (plugin_where kit p)
 item_where kit File = Some kit
 item_where kit Callbacks = None
 item_where kit Plugins = None
 item_where kit Active = None
-item_where kit (ActiveName n) = listed (codes "active") n kit
+item_where kit (ActiveName n) = item_in (codes "active") n kit
 item_where kit Commands = None
 item_where kit (Command n) = None
 item_where kit Pages = None
-item_where kit (Page n) = listed (codes "pages") n kit
+item_where kit (Page n) = item_in (codes "pages") n kit
 item_where kit Plays = None
-item_where kit (Play n) = listed (codes "plays") n kit
+item_where kit (Play n) = item_in (codes "plays") n kit
 item_where kit Steps = None
 item_where kit (Step n) = None
 
@@ -116,41 +117,41 @@ missing_key (key ∷ keys) item = if not (is_optional key) && is_none (get key i
 -- ---- the message
 
 -- a word of the file, where it could be a name
-abbrev pub name_shown : Option (List ℕ) → List ℕ
-name_shown None = []
-name_shown (Some word) = codes " \"" ++ (word ++ codes "\"")
+abbrev pub quoted_word : Option (List ℕ) → List ℕ
+quoted_word None = []
+quoted_word (Some word) = codes " \"" ++ (word ++ codes "\"")
 
 abbrev pub shown : List ℕ → List ℕ
-shown word = name_shown (name_in 32 word)
+shown word = quoted_word (name_in 32 word)
 
-abbrev pub unfit_told : Option (List ℕ) → List ℕ
-unfit_told (Some told) = told
-unfit_told None = codes "a value does not fit"
+abbrev pub tell_unfit : Option (List ℕ) → List ℕ
+tell_unfit (Some told) = told
+tell_unfit None = codes "a value does not fit"
 
-abbrev pub missing_told : Option (List ℕ) → List ℕ → List ℕ
-missing_told (Some key) otherwise = codes "lacks \"" ++ (key ++ codes "\"")
-missing_told None otherwise = otherwise
+abbrev pub tell_missing : Option (List ℕ) → List ℕ → List ℕ
+tell_missing (Some key) otherwise = codes "lacks \"" ++ (key ++ codes "\"")
+tell_missing None otherwise = otherwise
 
-abbrev pub unknown_told : Option (List ℕ) → List ℕ → List ℕ
-unknown_told (Some key) otherwise = codes "unknown key" ++ shown key
-unknown_told None otherwise = otherwise
+abbrev pub tell_unknown : Option (List ℕ) → List ℕ → List ℕ
+tell_unknown (Some key) otherwise = codes "unknown key" ++ shown key
+tell_unknown None otherwise = otherwise
 
-abbrev pub members_told : Place → List (List ℕ) → Data → Option Members → List ℕ
-members_told at keys item None = codes "no object"
-members_told at keys item (Some ms) =
-    unknown_told (unknown_key keys ms) (missing_told (missing_key keys item) (unfit_told (unfit at item keys)))
+abbrev pub tell_members : Place → List (List ℕ) → Data → Option Members → List ℕ
+tell_members at keys item None = codes "no object"
+tell_members at keys item (Some ms) =
+    tell_unknown (unknown_key keys ms) (tell_missing (missing_key keys item) (tell_unfit (unfit at item keys)))
 
-abbrev pub op_told : Option (List ℕ) → List ℕ
-op_told None = codes "no op"
-op_told (Some word) = codes "unknown op" ++ shown word
+abbrev pub tell_op : Option (List ℕ) → List ℕ
+tell_op None = codes "no op"
+tell_op (Some word) = codes "unknown op" ++ shown word
 
 abbrev pub why_bad : Place → Data → Option (List (List ℕ)) → List ℕ
-why_bad at item None = op_told (option_and_then as_str (get (codes "op") item))
-why_bad at item (Some keys) = members_told at keys item (as_object item)
+why_bad at item None = tell_op (option_and_then as_str (get (codes "op") item))
+why_bad at item (Some keys) = tell_members at keys item (as_object item)
 
 -- what is wanted at a place that has no keys
 abbrev pub bare_wanted : Place → Option (List ℕ)
-bare_wanted (ActiveName n) = Some (wanted_told Name)
+bare_wanted (ActiveName n) = Some (tell_wanted Name)
 bare_wanted (Page n) = Some (codes "front, post:ID, json:ID or result:EDITOR/SEQ")
 bare_wanted File = None
 bare_wanted Callbacks = None
@@ -168,13 +169,13 @@ bare_wanted (Play n) = None
 bare_wanted Steps = None
 bare_wanted (Step n) = None
 
-abbrev pub bare_told : Option (List ℕ) → Data → List ℕ → List ℕ
-bare_told (Some wanted) item otherwise = found_told item ++ (codes ", " ++ (wanted ++ codes " is wanted"))
-bare_told None item otherwise = otherwise
+abbrev pub tell_bare : Option (List ℕ) → Data → List ℕ → List ℕ
+tell_bare (Some wanted) item otherwise = tell_found item ++ (codes ", " ++ (wanted ++ codes " is wanted"))
+tell_bare None item otherwise = otherwise
 
-abbrev pub item_told : Place → Option Data → List ℕ
-item_told at None = codes "is bad"
-item_told at (Some item) = codes "is bad: " ++ bare_told (bare_wanted at) item (why_bad at item (keys_for at item))
+abbrev pub tell_item : Place → Option Data → List ℕ
+tell_item at None = codes "is bad"
+tell_item at (Some item) = codes "is bad: " ++ tell_bare (bare_wanted at) item (why_bad at item (keys_for at item))
 
 abbrev pub is_file : Place → Bool
 is_file File = true
@@ -199,12 +200,12 @@ is_file (Step n) = false
 abbrev pub is_play : Data → Bool
 is_play d = is_some (get (codes "kit") d) || is_some (get (codes "plays") d)
 
-abbrev pub what_told : Data → Place → List ℕ
-what_told kit at =
-    if is_file at && is_play kit then codes "this is a play file: its kit is the value of \"kit\"" else item_told at (item_where kit at)
+abbrev pub tell_what : Data → Place → List ℕ
+tell_what kit at =
+    if is_file at && is_play kit then codes "this is a play file: its kit is the value of \"kit\"" else tell_item at (item_where kit at)
 
-abbrev pub bad_told : Data → Place → List ℕ
-bad_told kit at = place_told (name_where kit at) at ++ what_told kit at
+abbrev pub tell_bad : Data → Place → List ℕ
+tell_bad kit at = tell_place (name_where kit at) at ++ tell_what kit at
 
 -- ---- the message about a play file that is bad as a whole
 
@@ -212,8 +213,8 @@ bad_told kit at = place_told (name_where kit at) at ++ what_told kit at
 abbrev pub is_kit : Data → Bool
 is_kit d = is_none (get (codes "kit") d) && (is_some (get (codes "callbacks") d) || is_some (get (codes "plugins") d))
 
-abbrev pub bad_play_told : Data → List ℕ
-bad_play_told d =
+abbrev pub tell_bad_play : Data → List ℕ
+tell_bad_play d =
     if is_kit d then codes "file: this is a kit file: a play file has it as the value of \"kit\"" else codes "file: is bad"
 
 -- ---- bytes that are no kit, before they are read as JSON
@@ -223,7 +224,7 @@ abbrev pub byte_order_mark : List ℕ
 byte_order_mark = 239 ∷ 187 ∷ 191 ∷ []
 
 -- they are too many, or begin with a mark, which JSON may not (RFC 8259, 8.1)
-abbrev pub front_told : List ℕ → Option (List ℕ)
-front_told bytes =
+abbrev pub tell_front : List ℕ → Option (List ℕ)
+tell_front bytes =
     if nat_lt file_limit (length bytes) then Some (codes "longer than " ++ (decimal file_limit ++ codes " bytes")) else
     (if bytes_eq (take 3 bytes) byte_order_mark then Some (codes "begins with a byte order mark, which JSON may not") else None)

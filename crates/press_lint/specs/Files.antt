@@ -1,4 +1,5 @@
--- What the author of several kit files is told of the kit that they make together: the file, and the place within that file (own).
+-- What the author of several kit files is told of the kit that they make together: the file, and
+-- the place within that file (own).
 use Rattle.std.specs.Prelude.{◌≡◌, ℕ, ◌+◌, ◌-◌, List, [], ◌∷◌, ◌++◌, Bool, false, if◌then◌else◌, nat_lt, count_by, drop, take, Option, Some, None, Result, Ok, Err, codes, string_bytes}
 use Rattle.press_callbacks.specs.Kits.{is_named}
 use Rattle.press_callbacks.specs.declared.plugin.Plugin.{Plugin}
@@ -9,7 +10,7 @@ use Rattle.press_kit.specs.declared.place.Place.{Place}
 use Rattle.press_kit.specs.declared.place.Place.TheVariants as place
 use Rattle.press_lint.specs.Joints.{File, Joint, Share}
 use Rattle.press_lint.specs.Lints.{TellsBad}
-use Rattle.press_lint.specs.Mistakes.{is_of, mistake_in, mistake_told, most_of, why_number}
+use Rattle.press_lint.specs.Mistakes.{is_of, mistake_in, tell_mistake, most_of, why_number}
 use Rattle.press_lint.specs.Slips.{along, callback_slips, plugin_slips}
 use Rattle.press_lint.specs.Told.{name_at}
 use Rattle.press_lint.specs.declared.files.FilesFault.{FilesFault}
@@ -25,8 +26,8 @@ use Rattle.press_lint.specs.declared.turning.Side.TheVariants.{Own, Behind}
 -- ---- shares, the first of which has the first callbacks and the first plugins
 
 -- the kit with a first share at its end
-abbrev pub turned : Share → KitParts → KitParts
-turned s kit = record {
+abbrev pub turn_parts : Share → KitParts → KitParts
+turn_parts s kit = record {
   callbacks = drop s.callbacks kit.callbacks ++ take s.callbacks kit.callbacks;
   plugins = drop s.plugins kit.plugins ++ take s.plugins kit.plugins;
 }
@@ -80,22 +81,23 @@ has_name (place.Step n) name s kit = false
 -- the first of these shares that has it
 unfoldable pub sharer : Place → List ℕ → List Share → KitParts → Option (List ℕ)
 sharer at name [] kit = None
-sharer at name (s ∷ ss) kit = if has_name at name s kit then Some s.file else sharer at name ss (turned s kit)
+sharer at name (s ∷ ss) kit = if has_name at name s kit then Some s.file else sharer at name ss (turn_parts s kit)
 
-abbrev pub sharer_told : Option (List ℕ) → List ℕ
-sharer_told None = []
-sharer_told (Some file) = codes " (" ++ (file ++ codes " has it too)")
+abbrev pub tell_sharer : Option (List ℕ) → List ℕ
+tell_sharer None = []
+tell_sharer (Some file) = codes " (" ++ (file ++ codes " has it too)")
 
-abbrev pub named_told : Place → Option (List ℕ) → List Share → KitParts → List ℕ
-named_told at None ss kit = []
-named_told at (Some name) ss kit = sharer_told (sharer at name ss kit)
+abbrev pub tell_named : Place → Option (List ℕ) → List Share → KitParts → List ℕ
+tell_named at None ss kit = []
+tell_named at (Some name) ss kit = tell_sharer (sharer at name ss kit)
 
--- behind the message about a mistake in a first share, with the shares behind it: which other file has the same name
-abbrev pub also_told : Why → Place → Share → List Share → KitParts → List ℕ
-also_told SameName at s ss kit = named_told at (name_at kit at) ss (turned s kit)
-also_told BuiltInName at s ss kit = []
-also_told (Unknown id) at s ss kit = []
-also_told (TooMany sort) at s ss kit = []
+-- behind the message about a mistake in a first share, with the shares behind it: which other file
+-- has the same name
+abbrev pub tell_also : Why → Place → Share → List Share → KitParts → List ℕ
+tell_also SameName at s ss kit = tell_named at (name_at kit at) ss (turn_parts s kit)
+tell_also BuiltInName at s ss kit = []
+tell_also (Unknown id) at s ss kit = []
+tell_also (TooMany sort) at s ss kit = []
 
 -- ---- the message about a mistake
 
@@ -104,7 +106,8 @@ abbrev pub past : Sort → ℕ → ℕ → List Plugin → ℕ
 past sort n left [] = n
 past sort n left (p ∷ ps) = if nat_lt left (count_by (is_of sort) p.load) then n else past sort (n + 1) (left - count_by (is_of sort) p.load) ps
 
--- by what the file of a mistake is found: too many loads are those of the file that goes past what a kit may have
+-- by what the file of a mistake is found: too many loads are those of the file that goes past what
+-- a kit may have
 abbrev pub sought_at : KitParts → Why → Place → Place
 sought_at kit (TooMany sort) at = place.Plugin (past sort 0 (most_of sort) kit.plugins)
 sought_at kit SameName at = at
@@ -126,28 +129,28 @@ pub record Message : Type 0 where
 abbrev pub message_of : told.Message → Message
 message_of m = record { file = m.file.now; text = string_bytes m.text }
 
-abbrev pub told_at : KitParts → Mistake → Place → List ℕ
-told_at kit m at = mistake_told kit (record { at = shown_by m.why m.at at; why = m.why })
+abbrev pub tell_at : KitParts → Mistake → Place → List ℕ
+tell_at kit m at = tell_mistake kit (record { at = shown_by m.why m.at at; why = m.why })
 
 -- whatever is behind all other shares is of the last one
 abbrev pub side_before : List Share → Share → Place → Side
 side_before [] s at = Own at
 side_before (next ∷ ss) s at = side_of s at
 
-abbrev pub told_by : Side → (Place → Message) → (Place → Message) → Message
-told_by (Own at) own behind = own at
-told_by (Behind at) own behind = behind at
+abbrev pub message_by : Side → (Place → Message) → (Place → Message) → Message
+message_by (Own at) own behind = own at
+message_by (Behind at) own behind = behind at
 
-abbrev pub own_told : Mistake → Share → List Share → KitParts → Place → Message
-own_told m s ss kit at = record { file = s.file; text = told_at kit m at ++ also_told m.why at s ss kit }
+abbrev pub tell_own : Mistake → Share → List Share → KitParts → Place → Message
+tell_own m s ss kit at = record { file = s.file; text = tell_at kit m at ++ tell_also m.why at s ss kit }
 
 -- share after share; of no file the message is that of the kit
-unfoldable pub told_from : Mistake → Place → List Share → KitParts → Message
-told_from m at [] kit = record { file = []; text = told_at kit m at }
-told_from m at (s ∷ ss) kit = told_by (side_before ss s at) (own_told m s ss kit) (λ rest. told_from m rest ss (turned s kit))
+unfoldable pub message_from : Mistake → Place → List Share → KitParts → Message
+message_from m at [] kit = record { file = []; text = tell_at kit m at }
+message_from m at (s ∷ ss) kit = message_by (side_before ss s at) (tell_own m s ss kit) (λ rest. message_from m rest ss (turn_parts s kit))
 
-abbrev pub told_of : Joint → Mistake → Message
-told_of joint m = told_from m (sought_at joint.kit m.why m.at) joint.shares joint.kit
+abbrev pub message_about : Joint → Mistake → Message
+message_about joint m = message_from m (sought_at joint.kit m.why m.at) joint.shares joint.kit
 
 -- ---- slips
 
@@ -162,7 +165,7 @@ file_front before file = before ++ (file ++ codes ": ")
 -- file after file, each with its name behind a prefix
 unfoldable pub slips_from : List ℕ → List Share → KitParts → List ℕ
 slips_from before [] kit = []
-slips_from before (s ∷ ss) kit = first_slips (file_front before s.file) s kit ++ slips_from before ss (turned s kit)
+slips_from before (s ∷ ss) kit = first_slips (file_front before s.file) s kit ++ slips_from before ss (turn_parts s kit)
 
 -- ---- what files come to
 
@@ -171,7 +174,7 @@ TellsBadFile bad at file number text = (file ≡ bad.name) × (number ≡ 73) ×
 
 abbrev pub TellsJoint : Joint → Option Mistake → List ℕ → ℕ → List ℕ → Type 0
 TellsJoint joint None file number text = ⊥
-TellsJoint joint (Some m) file number text = (file ≡ (told_of joint m).file) × (number ≡ why_number m.why) × (text ≡ (told_of joint m).text)
+TellsJoint joint (Some m) file number text = (file ≡ (message_about joint m).file) × (number ≡ why_number m.why) × (text ≡ (message_about joint m).text)
 
 -- the first file that is bad by itself, or else the first mistake of all of them together
 abbrev pub TellsFiles : Result Joint (File × Place) → List ℕ → ℕ → List ℕ → Type 0

@@ -1,4 +1,5 @@
--- What several kit files give together: one kit, with the share of each file in it; or the first of them that is bad by itself (own).
+-- What several kit files give together: one kit, with the share of each file in it; or the first of
+-- them that is bad by itself (own).
 use Rattle.std.specs.Prelude.{ℕ, List, [], ◌∷◌, ◌++◌, map, length, Result, Ok, Err}
 use Rattle.press_kit.specs.KitFile.{kit_in}
 use Rattle.press_kit.specs.declared.kit_parts.KitParts.{KitParts}
@@ -12,8 +13,8 @@ abbrev pub no_parts : KitParts
 no_parts = record { callbacks = []; plugins = [] }
 
 -- the callbacks of a file behind those of the files before it, and its plugins likewise
-abbrev pub joined : KitParts → KitParts → KitParts
-joined kit other = record { callbacks = kit.callbacks ++ other.callbacks; plugins = kit.plugins ++ other.plugins }
+abbrev pub join : KitParts → KitParts → KitParts
+join kit other = record { callbacks = kit.callbacks ++ other.callbacks; plugins = kit.plugins ++ other.plugins }
 
 pub record File : Type 0 where
   pub name : List ℕ
@@ -38,7 +39,7 @@ share_in file kit = record { file = file.name; callbacks = length kit.callbacks;
 
 -- with what one more file gave
 abbrev pub with_file : Joint → File → KitParts → Joint
-with_file joint file kit = record { kit = joined joint.kit kit; shares = joint.shares ++ share_in file kit ∷ [] }
+with_file joint file kit = record { kit = join joint.kit kit; shares = joint.shares ++ share_in file kit ∷ [] }
 
 -- of one file
 abbrev pub alone : File → KitParts → Joint

@@ -1,4 +1,5 @@
--- The first reason why callbacks and plugins make no kit, with its place, in the order in which a kit is refused; and its message (own).
+-- The first reason why callbacks and plugins make no kit, with its place, in the order in which a
+-- kit is refused; and its message (own).
 use Rattle.std.specs.Prelude.{ℕ, ◌+◌, List, [], ◌∷◌, ◌++◌, if◌then◌else◌, nat_lt, Bool, true, false, sum_by, count_by, Option, Some, None, codes}
 use Rattle.press_callbacks.specs.BuiltIns.{is_built_in}
 use Rattle.press_callbacks.specs.Kits.{callback_loaded, callback_named, is_known, is_named, most_hook_loads, most_tag_loads}
@@ -78,8 +79,8 @@ too_many sort plugins = if nat_lt (most_of sort) (loads_of sort plugins) then mi
 
 -- ---- all together
 
-abbrev pub names_mistaken : List Scripted → List Plugin → Option Mistake
-names_mistaken callbacks plugins =
+abbrev pub mistake_in_names : List Scripted → List Plugin → Option Mistake
+mistake_in_names callbacks plugins =
     or_else (first (same_name (λ (c : Scripted). c.id) place.Callback) 0 callbacks)
     (or_else (first built_in_name 0 callbacks)
     (first (same_name (λ (p : Plugin). p.name) place.Plugin) 0 plugins))
@@ -88,11 +89,11 @@ abbrev pub unknown_in : List Scripted → List Plugin → Option Mistake
 unknown_in callbacks plugins =
     or_else (first (unknown_in_script callbacks) 0 callbacks) (first (unknown_in_plugin callbacks) 0 plugins)
 
-abbrev pub loads_mistaken : List Plugin → Option Mistake
-loads_mistaken plugins = or_else (too_many Hooks plugins) (too_many Tags plugins)
+abbrev pub mistake_in_loads : List Plugin → Option Mistake
+mistake_in_loads plugins = or_else (too_many Hooks plugins) (too_many Tags plugins)
 
 abbrev pub mistake_by : List Scripted → List Plugin → Option Mistake
-mistake_by callbacks plugins = or_else (names_mistaken callbacks plugins) (or_else (unknown_in callbacks plugins) (loads_mistaken plugins))
+mistake_by callbacks plugins = or_else (mistake_in_names callbacks plugins) (or_else (unknown_in callbacks plugins) (mistake_in_loads plugins))
 
 abbrev pub mistake_in : KitParts → Option Mistake
 mistake_in kit = mistake_by kit.callbacks kit.plugins
@@ -106,12 +107,12 @@ why_number BuiltInName = 3
 why_number (Unknown id) = 4
 why_number (TooMany sort) = 5
 
-abbrev pub why_told : Why → List ℕ
-why_told SameName = codes "a later one has the same name"
-why_told BuiltInName = codes "this is the name of a built-in callback"
-why_told (Unknown id) = codes "names a callback that is not in the kit: \"" ++ (id ++ codes "\"")
-why_told (TooMany Hooks) = codes "more than 1000 loads on hooks in all"
-why_told (TooMany Tags) = codes "more than 128 loads of tags in all"
+abbrev pub tell_why : Why → List ℕ
+tell_why SameName = codes "a later one has the same name"
+tell_why BuiltInName = codes "this is the name of a built-in callback"
+tell_why (Unknown id) = codes "names a callback that is not in the kit: \"" ++ (id ++ codes "\"")
+tell_why (TooMany Hooks) = codes "more than 1000 loads on hooks in all"
+tell_why (TooMany Tags) = codes "more than 128 loads of tags in all"
 
-abbrev pub mistake_told : KitParts → Mistake → List ℕ
-mistake_told kit m = place_in kit m.at ++ why_told m.why
+abbrev pub tell_mistake : KitParts → Mistake → List ℕ
+tell_mistake kit m = place_in kit m.at ++ tell_why m.why

@@ -1,4 +1,8 @@
--- What pages alone run, so that it changes nothing, since a site is only read for a page: a callback that something puts on a hook of pages or under a tag, and nothing anywhere else (own). A hook that a step or a play runs is none of pages, whoever takes the step; nor is one of a boot, which commands have too. Tags are none where anything but the engine's own `the_content` may answer them.
+-- What pages alone run, so that it changes nothing, since a site is only read for a page: a
+-- callback that something puts on a hook of pages or under a tag, and nothing anywhere else (own).
+-- A hook that a step or a play runs is none of pages, whoever takes the step; nor is one of a boot,
+-- which commands have too. Tags are none where anything but the engine's own `the_content` may
+-- answer them.
 use Rattle.std.specs.Prelude.{ℕ, List, [], ◌∷◌, Bool, true, false, not, ◌||◌, ◌&&◌, bytes_eq, is_none, is_some, codes}
 use Rattle.std.specs.List.{list_any}
 use Rattle.press_callbacks.specs.declared.plugin.Load.{Load}
@@ -12,7 +16,8 @@ use Rattle.press_kit.specs.declared.play_file.Play.{Play}
 use Rattle.press_lint.specs.Accepts.{most_accepted}
 use Rattle.press_lint.specs.Runs.{is_run_by}
 
--- the engine's, each of a page or of a post in JSON (hook reference), but for `do_shortcode_tag`, which comes with each shortcode
+-- the engine's, each of a page or of a post in JSON (hook reference), but for `do_shortcode_tag`,
+-- which comes with each shortcode
 abbrev pub page_hooks : List (List ℕ)
 page_hooks = codes "wp_head" ∷ codes "the_title" ∷ codes "the_content" ∷ codes "wp_footer" ∷ []
 

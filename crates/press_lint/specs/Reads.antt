@@ -1,4 +1,6 @@
--- What a step reads that is never there: an argument that its callback is never given, and an attribute by a name with capitals, since the names of attributes are in lower case (Shortcode API: `shortcode_parse_atts`).
+-- What a step reads that is never there: an argument that its callback is never given, and an
+-- attribute by a name with capitals, since the names of attributes are in lower case (Shortcode
+-- API: `shortcode_parse_atts`).
 use Rattle.std.specs.Prelude.{ℕ, List, [], ◌∷◌, ◌++◌, Bool, false, if◌then◌else◌, nat_le, Option, Some, None, codes, decimal}
 use Rattle.std.specs.List.{list_any}
 use Rattle.std.specs.Char.{is_ascii_uppercase}
@@ -72,17 +74,17 @@ unread most (op.Ask ask) = None
 
 -- ---- the message
 
-abbrev pub key_told : AttKey → List ℕ
-key_told (Name name) = codes "reads no attribute by a name with capitals" ++ shown name
-key_told (Place n) = []
+abbrev pub tell_key : AttKey → List ℕ
+tell_key (Name name) = codes "reads no attribute by a name with capitals" ++ shown name
+tell_key (Place n) = []
 
-abbrev pub argument_told : ℕ → List ℕ
-argument_told n = codes "reads argument " ++ (decimal n ++ codes ", counted from 0, and no load of its callback accepts as many")
+abbrev pub tell_argument : ℕ → List ℕ
+tell_argument n = codes "reads argument " ++ (decimal n ++ codes ", counted from 0, and no load of its callback accepts as many")
 
-abbrev pub unread_told : Source → List ℕ
-unread_told (Arg n) = argument_told n
-unread_told (Att key) = key_told key
-unread_told Content = []
-unread_told Tag = []
-unread_told Value = []
-unread_told Last = []
+abbrev pub tell_unread : Source → List ℕ
+tell_unread (Arg n) = tell_argument n
+tell_unread (Att key) = tell_key key
+tell_unread Content = []
+tell_unread Tag = []
+tell_unread Value = []
+tell_unread Last = []

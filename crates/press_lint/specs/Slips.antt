@@ -1,4 +1,6 @@
--- What is no mistake in a kit, but surely not meant: a skip past the end of its script or of nothing, a read of what is never there, a change of the site that pages alone run, a callback on a hook that nothing runs, and one that is taken from where nothing puts it (own).
+-- What is no mistake in a kit, but surely not meant: a skip past the end of its script or of
+-- nothing, a read of what is never there, a change of the site that pages alone run, a callback on
+-- a hook that nothing runs, and one that is taken from where nothing puts it (own).
 use Rattle.std.specs.Prelude.{ℕ, ℤ, ◌+◌, List, [], ◌∷◌, ◌++◌, Bool, false, ◌||◌, ◌&&◌, bytes_eq, if◌then◌else◌, ◌==◌, nat_le, nat_lt, length, take, drop, Option, Some, None, option_and_then, codes, decimal}
 use Rattle.std.specs.Fmt.{signed_decimal}
 use Rattle.std.specs.List.{list_any}
@@ -16,14 +18,15 @@ use Rattle.press_kit.specs.declared.place.Place.TheVariants as place
 use Rattle.press_callbacks.specs.declared.script.Source.{Source}
 use Rattle.press_lint.specs.Accepts.{most_accepted}
 use Rattle.press_lint.specs.Pages.{runs_on_pages}
-use Rattle.press_lint.specs.Reads.{unread, unread_told}
+use Rattle.press_lint.specs.Reads.{unread, tell_unread}
 use Rattle.press_lint.specs.Runs.{is_run_by}
 use Rattle.press_lint.specs.Spots.{is_put_at, spot}
 use Rattle.press_lint.specs.Told.{place_in}
 
 -- ---- what runs a hook
 
--- those that the engine runs by themselves (hook reference), but for those with a status or an option in their name
+-- those that the engine runs by themselves (hook reference), but for those with a status or an
+-- option in their name
 abbrev pub engine_hooks : List (List ℕ)
 engine_hooks =
     codes "plugins_loaded" ∷ codes "init" ∷ codes "wp_loaded" ∷ codes "wp_head" ∷ codes "wp_footer"
@@ -61,7 +64,8 @@ reaches hook new = is_some_and (λ rest. bytes_eq rest (codes "_post")) (behind 
 abbrev pub is_reached : List ℕ → Bool
 is_reached hook = list_any (reaches hook) statuses
 
--- as long as the name of an option (Options API; its limit is own), which may have every byte that the name of a hook may have
+-- as long as the name of an option (Options API; its limit is own), which may have every byte that
+-- the name of a hook may have
 abbrev pub fits_option : List ℕ → Bool
 fits_option name = nat_lt 0 (length name) && nat_le (length name) 32
 
@@ -97,8 +101,8 @@ abbrev pub no_change : List ℕ
 no_change = codes "changes the site, and its callback runs on pages alone, where nothing changes"
 
 -- a callback that is taken off a hook at a priority
-abbrev pub removal_told : List ℕ → List ℕ → ℤ → List ℕ
-removal_told hook callback priority =
+abbrev pub tell_removal : List ℕ → List ℕ → ℤ → List ℕ
+tell_removal hook callback priority =
     codes "takes \"" ++ (callback ++ (codes "\" off \"" ++ (hook
     ++ (codes "\" at priority " ++ (signed_decimal priority ++ codes ", where nothing puts it")))))
 
@@ -113,7 +117,7 @@ module _ (front : List ℕ) (kit : KitParts) (plays : List Play) where
 
   abbrev pub removal_slip : Place → List ℕ → List ℕ → ℤ → List ℕ
   removal_slip at hook callback priority =
-      if is_put_at kit (spot hook callback priority) then [] else slip front kit at (removal_told hook callback priority)
+      if is_put_at kit (spot hook callback priority) then [] else slip front kit at (tell_removal hook callback priority)
 
   -- a skip of so many of the steps behind it
   abbrev pub skip_slip : Place → ℕ → List Op → List ℕ
@@ -142,7 +146,7 @@ module _ (front : List ℕ) (kit : KitParts) (plays : List Play) where
 
   abbrev pub unread_slip : Place → Option Source → List ℕ
   unread_slip at None = []
-  unread_slip at (Some source) = slip front kit at (unread_told source)
+  unread_slip at (Some source) = slip front kit at (tell_unread source)
 
   -- all of a step, whose callback gets at most so many arguments
   abbrev pub step_slips : Option ℕ → Place → Op → List Op → List ℕ

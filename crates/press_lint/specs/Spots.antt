@@ -1,4 +1,6 @@
--- Where a kit puts its callbacks: each hook, callback and priority of a load or an `add_hook`, and of the built-in callbacks (own). The three are one text, which no other three give, since no name has a space.
+-- Where a kit puts its callbacks: each hook, callback and priority of a load or an `add_hook`, and
+-- of the built-in callbacks (own). The three are one text, which no other three give, since no name
+-- has a space.
 use Rattle.std.specs.Prelude.{ℕ, ℤ, List, ◌++◌, Bool, false, ◌||◌, bytes_eq, codes, string_bytes}
 use Rattle.std.specs.Fmt.{signed_decimal}
 use Rattle.std.specs.List.{list_any}

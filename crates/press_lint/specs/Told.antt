@@ -1,4 +1,5 @@
--- How a place in a kit is reported to its author: what it is of, by its number and its name, and the step or load there (own).
+-- How a place in a kit is reported to its author: what it is of, by its number and its name, and
+-- the step or load there (own).
 use Rattle.std.specs.Prelude.{ℕ, List, [], ◌++◌, Option, Some, None, option_map, slice_get, codes, decimal}
 use Rattle.press_callbacks.specs.declared.plugin.Plugin.{Plugin}
 use Rattle.press_kit.specs.Places.{place_text}
@@ -13,32 +14,32 @@ quoted None = []
 quoted (Some name) = codes " \"" ++ (name ++ codes "\"")
 
 -- `list[n] "name": `, with what follows it
-abbrev pub item_told : List ℕ → ℕ → Option (List ℕ) → List ℕ → List ℕ
-item_told list n name rest = list ++ (codes "[" ++ (decimal n ++ (codes "]" ++ (quoted name ++ (codes ": " ++ rest)))))
+abbrev pub tell_item : List ℕ → ℕ → Option (List ℕ) → List ℕ → List ℕ
+tell_item list n name rest = list ++ (codes "[" ++ (decimal n ++ (codes "]" ++ (quoted name ++ (codes ": " ++ rest)))))
 
 -- `script[n] `
 abbrev pub within : List ℕ → ℕ → List ℕ
 within list n = list ++ (codes "[" ++ (decimal n ++ codes "] "))
 
 -- the place of something of that name, in front of the message about it
-abbrev pub place_told : Option (List ℕ) → Place → List ℕ
-place_told name (Callback n) = item_told (codes "callbacks") n name []
-place_told name (Op c o) = item_told (codes "callbacks") c name (within (codes "script") o)
-place_told name (OnePlugin n) = item_told (codes "plugins") n name []
-place_told name (Load p l) = item_told (codes "plugins") p name (within (codes "load") l)
-place_told name File = place_text File ++ codes ": "
-place_told name Callbacks = place_text Callbacks ++ codes ": "
-place_told name Plugins = place_text Plugins ++ codes ": "
-place_told name Active = place_text Active ++ codes ": "
-place_told name (ActiveName n) = place_text (ActiveName n) ++ codes ": "
-place_told name Commands = place_text Commands ++ codes ": "
-place_told name (Command n) = place_text (Command n) ++ codes ": "
-place_told name Pages = place_text Pages ++ codes ": "
-place_told name (Page n) = place_text (Page n) ++ codes ": "
-place_told name Plays = place_text Plays ++ codes ": "
-place_told name (Play n) = place_text (Play n) ++ codes ": "
-place_told name Steps = place_text Steps ++ codes ": "
-place_told name (Step n) = place_text (Step n) ++ codes ": "
+abbrev pub tell_place : Option (List ℕ) → Place → List ℕ
+tell_place name (Callback n) = tell_item (codes "callbacks") n name []
+tell_place name (Op c o) = tell_item (codes "callbacks") c name (within (codes "script") o)
+tell_place name (OnePlugin n) = tell_item (codes "plugins") n name []
+tell_place name (Load p l) = tell_item (codes "plugins") p name (within (codes "load") l)
+tell_place name File = place_text File ++ codes ": "
+tell_place name Callbacks = place_text Callbacks ++ codes ": "
+tell_place name Plugins = place_text Plugins ++ codes ": "
+tell_place name Active = place_text Active ++ codes ": "
+tell_place name (ActiveName n) = place_text (ActiveName n) ++ codes ": "
+tell_place name Commands = place_text Commands ++ codes ": "
+tell_place name (Command n) = place_text (Command n) ++ codes ": "
+tell_place name Pages = place_text Pages ++ codes ": "
+tell_place name (Page n) = place_text (Page n) ++ codes ": "
+tell_place name Plays = place_text Plays ++ codes ": "
+tell_place name (Play n) = place_text (Play n) ++ codes ": "
+tell_place name Steps = place_text Steps ++ codes ": "
+tell_place name (Step n) = place_text (Step n) ++ codes ": "
 
 -- the name of the callback or the plugin of that number
 abbrev pub callback_name : List Scripted → ℕ → Option (List ℕ)
@@ -68,4 +69,4 @@ name_at kit Steps = None
 name_at kit (Step n) = None
 
 abbrev pub place_in : KitParts → Place → List ℕ
-place_in kit at = place_told (name_at kit at) at
+place_in kit at = tell_place (name_at kit at) at

@@ -1,4 +1,5 @@
--- What is said of a value that does not fit: its key, or a place in a list there, what was found and what is wanted there (own). What fits is what a kit file's reader takes.
+-- What is said of a value that does not fit: its key, or a place in a list there, what was found
+-- and what is wanted there (own). What fits is what a kit file's reader takes.
 use Rattle.std.specs.Prelude.{ℕ, ◌+◌, ◌^◌, List, [], ◌∷◌, ◌++◌, Bool, true, false, bytes_eq, if◌then◌else◌, Option, Some, None, is_some, option_and_then, Result, Ok, Err, codes, decimal}
 use Rattle.serde_json.specs.Data.{Data}
 use Rattle.serde_json.specs.Find.{as_array, as_bool, as_number, as_object, as_str, get}
@@ -70,27 +71,27 @@ wanted_at at key =
     (if bytes_eq key (codes "tag") then tag_wanted at else
     (if bytes_eq key (codes "args") then args_wanted at else list_wanted key)))
 
-abbrev pub wanted_told : Wanted → List ℕ
-wanted_told HookName = codes "a name of 1 to 64 letters, digits, _ and -"
-wanted_told Name = codes "a name of 1 to 32 letters, digits, _ and -"
-wanted_told Text = codes "a text"
-wanted_told AList = codes "a list"
-wanted_told Priority = codes "an integer from -2^63 to 2^63 - 1"
-wanted_told Accepted = codes "an integer from 0 to 4294967295"
-wanted_told Skip = codes "an integer from 0 to 65535"
-wanted_told Seconds = codes "an integer from 0 to 2^64 - 1"
-wanted_told Every = codes "once, hourly, twicedaily or daily"
-wanted_told Parts = codes "a list of parts"
-wanted_told More = codes "a list of at most 2 texts"
-wanted_told Args = codes "a list of at most 3 texts"
-wanted_told Words = codes "a list of texts"
-wanted_told Times = codes "an integer from 1 to 4294967295"
-wanted_told Truth = codes "true or false"
+abbrev pub tell_wanted : Wanted → List ℕ
+tell_wanted HookName = codes "a name of 1 to 64 letters, digits, _ and -"
+tell_wanted Name = codes "a name of 1 to 32 letters, digits, _ and -"
+tell_wanted Text = codes "a text"
+tell_wanted AList = codes "a list"
+tell_wanted Priority = codes "an integer from -2^63 to 2^63 - 1"
+tell_wanted Accepted = codes "an integer from 0 to 4294967295"
+tell_wanted Skip = codes "an integer from 0 to 65535"
+tell_wanted Seconds = codes "an integer from 0 to 2^64 - 1"
+tell_wanted Every = codes "once, hourly, twicedaily or daily"
+tell_wanted Parts = codes "a list of parts"
+tell_wanted More = codes "a list of at most 2 texts"
+tell_wanted Args = codes "a list of at most 3 texts"
+tell_wanted Words = codes "a list of texts"
+tell_wanted Times = codes "an integer from 1 to 4294967295"
+tell_wanted Truth = codes "true or false"
 
 -- ---- what was found
 
-abbrev pub sort_told : Data → List ℕ
-sort_told d =
+abbrev pub tell_sort : Data → List ℕ
+tell_sort d =
     if is_some (as_str d) then codes "a text" else
     (if is_some (as_number d) then codes "a number" else
     (if is_some (as_array d) then codes "a list" else
@@ -98,16 +99,16 @@ sort_told d =
     (if is_some (as_bool d) then codes "true or false" else codes "null"))))
 
 -- a text only where it could be a name, a number where it is a whole one
-abbrev pub subject_told : Option (List ℕ) → Option ℕ → List ℕ
-subject_told (Some word) n = codes "\"" ++ (word ++ codes "\" is ")
-subject_told None (Some n) = decimal n ++ codes " is "
-subject_told None None = codes "it is "
+abbrev pub tell_subject : Option (List ℕ) → Option ℕ → List ℕ
+tell_subject (Some word) n = codes "\"" ++ (word ++ codes "\" is ")
+tell_subject None (Some n) = decimal n ++ codes " is "
+tell_subject None None = codes "it is "
 
-abbrev pub found_told : Data → List ℕ
-found_told d = subject_told (option_and_then (name_in 32) (as_str d)) (number_in d) ++ sort_told d
+abbrev pub tell_found : Data → List ℕ
+tell_found d = tell_subject (option_and_then (name_in 32) (as_str d)) (number_in d) ++ tell_sort d
 
-abbrev pub value_told : List ℕ → Data → List ℕ → List ℕ
-value_told path d wanted = path ++ (codes ": " ++ (found_told d ++ (codes ", " ++ (wanted ++ codes " is wanted"))))
+abbrev pub tell_value : List ℕ → Data → List ℕ → List ℕ
+tell_value path d wanted = path ++ (codes ": " ++ (tell_found d ++ (codes ", " ++ (wanted ++ codes " is wanted"))))
 
 -- ---- the first that does not fit
 
@@ -123,10 +124,10 @@ abbrev pub unfit_parts : List ℕ → ℕ → List Data → Option (List ℕ)
 unfit_parts path n [] = None
 unfit_parts path n (d ∷ ds) =
     if is_read (part_of place.File d) then unfit_parts path (n + 1) ds
-    else Some (value_told (item_path path n) d (codes "a part"))
+    else Some (tell_value (item_path path n) d (codes "a part"))
 
 abbrev pub unfit_list : List ℕ → Data → Option (List Data) → Option (List ℕ)
-unfit_list path d None = Some (value_told path d (wanted_told Parts))
+unfit_list path d None = Some (tell_value path d (tell_wanted Parts))
 unfit_list path d (Some ds) = unfit_parts path 0 ds
 
 abbrev pub unfit_text : List ℕ → Data → Option (List ℕ)
@@ -142,7 +143,7 @@ unfit_items path n (d ∷ ds) = or_else (unfit_text (item_path path n) d) (unfit
 
 -- in a list of texts that is not too long
 abbrev pub unfit_few : Wanted → List ℕ → Data → Option (List Data) → Option (List ℕ)
-unfit_few wanted path d None = Some (value_told path d (wanted_told wanted))
+unfit_few wanted path d None = Some (tell_value path d (tell_wanted wanted))
 unfit_few wanted path d (Some ds) = unfit_items path 0 ds
 
 -- in a list of plain texts, whose first has this number
@@ -150,14 +151,14 @@ abbrev pub unfit_strings : List ℕ → ℕ → List Data → Option (List ℕ)
 unfit_strings path n [] = None
 unfit_strings path n (d ∷ ds) =
     if is_some (as_str d) then unfit_strings path (n + 1) ds
-    else Some (value_told (item_path path n) d (codes "a text"))
+    else Some (tell_value (item_path path n) d (codes "a text"))
 
-abbrev pub unfit_listed : List ℕ → Data → Option (List Data) → Option (List ℕ)
-unfit_listed path d None = Some (value_told path d (wanted_told Words))
-unfit_listed path d (Some ds) = unfit_strings path 0 ds
+abbrev pub unfit_in_list : List ℕ → Data → Option (List Data) → Option (List ℕ)
+unfit_in_list path d None = Some (tell_value path d (tell_wanted Words))
+unfit_in_list path d (Some ds) = unfit_strings path 0 ds
 
 abbrev pub unfit_words : List ℕ → Data → Option (List ℕ)
-unfit_words path d = unfit_listed path d (list_in d)
+unfit_words path d = unfit_in_list path d (list_in d)
 
 -- of a text by its parts it is looked at each
 abbrev pub fits : Wanted → Data → Bool
@@ -178,7 +179,7 @@ fits Times d = is_some (option_and_then times_in (number_in d))
 fits Truth d = is_some (as_bool d)
 
 abbrev pub unless_fits : Wanted → List ℕ → Data → Option (List ℕ)
-unless_fits wanted key d = if fits wanted d then None else Some (value_told key d (wanted_told wanted))
+unless_fits wanted key d = if fits wanted d then None else Some (tell_value key d (tell_wanted wanted))
 
 -- in a text by its parts, or in one of some
 abbrev pub unfit_inside : Wanted → List ℕ → Data → Option (List ℕ)

@@ -4,7 +4,7 @@ ghost use Rattle.std.specs.Prelude.{◌≡◌, ℕ, List, [], IfErr, IfOk, Ok, m
 ghost use Rattle.press_lint.specs.Files as spec;
 ghost use Rattle.press_kit.specs.declared.kit_parts.KitParts.{KitParts as KitRead};
 ghost use Rattle.press_lint.specs.Joints.{File as FileRead, alone, files_of, joint_of, read_together, share_of};
-ghost use Rattle.press_lint.specs.Mistakes.{mistake_told};
+ghost use Rattle.press_lint.specs.Mistakes.{tell_mistake};
 ghost use Rattle.press_lint.specs.Slips.{slips as slips_of};
 ghost use Rattle.press_lint.specs.declared.mistake.Mistake.{Mistake as Found};
 ghost use Rattle.press_lint.specs.declared.files.FilesFault.TheVariants.{NoMemory as Lacks};
@@ -12,8 +12,8 @@ ghost use Rattle.press_lint.specs.declared.files.FilesFault.TheVariants.{NoMemor
 use crate::joint::{Joint, NamedFile, Share, read_files};
 use crate::mistakes::mistake_in;
 use crate::slipping::first_slips;
-use crate::telling::{Message, told_of};
-use crate::turning::turned;
+use crate::telling::{Message, message_about};
+use crate::turning::turn_parts;
 use press_kit::KitParts;
 use std::alloc::{AllocError, AllocFailed, Global};
 use thiserror::Error;
@@ -78,13 +78,13 @@ fn slips_from(
     for i in 0..shares.len() {
         let slips = file_slips(alloc, before, &parts, &shares[i])?;
         out.push_str(slips.as_str())?;
-        parts = turned(parts, &shares[i]);
+        parts = turn_parts(parts, &shares[i]);
     }
     Ok(out)
 }
 
 // A kit without a mistake gives its slips.
-fn linted<'f>(alloc: Global, before: &str, joint: Joint<'f>) -> Result<String, FilesFault<'f>>
+fn lint_joint<'f>(alloc: Global, before: &str, joint: Joint<'f>) -> Result<String, FilesFault<'f>>
     ensures slips { IfOk result (λ t. spec.GivesSlips before.now
         (Ok (joint_of joint.entry)) (string_bytes t)) }
     ensures fault { IfErr result (λ f. spec.RefusesFiles (Ok (joint_of joint.entry)) f) }
@@ -92,7 +92,7 @@ fn linted<'f>(alloc: Global, before: &str, joint: Joint<'f>) -> Result<String, F
     let Joint { parts, shares } = joint;
     if let Some(mistake) = mistake_in(alloc, &parts)? {
         let number = mistake.why.number();
-        return match told_of(alloc, &shares, parts, &mistake) {
+        return match message_about(alloc, &shares, parts, &mistake) {
             Ok(Message { file, text }) => Err(FilesFault::Refused { file, number, text }),
             Err(_) => Err(FilesFault::NoMemory),
         };
@@ -100,8 +100,9 @@ fn linted<'f>(alloc: Global, before: &str, joint: Joint<'f>) -> Result<String, F
     Ok(slips_from(alloc, before, &shares, parts)?)
 }
 
-/// The slips in the kit that these files make together, a line for each after this prefix and the name of its file. They are refused where one of them is no kit file, or else
-/// where no kit can be built of all of them.
+/// The slips in the kit that these files make together, a line for each after this prefix and the
+/// name of its file. They are refused where one of them is no kit file, or else where no kit can be
+/// built of all of them.
 pub fn lint_files<'f>(
     alloc: Global,
     before: &str,
@@ -113,16 +114,17 @@ pub fn lint_files<'f>(
         (read_together (files_of files.now)) f) }
 {
     match read_files(alloc, files) {
-        Ok(joint) => linted(alloc, before, joint),
+        Ok(joint) => lint_joint(alloc, before, joint),
         Err(fault) => Err(fault),
     }
 }
 
-/// One file is told as it is by itself: the message about each mistake is the same, and so are the lines of the slips.
+/// One file is told as it is by itself: the message about each mistake is the same, and so are the
+/// lines of the slips.
 pub fn one_file_is_told_as_alone()
     ensures mistakes { (file : FileRead) → (kit : KitRead) → (m : Found)
-        → spec.told_of (alone file kit) m
-        ≡ record { file = file.name; text = mistake_told kit m } }
+        → spec.message_about (alone file kit) m
+        ≡ record { file = file.name; text = tell_mistake kit m } }
     ensures slips { (before : List ℕ) → (file : FileRead) → (kit : KitRead)
         → spec.slips_from before (alone file kit).shares kit
         ≡ slips_of (spec.file_front before file.name) kit [] }

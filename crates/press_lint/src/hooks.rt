@@ -114,7 +114,8 @@ fn is_reached(hook: &[u8]) -> bool
     reaches_one(hook, &STATUSES)
 }
 
-// Whether what follows is as long as the name of an option; the bytes of a hook's name may all stand in one.
+// Whether what follows is as long as the name of an option; the bytes of a hook's name may all
+// stand in one.
 fn is_change(hook: &[u8], change: &str) -> bool
     ensures { result ≡ spec.is_change hook.now change.now }
 {
@@ -193,9 +194,10 @@ fn put_plays<'k>(hooks: &mut NameSet<'k>, plays: &'k [Play]) -> Result<(), Alloc
     Ok(())
 }
 
-/// The hooks that the scripts of a kit and these plays run, the arguments that its callbacks get, and where it puts them.
+/// The hooks that the scripts of a kit and these plays run, the arguments that its callbacks get,
+/// and where it puts them.
 #[tactic(auto, using(crate::proofs::Gathered::alone))]
-pub fn hooks_run<'k>(
+pub fn hooks_that_run<'k>(
     alloc: Global,
     kit: &'k KitParts,
     plays: &'k [Play],

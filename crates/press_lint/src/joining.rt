@@ -1,7 +1,7 @@
 //! Kits of several files, one behind the other.
 
 ghost use Rattle.std.specs.Prelude.{◌≡◌, ◌++◌, IfOk};
-ghost use Rattle.press_lint.specs.Joints.{joined, no_parts};
+ghost use Rattle.press_lint.specs.Joints.{join, no_parts};
 
 use press_kit::KitParts;
 use press_text::Items;
@@ -27,8 +27,8 @@ pub fn no_parts(alloc: Global) -> KitParts
 }
 
 /// The callbacks and plugins of a file, with those of another one behind them.
-pub fn joined(parts: KitParts, other: KitParts) -> Result<KitParts, AllocError>
-    ensures { IfOk result (λ kit. kit ≡ joined parts other) }
+pub fn join(parts: KitParts, other: KitParts) -> Result<KitParts, AllocError>
+    ensures { IfOk result (λ kit. kit ≡ join parts other) }
 {
     Ok(KitParts {
         callbacks: behind(parts.callbacks, other.callbacks)?,

@@ -5,7 +5,7 @@ ghost use Rattle.press_lint.specs.Files.{RefusesFiles};
 ghost use Rattle.press_lint.specs.Joints as spec;
 
 use crate::files::FilesFault;
-use crate::joining::{joined, no_parts};
+use crate::joining::{join, no_parts};
 use crate::linting::bad;
 use press_kit::{KitFileFault, KitParts, Place, read_kit_file};
 use std::alloc::{AllocError, Global};
@@ -62,13 +62,13 @@ impl<'f> Joint<'f> {
             mut shares,
         } = self;
         shares.push(share_in(file, &parts))?;
-        let parts = joined(before, parts)?;
+        let parts = join(before, parts)?;
         Ok(Joint { parts, shares })
     }
 }
 
 // The fault of a file that is bad at a place.
-fn refused<'f>(alloc: Global, file: &NamedFile<'f>, at: Place) -> FilesFault<'f>
+fn refusal_at<'f>(alloc: Global, file: &NamedFile<'f>, at: Place) -> FilesFault<'f>
     ensures { RefusesFiles (Err (spec.file_of file.now, at)) result }
 {
     match bad(alloc, &file.bytes, at) {
@@ -81,7 +81,8 @@ fn refused<'f>(alloc: Global, file: &NamedFile<'f>, at: Place) -> FilesFault<'f>
     }
 }
 
-/// The callbacks and plugins of all these files, or the fault of the first one that is bad by itself.
+/// The callbacks and plugins of all these files, or the fault of the first one that is bad by
+/// itself.
 pub fn read_files<'f>(alloc: Global, files: &[NamedFile<'f>]) -> Result<Joint<'f>, FilesFault<'f>>
     ensures joint { IfOk result (λ joint. spec.read_together (spec.files_of files.now)
         ≡ Ok (spec.joint_of joint)) }
@@ -93,7 +94,7 @@ pub fn read_files<'f>(alloc: Global, files: &[NamedFile<'f>]) -> Result<Joint<'f
         let file = &files[i];
         match read_kit_file(alloc, &file.bytes) {
             Ok(parts) => joint = joint.with_file(file, parts)?,
-            Err(KitFileFault::BadKitFile(at)) => return Err(refused(alloc, file, at)),
+            Err(KitFileFault::BadKitFile(at)) => return Err(refusal_at(alloc, file, at)),
             Err(KitFileFault::NoMemory) => return Err(FilesFault::NoMemory),
         }
     }

@@ -1,6 +1,8 @@
-//! Messages to the author of a kit: why it is no kit, with the place and the name of what is wrong there, and what in it is surely a slip.
+//! Messages to the author of a kit: why it is no kit, with the place and the name of what is wrong
+//! there, and what in it is surely a slip.
 //!
-//! A kit file is refused only where a kit can't be built of it, with the same number, and is never taken there; a slip refuses nothing.
+//! A kit file is refused only where a kit can't be built of it, with the same number, and is never
+//! taken there; a slip refuses nothing.
 #![tactic(auto)]
 
 mod accepted;

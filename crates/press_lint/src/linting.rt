@@ -30,26 +30,27 @@ pub fn bad(alloc: Global, bytes: &[u8], at: Place) -> Result<String, AllocError>
 }
 
 // A kit without a mistake, and its slips.
-fn linted(alloc: Global, front: &str, parts: KitParts) -> Result<Linted, LintFault>
+fn lint_parts(alloc: Global, front: &str, parts: KitParts) -> Result<Linted, LintFault>
     ensures { LintsKit front.now parts result }
 {
     if let Some(mistake) = mistake_in(alloc, &parts)? {
         return Err(LintFault::Refused {
             number: mistake.why.number(),
-            text: mistake.told(alloc, &parts)?,
+            text: mistake.tell(alloc, &parts)?,
         });
     }
     let slips = slips(alloc, front, &parts, &[])?;
     Ok(Linted { parts, slips })
 }
 
-/// The callbacks and plugins of a kit file, and a line for each slip in them, after this prefix. A file of which no kit can be built is
-/// refused: by 73 where it is no kit file, else by what `mistake_in` finds.
+/// The callbacks and plugins of a kit file, and a line for each slip in them, after this prefix. A
+/// file of which no kit can be built is refused: by 73 where it is no kit file, else by what
+/// `mistake_in` finds.
 pub fn lint(alloc: Global, front: &str, bytes: &[u8]) -> Result<Linted, LintFault>
     ensures { Lints front.now bytes.now result }
 {
     match read_kit_file(alloc, bytes) {
-        Ok(parts) => linted(alloc, front, parts),
+        Ok(parts) => lint_parts(alloc, front, parts),
         Err(KitFileFault::BadKitFile(at)) => Err(LintFault::Refused {
             number: 73,
             text: bad(alloc, bytes, at)?,
@@ -58,7 +59,8 @@ pub fn lint(alloc: Global, front: &str, bytes: &[u8]) -> Result<Linted, LintFaul
     }
 }
 
-/// A mistake is found exactly where callbacks and plugins make no kit, and it has the number of that refusal.
+/// A mistake is found exactly where callbacks and plugins make no kit, and it has the number of
+/// that refusal.
 pub fn refusals_are_mistakes()
     ensures { (callbacks : List Told) → (plugins : List OnePlugin)
         → option_map (λ (m : Found). why_number m.why) (mistake_by callbacks plugins)

@@ -48,7 +48,8 @@ fn most_of(sort: Sort) -> usize
     }
 }
 
-/// The number of the plugin with whose loads there are more of a sort than a kit may have, or how many plugins there are.
+/// The number of the plugin with whose loads there are more of a sort than a kit may have, or how
+/// many plugins there are.
 pub fn past(plugins: &[Plugin], sort: Sort) -> usize
     ensures { result ≡ files.past sort 0 (spec.most_of sort) plugins.now }
 {
@@ -77,8 +78,8 @@ fn too_many(plugins: &[Plugin], sort: Sort) -> Option<Mistake>
 }
 
 /// More loads than a kit may have.
-pub fn loads_mistaken(plugins: &[Plugin]) -> Option<Mistake>
-    ensures { result ≡ spec.loads_mistaken plugins.now }
+pub fn mistake_in_loads(plugins: &[Plugin]) -> Option<Mistake>
+    ensures { result ≡ spec.mistake_in_loads plugins.now }
 {
     match too_many(plugins, Sort::Hooks) {
         Some(mistake) => Some(mistake),

@@ -8,7 +8,7 @@ ghost use Rattle.press_lint.specs.Mistakes as spec;
 ghost use Rattle.press_lint.specs.NameSets.{holds};
 
 use crate::known::Known;
-use crate::loads::loads_mistaken;
+use crate::loads::mistake_in_loads;
 use crate::mistake::{Mistake, Why};
 use crate::name_set::NameSet;
 use crate::unknown::unknown_in;
@@ -129,11 +129,11 @@ fn mistake_by(
     let mistaken = or_else(same, or_else(built_in_name(callbacks), plugin));
     let known = Known::new(callbacks, names);
     let unknown = unknown_in(&known, plugins);
-    Ok(or_else(mistaken, or_else(unknown, loads_mistaken(plugins))))
+    Ok(or_else(mistaken, or_else(unknown, mistake_in_loads(plugins))))
 }
 
-/// The first reason why these make no kit: two callbacks or plugins of one name or a callback with a built-in one, then a callback that
-/// is named and missing, then too many loads.
+/// The first reason why these make no kit: two callbacks or plugins of one name or a callback with
+/// a built-in one, then a callback that is named and missing, then too many loads.
 pub fn mistake_in(alloc: Global, kit: &KitParts) -> Result<Option<Mistake>, AllocError>
     ensures { IfOk result (λ m. m ≡ spec.mistake_in kit.now) }
 {

@@ -5,7 +5,7 @@ ghost use Rattle.std.specs.Char.{is_ascii_uppercase};
 ghost use Rattle.std.specs.List.{list_any};
 ghost use Rattle.press_lint.specs.Reads as spec;
 
-use crate::bad::shown;
+use crate::bad::quote_name;
 use press_callbacks::{Op, Part, Parts, Source};
 use press_scan::AttKey;
 use std::alloc::{AllocError, Global};
@@ -109,7 +109,8 @@ fn unread_all<'k>(most: Option<u32>, text: &'k Parts, more: &'k [Parts]) -> Opti
     }
 }
 
-/// The first thing that a step reads and that is never there. Its callback gets at most so many arguments, where it is put anywhere.
+/// The first thing that a step reads and that is never there. Its callback gets at most so many
+/// arguments, where it is put anywhere.
 pub fn unread(most: Option<u32>, op: &Op) -> Option<&Source>
     ensures { option_map (λ s. s.now) result ≡ spec.unread most op.now }
 {
@@ -128,11 +129,11 @@ pub fn unread(most: Option<u32>, op: &Op) -> Option<&Source>
     }
 }
 
-fn key_told(alloc: Global, key: &AttKey) -> Result<String, AllocError>
-    ensures { IfOk result (λ t. string_bytes t ≡ spec.key_told key.now) }
+fn tell_key(alloc: Global, key: &AttKey) -> Result<String, AllocError>
+    ensures { IfOk result (λ t. string_bytes t ≡ spec.tell_key key.now) }
 {
     match key {
-        AttKey::Name(name) => shown(
+        AttKey::Name(name) => quote_name(
             alloc,
             "reads no attribute by a name with capitals",
             name.as_str(),
@@ -141,8 +142,8 @@ fn key_told(alloc: Global, key: &AttKey) -> Result<String, AllocError>
     }
 }
 
-fn argument_told(alloc: Global, n: usize) -> Result<String, AllocError>
-    ensures { IfOk result (λ t. string_bytes t ≡ spec.argument_told n) }
+fn tell_argument(alloc: Global, n: usize) -> Result<String, AllocError>
+    ensures { IfOk result (λ t. string_bytes t ≡ spec.tell_argument n) }
 {
     format!(in alloc;
         "reads argument {n}, counted from 0, and no load of its callback accepts as many"
@@ -150,12 +151,12 @@ fn argument_told(alloc: Global, n: usize) -> Result<String, AllocError>
 }
 
 /// The message about it.
-pub fn unread_told(alloc: Global, source: &Source) -> Result<String, AllocError>
-    ensures { IfOk result (λ t. string_bytes t ≡ spec.unread_told source.now) }
+pub fn tell_unread(alloc: Global, source: &Source) -> Result<String, AllocError>
+    ensures { IfOk result (λ t. string_bytes t ≡ spec.tell_unread source.now) }
 {
     match source {
-        Source::Arg(n) => argument_told(alloc, *n),
-        Source::Att(key) => key_told(alloc, key),
+        Source::Arg(n) => tell_argument(alloc, *n),
+        Source::Att(key) => tell_key(alloc, key),
         Source::Content | Source::Tag | Source::Value | Source::Last => Ok(String::new(alloc)),
     }
 }

@@ -12,7 +12,8 @@ use crate::spots::Spots;
 use press_kit::{KitParts, Play};
 use press_text::CallbackId;
 
-/// A kit and plays beside the set of the hooks that they run, the arguments that its callbacks get, and where it puts them.
+/// A kit and plays beside the set of the hooks that they run, the arguments that its callbacks get,
+/// and where it puts them.
 pub struct Run<'k> {
     pub kit: &'k KitParts,
     pub plays: &'k [Play],

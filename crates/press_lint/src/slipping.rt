@@ -6,15 +6,15 @@ ghost use Rattle.press_lint.specs.Files as files;
 ghost use Rattle.press_lint.specs.Joints.{share_of};
 ghost use Rattle.press_lint.specs.NameSets.{holds};
 ghost use Rattle.press_lint.specs.Pages.{is_put_elsewhere, runs_on_pages};
-ghost use Rattle.press_lint.specs.Reads.{unread_told as told_unread};
+ghost use Rattle.press_lint.specs.Reads.{tell_unread as told_unread};
 ghost use Rattle.press_lint.specs.Slips as spec;
 ghost use Rattle.press_lint.specs.Spots.{is_put_at, spot as spot_text};
 
-use crate::hooks::{hooks_run, is_run};
+use crate::hooks::{hooks_that_run, is_run};
 use crate::joint::Share;
 use crate::name_set::NameSet;
 use crate::pages::strays_in;
-use crate::reads::{unread, unread_told};
+use crate::reads::{tell_unread, unread};
 use crate::run::Run;
 use crate::spots::spot;
 use crate::told::{place_in, text_of};
@@ -24,7 +24,8 @@ use press_kit::{KitParts, Place, Play, Scripted};
 use press_text::{CallbackId, HookName};
 use std::alloc::{AllocError, Global};
 
-// A kit that is looked through beside plays, with a prefix for each line, and the callbacks that are put elsewhere than on pages.
+// A kit that is looked through beside plays, with a prefix for each line, and the callbacks that
+// are put elsewhere than on pages.
 struct Look<'k> {
     alloc: Global,
     front: &'k str,
@@ -77,9 +78,9 @@ impl Look<'_> {
         self.unrun(at, hook)
     }
 
-    fn removal_told(&self, hook: &str, callback: &str, priority: i64) -> Result<String, AllocError>
+    fn tell_removal(&self, hook: &str, callback: &str, priority: i64) -> Result<String, AllocError>
         ensures { IfOk result (λ t. string_bytes t
-            ≡ spec.removal_told hook.now callback.now priority) }
+            ≡ spec.tell_removal hook.now callback.now priority) }
     {
         format!(in self.alloc;
             "takes \"{callback}\" off \"{hook}\" at priority {priority}, where nothing puts it"
@@ -95,9 +96,9 @@ impl Look<'_> {
     ) -> Result<String, AllocError>
         ensures { IfOk result (λ t. string_bytes t
             ≡ spec.slip self.now.front.now self.now.run.kit.now at
-            (spec.removal_told hook.now callback.now priority)) }
+            (spec.tell_removal hook.now callback.now priority)) }
     {
-        let what = self.removal_told(hook, callback, priority)?;
+        let what = self.tell_removal(hook, callback, priority)?;
         self.slip(at, what.as_str())
     }
 
@@ -163,7 +164,7 @@ impl Look<'_> {
         ensures { IfOk result (λ t. string_bytes t
             ≡ spec.slip self.now.front.now self.now.run.kit.now at (told_unread source.now)) }
     {
-        let what = unread_told(self.alloc, source)?;
+        let what = tell_unread(self.alloc, source)?;
         self.slip(at, what.as_str())
     }
 
@@ -346,7 +347,7 @@ pub fn slips(
 ) -> Result<String, AllocError>
     ensures { IfOk result (λ t. string_bytes t ≡ spec.slips front.now kit.now plays.now) }
 {
-    let run = hooks_run(alloc, kit, plays)?;
+    let run = hooks_that_run(alloc, kit, plays)?;
     let strays = strays_in(alloc, &run)?;
     let look = Look {
         alloc,
@@ -370,7 +371,7 @@ pub fn first_slips(
     ensures { IfOk result (λ t. string_bytes t
         ≡ files.first_slips front.now (share_of share.now) kit.now) }
 {
-    let run = hooks_run(alloc, kit, &[])?;
+    let run = hooks_that_run(alloc, kit, &[])?;
     let strays = strays_in(alloc, &run)?;
     let look = Look {
         alloc,

@@ -1,4 +1,5 @@
-//! The message about a mistake in the kit of several files: of which file it is, and where it is there.
+//! The message about a mistake in the kit of several files: of which file it is, and where it is
+//! there.
 
 ghost use Rattle.std.specs.Prelude.{◌≡◌, IfOk, map, option_map, string_bytes};
 ghost use Rattle.press_callbacks.specs.Kits.{is_named as named_among};
@@ -11,7 +12,7 @@ use crate::loads::past;
 use crate::mistake::{Mistake, Why};
 use crate::mistakes::Titled;
 use crate::told::name_at;
-use crate::turning::{Side, front, side_of, turned};
+use crate::turning::{Side, front, side_of, turn_parts};
 use press_kit::{KitParts, Place};
 use std::alloc::{AllocError, Global};
 
@@ -42,14 +43,14 @@ fn sharer<'f>(at: Place, name: &str, shares: &[Share<'f>], parts: KitParts) -> O
         if has_name(at, name, &shares[i], &parts) {
             return Some(shares[i].file);
         }
-        parts = turned(parts, &shares[i]);
+        parts = turn_parts(parts, &shares[i]);
     }
     None
 }
 
-fn sharer_told(alloc: Global, file: Option<&str>) -> Result<String, AllocError>
+fn tell_sharer(alloc: Global, file: Option<&str>) -> Result<String, AllocError>
     ensures { IfOk result (λ t. string_bytes t
-        ≡ spec.sharer_told (option_map (λ f. f.now) file.entry)) }
+        ≡ spec.tell_sharer (option_map (λ f. f.now) file.entry)) }
 {
     match file {
         Some(file) => format!(in alloc; " ({file} has it too)"),
@@ -74,10 +75,10 @@ struct First<'s, 'f> {
 
 impl<'f> First<'_, 'f> {
     // Which other file has what is at a place by its name.
-    fn named_told(self, alloc: Global, at: Place) -> Result<String, AllocError>
+    fn tell_named(self, alloc: Global, at: Place) -> Result<String, AllocError>
         ensures { IfOk result (λ t. string_bytes t
-            ≡ spec.named_told at (told_name self.entry.parts at) (map share_of self.entry.behind.now)
-            (spec.turned (share_of self.entry.share.now) self.entry.parts)) }
+            ≡ spec.tell_named at (told_name self.entry.parts at) (map share_of self.entry.behind.now)
+            (spec.turn_parts (share_of self.entry.share.now) self.entry.parts)) }
     {
         let First {
             share,
@@ -88,49 +89,49 @@ impl<'f> First<'_, 'f> {
             Some(name) => String::from_str(alloc, name)?,
             None => return Ok(String::new(alloc)),
         };
-        let rest = turned(parts, share);
-        sharer_told(alloc, sharer(at, name.as_str(), behind, rest))
+        let rest = turn_parts(parts, share);
+        tell_sharer(alloc, sharer(at, name.as_str(), behind, rest))
     }
 
-    fn also_told(self, alloc: Global, why: Why, at: Place) -> Result<String, AllocError>
+    fn tell_also(self, alloc: Global, why: Why, at: Place) -> Result<String, AllocError>
         ensures { IfOk result (λ t. string_bytes t
-            ≡ spec.also_told why at (share_of self.entry.share.now)
+            ≡ spec.tell_also why at (share_of self.entry.share.now)
             (map share_of self.entry.behind.now) self.entry.parts) }
     {
         match why {
-            Why::SameName => self.named_told(alloc, at),
+            Why::SameName => self.tell_named(alloc, at),
             Why::BuiltInName | Why::Unknown(_) | Why::TooMany(_) => Ok(String::new(alloc)),
         }
     }
 
     // The message about a mistake that is at this place of the share.
-    fn told(self, alloc: Global, mistake: &Mistake, at: Place) -> Result<Message<'f>, AllocError>
+    fn tell(self, alloc: Global, mistake: &Mistake, at: Place) -> Result<Message<'f>, AllocError>
         ensures { IfOk result (λ m. spec.message_of m
-            ≡ spec.own_told mistake.now (share_of self.entry.share.now)
+            ≡ spec.tell_own mistake.now (share_of self.entry.share.now)
             (map share_of self.entry.behind.now) self.entry.parts at) }
     {
         let file = self.share.file;
-        let mut text = told_at(alloc, &self.parts, mistake, at)?;
-        let also = self.also_told(alloc, mistake.why, at)?;
+        let mut text = tell_at(alloc, &self.parts, mistake, at)?;
+        let also = self.tell_also(alloc, mistake.why, at)?;
         text.push_str(also.as_str())?;
         Ok(Message { file, text })
     }
 }
 
-fn told_at(
+fn tell_at(
     alloc: Global,
     parts: &KitParts,
     mistake: &Mistake,
     at: Place,
 ) -> Result<String, AllocError>
-    ensures { IfOk result (λ t. string_bytes t ≡ spec.told_at parts.now mistake.now at) }
+    ensures { IfOk result (λ t. string_bytes t ≡ spec.tell_at parts.now mistake.now at) }
 {
     let why = mistake.why;
     let at = match why {
         Why::TooMany(_) => mistake.at,
         Why::SameName | Why::BuiltInName | Why::Unknown(_) => at,
     };
-    Mistake { at, why }.told(alloc, parts)
+    Mistake { at, why }.tell(alloc, parts)
 }
 
 // By what the file of a mistake is found.
@@ -154,13 +155,13 @@ fn side_before(behind: &[Share<'_>], share: &Share<'_>, at: Place) -> Side
 }
 
 /// The message about a mistake in the kit of these shares.
-pub fn told_of<'f>(
+pub fn message_about<'f>(
     alloc: Global,
     shares: &[Share<'f>],
     parts: KitParts,
     mistake: &Mistake,
 ) -> Result<Message<'f>, AllocError>
-    ensures { IfOk result (λ m. spec.message_of m ≡ spec.told_of
+    ensures { IfOk result (λ m. spec.message_of m ≡ spec.message_about
         (record { kit = parts; shares = map share_of shares.now }) mistake.now) }
 {
     let mut at = sought_at(&parts, mistake);
@@ -174,14 +175,14 @@ pub fn told_of<'f>(
                     behind,
                     parts,
                 };
-                return first.told(alloc, mistake, own);
+                return first.tell(alloc, mistake, own);
             }
             Side::Behind(rest) => {
                 at = rest;
-                parts = turned(parts, share);
+                parts = turn_parts(parts, share);
             }
         }
     }
-    let text = told_at(alloc, &parts, mistake, at)?;
+    let text = tell_at(alloc, &parts, mistake, at)?;
     Ok(Message { file: "", text })
 }

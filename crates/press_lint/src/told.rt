@@ -1,7 +1,7 @@
 //! Places in a kit, as its author sees them.
 
 ghost use Rattle.std.specs.Prelude.{◌≡◌, IfOk, option_map, string_bytes};
-ghost use Rattle.press_lint.specs.Mistakes.{mistake_told, why_told};
+ghost use Rattle.press_lint.specs.Mistakes.{tell_mistake, tell_why};
 ghost use Rattle.press_lint.specs.Told as spec;
 
 use crate::mistake::{Mistake, Sort, Why};
@@ -52,7 +52,7 @@ pub fn name_at(kit: &KitParts, at: Place) -> Option<&str>
     }
 }
 
-fn quoted(alloc: Global, name: Option<&str>) -> Result<String, AllocError>
+fn quote(alloc: Global, name: Option<&str>) -> Result<String, AllocError>
     ensures { IfOk result (λ t. string_bytes t ≡ spec.quoted (option_map (λ t. t.now) name.entry)) }
 {
     match name {
@@ -62,11 +62,11 @@ fn quoted(alloc: Global, name: Option<&str>) -> Result<String, AllocError>
 }
 
 /// A place of something of that name, as the beginning of a line about it.
-pub fn place_told(alloc: Global, name: Option<&str>, at: Place) -> Result<String, AllocError>
+pub fn tell_place(alloc: Global, name: Option<&str>, at: Place) -> Result<String, AllocError>
     ensures { IfOk result (λ t. string_bytes t
-        ≡ spec.place_told (option_map (λ t. t.now) name.entry) at) }
+        ≡ spec.tell_place (option_map (λ t. t.now) name.entry) at) }
 {
-    let name = quoted(alloc, name)?;
+    let name = quote(alloc, name)?;
     match at {
         Place::Callback(n) => format!(in alloc; "callbacks[{n}]{name}: "),
         Place::Op { callback, op } => {
@@ -85,11 +85,11 @@ pub fn place_told(alloc: Global, name: Option<&str>, at: Place) -> Result<String
 pub fn place_in(alloc: Global, kit: &KitParts, at: Place) -> Result<String, AllocError>
     ensures { IfOk result (λ t. string_bytes t ≡ spec.place_in kit.now at) }
 {
-    place_told(alloc, name_at(kit, at), at)
+    tell_place(alloc, name_at(kit, at), at)
 }
 
-fn why_told(alloc: Global, why: &Why) -> Result<String, AllocError>
-    ensures { IfOk result (λ t. string_bytes t ≡ why_told why.now) }
+fn tell_why(alloc: Global, why: &Why) -> Result<String, AllocError>
+    ensures { IfOk result (λ t. string_bytes t ≡ tell_why why.now) }
 {
     match why {
         Why::SameName => String::from_str(alloc, "a later one has the same name"),
@@ -107,11 +107,11 @@ fn why_told(alloc: Global, why: &Why) -> Result<String, AllocError>
 
 impl Mistake {
     /// The message to the author: where it is in the kit, and what is wrong there.
-    pub fn told(&self, alloc: Global, kit: &KitParts) -> Result<String, AllocError>
-        ensures { IfOk result (λ t. string_bytes t ≡ mistake_told kit.now self.now) }
+    pub fn tell(&self, alloc: Global, kit: &KitParts) -> Result<String, AllocError>
+        ensures { IfOk result (λ t. string_bytes t ≡ tell_mistake kit.now self.now) }
     {
         let mut line = place_in(alloc, kit, self.at)?;
-        let why = why_told(alloc, &self.why)?;
+        let why = tell_why(alloc, &self.why)?;
         line.push_str(why.as_str())?;
         Ok(line)
     }

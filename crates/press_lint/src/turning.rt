@@ -23,7 +23,7 @@ pub fn front<T>(items: &[T], n: usize) -> &[T]
 }
 
 // The first so many of these are now the last.
-fn turned_items<T: Drop>(items: Items<T>, n: usize) -> Items<T>
+fn turn_items<T: Drop>(items: Items<T>, n: usize) -> Items<T>
     ensures { result ≡ drop n items ++ take n items }
 {
     let mut all = items.into_vec();
@@ -35,12 +35,12 @@ fn turned_items<T: Drop>(items: Items<T>, n: usize) -> Items<T>
 }
 
 /// The kit with this share, which is its first, at its end.
-pub fn turned(parts: KitParts, share: &Share<'_>) -> KitParts
-    ensures { result ≡ spec.turned (share_of share.now) parts }
+pub fn turn_parts(parts: KitParts, share: &Share<'_>) -> KitParts
+    ensures { result ≡ spec.turn_parts (share_of share.now) parts }
 {
     KitParts {
-        callbacks: turned_items(parts.callbacks, share.callbacks),
-        plugins: turned_items(parts.plugins, share.plugins),
+        callbacks: turn_items(parts.callbacks, share.callbacks),
+        plugins: turn_items(parts.plugins, share.plugins),
     }
 }
 

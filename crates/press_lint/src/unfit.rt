@@ -17,8 +17,8 @@ use press_text::{HookName, NameFault};
 use serde_json::Value;
 use std::alloc::{AllocError, Global};
 
-fn sort_told(value: &Value) -> &'static str
-    ensures { result.now ≡ spec.sort_told (view value.now) }
+fn tell_sort(value: &Value) -> &'static str
+    ensures { result.now ≡ spec.tell_sort (view value.now) }
 {
     if value.is_string() {
         "a text"
@@ -42,13 +42,13 @@ fn word_in(value: &Value) -> Option<&str>
     name_in(value.as_str()?)
 }
 
-fn subject_told(
+fn tell_subject(
     alloc: Global,
     word: Option<&str>,
     number: Option<u64>,
 ) -> Result<String, AllocError>
     ensures { IfOk result (λ t. string_bytes t
-        ≡ spec.subject_told (option_map (λ t. t.now) word.entry) number) }
+        ≡ spec.tell_subject (option_map (λ t. t.now) word.entry) number) }
 {
     match (word, number) {
         (Some(word), _) => format!(in alloc; "\"{word}\" is "),
@@ -58,19 +58,19 @@ fn subject_told(
 }
 
 /// A value as it is named in a message.
-pub fn found_told(alloc: Global, value: &Value) -> Result<String, AllocError>
-    ensures { IfOk result (λ t. string_bytes t ≡ spec.found_told (view value.now)) }
+pub fn tell_found(alloc: Global, value: &Value) -> Result<String, AllocError>
+    ensures { IfOk result (λ t. string_bytes t ≡ spec.tell_found (view value.now)) }
 {
-    let mut told = subject_told(alloc, word_in(value), value.as_u64())?;
-    told.push_str(sort_told(value))?;
+    let mut told = tell_subject(alloc, word_in(value), value.as_u64())?;
+    told.push_str(tell_sort(value))?;
     Ok(told)
 }
 
-fn value_told(alloc: Global, path: &str, value: &Value, wanted: &str) -> Result<String, AllocError>
+fn tell_value(alloc: Global, path: &str, value: &Value, wanted: &str) -> Result<String, AllocError>
     ensures { IfOk result (λ t. string_bytes t
-        ≡ spec.value_told path.now (view value.now) wanted.now) }
+        ≡ spec.tell_value path.now (view value.now) wanted.now) }
 {
-    let found = found_told(alloc, value)?;
+    let found = tell_found(alloc, value)?;
     format!(in alloc; "{path}: {found}, {wanted} is wanted")
 }
 
@@ -90,12 +90,12 @@ fn is_part(alloc: Global, value: &Value) -> Result<bool, AllocError>
     }
 }
 
-fn part_told(alloc: Global, path: &str, n: usize, value: &Value) -> Result<String, AllocError>
-    ensures { IfOk result (λ t. string_bytes t ≡ spec.value_told
+fn tell_part(alloc: Global, path: &str, n: usize, value: &Value) -> Result<String, AllocError>
+    ensures { IfOk result (λ t. string_bytes t ≡ spec.tell_value
         (spec.item_path path.now n) (view value.now) (codes "a part")) }
 {
     let path = item_path(alloc, path, n)?;
-    value_told(alloc, path.as_str(), value, "a part")
+    tell_value(alloc, path.as_str(), value, "a part")
 }
 
 fn unfit_parts(alloc: Global, path: &str, items: &[Value]) -> Result<Option<String>, AllocError>
@@ -104,7 +104,7 @@ fn unfit_parts(alloc: Global, path: &str, items: &[Value]) -> Result<Option<Stri
 {
     for n in 0..items.len() {
         if !is_part(alloc, &items[n])? {
-            return Ok(Some(part_told(alloc, path, n, &items[n])?));
+            return Ok(Some(tell_part(alloc, path, n, &items[n])?));
         }
     }
     Ok(None)
@@ -118,9 +118,9 @@ fn misfit(
     value: &Value,
 ) -> Result<Option<String>, AllocError>
     ensures { IfOk result (λ told. option_map string_bytes told
-        ≡ Some (spec.value_told path.now (view value.now) (spec.wanted_told wanted))) }
+        ≡ Some (spec.tell_value path.now (view value.now) (spec.tell_wanted wanted))) }
 {
-    let told = value_told(alloc, path, value, wanted.told())?;
+    let told = tell_value(alloc, path, value, wanted.words())?;
     Ok(Some(told))
 }
 
@@ -192,12 +192,12 @@ fn unfit_args(alloc: Global, path: &str, value: &Value) -> Result<Option<String>
     }
 }
 
-fn string_told(alloc: Global, path: &str, n: usize, value: &Value) -> Result<String, AllocError>
-    ensures { IfOk result (λ t. string_bytes t ≡ spec.value_told
+fn tell_string(alloc: Global, path: &str, n: usize, value: &Value) -> Result<String, AllocError>
+    ensures { IfOk result (λ t. string_bytes t ≡ spec.tell_value
         (spec.item_path path.now n) (view value.now) (codes "a text")) }
 {
     let path = item_path(alloc, path, n)?;
-    value_told(alloc, path.as_str(), value, "a text")
+    tell_value(alloc, path.as_str(), value, "a text")
 }
 
 fn unfit_strings(alloc: Global, path: &str, items: &[Value]) -> Result<Option<String>, AllocError>
@@ -206,7 +206,7 @@ fn unfit_strings(alloc: Global, path: &str, items: &[Value]) -> Result<Option<St
 {
     for n in 0..items.len() {
         if !items[n].is_string() {
-            return Ok(Some(string_told(alloc, path, n, &items[n])?));
+            return Ok(Some(tell_string(alloc, path, n, &items[n])?));
         }
     }
     Ok(None)

@@ -119,8 +119,8 @@ pub fn wanted_at(at: Place, key: &str) -> Wanted
 
 impl Wanted {
     /// What it is, in words.
-    pub fn told(self) -> &'static str
-        ensures { result.now ≡ spec.wanted_told self }
+    pub fn words(self) -> &'static str
+        ensures { result.now ≡ spec.tell_wanted self }
     {
         match self {
             Wanted::HookName => "a name of 1 to 64 letters, digits, _ and -",

@@ -1,5 +1,5 @@
-//! Checks kit files: `press_lint_cases FILE ..` prints for each the number of its fault with the message to its author, or
-//! 0 and a line for each slip in it.
+//! Checks kit files: `press_lint_cases FILE ..` prints for each the number of its fault with the
+//! message to its author, or 0 and a line for each slip in it.
 #![tactic(auto)]
 
 use press_lint::{LintFault, lint};

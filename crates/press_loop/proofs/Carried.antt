@@ -1,4 +1,5 @@
--- What a loop writes, by how the schedule was read and how its transcript was written; and its nodes.
+-- What a loop writes, by how the schedule was read and how its transcript was written; and its
+-- nodes.
 use Rattle.std.proofs.Common.{ℕ, ◌+◌, ◌≡◌, ◌≢◌, ◌≤◌, List, [], ◌∷◌, length, map, take, zero, suc, Option, None, Some, Result, Ok, Err, IfErr, refl, sym, subst, ap, ◌∙◌, append-nil, arith}
 use Rattle.std.proofs.lemmas.List.{length-map}
 use Rattle.std.specs.Io.KnownBytes.{Appends}

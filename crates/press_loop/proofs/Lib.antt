@@ -2,4 +2,3 @@ pub mod Carried
 pub mod Fronts
 pub mod Heard
 pub mod Onward
-pub mod Outcomes

@@ -1,5 +1,6 @@
--- What a connection carries between the two ends that the program holds, where the bytes of its streams are known (own); of a reply the front up to its status
--- is kept: the version, a space and three digits (RFC 9112, 4).
+-- What a connection carries between the two ends that the program holds, where the bytes of its
+-- streams are known (own); of a reply the front up to its status is kept: the version, a space and
+-- three digits (RFC 9112, 4).
 use Rattle.std.specs.Prelude.{◌≡◌, ℕ, ◌-◌, List, [], ◌++◌, drop, length, take, codes, Option, None, Some, Result, MatchResult}
 use Rattle.std.specs.Io.KnownBytes.{Appends, Consumes, Keeps}
 use Rattle.press_text.specs.Decimals.{decimal_in}
@@ -21,7 +22,8 @@ Brings old new bytes result = MatchResult result (λ n. Consumes old new (take n
 
 -- ---- replies
 
--- A write gave the server's end as many of the bytes as it says; one that failed may have given some.
+-- A write gave the server's end as many of the bytes as it says; one that failed may have given
+-- some.
 abbrev pub Gives : {E : Type 0} → Option (List ℕ) → Option (List ℕ) → List ℕ → Result ℕ E → Type 0
 Gives old new bytes result = MatchResult result (λ n. Appends old new (take n bytes)) (λ _. AppendsFront old new bytes)
 

@@ -1,4 +1,5 @@
--- What a loop over sockets writes: the transcript of a replay, of which a failed socket leaves a prefix (own).
+-- What a loop over sockets writes: the transcript of a replay, of which a failed socket leaves a
+-- prefix (own).
 use Rattle.std.specs.Prelude.{◌≡◌, ℕ, List, Option, Result, Ok, Err}
 use Rattle.std.specs.Io.KnownBytes.{Appends}
 use Rattle.press_kit.specs.declared.place.Place.{Place}
@@ -8,7 +9,8 @@ use Rattle.press_world.specs.declared.replay_fault.ReplayFault.{ReplayFault}
 use Rattle.press_world.specs.declared.replay_fault.ReplayFault.TheVariants.{NoMemory, ReadFault, WriteFault, BadSchedule}
 use Rattle.press_world.specs.declared.step.Step.{Step}
 
--- The transcript, or a prefix of it where a socket or a write failed or memory ran out; nothing where the file is bad or couldn't be read.
+-- The transcript, or a prefix of it where a socket or a write failed or memory ran out; nothing
+-- where the file is bad or couldn't be read.
 abbrev pub WritesFront : {T : Type 0} → (ℕ × List Step → List ℕ) → Result (ℕ × List Step) Place → Option (List ℕ) → Option (List ℕ) → Result T ReplayFault → Type 0
 WritesFront shows (Ok schedule) old new (Ok done) = Appends old new (shows schedule)
 WritesFront shows (Ok schedule) old new (Err NoMemory) = AppendsFront old new (shows schedule)

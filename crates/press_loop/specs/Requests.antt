@@ -1,6 +1,8 @@
--- The request by which a step of a schedule comes to a node: a request line, fields, an empty line and a body (RFC 9112, 2.1, 3 and 3.2.1). A command comes as
--- a form (URL Standard, 5.2), a message as its spelling, and a page is asked for by its path; paths and names of pairs are own. A step that names no
--- node or no message, one whose body may not be sent, a wake and a restart come without a request.
+-- The request by which a step of a schedule comes to a node: a request line, fields, an empty line
+-- and a body (RFC 9112, 2.1, 3 and 3.2.1). A command comes as a form (URL Standard, 5.2), a message
+-- as its spelling, and a page is asked for by its path; paths and names of pairs are own. A step
+-- that names no node or no message, one whose body may not be sent, a wake and a restart come
+-- without a request.
 use Rattle.std.specs.Prelude.{ℕ, ◌&&◌, Bool, List, ◌++◌, length, nat_le, codes, decimal, if◌then◌else◌, Option, None, Some}
 use Rattle.press_forms.specs.Forms.{form_of}
 use Rattle.press_http.specs.Bodies.{longest_form}

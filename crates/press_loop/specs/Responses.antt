@@ -1,8 +1,9 @@
--- The reply to a step that came by a request: its page, that it waits, that it was taken, or the status of the fault that refuses it. Where a stop cut the step,
--- or there is no such node or message, the connection is closed without one (RFC 9112, 9.6; own).
+-- The reply to a step that came by a request: its page, that it waits, that it was taken, or the
+-- status of the fault that refuses it. Where a stop cut the step, or there is no such node or
+-- message, the connection is closed without one (RFC 9112, 9.6; own).
 use Rattle.std.specs.Prelude.{ℕ, List, [], if◌then◌else◌, Option, None, Some, option_map, Result, Ok, Err}
 use Rattle.press_http.specs.Replies.{fixed_reply, reply_bytes}
-use Rattle.press_node.specs.Serving.{queued, status_of_node, taken}
+use Rattle.press_node.specs.Serving.{queued_reply, status_of_node, taken_reply}
 use Rattle.press_page.specs.declared.reply.Reply.{Reply}
 use Rattle.press_world.specs.declared.fault.WorldFault.{WorldFault}
 use Rattle.press_world.specs.declared.fault.WorldFault.TheVariants.{NoSuchMessage, NoSuchNode, Node}
@@ -11,11 +12,11 @@ use Rattle.press_world.specs.declared.step.Step.{Step}
 use Rattle.press_world.specs.declared.step.Step.TheVariants.{Submit, Wake, Deliver, Restart, Get}
 
 abbrev pub without_page : Step → Reply
-without_page (Submit node command cut) = queued
-without_page (Wake node cut) = taken
-without_page (Deliver message cut) = taken
-without_page (Restart node) = taken
-without_page (Get node target) = taken
+without_page (Submit node command cut) = queued_reply
+without_page (Wake node cut) = taken_reply
+without_page (Deliver message cut) = taken_reply
+without_page (Restart node) = taken_reply
+without_page (Get node target) = taken_reply
 
 abbrev pub page_or : Reply → Option Reply → Reply
 page_or other None = other

@@ -3,7 +3,7 @@
 ghost use Rattle.std.specs.Prelude.{◌≡◌, ◌≢◌, true, IfErr, IfOk, IfSome};
 ghost use Rattle.std.specs.Io.KnownBytes.{Appends};
 ghost use Rattle.press_http.specs.Replies.{fixed_reply, reply_bytes};
-ghost use Rattle.press_node.specs.Serving.{queued, status_of_node, taken};
+ghost use Rattle.press_node.specs.Serving.{queued_reply, status_of_node, taken_reply};
 ghost use Rattle.press_loop.specs.Responses.{bytes_of, reply_for, reply_to, status_to, without_page};
 
 use crate::alike::is_sent;
@@ -29,7 +29,7 @@ fn fault_of(fault: HttpFault) -> ReplayFault
     }
 }
 
-fn asked<R: Read>(alloc: Global, reader: &mut R) -> Result<Asked, HttpFault> {
+fn parse_request<R: Read>(alloc: Global, reader: &mut R) -> Result<Asked, HttpFault> {
     let request = read_request(alloc, reader)?;
     route(alloc, &request)
 }
@@ -86,8 +86,9 @@ fn deliver_from(step: &Step, came: &Message, world: &World) -> Option<Step>
     }
 }
 
-/// The step of what the request on a connection asks, with node and cut of the schedule's step. ReadFault where what
-/// came is something else than what the schedule has there; a message is the one with the step's number.
+/// The step of what the request on a connection asks, with node and cut of the schedule's step.
+/// ReadFault where what came is something else than what the schedule has there; a message is the
+/// one with the step's number.
 pub fn step_from<R: Read>(
     alloc: Global,
     reader: &mut R,
@@ -97,7 +98,7 @@ pub fn step_from<R: Read>(
     ensures step { IfOk result (λ came. came ≡ step.now) }
     ensures fault { IfErr result (λ e. e ≢ ReplayFault.BadSchedule) }
 {
-    let made = match asked(alloc, reader).map_err(fault_of)? {
+    let made = match parse_request(alloc, reader).map_err(fault_of)? {
         Asked::Command(command) => submit_from(step, command),
         Asked::Page(target) => get_from(step, target),
         Asked::Peer(message) => deliver_from(step, &message, world),
@@ -107,7 +108,7 @@ pub fn step_from<R: Read>(
 
 // The reply that a command waits to be chosen.
 fn queue_reply(alloc: Global) -> Result<Reply, AllocError>
-    ensures { IfOk result (λ reply. reply ≡ queued) }
+    ensures { IfOk result (λ reply. reply ≡ queued_reply) }
 {
     Ok(Reply {
         status: 202,
@@ -118,7 +119,7 @@ fn queue_reply(alloc: Global) -> Result<Reply, AllocError>
 
 // The reply that a message was taken.
 fn message_reply(alloc: Global) -> Reply
-    ensures { result ≡ taken }
+    ensures { result ≡ taken_reply }
 {
     Reply {
         status: 200,
@@ -174,8 +175,8 @@ fn tell_done<W: Write>(
     }
 }
 
-/// Answers a step as a node's connection does; returns the status of the reply, or None where the connection is to
-/// close without one, as that of a node that was stopped.
+/// Answers a step as a node's connection does; returns the status of the reply, or None where the
+/// connection is to close without one, as that of a node that was stopped.
 #[tactic(auto, using(crate::proofs::Carried::unchanged))]
 pub fn answer<W: Write>(
     alloc: Global,

@@ -90,8 +90,8 @@ fn message_request(alloc: Global, message: &Message) -> Result<Option<Vec<u8>>, 
 }
 
 /// The bytes of the request by which a step comes to a node. None for a step that comes without a
-/// connection: a wake, a restart, one that names no node or no message, and a command whose form is longer than a body
-/// may be.
+/// connection: a wake, a restart, one that names no node or no message, and a command whose form is
+/// longer than a body may be.
 pub fn request_of(
     alloc: Global,
     nodes: usize,

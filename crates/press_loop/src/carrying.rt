@@ -30,7 +30,8 @@ impl<'r, Rt: Net> Loopback<'r, Rt> {
         Ok(Loopback { rt, listener, addr })
     }
 
-    /// A new connection, by which a request is to come. Where somebody else has come before, it is refused.
+    /// A new connection, by which a request is to come. Where somebody else has come before, it is
+    /// refused.
     pub fn connect<'q>(&self, request: &'q [u8]) -> io::Result<Connection<'q, Rt::Stream>>
         ensures request { IfOk result (λ c. c.client.request.now ≡ request.now) }
         ensures front { IfOk result (λ c. c.client.front ≡ []) }
@@ -131,8 +132,8 @@ fn behind<'a>(written: &'a [u8], came: &[u8]) -> Option<&'a [u8]>
     written.strip_prefix(came)
 }
 
-/// A connection as its server has it. What is read here the client sends just before, and what is written here it
-/// receives at once, so that neither end waits for the other.
+/// A connection as its server has it. What is read here the client sends just before, and what is
+/// written here it receives at once, so that neither end waits for the other.
 #[derive(Drop)]
 pub struct Connection<'q, S> {
     server: S,

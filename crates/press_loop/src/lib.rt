@@ -1,4 +1,5 @@
-//! Schedules whose steps come over sockets of the loopback: each command, message and request for a page by a request of its own.
+//! Schedules whose steps come over sockets of the loopback: each command, message and request for a
+//! page by a request of its own.
 #![tactic(auto)]
 
 mod alike;

@@ -62,7 +62,8 @@ fn is_wanting(played: &Result<Played, WorldFault>) -> bool
 }
 
 impl<Rt: Net> Looped<'_, Rt> {
-    // A step that comes over a connection, and the reply to it, of which its client has to receive the status.
+    // A step that comes over a connection, and the reply to it, of which its client has to receive
+    // the status.
     fn play_over(
         &mut self,
         connection: &mut Connection<'_, Rt::Stream>,
@@ -189,12 +190,12 @@ fn loop_new<Rt: AllocGlobal + Net, W: Write>(
     looped.play_all(steps, writer)
 }
 
-/// Writes the transcript of the schedule that a reader has left, as `press_world::replay` does. Each command, message
-/// and request for a page comes by a request of its own over a socket of the loopback, whose other end the program
-/// holds too, and is answered there.
+/// Writes the transcript of the schedule that a reader has left, as `press_world::replay` does.
+/// Each command, message and request for a page comes by a request of its own over a socket of the
+/// loopback, whose other end the program holds too, and is answered there.
 ///
-/// A socket that can't be opened, that fails, or that brings something else than what was sent ends it with ReadFault;
-/// what was written before stays.
+/// A socket that can't be opened, that fails, or that brings something else than what was sent ends
+/// it with ReadFault; what was written before stays.
 pub fn loop_over<Rt: AllocGlobal + Net, R: Read, W: Write>(
     rt: &Rt,
     kits: Vec<Kit>,

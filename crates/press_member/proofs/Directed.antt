@@ -9,7 +9,7 @@ use Rattle.press_node.specs.NodeEvent.{Running, is_for, on_event}
 use Rattle.press_node.specs.Refusals.{refusal}
 use Rattle.press_world.specs.Adding.{Adds}
 use Rattle.press_world.specs.Agreeing.{Agrees}
-use Rattle.press_world.specs.Worlds.{Place, World, asked, at_index, comes, does, does_at, effect, index_of, new_world, refusal_before, restarted, step, unless_refused}
+use Rattle.press_world.specs.Worlds.{Place, World, with_query, at_index, comes, does, does_at, effect, index_of, new_world, refusal_before, restarted, step, unless_refused}
 use Rattle.press_world.specs.declared.step.Cut.{Cut}
 use Rattle.press_world.specs.declared.step.Step.{Step}
 use Rattle.press_world.specs.declared.step.Step.TheVariants.{Submit, Wake, Deliver, Restart}
@@ -20,7 +20,7 @@ pub record Law : Type 0 where
   pub new : (n : ℕ) → Agrees n (new_world n)
   pub agrees : (n : ℕ) (w : World) (x : Step) → Agrees n w → Agrees n (step n w x)
   pub adds : (n : ℕ) (w : World) (x : Step) → Adds w.trace (step n w x).trace
-  pub question : (n : ℕ) (w : World) (from to slot : ℕ) → IsMember n from → IsMember n to → Agrees n w → Agrees n (asked w from to slot)
+  pub question : (n : ℕ) (w : World) (from to slot : ℕ) → IsMember n from → IsMember n to → Agrees n w → Agrees n (with_query w from to slot)
 
 -- a message is for this member, and from one
 abbrev pub IsDirected : ℕ → ℕ → Event → Type 0

@@ -1,4 +1,5 @@
--- A world of the definition stands for members over any stores: each move of theirs is some steps of it, or a question.
+-- A world of the definition stands for members over any stores: each move of theirs is some steps
+-- of it, or a question.
 use Rattle.std.proofs.Common.{ℕ, zero, suc, ◌+◌, ◌≡◌, ◌≢◌, ◌⊎◌, inl, inr, Bool, true, false, cond, List, [], ◌∷◌, ◌++◌, slice_get, slice_set, take, Option, None, Some, Result, refl, sym, subst, ap, ◌∙◌, append-nil, append_assoc, arith}
 use Rattle.press_wire.specs.declared.message.Message.{Message}
 use Rattle.press_acceptor.specs.Seen.{Seen}
@@ -14,7 +15,7 @@ use Rattle.press_node.specs.Refusals.{refusal}
 use Rattle.press_node.specs.States.{NodeState, running_in}
 use Rattle.press_world.specs.Adding.{Adds}
 use Rattle.press_world.specs.Agreeing.{Agrees}
-use Rattle.press_world.specs.Worlds.{Place, World, asked, effect, new_places, new_world, restarted}
+use Rattle.press_world.specs.Worlds.{Place, World, with_query, effect, new_places, new_world, restarted}
 use Rattle.press_world.specs.declared.step.Cut.TheVariants.{AfterSave, AfterMessages}
 use Rattle.press_member.specs.Acting.{IsSettled, Does, Stops, ActsUp}
 use Rattle.press_member.specs.Members.{Member, Members, Move, Comes, MayLeave, StartsAt, IsMove, AreMoves, BreaksAt, BreaksBy, Holding, after, after_all, out_of, question, unstarted, new_members}
@@ -386,7 +387,7 @@ module _ {S : Type 0} (seen : S → Seen) (law : Law) (n : ℕ) where
   moves_on m w stands (Breaks index e left out state) h = broken m w stands index e left out state h
   moves_on m w stands (Starts index t state) h = started m w stands index t state h
   moves_on m w stands (Asks from to slot) h = (
-    asked w from to slot,
+    with_query w from to slot,
     same_trace w.trace,
     record {
       agrees = law.question n w from to slot h.0 h.1 stands.agrees;

@@ -4,9 +4,9 @@ use Rattle.press_acceptor.specs.Seen.{Looks, Seen}
 use Rattle.press_acceptor.specs.StoreMap.{StoreMap}
 use Rattle.press_node.specs.States.{NodeState, running_in, started_at}
 use Rattle.press_batch.specs.declared.report.Digests.{Digests}
-use Rattle.press_member.specs.Acts.{View, begun}
+use Rattle.press_member.specs.Acts.{View, first_view}
 use Rattle.press_member.specs.Among.{IsAmong}
-use Rattle.press_member.specs.declared.member.Beginning.{Beginning}
+use Rattle.press_member.specs.declared.beginning.Beginning.{Beginning}
 use Rattle.press_member.specs.Members.{IsMove, MayLeave, Members, after}
 use Rattle.press_member.specs.Members.Holding.{Over}
 use Rattle.press_member.specs.Members.Move.{Starts}
@@ -47,10 +47,10 @@ by_peers b node n d = record {
   is_open = false;
 }
 
-pub begun_is : {N : Type 0} (b : Beginning) (node : N) (n : ℕ) (d : Digests) (v : View N) → v ≡ by_peers b node n d → n ≡ b.members → d ≡ b.digests → v ≡ begun b node
+pub begun_is : {N : Type 0} (b : Beginning) (node : N) (n : ℕ) (d : Digests) (v : View N) → v ≡ by_peers b node n d → n ≡ b.members → d ≡ b.digests → v ≡ first_view b node
 begun_is b node n d v e f g = e ∙ ap (λ m. by_peers b node m d) f ∙ ap (by_peers b node b.members) g
 
-pub its_start : {S N : Type 0} (seen : S → Seen) (store : N → S) (state : N → NodeState) (shown : S) (b : Beginning) (node : N) (v : View N) → v ≡ begun b node → ((seen (store node)).is_honest → Looks (seen shown) (seen (store node))) →
+pub its_start : {S N : Type 0} (seen : S → Seen) (store : N → S) (state : N → NodeState) (shown : S) (b : Beginning) (node : N) (v : View N) → v ≡ first_view b node → ((seen (store node)).is_honest → Looks (seen shown) (seen (store node))) →
     ((seen (store node)).is_honest → state node ≡ started_at b.id b.members (seen shown).kept.last_round) → IsItsStart seen store state shown v
 its_start seen store state shown b node v e looks started =
     subst (λ x. IsItsStart seen store state shown x) (sym e) (λ index w own left honest opened. starts_among seen b.members b.id index w shown (store node) (state node) own left opened (looks honest) (started honest))

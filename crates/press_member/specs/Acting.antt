@@ -34,13 +34,15 @@ module _ {S : Type 0} (seen : S → Seen) where
   abbrev pub IsSaved : StoreMap → Answer → Option NodeFault → StoreMap → Type 0
   IsSaved kept a refused left = (save : Save) × (refused ≡ None) × (a.save ≡ Some save) × (left ≡ saved kept save)
 
-  -- It stopped the node: nothing is sent, and a stop leaves the store of before the save or after it.
+  -- It stopped the node: nothing is sent, and a stop leaves the store of before the save or after
+  -- it.
   pub record Stops (t : S) (kept : StoreMap) (a : Answer) (refused : Option NodeFault) (up : Option Running) (outcome : Result (List Message) NodeFault) : Type 0 where
     pub sends : out_of outcome ≡ []
     pub down : up ≡ None
     pub leaves : (left : StoreMap) → (seen t).may_leave left → (left ≡ kept) ⊎ IsSaved kept a refused left
 
-  -- of a node that was down nothing changes; of one that was up the event was done or refused, or it stopped the node
+  -- of a node that was down nothing changes; of one that was up the event was done or refused, or
+  -- it stopped the node
   abbrev pub ActsUp : (s t : S) → StoreMap → ℕ → ℕ → Option Running → Option Running → Event → Result (List Message) NodeFault → Type 0
   ActsUp s t kept n id None up event outcome = (t ≡ s) × (up ≡ None) × (out_of outcome ≡ [])
   ActsUp s t kept n id (Some node) up event outcome =

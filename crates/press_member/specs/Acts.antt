@@ -7,7 +7,7 @@ use Rattle.press_page.specs.declared.reply.Target.{Target}
 use Rattle.press_wire.specs.declared.message.Message.{Message}
 use Rattle.press_acceptor.specs.declared.fault.StoreFault.{StoreFault}
 use Rattle.press_node.specs.Nodes.{IsPageAt, NodeMove}
-use Rattle.press_node.specs.declared.kept.Node.{Node}
+use Rattle.press_node.specs.declared.node.Node.{Node}
 use Rattle.press_node.specs.States.{NodeState, Up, count_where, is_down, is_down_where}
 use Rattle.press_node.specs.declared.event.Event.{Event}
 use Rattle.press_node.specs.declared.event.Event.TheVariants as event
@@ -21,10 +21,11 @@ use Rattle.press_member.specs.declared.input.Input.TheVariants.{Form, Page, Mess
 use Rattle.press_member.specs.declared.output.Answer.{Answer}
 use Rattle.press_member.specs.declared.output.Answer.TheVariants as answer
 use Rattle.press_member.specs.declared.output.Outputs.{Outputs}
-use Rattle.press_member.specs.declared.member.Beginning.{Beginning}
-use Rattle.press_member.specs.declared.kept.Member.{Member}
+use Rattle.press_member.specs.declared.beginning.Beginning.{Beginning}
+use Rattle.press_member.specs.declared.member.Member.{Member}
 
--- A member: its node, what it has sent to itself and not heard yet, and what it knows of the cluster.
+-- A member: its node, what it has sent to itself and not heard yet, and what it knows of the
+-- cluster.
 pub record View (N : Type 0) : Type 0 where
   pub id : ℕ
   pub members : ℕ
@@ -65,12 +66,12 @@ TakesMemory old (Page target) = ⊥
 TakesMemory old (Report from report) = ⊥
 TakesMemory old (Ended to asked is_taken) = ⊥
 
-abbrev pub taken : Option NodeFault → Answer
-taken None = answer.Taken
-taken (Some fault) = answer.Refused fault
+abbrev pub taken_answer : Option NodeFault → Answer
+taken_answer None = answer.Taken
+taken_answer (Some fault) = answer.Refused fault
 
 abbrev pub taken_if : Bool → Option NodeFault → Answer
-taken_if true refused = taken refused
+taken_if true refused = taken_answer refused
 taken_if false refused = answer.NotYet
 
 -- the page, or why there is none
@@ -87,16 +88,17 @@ Hears own theirs given = ((given ≡ answer.Taken) × (theirs ≡ own)) ⊎ ((gi
 -- what is answered to an input
 abbrev pub Answers : {N : Type 0} → View N → KitView → Option Up → Input → Option NodeFault → Answer → Type 0
 Answers old kit up (Form command) refused given = given ≡ taken_if old.is_open refused
-Answers old kit up (Letter message) refused given = given ≡ taken refused
+Answers old kit up (Letter message) refused given = given ≡ taken_answer refused
 Answers old kit up (Page target) refused given = Shows old.is_open kit up target given
 Answers old kit up (Report from report) refused given = Hears old.digests report.digests given
 Answers old kit up (Ended to asked is_taken) refused given = given ≡ answer.Nothing
 Answers old kit up Sent refused given = given ≡ answer.Nothing
 Answers old kit up (Time now) refused given = given ≡ answer.Nothing
 
--- A member before and after an input: its node moved by the deeds that the input has it do, each by *Plays*; it heard nothing but what the input brought and, in their order
--- and each once, the messages that it had sent to itself; what stopped its node is told; and what it sent to others goes out, in its order. Where there is memory nothing of
--- that is lost.
+-- A member before and after an input: its node moved by the deeds that the input has it do, each by
+-- *Plays*; it heard nothing but what the input brought and, in their order and each once, the
+-- messages that it had sent to itself; what stopped its node is told; and what it sent to others
+-- goes out, in its order. Where there is memory nothing of that is lost.
 pub record Acts {N : Type 0} (moved : N → N → NodeMove) (input : Input) (old new : View N) (result : Result Outputs AllocError) : Type 0 where
   pub id : new.id ≡ old.id
   pub members : new.members ≡ old.members
@@ -121,8 +123,8 @@ view_of member = record {
 }
 
 -- one that begins with this node
-abbrev pub begun : {N : Type 0} → Beginning → N → View N
-begun beginning node = record {
+abbrev pub first_view : {N : Type 0} → Beginning → N → View N
+first_view beginning node = record {
   id = beginning.id;
   members = beginning.members;
   digests = beginning.digests;
@@ -135,7 +137,8 @@ begun beginning node = record {
 abbrev pub is_open : {N : Type 0} → View N → Bool
 is_open view = view.is_open
 
--- where its node was down just where something is told to have stopped it, that is so after it too, while the store keeps its word
+-- where its node was down just where something is told to have stopped it, that is so after it too,
+-- while the store keeps its word
 abbrev pub TellsStop : {N : Type 0} → (N → Type 0) → (N → NodeState) → View N → View N → Type 0
 TellsStop trusted state old new = trusted new.node → is_down (state old.node) ≡ is_some old.stop → is_down (state new.node) ≡ is_some new.stop
 

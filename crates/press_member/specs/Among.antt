@@ -33,7 +33,8 @@ IsBy index (Asks from to slot) = from ≡ index + 1
 abbrev pub AreBy : {S : Type 0} → ℕ → List (Move S) → Type 0
 AreBy index moves = AllByRecursion (IsBy index) moves
 
--- The member at this index has this store and state; what it has waiting was sent, and so was what it heard.
+-- The member at this index has this store and state; what it has waiting was sent, and so was what
+-- it heard.
 pub record IsAmong {S : Type 0} (seen : S → Seen) (w : Members S) (index : ℕ) (store : S) (state : NodeState) (mail : Letters) (heard : List Message) : Type 0 where
   pub at : slice_get w.all index ≡ Some (record { store = Over store; state = state })
   pub is_open : WhileUp (running_in state) (IsTrue (seen store).is_open)

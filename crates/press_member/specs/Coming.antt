@@ -22,14 +22,16 @@ heard_in Sent = []
 heard_in (Time now) = []
 
 module _ {S : Type 0} (seen : S → Seen) where
-  -- by some moves of its own it comes to this store and state; and what it has to hear of itself then, and what goes out, was sent
+  -- by some moves of its own it comes to this store and state; and what it has to hear of itself
+  -- then, and what goes out, was sent
   pub record ComesTo (n : ℕ) (w : Members S) (index : ℕ) (store : S) (state : NodeState) (own out : List Message) : Type 0 where
     pub moves : List (Move S)
     pub are : AreMoves seen n w moves
     pub by : AreBy index moves
     pub is_among : IsAmong seen (after_all w moves) index store state (record { own = own; out = out }) []
 
-  -- Of members among whom it is the one at an index, where what the input brings was sent, an input is some moves of this one, if its store is honest.
+  -- Of members among whom it is the one at an index, where what the input brings was sent, an input
+  -- is some moves of this one, if its store is honest.
   abbrev pub AreItsMoves : {N : Type 0} → (N → S) → (N → NodeState) → Input → View N → View N → Result Outputs AllocError → Type 0
   AreItsMoves store state input old new result =
       (index : ℕ) (w : Members S) → old.id ≡ index + 1 → index < old.members → IsAmong seen w index (store old.node) (state old.node) (record { own = old.own; out = [] }) (heard_in input) →

@@ -1,4 +1,5 @@
--- A turn of a member: a list of deeds, each an event of its node or a question, with what there was memory for of what it sent (own).
+-- A turn of a member: a list of deeds, each an event of its node or a question, with what there was
+-- memory for of what it sent (own).
 use Rattle.std.specs.Prelude.{ℕ, ◌≡◌, ◌==◌, not, List, [], ◌∷◌, ◌++◌, filter, drop, slice_get, Option, None, Some, Result, Ok, Err}
 use Rattle.press_wire.specs.declared.message.Message.{Message}
 use Rattle.press_acceptor.specs.Trace.{IsMember}
@@ -11,7 +12,8 @@ use Rattle.press_node.specs.declared.fault.NodeFault.{NodeFault}
 use Rattle.press_node.specs.declared.fault.NodeFault.TheVariants as fault
 use Rattle.press_member.specs.Members.{out_of, question}
 
--- of what the member with this number sends, what goes to itself, and what to others, in the order in which it was sent
+-- of what the member with this number sends, what goes to itself, and what to others, in the order
+-- in which it was sent
 abbrev pub for_self : ℕ → List Message → List Message
 for_self id = filter (λ m. m.to == id)
 
@@ -49,7 +51,8 @@ stop_behind stop (Ok out) = stop
 stop_behind stop (Err fault) = later stop (stop_of fault)
 
 pub data Deed (N : Type 0) : Type 0 where
-  -- the node plays an event, with this outcome, and is this node then; these of its messages are kept
+  -- the node plays an event, with this outcome, and is this node then; these of its messages are
+  -- kept
   Plays : (cause : Cause) (event : Event) (outcome : Result (List Message) NodeFault) (kept : List Message) (after : N) → Deed N
   -- a member is asked about a slot
   Asks : (to slot : ℕ) (kept : List Message) → Deed N
@@ -91,7 +94,8 @@ KeepsAll id (d ∷ deeds) = (kept_by d ≡ sent_by id d) × KeepsAll id deeds
 abbrev pub IsFront : List Message → List Message → Type 0
 IsFront front all = (rest : List Message) × (front ++ rest ≡ all)
 
--- what waits for the member itself behind a deed: what is heard leaves it, and what it sends to itself comes in at its end
+-- what waits for the member itself behind a deed: what is heard leaves it, and what it sends to
+-- itself comes in at its end
 abbrev pub own_after : {N : Type 0} → ℕ → List Message → Deed N → List Message
 own_after id own (Plays Heard event outcome kept after) = drop 1 own ++ for_self id kept
 own_after id own (Plays Brought event outcome kept after) = own ++ for_self id kept
@@ -109,7 +113,8 @@ IsCause own Heard e = (m : Message) × (slice_get own 0 ≡ Some m) × (e ≡ ev
 IsCause own Due e = e ≡ event.Wake
 
 module _ {N : Type 0} (moved : N → N → NodeMove) (n id : ℕ) where
-  -- of a member that has these messages to hear: the deeds lead from a node to another, who is asked is one of n members
+  -- of a member that has these messages to hear: the deeds lead from a node to another, who is
+  -- asked is one of n members
   abbrev pub Does : List Message → N → List (Deed N) → N → Type 0
   Does own node [] after = after ≡ node
   Does own node (Plays cause e outcome kept next ∷ deeds) after =

@@ -25,7 +25,8 @@ after_end count is_taken now peer = if is_taken then after_hearing now (with_few
 abbrev pub changed_at : ℕ → (Peer → Peer) → List Peer → List Peer
 changed_at place change peers = unwrap_or (option_map (λ peer. slice_set peers place (change peer)) (slice_get peers place)) peers
 
--- whether this tells that somebody proposes: who sends it, or, with a vote, somebody for whose proposal it was cast
+-- whether this tells that somebody proposes: who sends it, or, with a vote, somebody for whose
+-- proposal it was cast
 abbrev pub proposes : Body → Bool
 proposes (Prepare round) = true
 proposes (Accept round value) = true
@@ -35,5 +36,5 @@ proposes (Nack refused promised) = false
 proposes Query = false
 
 -- the slot, where a message about it with this body tells that somebody proposes for it
-abbrev pub slot_proposed : Body → ℕ → Option ℕ
-slot_proposed body slot = if proposes body then Some slot else None
+abbrev pub proposed_slot : Body → ℕ → Option ℕ
+proposed_slot body slot = if proposes body then Some slot else None

@@ -20,7 +20,8 @@ abbrev pub HasApplied : {S : Type 0} → Option (Member S) → List Value → Ty
 HasApplied None values = ⊥
 HasApplied (Some member) values = HasValues (running_in member.state) values
 
--- What a stop may leave holds what the trace says of the member; or it does so once one legal fact of its own is added, that of a save that failed and is there all the same.
+-- What a stop may leave holds what the trace says of the member; or it does so once one legal fact
+-- of its own is added, that of a save that failed and is there all the same.
 abbrev pub LeavesAgreeing : ℕ → ℕ → StoreMap → List Fact → Type 0
 LeavesAgreeing n id left trace =
     StoreAgrees id left trace ⊎ ((fact : Fact) × IsOf id fact × Allowed n block_of trace fact × StoreAgrees id left (fact ∷ trace))
@@ -43,7 +44,8 @@ module _ {S : Type 0} (seen : S → Seen) where
     pub adds : Adds before trace
     pub once : ChoosesOnce n before trace
 
--- who has applied as many values, the one at the earlier moment and the other at the later, has applied the same, and so shows the same pages
+-- who has applied as many values, the one at the earlier moment and the other at the later, has
+-- applied the same, and so shows the same pages
 abbrev pub ShowsAlike : {S : Type 0} → Members S → Members S → Type 0
 ShowsAlike early late =
     (i j : ℕ) (vs ws : List Value) → HasApplied (slice_get early.all i) vs → HasApplied (slice_get late.all j) ws → length vs ≡ length ws →

@@ -33,7 +33,8 @@ module _ {S N : Type 0} (seen : S → Seen) (moved : N → N → NodeMove) (stor
   Lives [] old new = new ≡ old
   Lives (s ∷ steps) old new = Acts moved s.input old s.next s.result × AreItsMoves seen store state s.input old s.next s.result × Lives steps s.next new
 
-  -- Behind what the others did a step is some moves of the member's own; and what it has to hear of itself then, and what goes out, was sent.
+  -- Behind what the others did a step is some moves of the member's own; and what it has to hear of
+  -- itself then, and what goes out, was sent.
   pub record Follows (n index : ℕ) (w : Members S) (others : List (Move S)) (s : Step N) : Type 0 where
     pub out : List Message
     pub sends : IfOk s.result (λ outputs. outputs.messages.items ≡ out)
@@ -42,7 +43,8 @@ module _ {S N : Type 0} (seen : S → Seen) (moved : N → N → NodeMove) (stor
     pub by : AreBy index own
     pub is_among : IsAmong seen (after_all w (others ++ own)) index (store s.next.node) (state s.next.node) (record { own = s.next.own; out = out }) []
 
-  -- Whatever the others do before each step, all of it is moves, where what an input brings was sent and the store keeps its word.
+  -- Whatever the others do before each step, all of it is moves, where what an input brings was
+  -- sent and the store keeps its word.
   abbrev pub LivesAmong : ℕ → ℕ → List (Step N) → Members S → Type 0
   LivesAmong n index [] w = Unit {0}
   LivesAmong n index (s ∷ steps) w =

@@ -1,4 +1,5 @@
--- Members of a cluster, each over a store of its own, of any kind: what one of them does, how it starts again after a stop, and the questions between them (own).
+-- Members of a cluster, each over a store of its own, of any kind: what one of them does, how it
+-- starts again after a stop, and the questions between them (own).
 use Rattle.std.specs.Prelude.{ℕ, zero, suc, ◌+◌, ◌≡◌, ◌⊎◌, IsTrue, Option, None, Some, List, [], ◌∷◌, ◌++◌, slice_get, slice_set, take, Result, Ok, Err}
 use Rattle.press_wire.specs.declared.message.Body.TheVariants.{Query}
 use Rattle.press_wire.specs.declared.message.Message.{Message}
@@ -15,7 +16,8 @@ use Rattle.press_node.specs.declared.event.Event.{Event}
 use Rattle.press_node.specs.declared.event.Event.TheVariants as event
 use Rattle.press_node.specs.declared.fault.NodeFault.{NodeFault}
 
--- What there is of a member's store: the store as it was last, or what a stop within an event left of it.
+-- What there is of a member's store: the store as it was last, or what a stop within an event left
+-- of it.
 pub data Holding (S : Type 0) : Type 0 where
   Over : (store : S) → Holding S
   Leaves : (left : StoreMap) → Holding S
@@ -32,11 +34,13 @@ pub record Members (S : Type 0) : Type 0 where
   -- each message that was ever sent
   pub sent : List Message
 
--- What happens. A stop between two events needs no move of its own: it is the start after it that shows what it left.
+-- What happens. A stop between two events needs no move of its own: it is the start after it that
+-- shows what it left.
 pub data Move (S : Type 0) : Type 0 where
   -- a member plays an event, with this outcome, and has this store and this state after it
   Acts : (index : ℕ) (event : Event) (outcome : Result (List Message) NodeFault) (store : S) (state : NodeState) → Move S
-  -- a member is stopped within an event, when its store had come to this and these messages were out
+  -- a member is stopped within an event, when its store had come to this and these messages were
+  -- out
   Breaks : (index : ℕ) (event : Event) (left : StoreMap) (out : List Message) (state : NodeState) → Move S
   -- a member was stopped, or never ran, and starts over this store
   Starts : (index : ℕ) (store : S) (state : NodeState) → Move S
@@ -102,7 +106,8 @@ module _ {S : Type 0} (seen : S → Seen) where
     pub at : slice_get w.all index ≡ Some (record { store = Over before; state = state_before })
     pub is : IsEvent w.sent before store state_before state event outcome
 
-  -- Before the save a stop leaves what it might have left before the event, and nothing is out; after it the save is made, and so many of the messages are out.
+  -- Before the save a stop leaves what it might have left before the event, and nothing is out;
+  -- after it the save is made, and so many of the messages are out.
   abbrev pub BreaksBy : S → Answer → Option NodeFault → StoreMap → List Message → Type 0
   BreaksBy s answer refused left out =
       ((seen s).may_leave left × (out ≡ []))
@@ -119,7 +124,8 @@ module _ {S : Type 0} (seen : S → Seen) where
     pub is_down : state ≡ stopped state_before
     pub breaks : BreaksBy before (on_event n (index + 1) (seen before).kept node event) (refusal (seen before).kept (Some node) event) left out
 
-  -- The store shows what a stop may have left, and a crash leaves nothing else; the node has just started.
+  -- The store shows what a stop may have left, and a crash leaves nothing else; the node has just
+  -- started.
   pub record StartsAt (n : ℕ) (w : Members S) (index : ℕ) (store : S) (state : NodeState) : Type 0 where
     pub before : Member S
     pub at : slice_get w.all index ≡ Some before

@@ -5,7 +5,7 @@ use Rattle.press_wire.specs.declared.message.Message.{Message}
 use Rattle.press_node.specs.Nodes.{NodeMove}
 use Rattle.press_node.specs.declared.event.Event.{Event}
 use Rattle.press_node.specs.declared.fault.NodeFault.{NodeFault}
-use Rattle.press_member.specs.Acts.{View, moment, taken}
+use Rattle.press_member.specs.Acts.{View, moment, taken_answer}
 use Rattle.press_member.specs.Deeds.{Deed}
 use Rattle.press_member.specs.Turns.{AreQuestions, Brings, MayWake, Turned}
 use Rattle.press_member.specs.declared.output.Answer.{Answer}
@@ -38,4 +38,4 @@ module _ {N : Type 0} (moved : N → N → NodeMove) (old new : View N) where
   BringsEvent event out out' result =
       (refused : Option NodeFault)
       × Turns (Brings event refused) out out' (IsTrue (is_ok result))
-      × IfOk result (λ given. given ≡ taken refused)
+      × IfOk result (λ given. given ≡ taken_answer refused)

@@ -2,7 +2,7 @@
 use Rattle.std.specs.Prelude.{◌≡◌, Option, None, Some, Result, IfOk}
 use Rattle.std.specs.declared.alloc.AllocError.{AllocError}
 use Rattle.press_node.specs.declared.fault.NodeFault.{NodeFault}
-use Rattle.press_node.specs.declared.kept.Node.{Node}
+use Rattle.press_node.specs.declared.node.Node.{Node}
 use Rattle.press_member.specs.Turns.{Moment}
 use Rattle.press_member.specs.declared.player.Played.{Played}
 use Rattle.press_member.specs.declared.player.Player.{Player}

@@ -4,9 +4,10 @@ use Rattle.press_batch.specs.declared.report.Report.{Report}
 use Rattle.press_node.specs.States.{applied_count, is_down}
 use Rattle.press_node.specs.Nodes.{state_of}
 use Rattle.press_member.specs.Ready.{borne_out, is_heard, is_majority, others}
-use Rattle.press_member.specs.declared.kept.Member.{Member}
+use Rattle.press_member.specs.declared.member.Member.{Member}
 
--- it is open and up, it heard a majority lately, and it is at most 64 slots behind what a majority says lately is chosen
+-- it is open and up, it heard a majority lately, and it is at most 64 slots behind what a majority
+-- says lately is chosen
 abbrev pub is_ready : {S : _} {t : _} {F : _} {g : _} → Member S t F g → Bool
 is_ready member =
     member.player.pace.is_settled && (not (is_down (state_of member.player.node))

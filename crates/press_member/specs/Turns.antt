@@ -34,7 +34,8 @@ pub record MayWake {N : Type 0} (deeds : List (Deed N)) : Type 0 where
 unfoldable pub most_own : ℕ
 most_own = 1000
 
--- What the member with this number has sent to itself is heard, until nothing waits or it has heard the most.
+-- What the member with this number has sent to itself is heard, until nothing waits or it has heard
+-- the most.
 pub record HearsAll {N : Type 0} (id : ℕ) (Whole : Type 0) (own : List Message) (deeds : List (Deed N)) : Type 0 where
   pub are : AreFor (Some Heard) deeds
   pub all : Whole → (own_after_all id own deeds ≡ []) ⊎ (length deeds ≡ most_own)
@@ -84,7 +85,8 @@ pub record IsVotedNext (id next : ℕ) (message : Message) (command : Stamped) :
 abbrev pub MaySubmit : {N : Type 0} → (Stamped → Type 0) → List (Deed N) → Type 0
 MaySubmit Which deeds = (deeds ≡ []) ⊎ ((command : Stamped) × Which command × ((refused : Option NodeFault) × Brings (Submit command) refused deeds))
 
--- A message is delivered first, and refused so; then the command of a vote for the next slot, of which it tells this member, may be submitted.
+-- A message is delivered first, and refused so; then the command of a vote for the next slot, of
+-- which it tells this member, may be submitted.
 pub record Delivers {N : Type 0} (id next : ℕ) (message : Message) (refused : Option NodeFault) (deeds : List (Deed N)) : Type 0 where
   pub first : List (Deed N)
   pub more : List (Deed N)
@@ -92,14 +94,16 @@ pub record Delivers {N : Type 0} (id next : ℕ) (message : Message) (refused : 
   pub brings : Brings (Deliver message) refused first
   pub submits : MaySubmit (IsVotedNext id next message) more
 
--- What a turn changes of a member: its node, what it has sent to itself and not heard yet, and what stopped the node last.
+-- What a turn changes of a member: its node, what it has sent to itself and not heard yet, and what
+-- stopped the node last.
 pub record Moment (N : Type 0) : Type 0 where
   pub node : N
   pub own : List Message
   pub stop : Option StoreFault
 
 module _ {N : Type 0} (moved : N → N → NodeMove) (n id : ℕ) where
-  -- A turn, from one moment to another: deeds of this kind, and what they send to others goes out in their order. Where there was memory nothing is lost.
+  -- A turn, from one moment to another: deeds of this kind, and what they send to others goes out
+  -- in their order. Where there was memory nothing is lost.
   pub record Turned (Kind : List (Deed N) → Type 0) (Whole : Type 0) (old new : Moment N) (out out' : List Message) : Type 0 where
     pub deeds : List (Deed N)
     pub does : Does moved n id old.own old.node deeds new.node

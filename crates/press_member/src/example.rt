@@ -10,14 +10,15 @@ ghost use Rattle.press_member.specs.Moving.{first_moves};
 use press_acceptor::MemoryStore;
 use press_callbacks::Kit;
 use press_node::{Event, Node, NodeFault};
-use press_wire::{Message, Node as Id};
+use press_wire::{MemberId, Message};
 use std::alloc::Global;
 
-/// Starts the member `id` of `members` over a new store in memory, which never fails, and plays an event. Both are moves
-/// of members of which none had started, unless the event is a message: none was sent yet.
+/// Starts the member `id` of `members` over a new store in memory, which never fails, and plays an
+/// event. Both are moves of members of which none had started, unless the event is a message: none
+/// was sent yet.
 pub fn start_and_play(
     alloc: Global,
-    id: Id,
+    id: MemberId,
     members: u8,
     kit: Kit,
     event: Event,

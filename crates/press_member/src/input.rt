@@ -1,7 +1,7 @@
 use press_apply::Stamped;
 use press_batch::Report;
 use press_page::Target;
-use press_wire::{Message, Node as Id};
+use press_wire::{MemberId, Message};
 
 /// What happens to a member.
 #[derive(Debug, Drop)]
@@ -13,9 +13,17 @@ pub enum Input {
     /// A message comes to it from another member.
     Message(Message),
     /// A member says how far it is.
-    Report { from: Id, report: Report },
-    /// A request that went to a member has ended, taken or lost; so many looks and questions were in it.
-    Ended { to: Id, asked: u32, is_taken: bool },
+    Report {
+        from: MemberId,
+        report: Report,
+    },
+    /// A request that went to a member has ended, taken or lost; so many looks and questions were
+    /// in it.
+    Ended {
+        to: MemberId,
+        asked: u32,
+        is_taken: bool,
+    },
     /// What it has sent is on its way: it may hear what it has sent to itself.
     Sent,
     /// Milliseconds of a clock that doesn't go back.

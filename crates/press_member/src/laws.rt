@@ -16,12 +16,12 @@ ghost use Rattle.press_member.specs.Holds.{Holds, HoldsOn, ShowsAlike};
 ghost use Rattle.press_member.specs.Lives.{Lives, LivesAmong, Step};
 ghost use Rattle.press_member.specs.Members.{AreMoves, Members, Move, WhileUp, after_all, new_members};
 
-use crate::kept::Member;
+use crate::member::Member;
 use press_acceptor::{PromiseStore, at_most_one_value_chosen};
 use press_world::each_step_agrees;
 
-/// An event over a store that is honest is the event of the definition, done or refused; or it stops the node, and a
-/// stop then leaves the store of before its save or after it.
+/// An event over a store that is honest is the event of the definition, done or refused; or it
+/// stops the node, and a stop then leaves the store of before its save or after it.
 pub fn any_store_acts<S: PromiseStore>()
     ensures { (s t : S) (old new : NodeState) (event : Event)
         (outcome : Result (List Message) NodeFault) → IsSettled S.seen s (S.seen s).kept →
@@ -39,9 +39,10 @@ pub fn any_store_stays_open<S: PromiseStore>()
         WhileUp (running_in new) (IsTrue (S.seen t).is_open) }
 {}
 
-/// After any moves of any number of members over stores of any kind that keep their word: there is a legal trace that
-/// agrees with the stores, each applied value is chosen for its slot, no slot is chosen two ways, at any two moments,
-/// and who has applied as many values has applied the same and shows the same pages.
+/// After any moves of any number of members over stores of any kind that keep their word: there is
+/// a legal trace that agrees with the stores, each applied value is chosen for its slot, no slot is
+/// chosen two ways, at any two moments, and who has applied as many values has applied the same and
+/// shows the same pages.
 pub fn any_moves<S: PromiseStore>()
     ensures holds { (n : ℕ) (moves : List (Move S)) → AreMoves S.seen n (new_members n) moves →
         (trace : List Fact) × Holds S.seen n (after_all (new_members n) moves) trace }
@@ -60,8 +61,8 @@ pub fn any_moves<S: PromiseStore>()
     at_most_one_value_chosen();
 }
 
-/// What one member does leaves any other where it is, with all that it has waiting sent; and moves after moves are
-/// moves.
+/// What one member does leaves any other where it is, with all that it has waiting sent; and moves
+/// after moves are moves.
 pub fn turns_interleave<S: PromiseStore>()
     ensures others { (n index other : ℕ) (w : Members S) (moves : List (Move S)) (store : S)
         (state : NodeState) (mail : Letters) → index ≢ other → AreBy other moves →
@@ -73,8 +74,9 @@ pub fn turns_interleave<S: PromiseStore>()
         × (after_all w (first ++ last) ≡ after_all (after_all w first) last) }
 {}
 
-/// A member's life is a chain of inputs, as each of them says what it does: none leaves it as it is, and two lives after
-/// each other are one. Among others, whatever they do between its inputs, all of it is moves.
+/// A member's life is a chain of inputs, as each of them says what it does: none leaves it as it
+/// is, and two lives after each other are one. Among others, whatever they do between its inputs,
+/// all of it is moves.
 pub fn lives_among<S: PromiseStore>(member: &Member<S>)
     ensures rests { Lives S.seen (λ a b. node_moved S.seen a b) (λ node. store_of node)
         (λ node. state_of node) [] (view_of member.now) (view_of member.now) }

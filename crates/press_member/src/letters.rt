@@ -3,14 +3,14 @@
 ghost use Rattle.std.specs.Prelude.{◌≡◌, ◌∷◌, [], IsTrue, is_ok};
 ghost use Rattle.press_member.specs.Turns.{IsSorted};
 
-use press_wire::{Message, Node as Id};
+use press_wire::{MemberId, Message};
 use std::alloc::AllocError;
 use std::collections::VecDeque;
 
 // Puts a message where it goes.
 
 fn put(
-    id: Id,
+    id: MemberId,
     message: Message,
     own: &mut VecDeque<Message>,
     out: &mut Vec<Message>,
@@ -28,7 +28,7 @@ fn put(
 
 /// Puts each of the messages where it goes, up to the first for which there is no memory.
 pub fn put_all(
-    id: Id,
+    id: MemberId,
     sent: Vec<Message>,
     own: &mut VecDeque<Message>,
     out: &mut Vec<Message>,

@@ -2,7 +2,7 @@ ghost use Rattle.std.specs.Prelude.{◌≡◌, []};
 
 use press_node::NodeFault;
 use press_page::Reply;
-use press_wire::{Message, Node as Id};
+use press_wire::{MemberId, Message};
 use std::alloc::Global;
 
 /// What is said to whoever brought an input.
@@ -35,7 +35,7 @@ pub struct Outputs {
     /// What goes to other members, in the order in which it was sent.
     pub messages: Vec<Message>,
     /// Who is asked how far it is.
-    pub looks: Vec<Id>,
+    pub looks: Vec<MemberId>,
 }
 
 impl Outputs {

@@ -1,15 +1,17 @@
-//! When a member wakes, when it looks how far the others are, and when it asks what it has missed. It is a matter of
-//! time alone: what the cluster agrees on doesn't depend on it.
+//! When a member wakes, when it looks how far the others are, and when it asks what it has missed.
+//! It is a matter of time alone: what the cluster agrees on doesn't depend on it.
 
 ghost use Rattle.std.specs.Prelude.{◌≡◌, ◌≤◌, ◌+◌, true, false, max};
 
 use crate::signs::{Sign, sign_of};
-use press_wire::{Message, Node as Id};
+use press_wire::{MemberId, Message};
 
-// Milliseconds between the turns of two members at the begin of a block, which who proposed last has after all others.
+// Milliseconds between the turns of two members at the begin of a block, which who proposed last
+// has after all others.
 const STEP: u64 = 4;
 
-// How long who proposes may be silent before another member does, and how long this one waits for what it proposed.
+// How long who proposes may be silent before another member does, and how long this one waits for
+// what it proposed.
 const SILENT: u64 = 40;
 
 // The most times that a wait for its own proposal is doubled: to some 1.3 seconds.
@@ -18,7 +20,8 @@ const DOUBLINGS: u32 = 5;
 // How long after another proposed this member leaves the begin of a block to others first.
 const SHARED: u64 = 1_000;
 
-// After so long a command that waits has its member propose in a new block though another has begun it, which tells that one to leave the next.
+// After so long a command that waits has its member propose in a new block though another has begun
+// it, which tells that one to leave the next.
 const LONG: u64 = 100;
 
 // How many slots share a prepare.
@@ -41,10 +44,12 @@ const UNKNOWN: u64 = 50;
 // The most slots that are asked for at once: as many as a node keeps votes for.
 const WINDOW: u64 = 64;
 
-// How many slots a member may be behind what others are about before it asks for them: half of those that a node keeps votes for.
+// How many slots a member may be behind what others are about before it asks for them: half of
+// those that a node keeps votes for.
 const SLACK: u64 = 32;
 
-// How long the next slot may have been proposed for before this member proposes what it hears voted for there.
+// How long the next slot may have been proposed for before this member proposes what it hears voted
+// for there.
 const STUCK: u64 = 2_000;
 
 /// What is due.
@@ -87,7 +92,8 @@ pub struct Pace {
     wake_at: Option<u64>,
     // Since when a command waits that it didn't propose.
     waiting_at: u64,
-    // How many wakes have proposed since a slot was applied: each leaves the next one twice the time.
+    // How many wakes have proposed since a slot was applied: each leaves the next one twice the
+    // time.
     tries: u32,
     // When it looks again.
     look_at: u64,
@@ -101,7 +107,8 @@ pub struct Pace {
     claimed_at: Option<u64>,
     // Whether a majority has said how far it is.
     is_known: bool,
-    // What was applied when it asked last, the last slot that it asked for, when it asks again, and how often it has asked for the same.
+    // What was applied when it asked last, the last slot that it asked for, when it asks again, and
+    // how often it has asked for the same.
     asked_from: u64,
     asked_to: u64,
     ask_at: u64,
@@ -187,8 +194,9 @@ impl Pace {
         self.waiting_at.saturating_add(LONG) <= self.time
     }
 
-    // When it proposes what waits. A new block is each one's in turn, and at once that of who led the last one, unless others proposed lately. Within a
-    // block who leads goes on at once, and who doesn't waits until who leads was silent.
+    // When it proposes what waits. A new block is each one's in turn, and at once that of who led
+    // the last one, unless others proposed lately. Within a block who leads goes on at once, and
+    // who doesn't waits until who leads was silent.
     fn turn(&self) -> u64 {
         if self.leads() && (!self.is_unbegun() || self.shared_until <= self.time) {
             return self.time;
@@ -209,7 +217,8 @@ impl Pace {
         wait
     }
 
-    // How long a proposal has: longer after each of its own that came to nothing, since an answer takes as long as it takes.
+    // How long a proposal has: longer after each of its own that came to nothing, since an answer
+    // takes as long as it takes.
     fn patience(&self) -> u64 {
         self.double_wait(SILENT, self.tries.saturating_sub(1))
     }
@@ -223,7 +232,8 @@ impl Pace {
         }
     }
 
-    /// The node was woken: whether it proposes, and whether it does so for a gap, where no command waits.
+    /// The node was woken: whether it proposes, and whether it does so for a gap, where no command
+    /// waits.
     pub fn note_wake(&mut self, is_filling: bool, proposes: bool) {
         if proposes {
             self.tries = self.tries.saturating_add(1);
@@ -285,7 +295,7 @@ impl Pace {
     }
 
     // What a message that it sends says of who proposes.
-    fn note(&mut self, message: &Message, own: Id, is_for_all: bool) {
+    fn note(&mut self, message: &Message, own: MemberId, is_for_all: bool) {
         let slot = u64::from(message.slot.number());
         match sign_of(message, own, is_for_all) {
             Sign::Nothing => {}
@@ -301,7 +311,7 @@ impl Pace {
     }
 
     /// What the messages of one event say of who proposes.
-    pub fn note_all(&mut self, sent: &[Message], own: Id) {
+    pub fn note_all(&mut self, sent: &[Message], own: MemberId) {
         let is_for_all = sent.len() > 1;
         for message in sent {
             self.note(message, own, is_for_all);
@@ -335,7 +345,8 @@ impl Pace {
         }
     }
 
-    // Whether it has applied what is known to be chosen, and what others say that is chosen, as far as that comes.
+    // Whether it has applied what is known to be chosen, and what others say that is chosen, as far
+    // as that comes.
     fn has_all(&self) -> bool
         ensures known { result ≡ true → self.now.is_known ≡ true }
         ensures applied { result ≡ true → self.now.newest ≤ self.now.applied }
@@ -357,8 +368,9 @@ impl Pace {
         self.is_settled |= self.has_all();
     }
 
-    /// This many slots are applied; whether a command still waits. With a block that is over one that has waited long is proposed at once. What it fills
-    /// goes on until a wake has nothing to propose.
+    /// This many slots are applied; whether a command still waits. With a block that is over one
+    /// that has waited long is proposed at once. What it fills goes on until a wake has nothing to
+    /// propose.
     pub fn note_applied(&mut self, applied: u64, waits: bool) {
         if applied <= self.applied {
             return;
@@ -394,7 +406,8 @@ impl Pace {
         self.newest = self.newest.max(chosen);
     }
 
-    /// Somebody proposed for this slot: those before it are chosen. Votes that are on their way close a small distance.
+    /// Somebody proposed for this slot: those before it are chosen. Votes that are on their way
+    /// close a small distance.
     pub fn hear_of(&mut self, proposed: Option<u64>, is_taken: bool) {
         let slot = proposed.unwrap_or(0);
         if is_taken && slot > self.applied.saturating_add(SLACK) {
@@ -426,7 +439,8 @@ impl Pace {
         self.newest.max(self.applied)
     }
 
-    /// What others say: so many slots of which a majority says that they are chosen, and the most that anybody says.
+    /// What others say: so many slots of which a majority says that they are chosen, and the most
+    /// that anybody says.
     pub fn hear_reports(&mut self, borne_out: u64, claim: u64, is_known: bool) {
         self.prove(borne_out);
         self.hear_claim(claim);
@@ -446,13 +460,14 @@ impl Pace {
     }
 
     // As far as it asks.
-    fn wanted(&self) -> u64 {
+    fn wanted_slot(&self) -> u64 {
         self.newest.max(self.claim)
     }
 
     // Whether it asks: for slots that it hasn't asked for, or again.
     fn asks(&self) -> bool {
-        self.wanted() > self.applied && (self.applied >= self.asked_to || self.ask_at <= self.time)
+        self.wanted_slot() > self.applied
+            && (self.applied >= self.asked_to || self.ask_at <= self.time)
     }
 
     // Asks for what is missing. The wait for answers is doubled each time that little came of it.
@@ -467,14 +482,15 @@ impl Pace {
             self.asks.saturating_add(1)
         };
         self.asked_from = self.applied;
-        self.asked_to = self.wanted().min(self.applied.saturating_add(WINDOW));
+        self.asked_to = self.wanted_slot().min(self.applied.saturating_add(WINDOW));
         self.ask_at = self
             .time
             .saturating_add(self.double_wait(ON_ITS_WAY, self.asks));
         Due::Ask(self.asked_to)
     }
 
-    // Takes the time. What was heard since it was last looked at counts from now on: a save may have held this node up.
+    // Takes the time. What was heard since it was last looked at counts from now on: a save may
+    // have held this node up.
     fn look_at_clock(&mut self, now: u64) {
         let passed = now.saturating_sub(self.time);
         self.time = now;

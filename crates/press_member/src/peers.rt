@@ -7,7 +7,7 @@ ghost use Rattle.press_member.specs.Ready.{borne_out, claim, if_borne, is_heard,
 
 use crate::signs::is_question;
 use press_batch::{Digests, Report};
-use press_wire::{Message, Node as Id};
+use press_wire::{MemberId, Message};
 use std::alloc::{AllocError, Global};
 
 // Who was heard within this many milliseconds was heard lately.
@@ -106,13 +106,18 @@ impl Peer {
 #[derive(Drop)]
 pub struct Peers {
     all: Vec<Peer>,
-    own: Id,
+    own: MemberId,
     digests: Digests,
 }
 
 impl Peers {
     /// So many members, of whom nothing is heard yet; this one is among them.
-    pub fn new(alloc: Global, own: Id, count: u8, digests: Digests) -> Result<Peers, AllocError>
+    pub fn new(
+        alloc: Global,
+        own: MemberId,
+        count: u8,
+        digests: Digests,
+    ) -> Result<Peers, AllocError>
         ensures own { IfOk result (λ peers. peers.own ≡ own) }
         ensures count { IfOk result (λ peers. length peers.all.items ≡ count) }
         ensures digests { IfOk result (λ peers. peers.digests ≡ digests) }
@@ -139,7 +144,7 @@ impl Peers {
     }
 
     /// Whether it is one of them.
-    pub fn counts(&self, member: Id) -> bool {
+    pub fn counts(&self, member: MemberId) -> bool {
         usize::from(member.number()) <= self.all.len()
     }
 
@@ -151,7 +156,7 @@ impl Peers {
     }
 
     /// A message of a member came: that was heard, if the message is for this one.
-    pub fn hear(&mut self, from: Id, to: Id, now: u64)
+    pub fn hear(&mut self, from: MemberId, to: MemberId, now: u64)
         ensures { AreSame self.old self.new }
     {
         if to != self.own {
@@ -164,7 +169,7 @@ impl Peers {
     }
 
     /// A member says how far it is; whether it is heard.
-    pub fn take_report(&mut self, member: Id, report: Report, now: u64) -> bool
+    pub fn take_report(&mut self, member: MemberId, report: Report, now: u64) -> bool
         ensures same { AreSame self.old self.new }
         ensures taken { result ≡ true → report.digests ≡ self.old.digests }
         ensures foreign { result ≡ false → report.digests ≢ self.old.digests }
@@ -180,7 +185,7 @@ impl Peers {
     }
 
     // A look or a question goes to a member.
-    fn begin_asking(&mut self, member: Id)
+    fn begin_asking(&mut self, member: MemberId)
         ensures { AreSame self.old self.new }
     {
         let place = place_of(member);
@@ -201,7 +206,7 @@ impl Peers {
     }
 
     /// So many of these have ended, in a request that was taken or lost.
-    pub fn end_asking(&mut self, member: Id, count: u32, is_taken: bool, now: u64)
+    pub fn end_asking(&mut self, member: MemberId, count: u32, is_taken: bool, now: u64)
         ensures same { AreSame self.old self.new }
         ensures ends { self.new.all.items ≡ changed_at (member - 1)
             (after_end count is_taken now) self.old.all.items }
@@ -216,7 +221,7 @@ impl Peers {
     }
 
     // Asks the member at a place how far it is, if it is another and not busy.
-    fn look_at(&mut self, place: usize, looks: &mut Vec<Id>) -> Result<(), AllocError>
+    fn look_at(&mut self, place: usize, looks: &mut Vec<MemberId>) -> Result<(), AllocError>
         ensures { AreSame self.old self.new }
     {
         if place == self.place() || self.is_busy(place) {
@@ -231,7 +236,7 @@ impl Peers {
     }
 
     /// Asks the others how far they are, but for those that are busy.
-    pub fn look(&mut self, looks: &mut Vec<Id>) -> Result<(), AllocError>
+    pub fn look(&mut self, looks: &mut Vec<MemberId>) -> Result<(), AllocError>
         ensures { AreSame self.old self.new }
     {
         for place in 0..self.count() {
@@ -240,8 +245,8 @@ impl Peers {
         Ok(())
     }
 
-    /// Whether many looks and questions are still on their way to the member at a place: it gets no more for now, so
-    /// that they don't pile up in front of its other messages.
+    /// Whether many looks and questions are still on their way to the member at a place: it gets no
+    /// more for now, so that they don't pile up in front of its other messages.
     pub fn is_busy(&self, place: usize) -> bool {
         match self.all.get(place) {
             Some(peer) => peer.asked >= MOST_ASKED,
@@ -332,7 +337,8 @@ impl Peers {
         }
     }
 
-    /// The most slots of which a majority says lately that they are chosen, this member saying so up to its own count.
+    /// The most slots of which a majority says lately that they are chosen, this member saying so
+    /// up to its own count.
     pub fn borne_out(&self, own_count: u64, now: u64) -> u64
         ensures { result ≡ borne_out self.now own_count now }
     {
@@ -345,18 +351,18 @@ impl Peers {
     }
 }
 
-fn place_of(member: Id) -> usize
+fn place_of(member: MemberId) -> usize
     ensures { result ≡ member - 1 }
 {
     usize::from(member.number()).saturating_sub(1)
 }
 
 /// The member of that place.
-pub fn id_at(place: usize) -> Option<Id>
+pub fn id_at(place: usize) -> Option<MemberId>
     ensures { IfSome result (λ id. id ≡ place + 1) }
 {
     match u8::try_from(place.saturating_add(1)) {
-        Ok(number) => Id::new(number),
+        Ok(number) => MemberId::new(number),
         Err(_) => None,
     }
 }

@@ -7,7 +7,7 @@ ghost use Rattle.press_node.specs.Plays.{sent};
 ghost use Rattle.press_member.specs.Deeds.{later, stop_of};
 ghost use Rattle.press_member.specs.Turns.{AreQuestions, HearsAll, IsDeed, MayWake, Turned};
 ghost use Rattle.press_member.specs.Played.{SaysRefused, moment_of, refusal_in};
-ghost use Rattle.press_member.specs.Acts.{taken};
+ghost use Rattle.press_member.specs.Acts.{taken_answer};
 
 use crate::letters::put_all;
 use crate::output::Answer;
@@ -15,17 +15,18 @@ use crate::pace::Pace;
 use crate::signs::is_question;
 use press_acceptor::{PromiseStore, StoreFault};
 use press_node::{Event, Node, NodeFault};
-use press_wire::{Body, Message, Node as Id, Slot};
+use press_wire::{Body, MemberId, Message, Slot};
 use std::alloc::{AllocError, Global};
 use std::collections::VecDeque;
 
 // The most messages that it hears of itself in one turn.
 const MOST_OWN: u32 = 1_000;
 
-/// A node, why it has stopped if it has, what it has sent to itself and not heard yet, the oldest first, and its pace.
+/// A node, why it has stopped if it has, what it has sent to itself and not heard yet, the oldest
+/// first, and its pace.
 pub struct Player<S> {
     pub alloc: Global,
-    pub id: Id,
+    pub id: MemberId,
     pub node: Node<S>,
     pub stopped_by: Option<StoreFault>,
     pub own: VecDeque<Message>,
@@ -83,7 +84,7 @@ impl Played {
 
     /// What is said of it.
     pub fn answer(self) -> Answer
-        ensures { result ≡ taken (refusal_in self) }
+        ensures { result ≡ taken_answer (refusal_in self) }
     {
         match self {
             Played::Refused(fault) => Answer::Refused(fault),
@@ -159,7 +160,8 @@ impl<S: PromiseStore> Player<S> {
         Ok(())
     }
 
-    /// Tells the pace what is applied, and wakes the node where that is due at once: who leads goes on without a timer.
+    /// Tells the pace what is applied, and wakes the node where that is due at once: who leads goes
+    /// on without a timer.
     pub fn follow(&mut self, out: &mut Vec<Message>) -> Result<(), AllocError>
         requires always { Unit {0} }
         ensures id { self.new.id ≡ self.old.id }
@@ -177,7 +179,8 @@ impl<S: PromiseStore> Player<S> {
         self.wake(out)
     }
 
-    /// Delivers what it has sent to itself, the oldest first, until nothing waits, or up to a limit.
+    /// Delivers what it has sent to itself, the oldest first, until nothing waits, or up to a
+    /// limit.
     pub fn hear_own(&mut self, out: &mut Vec<Message>) -> Result<(), AllocError>
         requires always { Unit {0} }
         ensures id { self.new.id ≡ self.old.id }
@@ -199,7 +202,7 @@ impl<S: PromiseStore> Player<S> {
     }
 
     /// Asks a member for its vote for a slot.
-    fn ask(&mut self, to: Id, slot: Slot, out: &mut Vec<Message>) -> Result<(), AllocError>
+    fn ask(&mut self, to: MemberId, slot: Slot, out: &mut Vec<Message>) -> Result<(), AllocError>
         ensures node { self.new.node ≡ self.old.node }
         ensures id { self.new.id ≡ self.old.id }
         ensures turned { (n : ℕ) → IsMember n to → Turned (λ a b. node_moved S.seen a b) n
@@ -219,7 +222,12 @@ impl<S: PromiseStore> Player<S> {
     }
 
     // Asks a member for its vote for the slot of a number, if it is one.
-    fn ask_for(&mut self, to: Id, number: u64, out: &mut Vec<Message>) -> Result<(), AllocError>
+    fn ask_for(
+        &mut self,
+        to: MemberId,
+        number: u64,
+        out: &mut Vec<Message>,
+    ) -> Result<(), AllocError>
         ensures node { self.new.node ≡ self.old.node }
         ensures id { self.new.id ≡ self.old.id }
         ensures turned { (n : ℕ) → IsMember n to → Turned (λ a b. node_moved S.seen a b) n
@@ -236,7 +244,7 @@ impl<S: PromiseStore> Player<S> {
     /// Asks a member for its votes for the slots from one to before another.
     pub fn ask_from(
         &mut self,
-        to: Id,
+        to: MemberId,
         next: u64,
         end: u64,
         out: &mut Vec<Message>,

@@ -1,18 +1,25 @@
-//! Plays members of a cluster on one simulated clock, and looks whether what has to hold does: `press_member_cases [WORD] CASE ..`. CASE is a number, by which members,
-//! network, forms and faults are drawn, `A..B` for the numbers from A to before B, or a file with a scenario. `brief` has a line told for each case, `steps` each fault as it
-//! happens; `shown` prints the scenarios as such files have them, and plays nothing. The status is 1 where something doesn't hold.
+//! Plays members of a cluster on one simulated clock, and looks whether what has to hold does:
+//! `press_member_cases [WORD] CASE ..`. CASE is a number, by which members, network, forms and
+//! faults are drawn, `A..B` for the numbers from A to before B, or a file with a scenario. `brief`
+//! has a line told for each case, `steps` each fault as it happens; `shown` prints the scenarios as
+//! such files have them, and plays nothing. The status is 1 where something doesn't hold.
 //!
-//! A file has a line for each of `seed N` (of what is left to chance), `members N`, `tick MS`, `sql 1` (stores are databases over simulated files, else in memory),
-//! `least MS` and `most MS` (how long a request takes), `lost N` and `twice N` (of a thousand requests), the same four with `rest-` before them (once faults have
-//! ended), `forms MS` and `pages MS` (how often one comes; 0: never), `rush N` (how many forms come to each at the end), `calm MS` (when faults end); and, in the
-//! order of time, `at MS FAULT`, of which a fault is `kill M`, `start M`, `start M N` (its disk stops behind N writes, which are saves in memory, and writes and
-//! syncs of a database's files), `fill M N` (it starts on a disk with room for N writes, and for none whenever it starts again), `room M` (there is room again),
-//! `foreign M` (it starts with other digests), `give M N` (its files are given to member N, which is not to run over them, and then to it again), `cut A B`
-//! (nothing goes from A to B), `part BITS` (members with these bits are cut off), `heal`, `pause M MS`, `jump M MS` (its clock goes forward), `lie M N` (it reports
-//! N more slots than are chosen), `burst M N` (that many forms), `all` (a form to each), `outage` (all end, and start again soon).
+//! A file has a line for each of `seed N` (of what is left to chance), `members N`, `tick MS`, `sql
+//! 1` (stores are databases over simulated files, else in memory), `least MS` and `most MS` (how
+//! long a request takes), `lost N` and `twice N` (of a thousand requests), the same four with
+//! `rest-` before them (once faults have ended), `forms MS` and `pages MS` (how often one comes; 0:
+//! never), `rush N` (how many forms come to each at the end), `calm MS` (when faults end); and, in
+//! the order of time, `at MS FAULT`, of which a fault is `kill M`, `start M`, `start M N` (its disk
+//! stops behind N writes, which are saves in memory, and writes and syncs of a database's files),
+//! `fill M N` (it starts on a disk with room for N writes, and for none whenever it starts again),
+//! `room M` (there is room again), `foreign M` (it starts with other digests), `give M N` (its
+//! files are given to member N, which is not to run over them, and then to it again), `cut A B`
+//! (nothing goes from A to B), `part BITS` (members with these bits are cut off), `heal`, `pause M
+//! MS`, `jump M MS` (its clock goes forward), `lie M N` (it reports N more slots than are chosen),
+//! `burst M N` (that many forms), `all` (a form to each), `outage` (all end, and start again soon).
 //!
-//! Functions here that play an event on a node carry `requires always { Unit {0} }`, which always holds:
-//! `docs/DECISIONS.md` says why the checker wants it.
+//! Functions here that play an event on a node carry `requires always { Unit {0} }`, which always
+//! holds: `docs/DECISIONS.md` says why the checker wants it.
 #![tactic(auto)]
 
 mod forms;

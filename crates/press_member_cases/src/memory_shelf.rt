@@ -1,4 +1,5 @@
-//! A store in memory whose device fails as planned: from one save on nothing is saved or read any more.
+//! A store in memory whose device fails as planned: from one save on nothing is saved or read any
+//! more.
 
 ghost use Rattle.std.specs.Prelude.{◌≡◌, ◌⊎◌, ◌<◌, ◌≤◌, true, false};
 ghost use Rattle.press_acceptor.specs.declared.fault.StoreFault.TheVariants.{Damaged, Disk};
@@ -69,7 +70,8 @@ enum Fate {
     FailsAfter,
 }
 
-// What a disk is like behind a save, and what happens to that. A disk that stops may have taken the last one.
+// What a disk is like behind a save, and what happens to that. A disk that stops may have taken the
+// last one.
 fn next(disk: Condition, last: u32) -> (Condition, Fate) {
     match disk {
         Condition::Sound => (Condition::Sound, Fate::Takes),

@@ -8,15 +8,15 @@ use press_member::Outputs;
 use press_page::Target;
 use press_simulation as simulation;
 use press_simulation::{Envelope, Lanes};
-use press_wire::{Body, Message, Node as Id};
+use press_wire::{Body, MemberId, Message};
 use std::alloc::{AllocError, Global};
 
 /// The member at a place, from 0.
-pub fn id_at(place: usize) -> Option<Id> {
-    Id::new(u8::try_from(place.saturating_add(1)).ok()?)
+pub fn id_at(place: usize) -> Option<MemberId> {
+    MemberId::new(u8::try_from(place.saturating_add(1)).ok()?)
 }
 
-fn place_of(id: Id) -> usize {
+fn place_of(id: MemberId) -> usize {
     usize::from(id.number()).saturating_sub(1)
 }
 
@@ -28,7 +28,8 @@ fn report_of(report: simulation::Report) -> Report {
     }
 }
 
-/// What happens, in the member's words. None where it is nothing of a member's, or memory is wanting.
+/// What happens, in the member's words. None where it is nothing of a member's, or memory is
+/// wanting.
 pub fn input_of(alloc: Global, input: simulation::Input<Message>) -> Option<member::Input> {
     match input {
         simulation::Input::Time(clock) => Some(member::Input::Time(clock)),

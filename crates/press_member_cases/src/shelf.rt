@@ -12,8 +12,8 @@ pub trait Shelf: PromiseStore + Drop {
     /// An empty disk.
     fn empty(alloc: Global) -> Self::Kept;
 
-    /// The store of that member over a disk of that condition, with how many slots are chosen by its votes; the disk, where
-    /// it can't be opened or is another's.
+    /// The store of that member over a disk of that condition, with how many slots are chosen by
+    /// its votes; the disk, where it can't be opened or is another's.
     fn open(
         alloc: Global,
         kept: Self::Kept,

@@ -38,7 +38,7 @@ fn budgets_of(disk: Condition) -> (Budget, Budget) {
 }
 
 // The same files, on a disk of that condition.
-fn limited(alloc: Global, kept: &Files<Device>, disk: Condition) -> Option<Files<Device>> {
+fn limit_files(alloc: Global, kept: &Files<Device>, disk: Condition) -> Option<Files<Device>> {
     let (log, db) = budgets_of(disk);
     Some(Files {
         log: Limited::new(file_with(alloc, kept.log.inner().bytes())?, log),
@@ -46,7 +46,7 @@ fn limited(alloc: Global, kept: &Files<Device>, disk: Condition) -> Option<Files
     })
 }
 
-fn crashed(files: Files<Device>) -> Files<Device> {
+fn crash_files(files: Files<Device>) -> Files<Device> {
     let mut files = files;
     files.log.crash();
     files.db.crash();
@@ -58,7 +58,8 @@ fn is_tied<D: Alter>(store: &mut SqlStore<D>, owner: Owner) -> bool {
     matches!(store.tie(Some(owner)), Ok(Tie::Own | Tie::Taken))
 }
 
-// A member's store on an open database, with how many slots are chosen by its votes; the database, if it is none of it.
+// A member's store on an open database, with how many slots are chosen by its votes; the database,
+// if it is none of it.
 fn store_on<D: Alter>(
     alloc: Global,
     conn: Connection<D>,
@@ -100,8 +101,9 @@ fn files_of<D: Disk + Drop>(store: SqlStore<FileStore<D>>) -> Files<D> {
     store.into_connection().into_store().close()
 }
 
-/// The store over such files. Its contract promises nothing of what it keeps, which the cases look at; that of `SqlStore`
-/// does. (By that type, of which each part has a type of its own, a run is too long for the checker.)
+/// The store over such files. Its contract promises nothing of what it keeps, which the cases look
+/// at; that of `SqlStore` does. (By that type, of which each part has a type of its own, a run is
+/// too long for the checker.)
 #[derive(Drop)]
 pub struct OnFiles {
     store: SqlStore<FileStore<Device>>,
@@ -198,18 +200,18 @@ impl Shelf for OnFiles {
         disk: Condition,
         owner: Owner,
     ) -> Result<(OnFiles, u64), Files<Device>> {
-        let Some(files) = limited(alloc, &kept, disk) else {
+        let Some(files) = limit_files(alloc, &kept, disk) else {
             return Err(kept);
         };
         drop(kept);
         match store_in(alloc, files, owner) {
             Ok((store, chosen)) => Ok((OnFiles { store, faults: 0 }, chosen)),
-            Err(files) => Err(crashed(files)),
+            Err(files) => Err(crash_files(files)),
         }
     }
 
     fn close(self) -> Files<Device> {
         let OnFiles { store, faults: _ } = self;
-        crashed(files_of(store))
+        crash_files(files_of(store))
     }
 }

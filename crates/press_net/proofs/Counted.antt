@@ -1,12 +1,12 @@
 -- Connections that meet a test, counted one by one.
 use Rattle.std.proofs.Common.{◌≡◌, ℕ, Bool, zero, suc, ◌+◌, ◌<◌, List, [], ◌∷◌, length, get_or, take, arith, if◌then◌else◌, Option}
-use Rattle.press_net.specs.declared.talk.Talk.{Talk}
+use Rattle.press_net.specs.declared.connection.Connection.{Connection}
 use Rattle.press_net.specs.Talking.{count_of, meets}
 
-abbrev pub one : (Talk → Bool) → Option Talk → ℕ
+abbrev pub one : (Connection → Bool) → Option Connection → ℕ
 one test slot = if meets test slot then 1 else 0
 
-pub count_more : (test : Talk → Bool) (xs : List (Option Talk)) (i : ℕ) (d : Option Talk) → i < length xs → count_of test (take (i + 1) xs) ≡ count_of test (take i xs) + one test (get_or xs i d)
+pub count_more : (test : Connection → Bool) (xs : List (Option Connection)) (i : ℕ) (d : Option Connection) → i < length xs → count_of test (take (i + 1) xs) ≡ count_of test (take i xs) + one test (get_or xs i d)
 count_more test [] i d h = absurd (omega arith)
 count_more test (y ∷ ys) zero d h =
     let it : one test y + 0 ≡ 0 + one test y = omega arith in

@@ -5,7 +5,7 @@ use Rattle.press_http.specs.declared.fault.HttpFault.{HttpFault}
 use Rattle.press_http.specs.Bodies.{length_of}
 use Rattle.press_http.specs.Reads.{Reads, seen_by}
 use Rattle.press_http.specs.Requests.{WantsMore}
-use Rattle.press_net.specs.declared.gathered.Padded.{Padded}
+use Rattle.press_net.specs.declared.request_buffer.Padded.{Padded}
 use Rattle.press_net.specs.Heads.{IsWanted}
 use Rattle.press_net.specs.Padding.{Pads}
 

@@ -1,4 +1,5 @@
--- What an accept that gave no connection says, by the number of its error (accept(2); the numbers are Linux's).
+-- What an accept that gave no connection says, by the number of its error (accept(2); the numbers
+-- are Linux's).
 use Rattle.std.specs.Prelude.{ℤ, pos, Bool, ◌||◌, Option, Some, None, if◌then◌else◌}
 use Rattle.std.specs.Ordering.{int_eq}
 use Rattle.press_net.specs.declared.server.Miss.{Miss}

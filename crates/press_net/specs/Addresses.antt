@@ -52,7 +52,8 @@ still known found = filter (has_socket found) known
 abbrev pub fresh : List SocketAddr → List SocketAddr → List SocketAddr
 fresh known found = filter (λ socket. not (has_socket known socket)) found
 
--- behind a lookup: first those that are new, and then those that are found again; all that were known where nothing is found
+-- behind a lookup: first those that are new, and then those that are found again; all that were
+-- known where nothing is found
 abbrev pub with_found : List SocketAddr → List SocketAddr → List SocketAddr
 with_found known found =
     if nat_eq (length found) 0 then known else fresh (still known found) found ++ still known found

@@ -4,7 +4,8 @@ use Rattle.std.specs.declared.net.ip_addr.IpAddr.{IpAddr}
 use Rattle.press_http.specs.declared.fault.HttpFault.{HttpFault}
 use Rattle.press_net.specs.declared.answers.Errand.{Errand}
 
--- a request of an address, what was there of the reply before and after, and the status or why there is none
+-- a request of an address, what was there of the reply before and after, and the status or why
+-- there is none
 pub record Exchange : Type 0 where
   pub from : IpAddr
   pub request : List ℕ

@@ -49,12 +49,12 @@ abbrev pub with_last : Outgoing → Queue → Queue
 with_last outgoing queue = record { waiting = queue.waiting ++ outgoing ∷ []; «open» = queue.«open» }
 
 -- one that was open has ended
-abbrev pub ended : Queue → Queue
-ended queue = record { waiting = queue.waiting; «open» = queue.«open» - 1 }
+abbrev pub after_end : Queue → Queue
+after_end queue = record { waiting = queue.waiting; «open» = queue.«open» - 1 }
 
 -- the first that waits goes out
-abbrev pub sent : Queue → Queue
-sent queue = record { waiting = drop 1 queue.waiting; «open» = queue.«open» + 1 }
+abbrev pub after_send : Queue → Queue
+after_send queue = record { waiting = drop 1 queue.waiting; «open» = queue.«open» + 1 }
 
 -- all of a request is out, or it had two milliseconds for that
 abbrev pub is_out : Instant → Call → Bool

@@ -13,7 +13,8 @@ use std::net::{IpAddr, Net, SocketAddr, ToSocketAddrs};
 // Milliseconds from one lookup to the next.
 const PAUSE: u64 = 1_000;
 
-// Nor is a name looked up before so many times as long as the last lookup took: lookups take a small part of the time.
+// Nor is a name looked up before so many times as long as the last lookup took: lookups take a
+// small part of the time.
 const SHARE: u64 = 30;
 
 // The longest name of a host.
@@ -175,7 +176,8 @@ impl Entry {
         self.is_wanted && self.name.is_some()
     }
 
-    // These were found. Without memory for all, only those are kept that were known and are found again.
+    // These were found. Without memory for all, only those are kept that were known and are found
+    // again.
     fn take(&mut self, found: Vec<SocketAddr>) -> Result<(), AllocError>
         ensures { IfOk result (λ _. self.new.sockets.items ≡
             with_found self.old.sockets.items found.items) }
@@ -202,12 +204,14 @@ impl Entry {
     }
 }
 
-/// The addresses of those who are listed, by place. Names are looked up, and again behind each request that was lost.
+/// The addresses of those who are listed, by place. Names are looked up, and again behind each
+/// request that was lost.
 #[derive(Drop)]
 pub struct AddressBook {
     alloc: Global,
     all: Vec<Entry>,
-    // The place whose name was looked up last, and when that began, until it is known how long it took.
+    // The place whose name was looked up last, and when that began, until it is known how long it
+    // took.
     last: usize,
     begun: Option<u64>,
     // When the next name may be looked up.
@@ -227,7 +231,8 @@ impl AddressBook {
         }
     }
 
-    /// Puts one more at the end, unless it is none: an address with its port, or a name with a port, which is looked up.
+    /// Puts one more at the end, unless it is none: an address with its port, or a name with a
+    /// port, which is looked up.
     pub fn add<N: Net>(&mut self, net: &N, text: &str) -> Result<Listed, AllocError>
         ensures added { IfOk result (λ told. told ≢ Listed.Never →
             (entry : Entry) × (self.new.all.items ≡ self.old.all.items ++ entry ∷ [])) }
@@ -308,8 +313,8 @@ impl AddressBook {
         false
     }
 
-    /// A request to the one at a place, which went there, was lost: if that is its first address, the next one goes to the
-    /// next, and its name is to be looked up.
+    /// A request to the one at a place, which went there, was lost: if that is its first address,
+    /// the next one goes to the next, and its name is to be looked up.
     pub fn lose(&mut self, place: usize, tried: Option<SocketAddr>)
         ensures there { sockets_at self.new place ≡ behind_loss tried (sockets_at self.old place) }
         ensures others { (other : ℕ) → other ≢ place →
@@ -345,8 +350,9 @@ impl AddressBook {
         }
     }
 
-    /// At that time, in milliseconds, looks up the name of one to whom a request was lost, if one may be: at most one in a
-    /// second, and none before thirty times as long as the last one took. It waits for the resolver.
+    /// At that time, in milliseconds, looks up the name of one to whom a request was lost, if one
+    /// may be: at most one in a second, and none before thirty times as long as the last one took.
+    /// It waits for the resolver.
     pub fn look_up<N: Net>(&mut self, net: &N, now: u64)
         ensures rests { self.old.begun ≡ None → now < self.old.due → self.new.all ≡ self.old.all }
         ensures begins { IfSome self.new.begun (λ begun. begun ≡ now) }

@@ -77,13 +77,15 @@ pub trait Answers {
     /// Whether it answers no more: its server ends.
     fn is_over(&self) -> bool;
 
-    /// It may do now what waits for nothing else: its requests are out, or it has waited for them for two milliseconds.
+    /// It may do now what waits for nothing else: its requests are out, or it has waited for them
+    /// for two milliseconds.
     fn go_on(&mut self)
         requires always { Unit {0} }
         ensures becomes { becomes self.old self.new };
 
-    /// A request that went out, or was to, has ended: its reply, as far as it is looked at; empty where it is lost.
-    fn called(&mut self, place: usize, errand: Errand, reply: &[u8])
+    /// A request that went out, or was to, has ended: its reply, as far as it is looked at; empty
+    /// where it is lost.
+    fn end_call(&mut self, place: usize, errand: Errand, reply: &[u8])
         requires always { Unit {0} }
         ensures hears { hears self.old (credit place errand reply.now) self.new }
         ensures becomes { becomes self.old self.new };

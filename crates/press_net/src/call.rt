@@ -5,7 +5,7 @@ ghost use Rattle.press_net.specs.Lanes.{HasSameAim, asked_by, is_call_late, is_o
 
 use crate::answers::{Errand, Outgoing};
 use crate::reply::is_whole;
-use crate::sending::Sending;
+use crate::write_buffer::WriteBuffer;
 use mio::net::TcpStream;
 use std::alloc::{AllocError, Global};
 use std::io;
@@ -41,11 +41,12 @@ pub struct Call {
     // For which member it is.
     place: usize,
     errand: Errand,
-    request: Sending,
+    request: WriteBuffer,
     reply: Vec<u8>,
     begun: Instant,
     course: Course,
-    // Whether its reply is whole by what its head says, so that its connection may take another request.
+    // Whether its reply is whole by what its head says, so that its connection may take another
+    // request.
     is_kept: bool,
 }
 
@@ -81,7 +82,7 @@ impl Call {
             stream,
             place,
             errand,
-            request: Sending::new(bytes),
+            request: WriteBuffer::new(bytes),
             reply: Vec::new(alloc),
             begun,
             course: Course::Goes,
@@ -90,7 +91,7 @@ impl Call {
     }
 
     /// Ends it, and returns its connection, if another request may go over that.
-    pub fn into_kept(self) -> Option<TcpStream>
+    pub fn into_stream(self) -> Option<TcpStream>
         ensures { result ≡ (if self.is_kept then Some self.stream else None) }
     {
         let Call {
@@ -138,7 +139,7 @@ impl Call {
     pub fn is_out(&self, now: Instant) -> bool
         ensures { result ≡ is_out now self.now }
     {
-        self.request.bytes.len() <= self.request.sent()
+        self.request.bytes.len() <= self.request.sent_count()
             || Duration::from_millis(MILLISECONDS) <= now.duration_since(self.begun)
     }
 
@@ -149,7 +150,7 @@ impl Call {
     }
 
     /// What is told of it: nothing while it goes, and an empty reply where it is lost.
-    pub fn told(&self) -> Option<&[u8]>
+    pub fn final_reply(&self) -> Option<&[u8]>
         ensures { option_map (λ reply. reply.now) result ≡
             reply_in self.now.course self.now.reply.items }
     {
@@ -167,7 +168,8 @@ impl Call {
         Duration::from_secs(SECONDS) <= now.duration_since(self.begun)
     }
 
-    /// Sends the request as far as the socket takes it: none of it before it is connected. Returns whether it is out.
+    /// Sends the request as far as the socket takes it: none of it before it is connected. Returns
+    /// whether it is out.
     pub fn send(&mut self) -> io::Result<bool>
         ensures whole { IfOk result (λ whole. IsTrue whole →
             length self.new.request.bytes.items ≤ self.new.request.sent) }

@@ -2,7 +2,7 @@
 
 ghost use Rattle.std.specs.Prelude.{◌≡◌, [], if◌then◌else◌, ◌+◌, ◌<◌, ◌≤◌, ◌⊎◌, IfErr, IfOk, IfSome, IsFalse, IsTrue, MatchOption, None, Some, false, is_none, length, option_and_then, option_map, position, slice_get, slice_set, unwrap_or};
 ghost use Rattle.std.specs.VecDeque.{deque_capacity, deque_len};
-ghost use Rattle.press_net.specs.Lanes.{IsGrown, MakesRoom, are_out, call_at, changed_at, ended, front_at, is_call_late, is_out_at, is_ready, kept_at, queue_of, queues, ready, sent, with_lanes, with_last};
+ghost use Rattle.press_net.specs.Lanes.{IsGrown, MakesRoom, are_out, call_at, changed_at, after_end, front_at, is_call_late, is_out_at, is_ready, kept_at, queue_of, queues, ready, after_send, with_lanes, with_last};
 
 use crate::answers::Outgoing;
 use crate::call::Call;
@@ -38,7 +38,7 @@ impl Lane {
         ensures first { result ≡ (if is_ready (queue_of self.old)
             then slice_get (queue_of self.old).waiting 0 else None) }
         ensures sent { queue_of self.new ≡
-            (if is_ready (queue_of self.old) then sent (queue_of self.old) else queue_of self.old) }
+            (if is_ready (queue_of self.old) then after_send (queue_of self.old) else queue_of self.old) }
     {
         if !self.is_ready() {
             return None;
@@ -69,7 +69,8 @@ fn is_out_at(slot: &Option<Call>, now: Instant) -> bool
     }
 }
 
-/// Requests by the member that they are for: a limited number go out at once, and others wait their turn.
+/// Requests by the member that they are for: a limited number go out at once, and others wait their
+/// turn.
 pub struct Calls {
     alloc: Global,
     lanes: Vec<Lane>,
@@ -154,7 +155,7 @@ impl Calls {
     pub fn next(&mut self) -> Option<Outgoing>
         ensures next { result ≡ option_and_then (front_at self.old) (ready self.old) }
         ensures lanes { MatchOption (ready self.old) (queues self.new ≡ queues self.old) (λ place.
-            queues self.new ≡ changed_at sent place (queues self.old)) }
+            queues self.new ≡ changed_at after_send place (queues self.old)) }
         ensures same { self.new.places ≡ self.old.places }
     {
         let place = self.ready()?;
@@ -163,7 +164,7 @@ impl Calls {
 
     /// One that was to go out has ended.
     pub fn close_lane(&mut self, place: usize)
-        ensures closes { queues self.new ≡ changed_at ended place (queues self.old) }
+        ensures closes { queues self.new ≡ changed_at after_end place (queues self.old) }
         ensures same { self.new.places ≡ self.old.places }
     {
         if let Some(lane) = self.lanes.get_mut(place) {
@@ -217,7 +218,7 @@ impl Calls {
     pub fn leave(&mut self, place: usize)
         ensures free { self.new.places.items ≡ slice_set self.old.places.items place None }
         ensures lane { MatchOption (call_at self.old place) (self.new.lanes ≡ self.old.lanes)
-            (λ call. queues self.new ≡ changed_at ended call.place (queues self.old)) }
+            (λ call. queues self.new ≡ changed_at after_end call.place (queues self.old)) }
     {
         let Some(slot) = self.places.get_mut(place) else {
             return;
@@ -227,11 +228,12 @@ impl Calls {
         }
     }
 
-    /// Takes one from its place, whose reply came: another may go over its connection, where that stays open.
+    /// Takes one from its place, whose reply came: another may go over its connection, where that
+    /// stays open.
     pub fn keep(&mut self, place: usize)
         ensures free { self.new.places.items ≡ slice_set self.old.places.items place None }
         ensures lane { MatchOption (call_at self.old place) (self.new.lanes ≡ self.old.lanes)
-            (λ call. queues self.new ≡ changed_at ended call.place (queues self.old)) }
+            (λ call. queues self.new ≡ changed_at after_end call.place (queues self.old)) }
     {
         let Some(slot) = self.places.get_mut(place) else {
             return;
@@ -241,7 +243,7 @@ impl Calls {
         };
         let to = call.place();
         self.close_lane(to);
-        self.keep_stream(to, call.into_kept());
+        self.keep_stream(to, call.into_stream());
     }
 
     // A connection to the member at a place stays open.
@@ -257,8 +259,9 @@ impl Calls {
         }
     }
 
-    /// The connection to the member at a place that stayed open, if one did: it is the caller's now.
-    pub fn take_kept(&mut self, place: usize) -> Option<TcpStream>
+    /// The connection to the member at a place that stayed open, if one did: it is the caller's
+    /// now.
+    pub fn take_stream(&mut self, place: usize) -> Option<TcpStream>
         ensures takes { result ≡ kept_at self.old place }
         ensures gone { kept_at self.new place ≡ None }
         ensures lanes { queues self.new ≡ queues self.old }

@@ -1,4 +1,5 @@
-//! Connections that go out from an address: the calls of the system that neither std nor mio offers.
+//! Connections that go out from an address: the calls of the system that neither std nor mio
+//! offers.
 
 ghost use Rattle.std.specs.Prelude.{◌≡◌, ◌+◌, ◌≤◌, ◌↔◌, ◌≤ℤ◌, IsOk, length, pos};
 ghost use Rattle.mio.specs.SockAddr as spec;
@@ -100,8 +101,8 @@ fn bind(socket: &OwnedFd, from: SocketAddr) -> io::Result<()> {
     check(unsafe { c::bind(socket.as_raw_fd(), &raw, len) })
 }
 
-/// Begins to connect from an address to another, and returns at once. From an address of the other family nothing
-/// reaches it: then the system chooses.
+/// Begins to connect from an address to another, and returns at once. From an address of the other
+/// family nothing reaches it: then the system chooses.
 pub fn connect_from<N: Net>(_net: &N, from: SocketAddr, to: SocketAddr) -> io::Result<TcpStream> {
     let socket = open(to)?;
     if from.is_ipv4() == to.is_ipv4() {

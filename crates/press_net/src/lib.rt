@@ -1,22 +1,23 @@
-//! A server over readiness: connections that come, and requests that go out, none of which is waited for.
+//! A server over readiness: connections that come, and requests that go out, none of which is
+//! waited for.
 #![tactic(auto)]
 
 mod addresses;
 mod answers;
 mod call;
 mod calls;
+mod connection;
+mod connections;
 mod dial;
-mod gathered;
 mod lines;
 mod outlet;
 mod reply;
-mod sending;
+mod request_buffer;
 mod server;
-mod talk;
-mod talks;
+mod write_buffer;
 
 pub use addresses::{AddressBook, Listed};
 pub use answers::{Answers, Errand, Outgoing, Time, Traffic};
-pub use gathered::words_of;
 pub use lines::{Lines, Log};
+pub use request_buffer::words_of;
 pub use server::{Server, Task};

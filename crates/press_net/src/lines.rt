@@ -54,7 +54,8 @@ impl Watch {
         }))
     }
 
-    // Whether it takes a piece at once. Registered again, it is told of as it stands, whether or not that has changed.
+    // Whether it takes a piece at once. Registered again, it is told of as it stands, whether or
+    // not that has changed.
     fn is_ready(&mut self) -> bool {
         let mut source = SourceFd(&self.descriptor);
         let asked = self
@@ -114,8 +115,8 @@ pub trait Log {
     fn lost(&self) -> u64;
 }
 
-/// Lines on a writer, each behind the time: it goes out at once, or it is lost, and counted. The next that goes out comes
-/// behind the count.
+/// Lines on a writer, each behind the time: it goes out at once, or it is lost, and counted. The
+/// next that goes out comes behind the count.
 pub struct Lines<'c, C, O> {
     clock: &'c C,
     ready: O,
@@ -173,7 +174,7 @@ impl<C: Clock, O: Outlet + Drop> Lines<'_, C, O> {
     }
 
     // The line behind the time.
-    fn timed(&self, line: &[u8]) -> Result<Vec<u8>, AllocError> {
+    fn with_time(&self, line: &[u8]) -> Result<Vec<u8>, AllocError> {
         let time = self.time();
         let mut timed = format!(in self.alloc; "{time} ")?.into_bytes();
         timed.extend_from_slice(line)?;
@@ -196,7 +197,7 @@ impl<C: Clock, O: Outlet + Drop> Write for Lines<'_, C, O> {
         if self.lost > 0 {
             self.tell_lost();
         }
-        match self.timed(line) {
+        match self.with_time(line) {
             Ok(timed) => self.put(&timed),
             Err(_) => self.lost = self.lost.saturating_add(1),
         }

@@ -46,7 +46,8 @@ impl<W: Write> Outlet for W {
     }
 }
 
-/// Writes the bytes in order, each of them once, until a write fails or takes nothing; whether all are out.
+/// Writes the bytes in order, each of them once, until a write fails or takes nothing; whether all
+/// are out.
 pub fn put_all<W: Outlet>(writer: &mut W, bytes: &[u8]) -> bool
     ensures whole { IsTrue result →
         Appends (W.contents writer.old) (W.contents writer.new) bytes.now }

@@ -1,4 +1,5 @@
-//! A server over readiness: no connection is waited for, so one that says nothing, or reads nothing, holds up nobody.
+//! A server over readiness: no connection is waited for, so one that says nothing, or reads
+//! nothing, holds up nobody.
 
 ghost use Rattle.std.specs.Prelude.{◌≡◌, ◌-◌, ◌/◌, ◌<◌, [], MatchOption, MatchResult, if◌then◌else◌, not, option_map};
 ghost use Rattle.std.specs.Duration.{as_nanos};
@@ -6,16 +7,16 @@ ghost use Rattle.std.specs.IoError.{raw_os_error};
 ghost use Rattle.press_net.specs.Accepting.{is_wanting, miss_of};
 ghost use Rattle.press_net.specs.Answering.{credit};
 ghost use Rattle.press_net.specs.Lanes.{IsCredited, call_at};
-ghost use Rattle.press_net.specs.Talking.{freed, group_of, is_crowded, is_reading};
-ghost use Rattle.press_net.specs.Turning.{KeepsAllButCalls, call_of, ends_at, holder_named, talk_of};
+ghost use Rattle.press_net.specs.Talking.{free_where, group_of, is_crowded, is_reading};
+ghost use Rattle.press_net.specs.Turning.{KeepsAllButCalls, call_of, ends_at, holder_named, connection_of};
 
 use crate::answers::{Answers, Outgoing, Time, Traffic};
 use crate::call::Call;
 use crate::calls::Calls;
+use crate::connection::{Arrival, Connection, Group, Phase, log_close, log_line};
+use crate::connections::{Connections, Round};
 use crate::dial::connect_from;
 use crate::lines::Log;
-use crate::talk::{Arrival, Group, Phase, Talk, log_closed, log_line};
-use crate::talks::{Round, Talks};
 use mio::net::{TcpListener, TcpStream};
 use mio::{Events, Interest, Poll, Token};
 use std::alloc::Global;
@@ -27,8 +28,8 @@ use std::time::{Clock, Duration, Instant};
 
 const LISTENER: usize = 0;
 
-// More than can be ready at once (1,024 connections, 192 requests, the listener), so that a round looks at all that came
-// before any is told late.
+// More than can be ready at once (1,024 connections, 192 requests, the listener), so that a round
+// looks at all that came before any is told late.
 const EVENTS: usize = 2_048;
 
 // The most connections that are taken before others have their turn.
@@ -49,7 +50,8 @@ const STEP: u64 = 2;
 // For how many milliseconds others keep it from what waits for nothing else.
 const BEHIND: u64 = 2;
 
-// Milliseconds from one reply that has a client come again later to the next one: many clients that come again at once take a small part of its time.
+// Milliseconds from one reply that has a client come again later to the next one: many clients that
+// come again at once take a small part of its time.
 const PAUSE: u64 = 5;
 
 // The most of them that go out at once.
@@ -59,7 +61,7 @@ const MOST_LET_OUT: u128 = 32;
 enum Holder {
     Listener,
     // The connection of that place.
-    Talk(usize),
+    Connection(usize),
     // The request of that place.
     Call(usize),
 }
@@ -70,13 +72,13 @@ fn holder_of(token: Token) -> Holder
     let number = usize::from(token);
     match number.checked_sub(1) {
         None => Holder::Listener,
-        Some(rest) if rest % 2 == 0 => Holder::Talk(rest / 2),
+        Some(rest) if rest % 2 == 0 => Holder::Connection(rest / 2),
         Some(rest) => Holder::Call(rest / 2),
     }
 }
 
-fn token_of_talk(place: usize) -> Token
-    ensures { place < 4611686018427387904 → holder_named result.0 ≡ talk_of place }
+fn token_of_connection(place: usize) -> Token
+    ensures { place < 4611686018427387904 → holder_named result.0 ≡ connection_of place }
 {
     Token(place.saturating_mul(2).saturating_add(1))
 }
@@ -96,8 +98,8 @@ enum Miss {
     IsLost,
 }
 
-// Whether an error of that number says that there is no memory (ENOMEM), no descriptor of the machine (ENFILE) or of the
-// process (EMFILE), or no buffer (ENOBUFS).
+// Whether an error of that number says that there is no memory (ENOMEM), no descriptor of the
+// machine (ENFILE) or of the process (EMFILE), or no buffer (ENOBUFS).
 fn is_wanting(code: i32) -> bool
     ensures { result ≡ is_wanting code }
 {
@@ -162,8 +164,8 @@ fn group_of(is_member: bool, is_crowded: bool) -> Group
 /// What a server is to do.
 #[derive(Clone, Copy)]
 pub struct Task {
-    /// After how many connections it ends, one that stays open counted for each of its requests; without it, when it is
-    /// ended.
+    /// After how many connections it ends, one that stays open counted for each of its requests;
+    /// without it, when it is ended.
     pub turns: Option<u32>,
     /// The most connections that are open at once.
     pub most: usize,
@@ -184,7 +186,7 @@ pub struct Server {
     listener: TcpListener,
     // Where it listens, from where requests go out too.
     addr: SocketAddr,
-    talks: Talks,
+    connections: Connections,
     calls: Calls,
     // Those whose replies are held, the oldest first, and when one was last let out.
     held: VecDeque<Held>,
@@ -211,7 +213,7 @@ impl Drop for Server {
             poll: _,
             listener: _,
             addr: _,
-            talks: _,
+            connections: _,
             calls: _,
             held: _,
             last_out: _,
@@ -248,7 +250,7 @@ impl Server {
             poll,
             listener,
             addr,
-            talks: Talks::new(rt.alloc(), most),
+            connections: Connections::new(rt.alloc(), most),
             calls: Calls::new(rt.alloc()),
             held: VecDeque::new(rt.alloc()),
             last_out: now,
@@ -269,36 +271,36 @@ impl Server {
         ensures number { result.number ≡ self.entry.now.came }
         ensures begun { result.begun ≡ self.entry.now.now }
         ensures group { result.group ≡ group_of is_member
-            (is_crowded self.entry.now.talks.most from self.entry.now.talks.places.items) }
+            (is_crowded self.entry.now.connections.most from self.entry.now.connections.places.items) }
     {
         Arrival {
             from,
             number: self.came,
             begun: self.now,
-            group: group_of(is_member, self.talks.is_crowded(from)),
+            group: group_of(is_member, self.connections.is_crowded(from)),
         }
     }
 
     // Has the poll look at a connection.
     fn watch(&mut self, place: usize) -> io::Result<()> {
-        let Some(talk) = self.talks.get_mut(place) else {
+        let Some(connection) = self.connections.get_mut(place) else {
             return Ok(());
         };
         self.poll.registry().register(
-            talk.stream(),
-            token_of_talk(place),
+            connection.stream(),
+            token_of_connection(place),
             Interest::READABLE | Interest::WRITABLE,
         )
     }
 
     // Has the poll look at a connection again, of which nothing new may be told otherwise.
     fn watch_again(&mut self, place: usize) -> io::Result<()> {
-        let Some(talk) = self.talks.get_mut(place) else {
+        let Some(connection) = self.connections.get_mut(place) else {
             return Ok(());
         };
         self.poll.registry().reregister(
-            talk.stream(),
-            token_of_talk(place),
+            connection.stream(),
+            token_of_connection(place),
             Interest::READABLE | Interest::WRITABLE,
         )
     }
@@ -311,14 +313,14 @@ impl Server {
         round: Round,
         log: &mut E,
     ) -> io::Result<()> {
-        let talk = Talk::new(self.alloc, stream, arrival);
+        let connection = Connection::new(self.alloc, stream, arrival);
         self.came = self.came.saturating_add(1);
-        let Some(place) = self.talks.enter(talk, round, log)? else {
+        let Some(place) = self.connections.enter(connection, round, log)? else {
             return Ok(());
         };
         let watched = self.watch(place);
         if watched.is_err() {
-            self.talks.leave(place);
+            self.connections.leave(place);
         }
         watched
     }
@@ -333,7 +335,7 @@ impl Server {
     // Looks at the time. A clock that can't be read stands still.
     fn look_at_clock<C: Clock>(&mut self, clock: &C) -> Instant
         ensures now { result ≡ self.new.now }
-        ensures same { self.new.talks ≡ self.old.talks }
+        ensures same { self.new.connections ≡ self.old.connections }
     {
         if let Ok(now) = Instant::now(clock) {
             self.now = now;
@@ -341,8 +343,10 @@ impl Server {
         self.now
     }
 
-    // Accepts those that wait, each at the time when it is taken. An error costs the one that it is of. Where nothing more can be opened, one that came in
-    // an earlier round gives way, but none of a member, since nothing is known of who waits; where none does, those that wait are tried again by time.
+    // Accepts those that wait, each at the time when it is taken. An error costs the one that it is
+    // of. Where nothing more can be opened, one that came in an earlier round gives way, but none
+    // of a member, since nothing is known of who waits; where none does, those that wait are tried
+    // again by time.
     fn take<C: Clock, A: Answers, E: Write>(&mut self, clock: &C, answers: &A, log: &mut E) {
         let round = Round {
             first: self.came,
@@ -356,14 +360,18 @@ impl Server {
                     let from = from.ip();
                     let arrival = self.arrival(from, answers.is_member(from));
                     if self.begin(stream, arrival, round, log).is_err() {
-                        log_closed(self.alloc, log, from, "nothing more can be opened");
+                        log_close(self.alloc, log, from, "nothing more can be opened");
                     }
                 }
                 Err(e) => match miss_of(&e) {
                     Miss::NobodyWaits => return,
                     Miss::IsLost => {}
                     Miss::WaitsOn => {
-                        if self.talks.give_way(Group::Within, round, log).is_none() {
+                        if self
+                            .connections
+                            .give_way(Group::Within, round, log)
+                            .is_none()
+                        {
                             self.is_behind = true;
                             return;
                         }
@@ -384,15 +392,15 @@ impl Server {
 
     fn had_turn(&mut self)
         ensures left { self.new.left ≡ option_map (λ left. left - 1) self.old.left }
-        ensures ends { self.new.talks.places.items ≡ (if ends_at 0 self.new.left
-            then freed is_reading self.old.talks.places.items else self.old.talks.places.items) }
+        ensures ends { self.new.connections.places.items ≡ (if ends_at 0 self.new.left
+            then free_where is_reading self.old.connections.places.items else self.old.connections.places.items) }
         ensures same { self.new.calls ≡ self.old.calls }
     {
         if let Some(left) = self.left {
             let left = left.saturating_sub(1);
             self.left = Some(left);
             if left == 0 {
-                self.talks.end_unheard();
+                self.connections.end_unheard();
             }
         }
     }
@@ -403,19 +411,19 @@ impl Server {
         ensures { A.becomes answers.old answers.new }
     {
         let now = self.now;
-        let Some(talk) = self.talks.get_mut(place) else {
+        let Some(connection) = self.connections.get_mut(place) else {
             return;
         };
-        let had_turn = talk.step(answers, now, log);
-        let is_over = talk.phase() == Phase::Over;
-        let has_more = talk.has_more();
+        let had_turn = connection.step(answers, now, log);
+        let is_over = connection.phase() == Phase::Over;
+        let has_more = connection.has_more();
         let held = Held {
             place,
-            number: talk.number(),
+            number: connection.number(),
         };
-        let is_held = had_turn && talk.is_held();
+        let is_held = had_turn && connection.is_held();
         if is_over || (has_more && self.watch_again(place).is_err()) {
-            self.talks.leave(place);
+            self.connections.leave(place);
         } else if is_held {
             self.hold(held);
         }
@@ -428,23 +436,24 @@ impl Server {
     fn let_out(&mut self, held: Held) {
         let Held { place, number } = held;
         let now = self.now;
-        let Some(talk) = self.talks.get_mut(place) else {
+        let Some(connection) = self.connections.get_mut(place) else {
             return;
         };
-        if talk.number() != number || !talk.is_held() {
+        if connection.number() != number || !connection.is_held() {
             return;
         }
-        talk.let_out(now);
-        let is_over = talk.phase() == Phase::Over;
-        let has_more = talk.has_more();
+        connection.let_out(now);
+        let is_over = connection.phase() == Phase::Over;
+        let has_more = connection.has_more();
         if is_over || (has_more && self.watch_again(place).is_err()) {
-            self.talks.leave(place);
+            self.connections.leave(place);
         }
     }
 
-    // A reply is held. Those that are held have half of the places at most, and where more would be, the oldest is let out.
+    // A reply is held. Those that are held have half of the places at most, and where more would
+    // be, the oldest is let out.
     fn hold(&mut self, held: Held) {
-        if self.held.len() >= self.talks.most() / 2 {
+        if self.held.len() >= self.connections.most() / 2 {
             if let Some(oldest) = self.held.pop_front() {
                 self.let_out(oldest);
             }
@@ -454,7 +463,8 @@ impl Server {
         }
     }
 
-    // Lets the oldest held replies out: one for each five milliseconds that passed, or as many where no connection is still to have its turn.
+    // Lets the oldest held replies out: one for each five milliseconds that passed, or as many
+    // where no connection is still to have its turn.
     fn let_some_out(&mut self) {
         let passed = self.now.duration_since(self.last_out);
         if self.is_open() && passed < Duration::from_millis(PAUSE) {
@@ -481,10 +491,10 @@ impl Server {
             return;
         };
         call.step();
-        let Some(reply) = call.told() else {
+        let Some(reply) = call.final_reply() else {
             return;
         };
-        answers.called(call.place(), call.errand(), reply);
+        answers.end_call(call.place(), call.errand(), reply);
         self.calls.keep(place);
     }
 
@@ -495,7 +505,7 @@ impl Server {
         ensures becomes { A.becomes answers.old answers.new }
     {
         if let Some(call) = self.calls.get_mut(place) {
-            answers.called(call.place(), call.errand(), &[]);
+            answers.end_call(call.place(), call.errand(), &[]);
         }
         self.calls.leave(place);
     }
@@ -507,7 +517,7 @@ impl Server {
         };
         let now = self.look_at_clock(rt);
         let place = self.calls.free_place()?;
-        let call = match self.calls.take_kept(outgoing.place) {
+        let call = match self.calls.take_stream(outgoing.place) {
             Some(stream) if is_open(&stream) => {
                 let call = Call::new(self.alloc, stream, outgoing, now);
                 self.call_again(place, call)?
@@ -537,7 +547,8 @@ impl Server {
         Ok(call)
     }
 
-    // A request begins at a place, on a connection that stayed open. What came for it meanwhile the poll tells at once.
+    // A request begins at a place, on a connection that stayed open. What came for it meanwhile the
+    // poll tells at once.
     fn call_again(&mut self, place: usize, call: Call) -> io::Result<Call> {
         let mut call = call;
         let interest = if call.send()? {
@@ -561,7 +572,7 @@ impl Server {
             };
             let (place, errand) = (outgoing.place, outgoing.errand);
             if !self.calls.add(outgoing) {
-                answers.called(place, errand, &[]);
+                answers.end_call(place, errand, &[]);
             }
         }
         for _ in 0..MOST_CALLED {
@@ -571,13 +582,13 @@ impl Server {
             let (place, errand) = (outgoing.place, outgoing.errand);
             if self.call(rt, outgoing).is_err() {
                 self.calls.close_lane(place);
-                answers.called(place, errand, &[]);
+                answers.end_call(place, errand, &[]);
             }
         }
     }
 
-    // Whether it may be done now what waits for nothing else: the requests are out, or others that came since have kept it
-    // waiting for two milliseconds.
+    // Whether it may be done now what waits for nothing else: the requests are out, or others that
+    // came since have kept it waiting for two milliseconds.
     fn may_go_on(&mut self, has_more: bool) -> bool {
         let since = self.waits_since.take().unwrap_or(self.now);
         if self.calls.are_out(self.now) {
@@ -609,7 +620,7 @@ impl Server {
         for event in events.iter() {
             match holder_of(event.token()) {
                 Holder::Call(place) => self.step_call(answers, place),
-                Holder::Talk(_) | Holder::Listener => {}
+                Holder::Connection(_) | Holder::Listener => {}
             }
         }
     }
@@ -624,14 +635,15 @@ impl Server {
             Some(Duration::from_millis(STEP))
         } else if !self.held.is_empty() {
             Some(Duration::from_millis(PAUSE))
-        } else if self.talks.is_empty() && !self.is_behind {
+        } else if self.connections.is_empty() && !self.is_behind {
             None
         } else {
             Some(Duration::from_millis(MILLISECONDS))
         }
     }
 
-    // Does what the sockets of connections are ready for. The listener is last, so that what has come is heard before any gives way.
+    // Does what the sockets of connections are ready for. The listener is last, so that what has
+    // come is heard before any gives way.
     fn round<C: Clock, A: Answers, E: Write>(
         &mut self,
         clock: &C,
@@ -645,7 +657,7 @@ impl Server {
         let mut some_may_wait = self.is_behind;
         for event in events.iter() {
             match holder_of(event.token()) {
-                Holder::Talk(place) => self.step(answers, place, log),
+                Holder::Connection(place) => self.step(answers, place, log),
                 Holder::Call(_) => {}
                 Holder::Listener => some_may_wait = true,
             }
@@ -659,7 +671,7 @@ impl Server {
     fn end_late<A: Answers, E: Write>(&mut self, answers: &mut A, now: Instant, log: &mut E)
         ensures { A.becomes answers.old answers.new }
     {
-        for _ in 0..self.talks.end_late(now, log) {
+        for _ in 0..self.connections.end_late(now, log) {
             if self.is_open() {
                 self.had_turn();
             }
@@ -686,16 +698,16 @@ impl Server {
         ensures { A.becomes answers.old answers.new }
     {
         let traffic = Traffic {
-            connections: self.talks.count(),
+            connections: self.connections.count(),
             lost: log.lost(),
         };
         answers.pass(time);
         answers.see(traffic);
     }
 
-    /// Serves until all its connections had their turn and the last reply is out, until nothing is answered any more, or
-    /// until it is ended. A connection has its turn when its request is served, or it is closed without a reply, and one
-    /// that stays open has one for each request.
+    /// Serves until all its connections had their turn and the last reply is out, until nothing is
+    /// answered any more, or until it is ended. A connection has its turn when its request is
+    /// served, or it is closed without a reply, and one that stays open has one for each request.
     pub fn serve<A: Answers, E: Log + Write>(
         &mut self,
         rt: &HostRuntime,
@@ -707,7 +719,7 @@ impl Server {
     {
         let mut events = Events::with_capacity(self.alloc, EVENTS)?;
         for _ in 0..u64::MAX {
-            if answers.is_over() || (!self.is_open() && self.talks.is_empty()) {
+            if answers.is_over() || (!self.is_open() && self.connections.is_empty()) {
                 return Ok(());
             }
             answers.look_up(rt);
@@ -717,7 +729,8 @@ impl Server {
             let now = self.look_at_clock(rt);
             let time = self.time(rt, now);
             self.tell(answers, time, log);
-            // What a reply brings goes out first: whoever is to answer that is at it while others are served here.
+            // What a reply brings goes out first: whoever is to answer that is at it while others
+            // are served here.
             self.hear_calls(answers, &events);
             self.send_all(rt, answers);
             self.round(rt, answers, &events, log);

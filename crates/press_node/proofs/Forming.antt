@@ -1,4 +1,5 @@
--- What a node sends is in form: what is about a block has its first slot, and reports votes for its slots alone, which rise.
+-- What a node sends is in form: what is about a block has its first slot, and reports votes for its
+-- slots alone, which rise.
 use Rattle.std.proofs.Common.{ℕ, ◌+◌, ◌≡◌, Bool, true, List, [], ◌∷◌, ◌++◌, All, get_or, Option, None, Some, if◌then◌else◌}
 use Rattle.std.proofs.lemmas.Bool.{eq-eqb}
 use Rattle.std.proofs.lemmas.List.Elements.{All-nil, All-cons, All-map}
@@ -16,7 +17,7 @@ use Rattle.press_wire.proofs.Collected.{block_within}
 use Rattle.press_acceptor.specs.Answers.{answer_to, said_out, query_out}
 use Rattle.press_acceptor.specs.Messages.{message_to, to_all}
 use Rattle.press_acceptor.specs.StoreMap.{StoreMap, block_votes, promise_of, vote_of}
-use Rattle.press_acceptor.specs.Turns.{cast_in, if_less, unless_greater, prepare_by, accept_by, told}
+use Rattle.press_acceptor.specs.Turns.{cast_in, if_less, unless_greater, prepare_by, accept_by, report_of}
 use Rattle.press_proposer.specs.Phases.{awaits, can_ask, promises_in, with_promise}
 use Rattle.press_proposer.specs.Promises.{is_majority}
 use Rattle.press_proposer.specs.Proposing.{Proposing, Turn, quiet, in_phase}
@@ -59,7 +60,7 @@ accept_formed n id asker slot vote (Some cast) o = all n id slot (Accepted cast)
 accept_formed n id asker slot vote None None = all n id slot (Accepted vote) tt
 accept_formed n id asker slot vote None (Some promised) = one (message_to id slot (Nack vote.ballot promised) asker) tt
 
-query_formed : (id slot asker : ℕ) (o : Option Vote) → AreFormed (query_out id slot asker (told o))
+query_formed : (id slot asker : ℕ) (o : Option Vote) → AreFormed (query_out id slot asker (report_of o))
 query_formed id slot asker None = none
 query_formed id slot asker (Some vote) = one (message_to id slot (Accepted vote) asker) tt
 

@@ -13,7 +13,7 @@ use Rattle.press_wire.specs.declared.message.Message.{Message}
 use Rattle.press_acceptor.specs.Answers.{answer_to, said_out, query_out}
 use Rattle.press_acceptor.specs.Messages.{message_to, to_all}
 use Rattle.press_acceptor.specs.StoreMap.{StoreMap, block_votes, promise_of, saved_if, vote_of, with_promise as with_saved, with_round, with_vote}
-use Rattle.press_acceptor.specs.Turns.{cast_in, if_less, unless_greater, prepare_by, accept_by, told}
+use Rattle.press_acceptor.specs.Turns.{cast_in, if_less, unless_greater, prepare_by, accept_by, report_of}
 use Rattle.press_proposer.specs.Phases.{awaits, can_ask, promises_in, with_promise}
 use Rattle.press_proposer.specs.Promises.{is_majority}
 use Rattle.press_proposer.specs.Proposing.{Proposing, Turn, quiet, in_phase}
@@ -66,7 +66,7 @@ accept_stored n id store asker slot vote (Some cast) o e = to_all_stored store n
 accept_stored n id store asker slot vote None None e = to_all_stored (with_vote store slot vote) n id slot (Accepted vote) (get_here store.votes slot vote slot refl)
 accept_stored n id store asker slot vote None (Some promised) e = one store (message_to id slot (Nack vote.ballot promised) asker) tt
 
-query_stored : (id : ℕ) (store : StoreMap) (asker slot : ℕ) (o : Option Vote) → vote_of store slot ≡ o → AreStored store (query_out id slot asker (told o))
+query_stored : (id : ℕ) (store : StoreMap) (asker slot : ℕ) (o : Option Vote) → vote_of store slot ≡ o → AreStored store (query_out id slot asker (report_of o))
 query_stored id store asker slot None e = none store
 query_stored id store asker slot (Some vote) e = one store (message_to id slot (Accepted vote) asker) e
 

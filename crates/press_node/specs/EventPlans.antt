@@ -1,5 +1,7 @@
--- Which calls of its store each event makes, where it may take memory of its own, and what it saves (own): a message that is ignored takes no memory, nor does a
--- refusal, a promise that doesn't count, a vote that isn't the first of all that are kept, where nothing is chosen, or a query for a slot without a vote.
+-- Which calls of its store each event makes, where it may take memory of its own, and what it saves
+-- (own): a message that is ignored takes no memory, nor does a refusal, a promise that doesn't
+-- count, a vote that isn't the first of all that are kept, where nothing is chosen, or a query for
+-- a slot without a vote.
 use Rattle.std.specs.Prelude.{ℕ, ◌+◌, ◌≡◌, ◌⊎◌, IsTrue, IsSome, Bool, true, false, List, []}
 use Rattle.press_wire.specs.declared.ballot.Ballot.{Ballot}
 use Rattle.press_wire.specs.declared.message.Body.{Body}
@@ -19,7 +21,8 @@ use Rattle.press_node.specs.declared.event.Event.{Event}
 use Rattle.press_node.specs.declared.event.Event.TheVariants.{Submit, Wake, Deliver}
 use Rattle.press_node.specs.NodeEvent.{Running, is_at_end, is_for, on_body, on_event}
 
--- the vote is for a slot of the window, and the first of all that are kept; or with it a value is chosen, which is applied
+-- the vote is for a slot of the window, and the first of all that are kept; or with it a value is
+-- chosen, which is applied
 abbrev pub TakesForVote : Kept → ℕ → ℕ → Vote → Type 0
 TakesForVote learner from slot vote = (IsTrue (is_in_window learner.applied slot) × KeepsNone learner) ⊎ IsSome (chosen_next (with_vote learner from slot vote))
 

@@ -14,7 +14,7 @@ use Rattle.press_node.specs.declared.fault.NodeFault.{NodeFault}
 use Rattle.press_acceptor.specs.Turned.{moved}
 use Rattle.press_node.specs.Plays.{Plays, StatePlays, state_moved}
 use Rattle.press_node.specs.States.{IsMemberOf, IsWhole, NodeState, Up}
-use Rattle.press_node.specs.declared.kept.Node.{Node}
+use Rattle.press_node.specs.declared.node.Node.{Node}
 
 -- the page of what the applied values make; none where the node is down
 abbrev pub IsPageAt : KitView → Option Up → Target → Reply → Type 0
@@ -43,7 +43,8 @@ abbrev pub NodePlays : {S T : Type 0} {t : _} {F : _} {g : _} → (S → Seen) �
 NodePlays seen old new event messages result =
     StatePlays seen (store_of old) (store_of new) (state_of old) (state_of new) event messages result
 
--- An event, as a connection plays it: the node is the same member and whole, and the event did what it does.
+-- An event, as a connection plays it: the node is the same member and whole, and the event did what
+-- it does.
 pub record IsPlayed (state state_after : NodeState) (Does : Type 0) : Type 0 where
   pub member : IsMemberOf state state_after
   pub whole : IsWhole state_after

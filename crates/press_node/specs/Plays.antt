@@ -1,7 +1,9 @@
--- What an event did to a node and its store: the one word for it, from what is in memory to a connection (own).
+-- What an event did to a node and its store: the one word for it, from what is in memory to a
+-- connection (own).
 --
--- An event that is refused without the store changes nothing. Any other is done, as *Node event* has it; or a fault of the store, or out of memory, stops the
--- node; or a wake finds that no round is left.
+-- An event that is refused without the store changes nothing. Any other is done, as *Node event*
+-- has it; or a fault of the store, or out of memory, stops the node; or a wake finds that no round
+-- is left.
 use Rattle.std.specs.Prelude.{ℕ, ◌≡◌, ◌⊎◌, Option, None, Some, List, Result, Ok, Err, MatchResult}
 use Rattle.press_wire.specs.declared.message.Message.{Message}
 use Rattle.press_acceptor.specs.StoreMap.{StoreMap}
@@ -46,14 +48,16 @@ abbrev pub sent : {T : Type 0} → (T → List Message) → Result T NodeFault �
 sent messages (Ok out) = Ok (messages out)
 sent messages (Err fault) = Err fault
 
--- The event was done: what the definition has is sent, in memory and stored, where what the store answers counts.
+-- The event was done: what the definition has is sent, in memory and stored, where what the store
+-- answers counts.
 pub record IsDone (plan : Plan) (answer : StoreMap → Answer) (refused : StoreMap → Option NodeFault) (store : StoreMove) (node : MemoryMove) (out : List Message) : Type 0 where
   pub turned : Turned plan store None
   pub sent : Trusts plan.calls store → out ≡ (answer store.old.kept).out
   pub memory : Trusts plan.calls store → node.has (answer store.old.kept).after
   pub passed : Trusts plan.calls store → refused store.old.kept ≡ None
 
--- The event was ended by a fault of the store or by running out of memory: the node is down. Where no round was left, that is the store's answer to the question for the last one.
+-- The event was ended by a fault of the store or by running out of memory: the node is down. Where
+-- no round was left, that is the store's answer to the question for the last one.
 pub record IsStopped (plan : Plan) (refused : StoreMap → Option NodeFault) (store : StoreMove) (node : MemoryMove) (fault : NodeFault) : Type 0 where
   pub by : StoreFault
   pub is : fault ≡ of_store by

@@ -1,4 +1,5 @@
--- What a connection gets: a reply to what its request asks, or nothing, where it is closed (RFC 9112, 9.6; own: which fault of a node has which status).
+-- What a connection gets: a reply to what its request asks, or nothing, where it is closed (RFC
+-- 9112, 9.6; own: which fault of a node has which status).
 use Rattle.std.specs.Prelude.{◌≡◌, ◌⊎◌, ℕ, List, [], length, ◌≤◌, Option, None, Some, Result, Ok, Err, IsErrAnd, MatchResult, codes}
 use Rattle.std.specs.Io.KnownBytes.{Appends, Consumes}
 use Rattle.press_callbacks.specs.Kits.{KitView}
@@ -38,14 +39,15 @@ status_of_node Damaged = 503
 status_of_node NoMemory = 503
 
 -- a command waits to be chosen
-abbrev pub queued : Reply
-queued = record { status = 202; kind = Json; body = codes "{\"queued\":true}" }
+abbrev pub queued_reply : Reply
+queued_reply = record { status = 202; kind = Json; body = codes "{\"queued\":true}" }
 
 -- a message was taken
-abbrev pub taken : Reply
-taken = record { status = 200; kind = Text; body = [] }
+abbrev pub taken_reply : Reply
+taken_reply = record { status = 200; kind = Text; body = [] }
 
--- what the bytes that were seen ask for, or why they ask for nothing: they are no request, or its route says why
+-- what the bytes that were seen ask for, or why they ask for nothing: they are no request, or its
+-- route says why
 abbrev pub AsksFor : List ℕ → Option (List ℕ) → Result Asked HttpFault → Type 0
 AsksFor seen left result =
     IsErrAnd result (λ e. Refuses e seen left) ⊎ ((r : Request) × IsRequest seen r × Gives meaning.Refuses Ok result (asked r.method r.target r.body))
@@ -69,7 +71,8 @@ ShowsFront kit up target old new = ((reply : Reply) × IsPageAt kit up target re
 
 -- ---- events
 
--- the reply, with the event's messages to be sent; or the fixed body of its fault, with nothing to be sent
+-- the reply, with the event's messages to be sent; or the fixed body of its fault, with nothing to
+-- be sent
 abbrev pub AnswersBy : Result (List Message) NodeFault → Reply → Option (List ℕ) → Option (List ℕ) → ℕ → List Message → Type 0
 AnswersBy (Ok out) reply old new status outbox = (outbox ≡ out) × Tells old new reply status
 AnswersBy (Err fault) reply old new status outbox = (outbox ≡ []) × (status ≡ status_of_node fault) × Appends old new (fault_bytes (status_of_node fault))
@@ -104,8 +107,8 @@ IsClosed fault (Some status) old new result = TellsStatus status old new result
 -- What is asked is done, and the reply is written. A page leaves the node unchanged.
 abbrev pub IsAnswered : NodeMove → Option (List ℕ) → Option (List ℕ) → Asked → Result Served HttpFault → Type 0
 IsAnswered node old new (Page target) result = node.same × IsShown node.kit node.up target old new result
-IsAnswered node old new (Command stamped) result = PlaysAndTells node.plays (Submit stamped) queued old new result
-IsAnswered node old new (Peer message) result = PlaysAndTells node.plays (Deliver message) taken old new result
+IsAnswered node old new (Command stamped) result = PlaysAndTells node.plays (Submit stamped) queued_reply old new result
+IsAnswered node old new (Peer message) result = PlaysAndTells node.plays (Deliver message) taken_reply old new result
 
 -- and bytes that ask for nothing leave it unchanged
 abbrev pub IsServed : NodeMove → Option (List ℕ) → Option (List ℕ) → Result Asked HttpFault → Result Served HttpFault → Type 0

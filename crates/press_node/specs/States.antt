@@ -1,4 +1,5 @@
--- A node without its kit and its store: which member it is, and what it has in memory while it is up.
+-- A node without its kit and its store: which member it is, and what it has in memory while it is
+-- up.
 use Rattle.std.specs.Prelude.{◌≡◌, ◌≤◌, ℕ, Bool, true, false, List, [], Option, None, Some, option_map, length, not}
 use Rattle.press_callbacks.specs.Kits.{KitView}
 use Rattle.press_apply.specs.Apply.{site_after}
@@ -67,7 +68,8 @@ waiting_where (Some up) = length up.running.proposer.queue
 abbrev pub waiting_count : NodeState → ℕ
 waiting_count state = waiting_where state.up
 
--- the values that were applied since the start, in the order of their slots; none where the node is down
+-- the values that were applied since the start, in the order of their slots; none where the node is
+-- down
 abbrev pub values_where : Option Up → List Value
 values_where None = []
 values_where (Some up) = up.running.values
@@ -79,8 +81,8 @@ applied_values state = values_where state.up
 abbrev pub IsFolded : KitView → NodeState → Type 0
 IsFolded kit state = option_map (λ up. up.site) state.up ≡ option_map (λ up. site_after kit up.running.values) state.up
 
--- What holds of a running node at every moment: its parts are of one node of at most seven, it has applied as many values as its learner counts, and none is chosen
--- that it has not applied.
+-- What holds of a running node at every moment: its parts are of one node of at most seven, it has
+-- applied as many values as its learner counts, and none is chosen that it has not applied.
 pub record IsRunningAt (id members : ℕ) (node : Running) : Type 0 where
   pub small : members ≤ 7
   pub member : id ≤ members

@@ -13,7 +13,8 @@ ghost use Rattle.press_page.specs.declared.reply.Target.{Target};
 use press_apply::folds_as_before;
 use press_page::pages_as_before;
 
-/// What is asked after values of which none switches the profile is replied to as it was before sites had a profile.
+/// What is asked after values of which none switches the profile is replied to as it was before
+/// sites had a profile.
 pub fn shows_as_before()
     ensures { (kit : KitView) (values : List Value) (target : Target) → HasNoSwitch values
         → page_of kit (site_after kit values) target

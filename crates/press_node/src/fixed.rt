@@ -1,5 +1,5 @@
 use press_callbacks::Kit;
-use press_wire::Node as Member;
+use press_wire::MemberId;
 use std::alloc::Global;
 
 // What stays as it is while a node runs: which member it is, of how many, and its kit.
@@ -7,6 +7,6 @@ use std::alloc::Global;
 pub(crate) struct Fixed<'a> {
     pub(crate) alloc: Global,
     pub(crate) kit: &'a Kit,
-    pub(crate) id: Member,
+    pub(crate) id: MemberId,
     pub(crate) members: u8,
 }

@@ -1,11 +1,12 @@
-//! One node of a cluster: a kit, a store, and what it has in memory. It answers events with messages and requests with pages.
+//! One node of a cluster: a kit, a store, and what it has in memory. It answers events with
+//! messages and requests with pages.
 #![tactic(auto)]
 
+mod calls;
 mod earlier;
 mod event;
 mod fault;
 mod fixed;
-mod kept;
 mod laws;
 mod node;
 mod serve;
@@ -16,8 +17,8 @@ mod up;
 pub use earlier::shows_as_before;
 pub use event::Event;
 pub use fault::NodeFault;
-pub use kept::Node;
 pub use laws::{few_messages_go_out, what_is_said_is_stored, what_is_sent_is_in_form};
+pub use node::Node;
 pub use serve::{Served, serve_one};
 pub use start_fault::StartFault;
 pub use state::State;

@@ -3,7 +3,7 @@
 ghost use Rattle.std.specs.Prelude.{◌≡◌, ◌≤◌, ℕ, List, [], length, IfOk, IfErr, OnErr};
 ghost use Rattle.std.specs.Io.KnownBytes.{Appends, Consumes};
 ghost use Rattle.press_text.specs.Streams.{AppendsProperFront};
-ghost use Rattle.press_http.specs.Replies.{IsTold, fault_bytes};
+ghost use Rattle.press_http.specs.Replies.{IsReplyStatus, fault_bytes};
 ghost use Rattle.press_http.specs.Requests.{longest_request};
 ghost use Rattle.press_node.specs.Nodes.{kit_of, node_moved, state_of};
 ghost use Rattle.press_node.specs.Serving.{
@@ -11,11 +11,11 @@ ghost use Rattle.press_node.specs.Serving.{
   IsAnswered,
   IsClosed,
   PlaysAndTells,
-  queued,
+  queued_reply,
   Serves,
   Shows,
   ShowsFront,
-  taken,
+  taken_reply,
   Tells,
   TellsFront,
   status_of_node,
@@ -24,7 +24,7 @@ ghost use Rattle.press_http.specs.Faults.{status_of};
 
 use crate::event::Event;
 use crate::fault::NodeFault;
-use crate::kept::Node;
+use crate::node::Node;
 use press_acceptor::PromiseStore;
 use press_http::{Asked, HttpFault, read_request, route, write_fault, write_reply};
 use press_page::{ContentKind, Reply, Target};
@@ -46,7 +46,7 @@ impl NodeFault {
     /// The status of the reply to the fault.
     pub fn status(self) -> u16
         ensures value { result ≡ status_of_node self }
-        ensures told { IsTold result }
+        ensures told { IsReplyStatus result }
     {
         match self {
             NodeFault::TooLong => 413,
@@ -62,7 +62,7 @@ impl NodeFault {
 }
 
 // What the request on a connection asks for.
-fn asked<R: Read>(alloc: Global, reader: &mut R) -> Result<Asked, HttpFault>
+fn parse_request<R: Read>(alloc: Global, reader: &mut R) -> Result<Asked, HttpFault>
     ensures { (seen : List ℕ) × Consumes (R.remaining reader.old) (R.remaining reader.new) seen ×
         (length seen ≤ longest_request) × AsksFor seen (R.remaining reader.new) result }
 {
@@ -73,8 +73,8 @@ fn asked<R: Read>(alloc: Global, reader: &mut R) -> Result<Asked, HttpFault>
 }
 
 // Writes a reply with a fixed body; nothing is to be sent.
-fn refused<W: Write>(alloc: Global, writer: &mut W, status: u16) -> Result<Served, HttpFault>
-    requires { IsTold status }
+fn refuse<W: Write>(alloc: Global, writer: &mut W, status: u16) -> Result<Served, HttpFault>
+    requires { IsReplyStatus status }
     ensures ok { IfOk result
         (λ s. (s.status ≡ status) × (s.outbox.items ≡ []) ×
         Appends (W.contents writer.old) (W.contents writer.new) (fault_bytes status)) }
@@ -92,8 +92,8 @@ fn refused<W: Write>(alloc: Global, writer: &mut W, status: u16) -> Result<Serve
 }
 
 // The reply that a command waits to be chosen. Its body is short, so it takes no memory.
-fn queued(alloc: Global) -> Reply
-    ensures { result ≡ queued }
+fn queued_reply(alloc: Global) -> Reply
+    ensures { result ≡ queued_reply }
 {
     let Ok(body) = Text::from_str(alloc, "{\"queued\":true}") else {
         unreachable!()
@@ -106,8 +106,8 @@ fn queued(alloc: Global) -> Reply
 }
 
 // The reply that a message was taken.
-fn taken(alloc: Global) -> Reply
-    ensures { result ≡ taken }
+fn taken_reply(alloc: Global) -> Reply
+    ensures { result ≡ taken_reply }
 {
     Reply {
         status: 200,
@@ -116,8 +116,9 @@ fn taken(alloc: Global) -> Reply
     }
 }
 
-// Writes a reply; its outbox is to be sent. Without memory for its head, 503 is written in its place.
-fn told<W: Write>(
+// Writes a reply; its outbox is to be sent. Without memory for its head, 503 is written in its
+// place.
+fn write_reply_or_503<W: Write>(
     alloc: Global,
     writer: &mut W,
     reply: &Reply,
@@ -147,7 +148,7 @@ fn told<W: Write>(
 }
 
 // Writes the page that is asked for, or 503 where the node is down or out of memory.
-fn shown<S: PromiseStore, W: Write>(
+fn serve_page<S: PromiseStore, W: Write>(
     node: &Node<S>,
     writer: &mut W,
     target: &Target,
@@ -162,13 +163,13 @@ fn shown<S: PromiseStore, W: Write>(
     ensures fault { IfErr result (λ e. e ≡ HttpFault.WriteFault) }
 {
     match node.get(target) {
-        Ok(reply) => told(node.alloc, writer, &reply, Vec::new(node.alloc)),
-        Err(_) => refused(node.alloc, writer, 503),
+        Ok(reply) => write_reply_or_503(node.alloc, writer, &reply, Vec::new(node.alloc)),
+        Err(_) => refuse(node.alloc, writer, 503),
     }
 }
 
 // Plays an event, and writes its reply or the reply to its fault.
-fn played<S: PromiseStore, W: Write>(
+fn serve_event<S: PromiseStore, W: Write>(
     node: &mut Node<S>,
     writer: &mut W,
     event: Event,
@@ -180,24 +181,25 @@ fn played<S: PromiseStore, W: Write>(
 {
     let alloc = node.alloc;
     match node.on(event) {
-        Ok(outbox) => told(alloc, writer, reply, outbox),
-        Err(fault) => refused(alloc, writer, fault.status()),
+        Ok(outbox) => write_reply_or_503(alloc, writer, reply, outbox),
+        Err(fault) => refuse(alloc, writer, fault.status()),
     }
 }
 
-// Answers a request that asks for nothing. A read that failed and an end before the whole request close the connection without a reply.
-fn closed<W: Write>(alloc: Global, writer: &mut W, fault: HttpFault) -> Result<Served, HttpFault>
+// Answers a request that asks for nothing. A read that failed and an end before the whole request
+// close the connection without a reply.
+fn close<W: Write>(alloc: Global, writer: &mut W, fault: HttpFault) -> Result<Served, HttpFault>
     ensures { IsClosed fault (status_of fault) (W.contents writer.old) (W.contents writer.new)
         result }
 {
     match fault.status() {
-        Some(status) => refused(alloc, writer, status),
+        Some(status) => refuse(alloc, writer, status),
         None => Err(fault),
     }
 }
 
 // Does what is asked and replies.
-fn answered<S: PromiseStore, W: Write>(
+fn serve_request<S: PromiseStore, W: Write>(
     node: &mut Node<S>,
     writer: &mut W,
     asked: Asked,
@@ -209,29 +211,30 @@ fn answered<S: PromiseStore, W: Write>(
     let alloc = node.alloc;
     match asked {
         Asked::Page(target) => {
-            let served = shown(node, writer, &target);
+            let served = serve_page(node, writer, &target);
             drop(target);
             served
         }
         Asked::Command(stamped) => {
-            let reply = queued(alloc);
-            let served = played(node, writer, Event::Submit(stamped), &reply);
+            let reply = queued_reply(alloc);
+            let served = serve_event(node, writer, Event::Submit(stamped), &reply);
             drop(reply);
             served
         }
         Asked::Peer(message) => {
-            let reply = taken(alloc);
-            let served = played(node, writer, Event::Deliver(message), &reply);
+            let reply = taken_reply(alloc);
+            let served = serve_event(node, writer, Event::Deliver(message), &reply);
             drop(reply);
             served
         }
     }
 }
 
-/// Serves one request of a connection: reads it, does what it asks, and writes the reply; a refusal is a reply too. The
-/// caller sends the outbox, and delivers what is for this node itself by `Node::on`. Err closes the connection: after
-/// ReadFault or Ended nothing was done or written; after WriteFault the reply is not whole, though a prefix of it may be
-/// out, the event is done, and its messages are lost.
+/// Serves one request of a connection: reads it, does what it asks, and writes the reply; a refusal
+/// is a reply too. The caller sends the outbox, and delivers what is for this node itself by
+/// `Node::on`. Err closes the connection: after ReadFault or Ended nothing was done or written;
+/// after WriteFault the reply is not whole, though a prefix of it may be out, the event is done,
+/// and its messages are lost.
 pub fn serve_one<S: PromiseStore, R: Read, W: Write>(
     node: &mut Node<S>,
     reader: &mut R,
@@ -241,8 +244,8 @@ pub fn serve_one<S: PromiseStore, R: Read, W: Write>(
     ensures served { Serves (node_moved S.seen node.old node.new) (R.remaining reader.old)
         (R.remaining reader.new) (W.contents writer.old) (W.contents writer.new) result }
 {
-    match asked(node.alloc, reader) {
-        Ok(asked) => answered(node, writer, asked),
-        Err(fault) => closed(node.alloc, writer, fault),
+    match parse_request(node.alloc, reader) {
+        Ok(asked) => serve_request(node, writer, asked),
+        Err(fault) => close(node.alloc, writer, fault),
     }
 }

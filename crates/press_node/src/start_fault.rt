@@ -3,7 +3,8 @@ use press_callbacks::Kit;
 use std::error::Error;
 use std::fmt;
 
-/// Why a node doesn't start: its store doesn't return the last round. It holds the kit and the store.
+/// Why a node doesn't start: its store doesn't return the last round. It holds the kit and the
+/// store.
 #[derive(Drop)]
 pub struct StartFault<S> {
     pub fault: StoreFault,

@@ -29,13 +29,14 @@ use press_apply::{Stamped, Value};
 use press_callbacks::Kit;
 use press_page::{Applied, Desk, Reply, Target, page, show_desk};
 use press_site::Site;
-use press_wire::{Message, Node as Member};
+use press_wire::{MemberId, Message};
 use std::alloc::Global;
 use std::marker::Model;
 
-/// Which member a node is, and what it has in memory while it is up. (It holds no kit, so it has a model.)
+/// Which member a node is, and what it has in memory while it is up. (It holds no kit, so it has a
+/// model.)
 pub struct State {
-    id: Member,
+    id: MemberId,
     members: u8,
     up: Option<Up>,
     alloc: Global,
@@ -71,7 +72,7 @@ impl Model for State {
 
 impl State {
     /// A node that has just started.
-    pub fn new(alloc: Global, id: Member, members: u8, last_round: u64) -> State
+    pub fn new(alloc: Global, id: MemberId, members: u8, last_round: u64) -> State
         requires few { members ≤ 7 }
         requires member { id ≤ members }
         ensures { result ≡ started_at id members last_round }
@@ -196,7 +197,8 @@ impl State {
         }
     }
 
-    /// Why a wake is refused, if it is, where this is the last round of the store. It takes no memory.
+    /// Why a wake is refused, if it is, where this is the last round of the store. It takes no
+    /// memory.
     pub fn refusal_of_wake(&self, last_round: u64) -> Option<NodeFault>
         ensures { (store : StoreMap) → store.last_round ≡ last_round →
             result ≡ refusal store (running_in self.now) Event.Wake }

@@ -27,7 +27,7 @@ use press_callbacks::Kit;
 use press_learner::{Learner, none_is_chosen_after_64};
 use press_proposer::Proposer;
 use press_site::Site;
-use press_wire::{Ballot, Body, Message, Node as Member, Slot, Vote, Votes, is_command_too_long};
+use press_wire::{Ballot, Body, MemberId, Message, Slot, Vote, Votes, is_command_too_long};
 use std::alloc::Global;
 
 // How many slots there are.
@@ -66,7 +66,7 @@ fn slot_behind(applied: u64) -> Slot
 }
 
 // What the acceptor answers to a request or a query.
-fn answered<S: PromiseStore>(
+fn answer_of_acceptor<S: PromiseStore>(
     fixed: &Fixed<'_>,
     store: &mut S,
     message: &Message,
@@ -89,14 +89,14 @@ fn answered<S: PromiseStore>(
 }
 
 // Whether the message is for this node and from a member.
-fn is_for(members: u8, id: Member, message: &Message) -> bool
+fn is_for(members: u8, id: MemberId, message: &Message) -> bool
     ensures { result ≡ is_for members id message.now }
 {
     message.to == id && message.from.number() <= members
 }
 
 impl Up {
-    pub(crate) fn new(alloc: Global, id: Member, members: u8, last_round: u64) -> Up
+    pub(crate) fn new(alloc: Global, id: MemberId, members: u8, last_round: u64) -> Up
         requires { members ≤ 7 }
         ensures running { running_of result ≡ fresh members id last_round }
         ensures none { chosen_next result.learner ≡ None }
@@ -177,7 +177,7 @@ impl Up {
     fn on_vote(
         &mut self,
         fixed: &Fixed<'_>,
-        from: Member,
+        from: MemberId,
         slot: Slot,
         vote: Vote,
     ) -> Result<(), NodeFault>
@@ -267,7 +267,7 @@ impl Up {
     fn wake<S: PromiseStore>(
         &mut self,
         store: &mut S,
-        id: Member,
+        id: MemberId,
         members: u8,
     ) -> Result<Vec<Message>, NodeFault>
         ensures rest { IsBeside self.old self.new }
@@ -287,7 +287,7 @@ impl Up {
     fn promise(
         &mut self,
         alloc: Global,
-        from: Member,
+        from: MemberId,
         first: Slot,
         ballot: Ballot,
         votes: Votes,
@@ -370,7 +370,7 @@ impl Up {
                     slot,
                     body,
                 };
-                let answer = answered(fixed, store, &request);
+                let answer = answer_of_acceptor(fixed, store, &request);
                 drop(request);
                 answer
             }

@@ -9,7 +9,7 @@ ghost use Rattle.press_page.specs.Desk.{count_of, counts_data, has_status, desk_
 ghost use Rattle.press_page.specs.Desk.{listed, option_data, posts_data, posts_down, site_data};
 
 use crate::json::{json_reply, status_reply};
-use crate::pages::{fixed, page_with};
+use crate::pages::{fixed_reply, page_with};
 use crate::reply::Reply;
 use press_callbacks::{Kit, Plugin};
 use press_events::Event;
@@ -74,7 +74,7 @@ fn preview(alloc: Global, site: &Site, kit: &Kit, id: u64) -> Result<Reply, Allo
     ensures { IfOk result (λ r. r ≡ desk_of (kit_view kit.now) site.now 0 (Desk.Preview id)) }
 {
     if site.post(id).is_none() {
-        return fixed(alloc, 404, "404 Not Found");
+        return fixed_reply(alloc, 404, "404 Not Found");
     }
     page_with(alloc, site, kit, &[id])
 }

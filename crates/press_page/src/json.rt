@@ -32,12 +32,12 @@ pub fn post_reply(
         r ≡ post_reply (kit_view kit.now) site.now (option_map (λ p. p.now) post.entry)) }
 {
     match post {
-        Some(post) => shown(alloc, site, kit, post),
+        Some(post) => show_post(alloc, site, kit, post),
         None => status_reply(alloc, 404),
     }
 }
 
-fn shown(alloc: Global, site: &Site, kit: &Kit, post: &Post) -> Result<Reply, AllocError>
+fn show_post(alloc: Global, site: &Site, kit: &Kit, post: &Post) -> Result<Reply, AllocError>
     ensures { IfOk result (λ r. r ≡ post_reply (kit_view kit.now) site.now (Some post.now)) }
 {
     let mut rendering = Rendering::new(alloc, kit, site)?;
@@ -62,7 +62,7 @@ fn post_body(
         (post_body (meaning_in kit.now) post.now (state_in rendering.old)) }
     ensures limits { TellsLimits result rendering.old rendering.new }
 {
-    let texts = rendering.filtered(kit, post)?;
+    let texts = rendering.filter_post(kit, post)?;
     let value = post_value(alloc, post, &texts)?;
     let body = text_of(alloc, &value)?;
     rendering.within(body)

@@ -45,7 +45,7 @@ fn post(alloc: Global, site: &Site, kit: &Kit, id: u64) -> Result<Reply, AllocEr
     ensures { IfOk result (λ r. r ≡ page_of (kit_view kit.now) site.now (Target.Post id)) }
 {
     if public_post(site.post(id)).is_none() {
-        return fixed(alloc, 404, "404 Not Found");
+        return fixed_reply(alloc, 404, "404 Not Found");
     }
     page_with(alloc, site, kit, &[id])
 }
@@ -60,7 +60,7 @@ fn public_post<'a>(post: Option<&'a Post>) -> Option<&'a Post>
     }
 }
 
-pub(crate) fn fixed(alloc: Global, status: u16, line: &str) -> Result<Reply, AllocError>
+pub(crate) fn fixed_reply(alloc: Global, status: u16, line: &str) -> Result<Reply, AllocError>
     ensures { IfOk result (λ r.
         r ≡ record { status = status; kind = ContentKind.Html; body = fixed_body line.now }) }
 {
@@ -87,7 +87,7 @@ pub(crate) fn page_with(
             kind: ContentKind::Html,
             body,
         }),
-        None => fixed(alloc, 500, "500 Internal Server Error"),
+        None => fixed_reply(alloc, 500, "500 Internal Server Error"),
     }
 }
 

@@ -82,7 +82,7 @@ impl<'a> Rendering<'a> {
 
     /// The boot's actions, then the title and the content of a post, each by its filter.
     #[tactic(auto, unfolding(crate::specs::Json::filtered))]
-    pub fn filtered(&mut self, kit: &Kit, post: &Post) -> Result<Filtered, RunFault>
+    pub fn filter_post(&mut self, kit: &Kit, post: &Post) -> Result<Filtered, RunFault>
         ensures gives { Gives Refuses Some result
             (filtered (meaning_in kit.now) post.now (state_in self.old)) }
         ensures limits { TellsLimits result self.old self.new }
@@ -110,7 +110,7 @@ impl<'a> Rendering<'a> {
     {
         let hook = HookName::from_valid(self.alloc, "the_title")?;
         let args = hooks::title_args(self.alloc, post)?;
-        self.applied(kit, hook, args)
+        self.apply_filter(kit, hook, args)
     }
 
     fn content_of(&mut self, kit: &Kit, post: &Post) -> Result<Text, RunFault>
@@ -120,7 +120,7 @@ impl<'a> Rendering<'a> {
     {
         let hook = HookName::from_valid(self.alloc, "the_content")?;
         let args = hooks::content_args(self.alloc, post)?;
-        self.applied(kit, hook, args)
+        self.apply_filter(kit, hook, args)
     }
 
     #[tactic(auto, unfolding(crate::specs::Page::opening))]
@@ -172,7 +172,7 @@ impl<'a> Rendering<'a> {
         let begun = template::article_part(self.alloc, post.id)?;
         self.puts(begun.as_str())?;
         let hook = HookName::from_valid(self.alloc, "the_title")?;
-        self.puts_filtered(kit, hook, hooks::title_args(self.alloc, post)?)?;
+        self.put_filtered(kit, hook, hooks::title_args(self.alloc, post)?)?;
         self.puts("</a></h2>\n")
     }
 
@@ -183,7 +183,7 @@ impl<'a> Rendering<'a> {
         ensures limits { TellsLimits result self.old self.new }
     {
         let hook = HookName::from_valid(self.alloc, "the_content")?;
-        self.puts_filtered(kit, hook, hooks::content_args(self.alloc, post)?)?;
+        self.put_filtered(kit, hook, hooks::content_args(self.alloc, post)?)?;
         self.puts("\n</article>\n")
     }
 
@@ -208,7 +208,7 @@ impl<'a> Rendering<'a> {
 
     // A filter over its first argument, whose answer goes to the output.
     #[tactic(auto, unfolding(crate::specs::Page::puts_filtered))]
-    fn puts_filtered(&mut self, kit: &Kit, hook: HookName, args: Texts) -> Result<(), RunFault>
+    fn put_filtered(&mut self, kit: &Kit, hook: HookName, args: Texts) -> Result<(), RunFault>
         ensures steps { Steps (puts_filtered (meaning_in kit.now) hook args (state_in self.old))
             (state_in self.new) result }
         ensures limit { is_limit result ≡ false → self.new.machine.met_limit ≡ false }
@@ -218,7 +218,7 @@ impl<'a> Rendering<'a> {
     }
 
     // A filter over its first argument.
-    fn applied(&mut self, kit: &Kit, hook: HookName, args: Texts) -> Result<Text, RunFault>
+    fn apply_filter(&mut self, kit: &Kit, hook: HookName, args: Texts) -> Result<Text, RunFault>
         ensures answers { Answers (apply_hook (meaning_in kit.now) hook args (state_in self.old))
             (state_in self.new) result }
         ensures limit { self.new.machine.met_limit ≡ is_limit result }

@@ -9,7 +9,7 @@ use press_text::{Name, NameFault, dec_u64};
 use std::alloc::{AllocError, Global};
 
 // The texts before and after the first such byte.
-fn parted(text: &str, at: char) -> Option<(&str, &str)>
+fn split_at(text: &str, at: char) -> Option<(&str, &str)>
     requires { at < 128 }
     ensures { option_map (λ p. (p.0.now, p.1.now)) result ≡ spec.parted at text.now }
 {
@@ -33,7 +33,7 @@ fn token(alloc: Global, text: &str) -> Result<Option<Token>, AllocError>
     ensures none { spec.token_in text.now ≡ None → result ≡ Ok None }
     ensures memory { OnErr result (IsSome (spec.token_in text.now)) }
 {
-    let Some((editor, seq)) = parted(text, '/') else {
+    let Some((editor, seq)) = split_at(text, '/') else {
         return Ok(None);
     };
     match dec_u64(seq) {
@@ -78,7 +78,7 @@ impl Target {
         if text == "front" {
             return Ok(Some(Target::Front));
         }
-        match parted(text, ':') {
+        match split_at(text, ':') {
             Some((kind, rest)) => target_by(alloc, kind, rest),
             None => Ok(None),
         }

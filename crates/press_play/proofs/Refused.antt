@@ -9,7 +9,7 @@ use Rattle.press_kit.specs.declared.kit_parts.Scripted.{Scripted}
 use Rattle.press_kit.specs.declared.place.Place.{Place}
 use Rattle.press_kit.specs.declared.play_file.PlayFile.{PlayFile}
 use Rattle.press_play.specs.Faults.{of_kit}
-use Rattle.press_play.specs.Played.{Refuses, file_where, played, played_where, scripts_of, unless}
+use Rattle.press_play.specs.Played.{Refuses, file_where, lines_of_file, played_where, scripts_of, unless}
 
 pub all_given : (given : Scripts) (left : List Scripted) (scripts : Scripts) → left ≡ [] → given ++ scripts_of left ≡ scripts → given ≡ scripts
 all_given given left scripts none is = sym (append-nil given) ∙ ap (λ (l : List Scripted). given ++ scripts_of l) (sym none) ∙ is
@@ -24,6 +24,6 @@ pub kit_refused : (fault : KitFault) (given scripts : Scripts) (taken plugins : 
     → kits.Refuses fault (kit_fault given taken) → Refuses (of_kit fault) (unless (kit_fault scripts plugins) lines)
 kit_refused fault given scripts taken plugins lines gs ps h = rw (sym gs, sym ps) (first_refused fault (kit_fault given taken) lines h)
 
-pub file_played : (file : PlayFile) (found : Result PlayFile Place) → file_where found ≡ Ok file → played_where found ≡ played file
+pub file_played : (file : PlayFile) (found : Result PlayFile Place) → file_where found ≡ Ok file → played_where found ≡ lines_of_file file
 file_played file (Ok f) h = cc
 file_played file (Err place) h = absurd (cc)

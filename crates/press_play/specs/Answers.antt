@@ -22,14 +22,14 @@ abbrev pub fault_data : PlayFault → Data
 fault_data f = fault_data_at (fault_number f) (place_in f)
 
 -- the fault where there is one, and what is written
-abbrev pub answered : Result (List ℕ) PlayFault → Answered
-answered (Ok lines) = record { fault = None; text = lines }
-answered (Err fault) = record { fault = Some fault; text = line (fault_data fault) }
+abbrev pub answer_of : Result (List ℕ) PlayFault → Answered
+answer_of (Ok lines) = record { fault = None; text = lines }
+answer_of (Err fault) = record { fault = Some fault; text = line (fault_data fault) }
 
 -- where the answer can't be made for lack of memory, that is reported
 abbrev pub or_no_memory : Result Answered AllocError → Answered
 or_no_memory (Ok a) = a
-or_no_memory (Err e) = answered (Err NoMemory)
+or_no_memory (Err e) = answer_of (Err NoMemory)
 
 -- the bytes of the lines that were read
 abbrev pub bytes_in : {A : Type 0} → Result (String A) PlayFault → Result (List ℕ) PlayFault
@@ -38,11 +38,11 @@ bytes_in (Err fault) = Err fault
 
 -- out of memory and a failed read come from outside, and may come at any file
 abbrev pub Answers : List ℕ → Answered → Type 0
-Answers input a = (a ≡ answered (played_in input)) ⊎ ((a ≡ answered (Err NoMemory)) ⊎ (a ≡ answered (Err ReadFault)))
+Answers input a = (a ≡ answer_of (played_in input)) ⊎ ((a ≡ answer_of (Err NoMemory)) ⊎ (a ≡ answer_of (Err ReadFault)))
 
 -- the message about a fault met before a file's text: it, or out of memory
 abbrev pub Tells : PlayFault → Answered → Type 0
-Tells fault a = (a ≡ answered (Err fault)) ⊎ (a ≡ answered (Err NoMemory))
+Tells fault a = (a ≡ answer_of (Err fault)) ⊎ (a ≡ answer_of (Err NoMemory))
 
 -- the text went out whole, or a prefix of it where the write failed
 abbrev pub Writes : Answered → Option (List ℕ) → Option (List ℕ) → Result (Option PlayFault) WriteFault → Type 0

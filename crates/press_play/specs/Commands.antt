@@ -1,4 +1,5 @@
--- Commands before plays: what becomes of each by *Apply*, as a line of JSON, and the site after them (own).
+-- Commands before plays: what becomes of each by *Apply*, as a line of JSON, and the site after
+-- them (own).
 use Rattle.std.specs.Prelude.{ℕ, List, [], ◌∷◌, ◌++◌, map}
 use Rattle.press_site.specs.SiteView.{SiteView}
 use Rattle.press_callbacks.specs.Kits.{KitView}

@@ -1,5 +1,5 @@
--- The lines of plays: what each play gives by *Run* on the state that the ones before it left, the site among it, as a line of JSON (own).
--- A play that meets a limit is the last.
+-- The lines of plays: what each play gives by *Run* on the state that the ones before it left, the
+-- site among it, as a line of JSON (own). A play that meets a limit is the last.
 use Rattle.std.specs.Prelude.{◌≡◌, ℕ, List, [], ◌∷◌, ◌++◌, Bool, true, false, Option, Some, None, Result, Ok, Err, codes}
 use Rattle.std.specs.declared.alloc.AllocError.{AllocError}
 use Rattle.serde_json.specs.Data.{Data, string, boolean, object, member, no_members}

@@ -1,5 +1,6 @@
--- What a play file comes to: the lines of its commands, applied in turn to the site with its active plugins, then those of its pages of the site after
--- them, then those of its plays on a fresh boot of that site; or its fault (own).
+-- What a play file comes to: the lines of its commands, applied in turn to the site with its active
+-- plugins, then those of its pages of the site after them, then those of its plays on a fresh boot
+-- of that site; or its fault (own).
 use Rattle.std.specs.Prelude.{◌≡◌, ℕ, List, ◌++◌, map, Option, Some, None, Result, Ok, Err}
 use Rattle.press_callbacks.specs.declared.kit_fault.KitFault.{KitFault}
 use Rattle.press_callbacks.specs.Kits.{Scripts, KitView, view_of, kit_fault}
@@ -39,12 +40,12 @@ abbrev pub unless : Option KitFault → List ℕ → Result (List ℕ) PlayFault
 unless None lines = Ok lines
 unless (Some fault) lines = Err (of_kit fault)
 
-abbrev pub played : PlayFile → Result (List ℕ) PlayFault
-played f = unless (kit_fault (scripts_of f.kit.callbacks) f.kit.plugins) (all_lines (view_of (scripts_of f.kit.callbacks) f.kit.plugins) (site_with f.active) f.commands f.pages f.plays)
+abbrev pub lines_of_file : PlayFile → Result (List ℕ) PlayFault
+lines_of_file f = unless (kit_fault (scripts_of f.kit.callbacks) f.kit.plugins) (all_lines (view_of (scripts_of f.kit.callbacks) f.kit.plugins) (site_with f.active) f.commands f.pages f.plays)
 
 abbrev pub played_where : Result PlayFile Place → Result (List ℕ) PlayFault
 played_where (Err place) = Err (BadKitFile place)
-played_where (Ok f) = played f
+played_where (Ok f) = lines_of_file f
 
 abbrev pub played_in : List ℕ → Result (List ℕ) PlayFault
 played_in bytes = played_where (play_file_in bytes)

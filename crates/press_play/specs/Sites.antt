@@ -1,4 +1,5 @@
--- The site that plays stand on: a new one on which the active plugins were activated in turn; a name that stands twice changes nothing (own).
+-- The site that plays stand on: a new one on which the active plugins were activated in turn; a
+-- name that stands twice changes nothing (own).
 use Rattle.std.specs.Prelude.{ℕ, List, [], ◌∷◌}
 use Rattle.press_site.specs.declared.effect.Effect.TheVariants.{Activate}
 use Rattle.press_site.specs.Effects.{effect_on, no_site}

@@ -4,12 +4,12 @@ ghost use Rattle.std.specs.Prelude.{◌≡◌, ◌+◌, Err, IfSome, IfOk};
 ghost use Rattle.press_text.specs.Streams.{TakesAtMost};
 ghost use Rattle.press_kit.specs.KitFile.{file_limit};
 ghost use Rattle.press_play.specs.declared.answered.Answered.{Answered as Said};
-ghost use Rattle.press_play.specs.Answers.{Answers, Tells, Writes, answered, bytes_in, or_no_memory};
+ghost use Rattle.press_play.specs.Answers.{Answers, Tells, Writes, answer_of, bytes_in, or_no_memory};
 
 use crate::fault::PlayFault;
 use crate::line::fault_line;
 use crate::notes::Notes;
-use crate::played::read_lines;
+use crate::played::read_and_play;
 use press_text::{Text, WriteFault, write_once};
 use std::alloc::{AllocError, Global};
 use std::io::{Read, Write};
@@ -27,8 +27,8 @@ impl Drop for Answered {
     }
 }
 
-fn told(alloc: Global, fault: PlayFault) -> Result<Answered, AllocError>
-    ensures { IfOk result (λ a. a ≡ answered (Err fault)) }
+fn answer_fault(alloc: Global, fault: PlayFault) -> Result<Answered, AllocError>
+    ensures { IfOk result (λ a. a ≡ answer_of (Err fault)) }
 {
     Ok(Answered {
         fault: Some(fault),
@@ -37,14 +37,14 @@ fn told(alloc: Global, fault: PlayFault) -> Result<Answered, AllocError>
 }
 
 fn outcome(alloc: Global, lines: Result<String, PlayFault>) -> Result<Answered, AllocError>
-    ensures { IfOk result (λ a. a ≡ answered (bytes_in lines)) }
+    ensures { IfOk result (λ a. a ≡ answer_of (bytes_in lines)) }
 {
     match lines {
         Ok(text) => Ok(Answered {
             fault: None,
             text: Text::from_string(text)?,
         }),
-        Err(fault) => told(alloc, fault),
+        Err(fault) => answer_fault(alloc, fault),
     }
 }
 
@@ -70,8 +70,8 @@ fn write_said<W: Write>(
     }
 }
 
-/// Plays the file that a reader has left, and writes its lines, or the line of its fault; returns the fault. Messages
-/// to its author go to the notes.
+/// Plays the file that a reader has left, and writes its lines, or the line of its fault; returns
+/// the fault. Messages to its author go to the notes.
 pub fn play_input<R: Read, W: Write>(
     alloc: Global,
     reader: &mut R,
@@ -82,7 +82,7 @@ pub fn play_input<R: Read, W: Write>(
     ensures writes { IfSome (R.remaining reader.old) (λ input. (a : Said) × Answers input a
         × Writes a (W.contents writer.old) (W.contents writer.new) result) }
 {
-    let said = outcome(alloc, read_lines(alloc, reader, notes));
+    let said = outcome(alloc, read_and_play(alloc, reader, notes));
     write_said(writer, &said)
 }
 
@@ -95,6 +95,6 @@ pub fn write_fault<W: Write>(
     ensures { (a : Said) × Tells fault a
         × Writes a (W.contents writer.old) (W.contents writer.new) result }
 {
-    let said = told(alloc, fault);
+    let said = answer_fault(alloc, fault);
     write_said(writer, &said)
 }

@@ -8,7 +8,8 @@ use std::str;
 // How many bytes a text may have.
 const MOST_BYTES: usize = 1_048_576;
 
-// Where 32 callbacks are open, more than this many are callbacks of scripts: few built-in ones are nested.
+// Where 32 callbacks are open, more than this many are callbacks of scripts: few built-in ones are
+// nested.
 const FEW_OPEN: usize = 8;
 
 // A callback that was called.
@@ -25,7 +26,7 @@ struct Called {
 
 // What the machine was asked last.
 #[derive(Drop)]
-struct Asked {
+struct LastQuestion {
     // The bytes of the longest text that was passed on.
     longest: usize,
     echoes: bool,
@@ -49,7 +50,7 @@ pub struct Book {
     called: Vec<Called>,
     // The places of those that are open, the innermost last.
     open: Vec<usize>,
-    last: Option<Asked>,
+    last: Option<LastQuestion>,
     // The bytes of all texts that could come into a scan.
     bytes: usize,
 }
@@ -85,7 +86,7 @@ fn step_line(alloc: Global, id: &CallbackId, step: usize, why: &str) -> Result<S
 
 /// That a step of a callback would make a text which is too long.
 pub fn long_text(alloc: Global, id: Option<CallbackId>, step: usize) -> Result<String, AllocError> {
-    let why = Bound::Text.told();
+    let why = Bound::Text.words();
     match id {
         None => String::from_str(alloc, why),
         Some(id) => step_line(alloc, &id, step, why),
@@ -93,7 +94,7 @@ pub fn long_text(alloc: Global, id: Option<CallbackId>, step: usize) -> Result<S
 }
 
 impl Called {
-    fn told(&self, alloc: Global) -> Result<String, AllocError> {
+    fn tell(&self, alloc: Global) -> Result<String, AllocError> {
         let name = name_of(&self.id);
         match self.answer {
             Some(bytes) => format!(in alloc; "\"{name}\" answers (length {bytes})\n"),
@@ -102,8 +103,8 @@ impl Called {
     }
 }
 
-impl Asked {
-    fn of(turn: &Turn) -> Asked {
+impl LastQuestion {
+    fn of(turn: &Turn) -> LastQuestion {
         let longest = match turn {
             Turn::Go(text) | Turn::Shortcodes(text) | Turn::Publish(text) => text.len(),
             Turn::Echo(text) | Turn::Return(text) => text.len(),
@@ -112,7 +113,7 @@ impl Asked {
             Turn::Apply { texts, .. } | Turn::Do { texts, .. } => longest(texts.as_slice()),
             _ => 0,
         };
-        Asked {
+        LastQuestion {
             longest,
             echoes: matches!(turn, Turn::Echo(_)),
             returns: matches!(turn, Turn::Return(_)),
@@ -121,7 +122,7 @@ impl Asked {
 }
 
 impl Bound {
-    fn told(self) -> &'static str {
+    fn words(self) -> &'static str {
         match self {
             Bound::Steps => "10000 steps are taken",
             Bound::Text => "a text would pass 1048576 bytes",
@@ -184,13 +185,14 @@ impl Book {
         if let Some(called) = self.innermost() {
             called.step = call.turn;
         }
-        let asked = Asked::of(turn);
+        let asked = LastQuestion::of(turn);
         self.bytes = self.bytes.saturating_add(asked.longest);
         self.last = Some(asked);
         Ok(())
     }
 
-    // Which limit was met, but that of a step's text. By built-in callbacks alone few are open, and no scan is longer than all texts together.
+    // Which limit was met, but that of a step's text. By built-in callbacks alone few are open, and
+    // no scan is longer than all texts together.
     fn bound(&self, is_spent: bool) -> Bound {
         let echoes = match &self.last {
             None => false,
@@ -209,11 +211,12 @@ impl Book {
         }
     }
 
-    /// Which limit ended the play, and at which callback; whether no step is left is known to the machine.
+    /// Which limit ended the play, and at which callback; whether no step is left is known to the
+    /// machine.
     pub fn limit(&mut self, is_spent: bool) -> Result<String, AllocError> {
         let alloc = self.alloc;
         let bound = self.bound(is_spent);
-        let why = bound.told();
+        let why = bound.words();
         if bound.is_behind() {
             self.settle();
         }
@@ -224,7 +227,8 @@ impl Book {
         }
     }
 
-    /// A line for each callback that was called, after a prefix, the inner ones further to the right.
+    /// A line for each callback that was called, after a prefix, the inner ones further to the
+    /// right.
     pub fn trace(&self, front: &str) -> Result<String, AllocError> {
         let alloc = self.alloc;
         let mut lines = String::new(alloc);
@@ -233,7 +237,7 @@ impl Book {
             for _round in 0..called.depth {
                 lines.push_str("  ")?;
             }
-            let line = called.told(alloc)?;
+            let line = called.tell(alloc)?;
             lines.push_str(line.as_str())?;
         }
         Ok(lines)

@@ -1,6 +1,8 @@
-//! What the callbacks of plays do, as their closures note it: it is printed on standard error, and nothing else depends on it.
+//! What the callbacks of plays do, as their closures note it: it is printed on standard error, and
+//! nothing else depends on it.
 //!
-//! A play is watched where it asks to be traced. One that meets a limit is done a second time, and then watched.
+//! A play is watched where it asks to be traced. One that meets a limit is done a second time, and
+//! then watched.
 
 ghost use Rattle.std.specs.Prelude.{◌≡◌, IfOk};
 ghost use Rattle.press_callbacks.specs.Turns.{turn_of};
@@ -99,7 +101,8 @@ impl Plays {
     }
 }
 
-/// Where the closures of a kit note what they ask. What can't be noted for lack of memory is left out.
+/// Where the closures of a kit note what they ask. What can't be noted for lack of memory is left
+/// out.
 pub struct Journal {
     alloc: Global,
     // Whether a play is watched: a turn that nobody notes looks here alone.
@@ -169,7 +172,7 @@ impl Journal {
     }
 
     /// How many plays have ended.
-    pub fn ended(&self) -> usize {
+    pub fn end_count(&self) -> usize {
         match self.plays.try_borrow() {
             Ok(plays) => plays.ended,
             Err(_) => 0,
@@ -218,7 +221,7 @@ impl Journal {
     }
 
     /// Takes the lines so far.
-    pub fn take_told(&self, alloc: Global) -> String {
+    pub fn take_lines(&self, alloc: Global) -> String {
         match self.plays.try_borrow_mut() {
             Ok(mut plays) => mem::replace(&mut plays.told, String::new(alloc)),
             Err(_) => String::new(alloc),

@@ -1,8 +1,9 @@
-//! Plays kit files: `press_play [FILE ..]` plays the files in turn, or standard input, and prints a line of JSON for
-//! each command, page and play.
+//! Plays kit files: `press_play [FILE ..]` plays the files in turn, or standard input, and prints a
+//! line of JSON for each command, page and play.
 //!
-//! A file with a fault gets a line with it, and one on standard error, there with what is wrong and where, and the
-//! program then ends with status 2. What in a file is surely a slip is printed on standard error alone.
+//! A file with a fault gets a line with it, and one on standard error, there with what is wrong and
+//! where, and the program then ends with status 2. What in a file is surely a slip is printed on
+//! standard error alone.
 #![tactic(auto)]
 
 mod answered;
@@ -46,7 +47,7 @@ fn play_reader<R: Read>(
 }
 
 // Plays a file by its name, or standard input for `-`; its fault.
-fn play_named(
+fn play_file(
     rt: &HostRuntime,
     name: &str,
     notes: &mut Notes,
@@ -66,9 +67,9 @@ fn play(rt: &HostRuntime, name: &str) -> Result<bool, WriteFault> {
         tell(rt, name, PlayFault::NoMemory, "");
         return Ok(false);
     };
-    let fault = play_named(rt, name, &mut notes)?;
+    let fault = play_file(rt, name, &mut notes)?;
     let _ = write_once(&mut rt.stderr(), notes.slips.as_bytes());
-    let told = notes.journal.take_told(rt.alloc());
+    let told = notes.journal.take_lines(rt.alloc());
     let _ = write_once(&mut rt.stderr(), told.as_bytes());
     match fault {
         None => Ok(true),

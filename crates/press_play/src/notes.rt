@@ -65,7 +65,7 @@ impl Notes {
     pub fn note_kit(&mut self, alloc: Global, file: &PlayFile) {
         match mistake_in(alloc, &file.kit) {
             Ok(Some(mistake)) => {
-                if let Ok(why) = mistake.told(alloc, &file.kit) {
+                if let Ok(why) = mistake.tell(alloc, &file.kit) {
                     self.why = why;
                 }
             }

@@ -6,7 +6,7 @@ ghost use Rattle.press_text.specs.Streams.{TakesAtMost};
 ghost use Rattle.press_kit.specs.KitFile.{file_limit};
 ghost use Rattle.press_kit.specs.PlayFile.{play_file_in};
 ghost use Rattle.press_text.specs.Gives.{Gives};
-ghost use Rattle.press_play.specs.Played.{Refuses, all_lines, file_where, played, played_in};
+ghost use Rattle.press_play.specs.Played.{Refuses, all_lines, file_where, lines_of_file, played_in};
 
 use crate::commands::commands_on;
 use crate::fault::PlayFault;
@@ -50,15 +50,15 @@ fn file<R: Read>(alloc: Global, reader: &mut R, notes: &mut Notes) -> Result<Pla
 }
 
 // What a play file asks for, once its kit is built.
-struct Asked {
+struct Orders {
     commands: Items<Stamped>,
     pages: Items<Target>,
     plays: Items<Play>,
 }
 
-impl Drop for Asked {
+impl Drop for Orders {
     fn drop(self) {
-        let Asked {
+        let Orders {
             commands: _,
             pages: _,
             plays: _,
@@ -66,13 +66,13 @@ impl Drop for Asked {
     }
 }
 
-impl Asked {
+impl Orders {
     // The lines of the commands, and those of the pages and plays on the site after them.
-    fn lines(self, journal: &Journal, kit: &Kit, mut site: Site) -> Result<String, AllocError>
+    fn play(self, journal: &Journal, kit: &Kit, mut site: Site) -> Result<String, AllocError>
         ensures { IfOk result (λ t. string_bytes t
             ≡ all_lines (kit_view kit.now) site self.commands self.pages self.plays) }
     {
-        let Asked {
+        let Orders {
             commands,
             pages,
             plays,
@@ -87,9 +87,10 @@ impl Asked {
     }
 }
 
-// The lines of a play file. The kit's closures, which note what they ask, are boxed here: a function can't return a box.
-fn lines(journal: &Journal, file: PlayFile) -> Result<String, PlayFault>
-    ensures { Gives Refuses (λ t. Ok (string_bytes t)) result (played file) }
+// The lines of a play file. The kit's closures, which note what they ask, are boxed here: a
+// function can't return a box.
+fn lines_of_play(journal: &Journal, file: PlayFile) -> Result<String, PlayFault>
+    ensures { Gives Refuses (λ t. Ok (string_bytes t)) result (lines_of_file file) }
 {
     let alloc = journal.alloc();
     let PlayFile {
@@ -113,18 +114,18 @@ fn lines(journal: &Journal, file: PlayFile) -> Result<String, PlayFault>
     }
     let kit = Kit::build(alloc, callbacks, plugins.into_vec())?;
     let site = site_with(alloc, active)?;
-    let asked = Asked {
+    let asked = Orders {
         commands,
         pages,
         plays,
     };
-    let lines = asked.lines(journal, &kit, site)?;
+    let lines = asked.play(journal, &kit, site)?;
     Ok(lines)
 }
 
 /// The lines of the play file that a reader has left. Messages to its author go to the notes.
 #[tactic(auto, using(crate::proofs::Refused::file_played))]
-pub fn read_lines<R: Read>(
+pub fn read_and_play<R: Read>(
     alloc: Global,
     reader: &mut R,
     notes: &mut Notes,
@@ -134,5 +135,5 @@ pub fn read_lines<R: Read>(
         (λ input. Gives Refuses (λ t. Ok (string_bytes t)) result (played_in input)) }
 {
     let file = file(alloc, reader, notes)?;
-    lines(&notes.journal, file)
+    lines_of_play(&notes.journal, file)
 }

@@ -27,9 +27,9 @@ impl Drop for Again {
     }
 }
 
-// Whether a machine that met a limit has no step left: it is asked for one more, on a boot without plugins, where
-// `the_content` has a built-in callback alone. No clause says what a limit leaves of a machine, and nothing but a note
-// rests on it.
+// Whether a machine that met a limit has no step left: it is asked for one more, on a boot without
+// plugins, where `the_content` has a built-in callback alone. No clause says what a limit leaves of
+// a machine, and nothing but a note rests on it.
 fn is_spent(alloc: Global, kit: &Kit, counts: &mut Counts) -> Result<bool, AllocError> {
     let hook = HookName::from_valid(alloc, "the_content")?;
     let args = Texts::new(alloc);
@@ -83,7 +83,7 @@ impl Again {
 
     /// Tells of the first of these that hasn't ended, for which those before it are done once more.
     pub fn tell(mut self, kit: &Kit, plays: &[Play]) -> Result<(), AllocError> {
-        let ended = self.journal.ended();
+        let ended = self.journal.end_count();
         self.journal.rest();
         for play in plays.iter().take(ended) {
             self.meets_limit(kit, play)?;

@@ -20,19 +20,20 @@ fn activate(site: &mut Site, plugin: Name) -> Result<(), AllocError>
 }
 
 // These in the order of their names; takes no memory.
-fn sorted(mut names: Vec<Name>) -> Vec<Name>
+fn sort(mut names: Vec<Name>) -> Vec<Name>
     ensures { IsPermutation names.items result.items }
 {
     names.sort_unstable_by(|a, b| a.as_str().cmp(b.as_str()));
     names
 }
 
-/// A new site with these plugins active. They are activated in the order of their names, so that each goes to the end.
+/// A new site with these plugins active. They are activated in the order of their names, so that
+/// each goes to the end.
 #[tactic(auto, using(crate::proofs::Active::in_any_order))]
 pub fn site_with(alloc: Global, active: Items<Name>) -> Result<Site, AllocError>
     ensures { IfOk result (λ s. s ≡ site_with active) }
 {
-    let names = sorted(active.into_vec());
+    let names = sort(active.into_vec());
     let mut site = Site::new(alloc);
     for plugin in names {
         activate(&mut site, plugin)?;

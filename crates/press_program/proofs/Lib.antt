@@ -1,4 +1,4 @@
-pub mod Asked
+pub mod Arguments
 pub mod Behind
 pub mod Ends
 pub mod Exports

@@ -11,7 +11,7 @@ use Rattle.press_demonstration.specs.Demonstration.{demonstration}
 use Rattle.press_program.specs.Endings.{known_of, Does, Runs, RunsOver, Served}
 use Rattle.press_program.specs.KitFiles.{fault_line}
 use Rattle.press_program.specs.declared.kitting.KitFault.TheVariants as kit
-use Rattle.press_program.specs.Words.{Asked, Job, export, of_file, of_files, send, serve}
+use Rattle.press_program.specs.Words.{Arguments, Job, export, of_file, of_files, send, serve}
 use Rattle.press_program.proofs.Ends.{outside_task}
 use Rattle.press_program.proofs.Behind.{outside}
 
@@ -30,7 +30,7 @@ no_memory_over : (served : Served) (names : List (List ℕ)) (job : Job) (remain
 no_memory_over served [] job remaining status out err err' is kept told = no_memory_for served demonstration job remaining status out err err' is kept told
 no_memory_over served (name ∷ names) job remaining status out err err' is kept told = inl (is, kept, [], kit.NoMemory, tt, told)
 
-pub no_memory : (served : Served) (asked : Option Asked) (remaining : Option (List ℕ)) (status : ℕ) (out err err' : Option (List ℕ))
+pub no_memory : (served : Served) (asked : Option Arguments) (remaining : Option (List ℕ)) (status : ℕ) (out err err' : Option (List ℕ))
     → status ≡ 2 → Keeps out out → AppendsFront err err' (fault_line NoMemory) → Runs served asked remaining status out out err err'
 no_memory served None remaining status out err err' is kept told = (is, kept, inr told)
 no_memory served (Some asked) remaining status out err err' is kept told = no_memory_over served asked.kits asked.job remaining status out err err' is kept told

@@ -26,7 +26,7 @@ use Rattle.press_server.specs.declared.serve_fault.ServeFault.{ServeFault}
 use Rattle.press_server.specs.declared.serve_fault.ServeFault.TheVariants as fault
 use Rattle.press_loop.specs.Loops.{Loops}
 use Rattle.press_program.specs.Exports.{Makes, TellsUnmade}
-use Rattle.press_program.specs.Words.{Asked, Export, Job, Mail, OfFile, OfFiles, Server, export, of_file, of_files, send, serve, is_input}
+use Rattle.press_program.specs.Words.{Arguments, Export, Job, Mail, OfFile, OfFiles, Server, export, of_file, of_files, send, serve, is_input}
 use Rattle.press_program.specs.declared.task.Task.{Task}
 use Rattle.press_program.specs.declared.task.Task.TheVariants.{Page, Replay, Loop}
 use Rattle.press_text.specs.Streams.{AppendsFront}
@@ -39,13 +39,14 @@ use Rattle.press_program.specs.KitFiles.{AreNamed, RefusesKit, fault_line, slip_
 abbrev pub exit_status : ℕ → ℕ
 exit_status status = if nat_eq status 200 then 0 else 1
 
-abbrev pub printed : Reply → Ending
-printed reply = Printed (exit_status reply.status) reply.body
+abbrev pub ending_of_reply : Reply → Ending
+ending_of_reply reply = Printed (exit_status reply.status) reply.body
 
--- the end of a run on a file, where nothing outside fails: the reply to what is asked, after its commands
+-- the end of a run on a file, where nothing outside fails: the reply to what is asked, after its
+-- commands
 abbrev pub page_ending : KitView → Target → Result (List Stamped) Place → Ending
 page_ending kit target (Err place) = Fault BadSchedule
-page_ending kit target (Ok commands) = printed (page_of kit (site_after kit (map (λ c. Cmd c) commands)) target)
+page_ending kit target (Ok commands) = ending_of_reply (page_of kit (site_after kit (map (λ c. Cmd c) commands)) target)
 
 -- a fault ends a run as well
 abbrev pub ending_of : Result Ending ReplayFault → Ending
@@ -74,14 +75,16 @@ replayed = Ok tt
 abbrev pub failed : ReplayFault → Result (Unit {0}) ReplayFault
 failed fault = Err fault
 
--- The end of a replay of the schedule that a reader has left, over at most so many nodes of this kit, and what it has put on the output: the transcript, or
--- a prefix of it where a write failed or memory ran out; nothing where the file is bad or couldn't be read.
+-- The end of a replay of the schedule that a reader has left, over at most so many nodes of this
+-- kit, and what it has put on the output: the transcript, or a prefix of it where a write failed or
+-- memory ran out; nothing where the file is bad or couldn't be read.
 unfoldable pub EndsReplay : KitView → ℕ → Option (List ℕ) → Option (List ℕ) → Option (List ℕ) → Ending → Type 0
 EndsReplay kit kits remaining out out' (Printed status body) = ⊥
 EndsReplay kit kits remaining out out' Replayed = Replays (schedule_in kits) (transcript kit) remaining out out' replayed
 EndsReplay kit kits remaining out out' (Fault fault) = Replays (schedule_in kits) (transcript kit) remaining out out' (failed fault)
 
--- The same where the steps come over sockets, any of which may fail: then a prefix of the transcript is left.
+-- The same where the steps come over sockets, any of which may fail: then a prefix of the
+-- transcript is left.
 unfoldable pub EndsLoop : KitView → ℕ → Option (List ℕ) → Option (List ℕ) → Option (List ℕ) → Ending → Type 0
 EndsLoop kit kits remaining out out' (Printed status body) = ⊥
 EndsLoop kit kits remaining out out' Replayed = Loops (schedule_in kits) (transcript kit) remaining out out' replayed
@@ -99,15 +102,17 @@ EndsTask kit (Page target) remaining out out' end = EndsOn kit target remaining 
 EndsTask kit Replay remaining out out' end = EndsReplay kit (kits_for Replay) remaining out out' end
 EndsTask kit Loop remaining out out' end = EndsLoop kit (kits_for Loop) remaining out out' end
 
--- What is known of a file's bytes: on the standard input, what contracts see of that. A file that is opened by its name has some bytes.
+-- What is known of a file's bytes: on the standard input, what contracts see of that. A file that
+-- is opened by its name has some bytes.
 abbrev pub known_of : List ℕ → Option (List ℕ) → Option (List ℕ)
 known_of file remaining = if is_input file then remaining else None
 
 abbrev pub usage_line : List ℕ
 usage_line = codes "press: usage\n"
 
--- What is written of an ending: a body goes to the output, and nothing after a transcript; for a fault, or where the output has failed, which may be at any run, a line goes to
--- the errors, as far as they take it.
+-- What is written of an ending: a body goes to the output, and nothing after a transcript; for a
+-- fault, or where the output has failed, which may be at any run, a line goes to the errors, as far
+-- as they take it.
 abbrev pub Finishes : Ending → ℕ → Option (List ℕ) → Option (List ℕ) → Option (List ℕ) → Option (List ℕ) → Type 0
 Finishes (Printed status body) result out out' err err' =
     ((result ≡ status) × Appends out out' body × Keeps err err')
@@ -120,7 +125,7 @@ abbrev pub TellsUsage : ℕ → Option (List ℕ) → Option (List ℕ) → Opti
 TellsUsage result out out' err err' = (result ≡ 2) × Keeps out out' × (AppendsFront err err' usage_line ⊎ AppendsFront err err' (fault_line NoMemory))
 
 -- What refused words come to, whatever there is to read: nothing is read.
-abbrev pub RefusesWords : Option Asked → ℕ → Option (List ℕ) → Option (List ℕ) → Option (List ℕ) → Option (List ℕ) → Option (List ℕ) → Option (List ℕ) → Type 0
+abbrev pub RefusesWords : Option Arguments → ℕ → Option (List ℕ) → Option (List ℕ) → Option (List ℕ) → Option (List ℕ) → Option (List ℕ) → Option (List ℕ) → Type 0
 RefusesWords (Some asked) result input input' out out' err err' = Unit {0}
 RefusesWords None result input input' out out' err err' = Keeps input input' × TellsUsage result out out' err err'
 
@@ -132,7 +137,7 @@ ReadsFor (serve server) input input' = Keeps input input'
 ReadsFor (send mail) input input' = is_input mail.0 ≡ false → Keeps input input'
 ReadsFor (export it) input input' = Keeps input input'
 
-abbrev pub ReadsAsked : Option Asked → Option (List ℕ) → Option (List ℕ) → Type 0
+abbrev pub ReadsAsked : Option Arguments → Option (List ℕ) → Option (List ℕ) → Type 0
 ReadsAsked None input input' = Keeps input input'
 ReadsAsked (Some asked) input input' = ReadsFor asked.job input input'
 
@@ -140,7 +145,8 @@ ReadsAsked (Some asked) input input' = ReadsFor asked.job input input'
 abbrev pub Shows : KitView → OfFile → Option (List ℕ) → ℕ → Option (List ℕ) → Option (List ℕ) → Option (List ℕ) → Option (List ℕ) → Type 0
 Shows kit wanted remaining result out out' err err' = (end : Ending) × (by_then : Option (List ℕ)) × EndsTask kit wanted.1 (known_of wanted.0 remaining) out by_then end × Finishes end result by_then out' err err'
 
--- that somebody served over a kit, as the words have it, and how that ended: each who serves says it in a way of its own
+-- that somebody served over a kit, as the words have it, and how that ended: each who serves says
+-- it in a way of its own
 abbrev pub Served : Type 1
 Served = KitView → Server → Result (Unit {0}) ServeFault → Type 0
 
@@ -148,7 +154,8 @@ Served = KitView → Server → Result (Unit {0}) ServeFault → Type 0
 abbrev pub any_server : Served
 any_server kit server ended = Unit {0}
 
--- One served over the kit, as the words have it, and printed its line on the output, as far as that took it; or there was no memory for the kit, and nobody did.
+-- One served over the kit, as the words have it, and printed its line on the output, as far as that
+-- took it; or there was no memory for the kit, and nobody did.
 abbrev pub IsServed : Served → KitView → Server → Result (Unit {0}) ServeFault → Option (List ℕ) → Option (List ℕ) → Type 0
 IsServed served kit server ended out out' =
     ((ended ≡ Err fault.NoMemory) × Keeps out out') ⊎ (served kit server ended × AppendsFront out out' (listening_line server.place))
@@ -158,7 +165,8 @@ abbrev pub server_status : Result (Unit {0}) ServeFault → ℕ
 server_status (Ok done) = 0
 server_status (Err fault) = 2
 
--- A server's run, and its status. Contracts see no bytes of sockets, and its lines on standard error depend on them.
+-- A server's run, and its status. Contracts see no bytes of sockets, and its lines on standard
+-- error depend on them.
 abbrev pub Listens : Served → KitView → Server → ℕ → Option (List ℕ) → Option (List ℕ) → Type 0
 Listens served kit server result out out' = (ended : Result (Unit {0}) ServeFault) × IsServed served kit server ended out out' × (result ≡ server_status ended)
 
@@ -205,7 +213,8 @@ IsSite remaining commands = (input : List ℕ) × Has remaining input × (site_i
 abbrev pub mail_status : Counts → ℕ
 mail_status counts = if are_done counts then 0 else 1
 
--- What is printed of commands that were sent: what became of each, or a front of that, or nothing. Contracts see no bytes of sockets: `deliver` says what became of them.
+-- What is printed of commands that were sent: what became of each, or a front of that, or nothing.
+-- Contracts see no bytes of sockets: `deliver` says what became of them.
 abbrev pub Reports : Option (List ℕ) → Option (List ℕ) → Option (List ℕ) → Result ℕ ReplayFault → Type 0
 Reports remaining out out' (Ok status) =
     (commands : List Stamped) × (endings : List Ended) × IsSite remaining commands
@@ -218,13 +227,15 @@ abbrev pub TellsFault : Result ℕ ReplayFault → ℕ → Option (List ℕ) →
 TellsFault (Ok status) result err err' = (result ≡ status) × Keeps err err'
 TellsFault (Err fault) result err err' = (result ≡ 2) × AppendsFront err err' (fault_line fault)
 
--- A run that sends commands. Where the members are none, that is told as words are that are refused.
+-- A run that sends commands. Where the members are none, that is told as words are that are
+-- refused.
 abbrev pub Mails : Option (List ℕ) → ℕ → Option (List ℕ) → Option (List ℕ) → Option (List ℕ) → Option (List ℕ) → Type 0
 Mails remaining result out out' err err' =
     TellsUsage result out out' err err'
     ⊎ ((ended : Result ℕ ReplayFault) × Reports remaining out out' ended × TellsFault ended result err err')
 
--- A run that makes site files of a log. What is no member, or more than one, is told as words are that are refused.
+-- A run that makes site files of a log. What is no member, or more than one, is told as words are
+-- that are refused.
 abbrev pub Exports : Export → ℕ → Option (List ℕ) → Option (List ℕ) → Option (List ℕ) → Option (List ℕ) → Type 0
 Exports it result out out' err err' =
     TellsUsage result out out' err err' ⊎ (Makes it result out out' err err' ⊎ TellsUnmade it result out out' err err')
@@ -237,7 +248,8 @@ Does served kit (serve server) remaining result out out' err err' = Listens serv
 Does served kit (export it) remaining result out out' err err' = Exports it result out out' err err'
 Does served kit (send mail) remaining result out out' err err' = Mails (known_of mail.0 remaining) result out out' err err'
 
--- Over the demonstration kit, or over that of kit files, whose slips are reported before anything else; one that can't be used is reported, and nothing else is done.
+-- Over the demonstration kit, or over that of kit files, whose slips are reported before anything
+-- else; one that can't be used is reported, and nothing else is done.
 abbrev pub RunsOver : Served → List (List ℕ) → Job → Option (List ℕ) → ℕ → Option (List ℕ) → Option (List ℕ) → Option (List ℕ) → Option (List ℕ) → Type 0
 RunsOver served [] job remaining result out out' err err' = Does served demonstration job remaining result out out' err err'
 RunsOver served (name ∷ names) job remaining result out out' err err' =
@@ -246,6 +258,6 @@ RunsOver served (name ∷ names) job remaining result out out' err err' =
     × (by_then : Option (List ℕ)) × AppendsFront err by_then told × Does served (view_where (read_together files)) job remaining result out out' by_then err')
 
 -- A run for what is asked.
-abbrev pub Runs : Served → Option Asked → Option (List ℕ) → ℕ → Option (List ℕ) → Option (List ℕ) → Option (List ℕ) → Option (List ℕ) → Type 0
+abbrev pub Runs : Served → Option Arguments → Option (List ℕ) → ℕ → Option (List ℕ) → Option (List ℕ) → Option (List ℕ) → Option (List ℕ) → Type 0
 Runs served None remaining result out out' err err' = TellsUsage result out out' err err'
 Runs served (Some asked) remaining result out out' err err' = RunsOver served asked.kits asked.job remaining result out out' err err'

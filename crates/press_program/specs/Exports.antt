@@ -21,12 +21,12 @@ limits = record { bytes = file_limit; commands = command_limit }
 
 -- ---- files
 
-unfoldable pub numbered : List ℕ → ℕ → List ℕ
-numbered file number = file ++ (codes "." ++ decimal number)
+unfoldable pub numbered_name : List ℕ → ℕ → List ℕ
+numbered_name file number = file ++ (codes "." ++ decimal number)
 
 -- by a place from 0: those behind the first have their number as well
 abbrev pub name_of : List ℕ → ℕ → List ℕ
-name_of file place = if nat_eq place 0 then file else numbered file (place + 1)
+name_of file place = if nat_eq place 0 then file else numbered_name file (place + 1)
 
 unfoldable pub line : List ℕ → ℕ → List ℕ
 line name commands = name ++ (codes ": " ++ (decimal commands ++ codes " commands\n"))
@@ -75,7 +75,8 @@ reason_of export why = reason_line (subject_of export why) (words_of why)
 abbrev pub lines_of : Export → List Entry → List ℕ
 lines_of export entries = lines_from export.1 0 (files_of limits entries)
 
--- The files are written, and a line for each is printed; or a fault is told, with a reason, as far as the errors take them.
+-- The files are written, and a line for each is printed; or a fault is told, with a reason, as far
+-- as the errors take them.
 abbrev pub Makes : Export → ℕ → Option (List ℕ) → Option (List ℕ) → Option (List ℕ) → Option (List ℕ) → Type 0
 Makes export result out out' err err' = (entries : List Entry) × (result ≡ 0) × Appends out out' (lines_of export entries) × Keeps err err'
 

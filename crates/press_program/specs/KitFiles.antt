@@ -1,4 +1,5 @@
--- The kit files of a run: the message about one that can't be used, and the kit that they give (own).
+-- The kit files of a run: the message about one that can't be used, and the kit that they give
+-- (own).
 use Rattle.std.specs.Prelude.{◌≡◌, ℕ, List, ◌++◌, map, [], string_bytes, Option, Result, Ok, Err, codes, decimal}
 use Rattle.std.specs.Io.KnownBytes.{Keeps}
 use Rattle.std.specs.List.{Contains}
@@ -58,7 +59,8 @@ MeetsAlone kit.ReadFault = Unit {0}
 MeetsAlone kit.TooLong = Unit {0}
 MeetsAlone (kit.Refused number text) = ⊥
 
--- refused files are reported as they are; out of memory, and of each file a failed read or that it is too long, may be met at any time
+-- refused files are reported as they are; out of memory, and of each file a failed read or that it
+-- is too long, may be met at any time
 abbrev pub MeetsFault : List (List ℕ) → List ℕ → KitFault → Type 0
 MeetsFault names file kit.NoMemory = Unit {0}
 MeetsFault names file kit.ReadFault = Contains names file

@@ -10,13 +10,13 @@ use Rattle.press_page.specs.declared.reply.Target.TheVariants.{Post}
 use Rattle.press_page.specs.declared.reply.Target.{Target}
 use Rattle.press_page.specs.Targets.{target_in}
 use Rattle.press_text.specs.Decimals.{decimal_in}
-use Rattle.press_program.specs.declared.wanted.Asked as asked
+use Rattle.press_program.specs.declared.wanted.Arguments as asked
 use Rattle.press_program.specs.declared.wanted.Job as declared
 use Rattle.press_program.specs.declared.wanted.Job.TheVariants as told
 use Rattle.press_server.specs.Listening.Where.{alone_at, member_of}
 use Rattle.press_server.specs.Listening.{Where}
-use Rattle.press_server.specs.declared.setup.Place.TheVariants.{Alone, Member}
-use Rattle.press_server.specs.declared.setup.Place.{Place}
+use Rattle.press_server.specs.declared.setup.Role.TheVariants.{Alone, Member}
+use Rattle.press_server.specs.declared.setup.Role.{Role}
 use Rattle.press_server.specs.declared.setup.Setup.{Setup}
 use Rattle.press_program.specs.declared.wanted.Exporting.{Exporting}
 use Rattle.press_program.specs.declared.wanted.Mailing.{Mailing}
@@ -110,8 +110,10 @@ pub record OfFiles : Type 0 where
   pub further : List (List ℕ)
   pub target : Target
 
--- a server: its place, with the milliseconds of its tick; for so many connections, or until it is ended; over the store in a file, or in memory; with the file of a page for
--- editors; how many seconds ahead a command may be; whether a member stays whose store has failed; and whether it tells how it stands
+-- a server: its place, with the milliseconds of its tick; for so many connections, or until it is
+-- ended; over the store in a file, or in memory; with the file of a page for editors; how many
+-- seconds ahead a command may be; whether a member stays whose store has failed; and whether it
+-- tells how it stands
 pub record Server : Type 0 where
   pub place : Where
   pub tick : ℕ
@@ -138,7 +140,7 @@ pub data Job : Type 0 where
   export : Export → Job
 
 -- over the kit of files in this order, or else the demonstration kit
-pub record Asked : Type 0 where
+pub record Arguments : Type 0 where
   pub kits : List (List ℕ)
   pub job : Job
 
@@ -253,15 +255,15 @@ job_in name rows =
     (if bytes_eq name (codes "send") then option_map send (mailing_in rows) else
     (if bytes_eq name (codes "export") then option_map export (export_in rows) else None)))))
 
-abbrev pub asked_in : Text → List Row → Option Asked
+abbrev pub asked_in : Text → List Row → Option Arguments
 asked_in name rows = option_map (λ job. record { kits = names_in (codes "kit") rows; job = job }) (job_in name rows)
 
 -- nothing where `clap` has a fault
-abbrev pub asked_where : Kinds → Option (Text × List Row) → Option Asked
+abbrev pub asked_where : Kinds → Option (Text × List Row) → Option Arguments
 asked_where [] found = option_and_then (λ p. asked_in p.0 p.1) found
 asked_where (k ∷ ks) found = None
 
-abbrev pub asked_by : List Text → Option Asked
+abbrev pub asked_by : List Text → Option Arguments
 asked_by [] = Some (record { kits = []; job = of_file (codes "-", Page (Post 1)) })
 asked_by (w ∷ ws) = asked_where (fault_of program (w ∷ ws)) (subcommand_of program (w ∷ ws))
 
@@ -278,7 +280,7 @@ abbrev pub several_of : SeveralFiles → OfFiles
 several_of f = record { first = f.file.now; further = map (λ name. name.now) f.further.items; target = f.target }
 
 -- a node by itself has no tick
-abbrev pub place_of : Place → Where × ℕ
+abbrev pub place_of : Role → Where × ℕ
 place_of (Alone port) = (alone_at port, 0)
 place_of (Member id peers tick) = (member_of id peers.now, tick)
 
@@ -307,5 +309,5 @@ job_of (told.Serve s) = serve (server_of s)
 job_of (told.Send m) = send (mailing_of m)
 job_of (told.Export e) = export (export_of e)
 
-abbrev pub asked_of : asked.Asked → Asked
+abbrev pub asked_of : asked.Arguments → Arguments
 asked_of a = record { kits = map (λ kit. kit.now) a.kits.items; job = job_of a.job }

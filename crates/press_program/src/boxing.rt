@@ -1,6 +1,8 @@
-//! Kits whose closures are boxed where they are made: a function can't return a box, so macros make them.
+//! Kits whose closures are boxed where they are made: a function can't return a box, so macros make
+//! them.
 
-/// The demonstration kit, or the fault of its making. The caller imports the names that are used here; out of memory is passed on by `?`.
+/// The demonstration kit, or the fault of its making. The caller imports the names that are used
+/// here; out of memory is passed on by `?`.
 #[macro_export]
 macro_rules! demonstration_kit {
     ($alloc:ident) => {{

@@ -5,7 +5,7 @@ ghost use Rattle.press_callbacks.specs.Kits.{KitView, kit_view};
 ghost use Rattle.press_kit.specs.KitFile.{file_limit};
 ghost use Rattle.press_text.specs.Streams.{TakesAtMost};
 ghost use Rattle.press_world.specs.Starts.{AreKit, views_of};
-ghost use Rattle.press_program.specs.Endings.{ending_of, kits_for, page_ending, printed, EndsLoop, EndsOn, EndsReplay, EndsTask};
+ghost use Rattle.press_program.specs.Endings.{ending_of, kits_for, page_ending, ending_of_reply, EndsLoop, EndsOn, EndsReplay, EndsTask};
 
 use crate::commands::apply_all;
 use crate::task::Task;
@@ -28,8 +28,8 @@ pub enum Ending {
     Fault(ReplayFault),
 }
 
-fn printed(reply: Reply) -> Ending
-    ensures { result ≡ printed reply }
+fn ending_of_reply(reply: Reply) -> Ending
+    ensures { result ≡ ending_of_reply reply }
 {
     Ending::Printed {
         status: if reply.status == 200 { 0 } else { 1 },
@@ -49,7 +49,7 @@ pub(crate) fn page_after(
     let mut site = Site::new(alloc);
     apply_all(alloc, &mut site, kit, commands)?;
     let reply = page(alloc, &site, kit, target)?;
-    Ok(printed(reply))
+    Ok(ending_of_reply(reply))
 }
 
 fn try_page<R: Read>(
@@ -119,7 +119,8 @@ fn loop_end<Rt: AllocGlobal + Net, R: Read, W: Write>(
     }
 }
 
-/// The end of a run for a task, over kits that are alike and as many as it wants, on the file that a reader has left.
+/// The end of a run for a task, over kits that are alike and as many as it wants, on the file that
+/// a reader has left.
 pub fn end_over<Rt: AllocGlobal + Net, R: Read, W: Write>(
     rt: &Rt,
     kits: Vec<Kit>,

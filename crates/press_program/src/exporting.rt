@@ -81,9 +81,9 @@ impl Unmade {
     }
 }
 
-#[tactic(auto, unfolding(crate::specs::Exports::numbered))]
-fn numbered(alloc: Global, file: &str, number: usize) -> Result<String, AllocError>
-    ensures { IfOk result (λ t. string_bytes t ≡ spec.numbered file.now number) }
+#[tactic(auto, unfolding(crate::specs::Exports::numbered_name))]
+fn numbered_name(alloc: Global, file: &str, number: usize) -> Result<String, AllocError>
+    ensures { IfOk result (λ t. string_bytes t ≡ spec.numbered_name file.now number) }
 {
     format!(in alloc; "{file}.{number}")
 }
@@ -96,7 +96,7 @@ fn name_of(alloc: Global, file: &str, place: usize) -> Result<String, AllocError
         return String::from_str(alloc, file);
     }
     match place.checked_add(1) {
-        Some(number) => numbered(alloc, file, number),
+        Some(number) => numbered_name(alloc, file, number),
         None => Err(AllocError),
     }
 }
@@ -117,7 +117,7 @@ fn reason_line(alloc: Global, subject: &str, words: &str) -> Result<String, Allo
 
 // A line for each file.
 #[tactic(auto, using(crate::proofs::Exports::lines_on, crate::proofs::Exports::lines_end))]
-fn lines(alloc: Global, file: &str, files: &[SiteFile]) -> Result<String, AllocError>
+fn lines_of_files(alloc: Global, file: &str, files: &[SiteFile]) -> Result<String, AllocError>
     ensures { IfOk result (λ t. string_bytes t ≡ spec.lines_from file.now 0 files.now) }
 {
     let mut text = String::new(alloc);
@@ -160,14 +160,14 @@ impl Exporting<'_> {
     }
 
     // Makes the files; returns a line for each.
-    fn made(&self, members: &mut Sockets<'_>) -> Result<String, Unmade>
+    fn make_files(&self, members: &mut Sockets<'_>) -> Result<String, Unmade>
         ensures { IfOk result (λ t. (entries : List Applied)
             × (string_bytes t ≡ spec.lines_of (export_of self.now) entries)) }
     {
         let rt = members.runtime();
         let files = export(rt.alloc(), members, LIMITS)?;
         self.write_all(rt, &files)?;
-        let text = lines(rt.alloc(), self.file, &files)?;
+        let text = lines_of_files(rt.alloc(), self.file, &files)?;
         Ok(text)
     }
 
@@ -179,7 +179,7 @@ impl Exporting<'_> {
             (λ _. AppendsFront (W.contents writer.old) (W.contents writer.new)
             (spec.lines_of (export_of self.now) entries)) }
     {
-        match self.made(members) {
+        match self.make_files(members) {
             Ok(text) => match write_once(writer, text.as_bytes()) {
                 Ok(()) => Ok(()),
                 Err(_) => Err(Unmade::Unprinted),
@@ -238,7 +238,8 @@ impl Exporting<'_> {
         }
     }
 
-    /// Writes what the member has applied as site files, none of which may be there before, and prints a line for each.
+    /// Writes what the member has applied as site files, none of which may be there before, and
+    /// prints a line for each.
     #[tactic(auto, using(crate::proofs::Exports::usage, crate::proofs::Exports::no_room))]
     pub fn export<W: Write, E: Write>(&self, rt: &HostRuntime, writer: &mut W, error: &mut E) -> u8
         ensures { Exports (export_of self.now) result (W.contents writer.old)

@@ -59,7 +59,7 @@ pub(crate) struct Hosting<'r, 'f, S> {
 
 impl<S: Serves> Hosting<'_, '_, S> {
     // A server over the demonstration kit; none where there is no memory for that.
-    fn serve_demonstrated<W: Write, E: Write>(
+    fn serve_demonstration<W: Write, E: Write>(
         &self,
         setup: &Setup<'_>,
         writer: &mut W,
@@ -81,7 +81,7 @@ impl<S: Serves> Hosting<'_, '_, S> {
     }
 
     // The same over the kit of these kit files.
-    fn serve_filed<W: Write, E: Write>(
+    fn serve_files<W: Write, E: Write>(
         &self,
         files: &[NamedFile<'_>],
         setup: &Setup<'_>,
@@ -122,11 +122,11 @@ impl<S: Serves> Hosting<'_, '_, S> {
             (W.contents writer.old) (W.contents writer.new) }
     {
         match self.over.kit {
-            Chosen::Demonstration => match self.serve_demonstrated(setup, writer, error) {
+            Chosen::Demonstration => match self.serve_demonstration(setup, writer, error) {
                 Ok(ended) => ended,
                 Err(_) => Err(ServeFault::NoMemory),
             },
-            Chosen::OfFiles(files) => match self.serve_filed(files, setup, writer, error) {
+            Chosen::OfFiles(files) => match self.serve_files(files, setup, writer, error) {
                 Ok(ended) => ended,
                 Err(_) => Err(ServeFault::NoMemory),
             },

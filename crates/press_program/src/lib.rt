@@ -1,4 +1,5 @@
-//! The program `press` but for its streams: what its arguments ask for, and one run over any reader and writers.
+//! The program `press` but for its streams: what its arguments ask for, and one run over any reader
+//! and writers.
 #![tactic(auto)]
 
 mod boxing;

@@ -46,7 +46,7 @@ pub(crate) struct Over<'r, 'f, Rt> {
 
 impl<Rt: AllocGlobal + Net> Over<'_, '_, Rt> {
     // The end for what is asked of a file, over demonstration kits.
-    fn demonstrated<R: Read, W: Write>(
+    fn end_over_demonstration<R: Read, W: Write>(
         &self,
         task: &Task,
         reader: &mut R,
@@ -71,7 +71,7 @@ impl<Rt: AllocGlobal + Net> Over<'_, '_, Rt> {
     }
 
     // The same over kits of these kit files.
-    fn filed<R: Read, W: Write>(
+    fn end_over_files<R: Read, W: Write>(
         &self,
         files: &[NamedFile<'_>],
         task: &Task,
@@ -100,7 +100,7 @@ impl<Rt: AllocGlobal + Net> Over<'_, '_, Rt> {
         Ok(end_over(self.rt, kits, task, reader, writer))
     }
 
-    fn tried<R: Read, W: Write>(
+    fn try_end<R: Read, W: Write>(
         &self,
         task: &Task,
         reader: &mut R,
@@ -114,20 +114,25 @@ impl<Rt: AllocGlobal + Net> Over<'_, '_, Rt> {
             × (W.contents writer.new ≡ W.contents writer.old)) }
     {
         match self.kit {
-            Chosen::Demonstration => self.demonstrated(task, reader, writer),
-            Chosen::OfFiles(files) => self.filed(files, task, reader, writer),
+            Chosen::Demonstration => self.end_over_demonstration(task, reader, writer),
+            Chosen::OfFiles(files) => self.end_over_files(files, task, reader, writer),
         }
     }
 
     // The end of a run on the file that a reader has left.
     #[tactic(auto, using(crate::proofs::Ends::out_of_memory))]
-    fn shown<R: Read, W: Write>(&self, task: &Task, reader: &mut R, writer: &mut W) -> Ending
+    fn end_of_reader<R: Read, W: Write>(
+        &self,
+        task: &Task,
+        reader: &mut R,
+        writer: &mut W,
+    ) -> Ending
         ensures took { TakesAtMost (R.remaining reader.old)
             (R.remaining reader.new) (file_limit + 1) }
         ensures ends { EndsTask (view_chosen self.now.kit.now) task.now (R.remaining reader.old)
             (W.contents writer.old) (W.contents writer.new) result }
     {
-        match self.tried(task, reader, writer) {
+        match self.try_end(task, reader, writer) {
             Ok(end) => end,
             Err(fault) => Ending::Fault(fault),
         }
@@ -135,13 +140,14 @@ impl<Rt: AllocGlobal + Net> Over<'_, '_, Rt> {
 }
 
 impl<Rt: AllocGlobal + Files + Net> Over<'_, '_, Rt> {
-    // The end of a run on a file by its name. One that can't be opened counts as one that can't be read.
-    fn shown_of<W: Write>(&self, wanted: &Wanted<'_>, writer: &mut W) -> Ending
+    // The end of a run on a file by its name. One that can't be opened counts as one that can't be
+    // read.
+    fn end_of_named<W: Write>(&self, wanted: &Wanted<'_>, writer: &mut W) -> Ending
         ensures { EndsTask (view_chosen self.now.kit.now) wanted.now.task None
             (W.contents writer.old) (W.contents writer.new) result }
     {
         match fs::open(self.rt, wanted.file) {
-            Ok(mut file) => self.shown(&wanted.task, &mut file, writer),
+            Ok(mut file) => self.end_of_reader(&wanted.task, &mut file, writer),
             Err(e) if e.kind() == io::ErrorKind::OutOfMemory => {
                 Ending::Fault(ReplayFault::NoMemory)
             }
@@ -149,7 +155,7 @@ impl<Rt: AllocGlobal + Files + Net> Over<'_, '_, Rt> {
         }
     }
 
-    fn ended<R: Read, W: Write>(
+    fn end_of_input<R: Read, W: Write>(
         &self,
         wanted: &Wanted<'_>,
         reader: &mut R,
@@ -164,9 +170,9 @@ impl<Rt: AllocGlobal + Files + Net> Over<'_, '_, Rt> {
             (W.contents writer.old) (W.contents writer.new) result }
     {
         if wanted.file == "-" {
-            self.shown(&wanted.task, reader, writer)
+            self.end_of_reader(&wanted.task, reader, writer)
         } else {
-            self.shown_of(wanted, writer)
+            self.end_of_named(wanted, writer)
         }
     }
 
@@ -186,7 +192,7 @@ impl<Rt: AllocGlobal + Files + Net> Over<'_, '_, Rt> {
             (R.remaining reader.old) result (W.contents writer.old) (W.contents writer.new)
             (E.contents error.old) (E.contents error.new) }
     {
-        let end = self.ended(wanted, reader, writer);
+        let end = self.end_of_input(wanted, reader, writer);
         finish(end, writer, error)
     }
 }

@@ -6,7 +6,7 @@ ghost use Rattle.press_server.specs.Listening.Where.{alone_at, member_of};
 ghost use Rattle.press_program.specs.Reasons.{line_around, name_of, of_place, of_store, phrase_of, place_name, plain, reason_of, serve_line, view_of};
 ghost use Rattle.press_program.specs.Words.{server_of};
 
-use press_server::{Place, ServeFault, Setup};
+use press_server::{Role, ServeFault, Setup};
 use std::alloc::{AllocError, Global};
 
 /// The line of a fault.
@@ -131,12 +131,12 @@ fn member_name(alloc: Global, id: u8, peers: &str) -> Result<String, AllocError>
     format!(in alloc; "the address of member {id} of {peers}")
 }
 
-fn place_name(alloc: Global, place: &Place<'_>) -> Result<String, AllocError>
+fn place_name(alloc: Global, place: &Role<'_>) -> Result<String, AllocError>
     ensures { IfOk result (λ t. string_bytes t ≡ place_name (where_of place.now)) }
 {
     match place {
-        Place::Alone { port } => port_name(alloc, *port),
-        Place::Member { id, peers, .. } => member_name(alloc, *id, peers),
+        Role::Alone { port } => port_name(alloc, *port),
+        Role::Member { id, peers, .. } => member_name(alloc, *id, peers),
     }
 }
 

@@ -11,12 +11,12 @@ use crate::kitting::{Chosen, ReadKits, Unusable, read_kits};
 use crate::over::Over;
 use crate::serves::{Serves, Sockets};
 use crate::telling::{fail, refuse, refuse_kit, tell};
-use crate::wanted::Asked;
+use crate::wanted::Arguments;
 use crate::words::read_words;
 use press_world::ReplayFault;
 use std::io::{Read, Write};
 
-impl Asked<'_> {
+impl Arguments<'_> {
     // What is asked, over its kit.
     fn runs<S: Serves, R: Read, W: Write, E: Write>(
         &self,
@@ -62,7 +62,7 @@ impl<S: Serves> Program<'_, S> {
     // What is asked for, if anything is. Refused arguments read nothing.
     fn answers<R: Read, W: Write, E: Write>(
         &self,
-        asked: &Option<Asked<'_>>,
+        asked: &Option<Arguments<'_>>,
         reader: &mut R,
         writer: &mut W,
         error: &mut E,
@@ -85,8 +85,9 @@ impl<S: Serves> Program<'_, S> {
         }
     }
 
-    /// One run, as `run` has it, with a server by whoever serves: over the kit of the run, and the place, the store, the page and the limits that the arguments
-    /// name. Its status is 0 where it ended without a fault, and else 2.
+    /// One run, as `run` has it, with a server by whoever serves: over the kit of the run, and the
+    /// place, the store, the page and the limits that the arguments name. Its status is 0 where it
+    /// ended without a fault, and else 2.
     pub fn run<R: Read, W: Write, E: Write>(
         &self,
         words: &[String],
@@ -121,23 +122,24 @@ impl<S: Serves> Program<'_, S> {
 /// nodes, with status 0, and so does `loop FILE`, where each command, message and request for a
 /// page comes over a socket of the loopback. `serve --port N [--store FILE]` serves a node of a
 /// cluster of one at a port of 127.0.0.1, and `serve --id N --peers HOST:PORT,.. --store FILE
-/// [--tick N]` one of a cluster of up to seven at its own address among these; with `--turns N`
-/// for N connections, and then it ends with status 0; with `--editor FILE` that file is shown at
+/// [--tick N]` one of a cluster of up to seven at its own address among these; with `--turns N` for
+/// N connections, and then it ends with status 0; with `--editor FILE` that file is shown at
 /// `/editor`, and with `--ahead N` no command is taken that is more than N seconds ahead of the
 /// machine's clock. A member whose store fails ends with its fault, and with `--stay` answers 503.
 /// With `--status` a server tells how it stands. `send FILE MEMBERS` sends the commands of a site
 /// file to members, and prints what became of them; `export MEMBER [FILE]` makes site files of the
-/// log of a member, of which the first is `site.json` where no FILE is named, and prints a line
-/// for each. With `--kit FILE` each of the others plays the callbacks and plugins of a kit file in
+/// log of a member, of which the first is `site.json` where no FILE is named, and prints a line for
+/// each. With `--kit FILE` each of the others plays the callbacks and plugins of a kit file in
 /// place of the demonstration kit, and with several of these those of all the files together; what
 /// is wrong is reported with the file and the place in it, and what is surely a slip is a line
 /// `press: warning in FILE: ..` before anything else. A fault is a line `press: fault N` on
 /// standard error, and status 2; so is `press: usage` for any other arguments, and then nothing is
 /// read.
 ///
-/// A server runs over the sockets and files of the operating system (`Sockets`). Of it `Program::run` says over what it
-/// is, with which line and which status: what goes over its sockets is outside the clauses, since contracts see no bytes
-/// of a socket. `serve_turn` has the contract of each of its connections.
+/// A server runs over the sockets and files of the operating system (`Sockets`). Of it
+/// `Program::run` says over what it is, with which line and which status: what goes over its
+/// sockets is outside the clauses, since contracts see no bytes of a socket. `serve_turn` has the
+/// contract of each of its connections.
 pub fn run<R: Read, W: Write, E: Write>(
     rt: &HostRuntime,
     words: &[String],

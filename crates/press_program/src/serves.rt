@@ -11,12 +11,15 @@ use press_callbacks::Kit;
 use press_server::{ServeFault, Setup};
 use std::io::Write;
 
-/// Whoever serves a node over a kit, at the place, over the store and with the page for editors that a setup names.
+/// Whoever serves a node over a kit, at the place, over the store and with the page for editors
+/// that a setup names.
 pub trait Serves {
-    /// That it served over this kit, as these arguments have it, and how that ended. A program that is given anyone who serves can't make it up.
+    /// That it served over this kit, as these arguments have it, and how that ended. A program that
+    /// is given anyone who serves can't make it up.
     ghost served: { KitView → Server → Result (Unit {0}) Fault → Type 0 };
 
-    /// Serves until as many connections as were asked for had their turn. It writes the line that it listens, or a prefix of it.
+    /// Serves until as many connections as were asked for had their turn. It writes the line that
+    /// it listens, or a prefix of it.
     fn serve<W: Write, E: Write>(
         &self,
         kit: Kit,

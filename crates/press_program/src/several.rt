@@ -13,7 +13,7 @@ ghost use Rattle.press_program.specs.Words.{is_input, several_of};
 use crate::ending::{Ending, page_after};
 use crate::kitting::Chosen;
 use crate::over::Over;
-use crate::sites::{site_of, sites_named};
+use crate::sites::{read_all_named, site_of};
 use crate::telling::finish;
 use crate::wanted::SeveralFiles;
 use crate::{demonstration_kit, filed_kit};
@@ -43,7 +43,7 @@ impl SeveralFiles<'_> {
             (length (several_of self.now).further) result }
     {
         let first = site_of(rt, self.file, reader)?;
-        let further = sites_named(rt, &self.further)?;
+        let further = read_all_named(rt, &self.further)?;
         let mut commands = first.into_vec();
         let mut more = further.into_vec();
         commands.append(&mut more)?;

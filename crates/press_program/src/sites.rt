@@ -18,7 +18,7 @@ use std::{fs, io};
 
 // The commands of a file by its name. One that can't be opened counts as one that can't be read.
 #[tactic(auto, using(crate::proofs::Behind::untold, crate::proofs::Behind::unopened))]
-fn site_named<Rt: AllocGlobal + Files>(rt: &Rt, file: &str) -> Result<Items<Stamped>, ReplayFault>
+fn read_named<Rt: AllocGlobal + Files>(rt: &Rt, file: &str) -> Result<Items<Stamped>, ReplayFault>
     ensures { ReadsAs site_in None result }
 {
     match fs::open(rt, file) {
@@ -42,12 +42,12 @@ pub(crate) fn site_of<Rt: AllocGlobal + Files, R: Read>(
     if file == "-" {
         read_site(rt.alloc(), reader)
     } else {
-        site_named(rt, file)
+        read_named(rt, file)
     }
 }
 
 /// The commands of files by their names, one behind the other.
-pub(crate) fn sites_named<Rt: AllocGlobal + Files>(
+pub(crate) fn read_all_named<Rt: AllocGlobal + Files>(
     rt: &Rt,
     names: &[&str],
 ) -> Result<Items<Stamped>, ReplayFault>
@@ -55,7 +55,7 @@ pub(crate) fn sites_named<Rt: AllocGlobal + Files>(
 {
     let mut commands: Vec<Stamped> = Vec::new(rt.alloc());
     for i in 0..names.len() {
-        let site = site_named(rt, names[i])?;
+        let site = read_named(rt, names[i])?;
         let mut more = site.into_vec();
         commands.append(&mut more)?;
     }

@@ -50,7 +50,7 @@ pub enum Job<'a> {
 
 /// What the arguments after the program's name ask for.
 #[derive(Debug, Drop)]
-pub struct Asked<'a> {
+pub struct Arguments<'a> {
     /// The names of kit files; without any it is the demonstration kit.
     pub kits: Vec<&'a str>,
     pub job: Job<'a>,

@@ -7,11 +7,11 @@ ghost use Rattle.clap.specs.Values.{kind_of};
 ghost use Rattle.press_program.specs.Words as spec;
 
 use crate::task::Task;
-use crate::wanted::{Asked, Exporting, Job, Mailing, SeveralFiles, Wanted};
+use crate::wanted::{Arguments, Exporting, Job, Mailing, SeveralFiles, Wanted};
 use clap::error::ErrorKind;
 use clap::{Arg, ArgAction, ArgMatches, Command, Error};
 use press_page::Target;
-use press_server::{Place, Setup};
+use press_server::{Role, Setup};
 use press_text::dec_u64;
 use std::alloc::{AllocError, Global};
 
@@ -155,7 +155,7 @@ fn bare_words<'a>(alloc: Global) -> Command<'a>
 }
 
 // What the arguments ask for, as `clap` reads them.
-fn parsed<'a>(alloc: Global, words: &'a [String]) -> Result<ArgMatches<'a>, Error>
+fn parse<'a>(alloc: Global, words: &'a [String]) -> Result<ArgMatches<'a>, Error>
     ensures kinds { FailsBy (fault_of spec.program (map string_bytes words.entry.now)) result }
     ensures matches { IfOk result (λ m. subcommand_rows_of m
         ≡ subcommand_of spec.program (map string_bytes words.entry.now)) }
@@ -283,7 +283,7 @@ fn id_in(text: &str) -> Option<u8>
 }
 
 #[tactic(auto, using(crate::proofs::FirstValue::first_is))]
-fn alone_in<'a>(inside: &ArgMatches<'a>, port: &str) -> Option<Place<'a>>
+fn alone_in<'a>(inside: &ArgMatches<'a>, port: &str) -> Option<Role<'a>>
     ensures { option_map (λ p. spec.place_of p) result
         ≡ spec.alone_by port.now (rows_of (found_of inside.now)) }
 {
@@ -295,11 +295,11 @@ fn alone_in<'a>(inside: &ArgMatches<'a>, port: &str) -> Option<Place<'a>>
         return None;
     };
     let port = port_in(port)?;
-    Some(Place::Alone { port })
+    Some(Role::Alone { port })
 }
 
 #[tactic(auto, using(crate::proofs::FirstValue::first_is))]
-fn member_in<'a>(inside: &ArgMatches<'a>) -> Option<Place<'a>>
+fn member_in<'a>(inside: &ArgMatches<'a>) -> Option<Role<'a>>
     ensures { option_map (λ p. spec.place_of p) result
         ≡ spec.member_by (rows_of (found_of inside.now)) }
 {
@@ -307,11 +307,11 @@ fn member_in<'a>(inside: &ArgMatches<'a>) -> Option<Place<'a>>
     let peers = inside.get_str("peers")?;
     let _store = inside.get_str("store")?;
     let tick = tick_in(inside.get_str("tick"))?;
-    Some(Place::Member { id, peers, tick })
+    Some(Role::Member { id, peers, tick })
 }
 
 #[tactic(auto, using(crate::proofs::FirstValue::first_is))]
-fn place_in<'a>(inside: &ArgMatches<'a>) -> Option<Place<'a>>
+fn place_in<'a>(inside: &ArgMatches<'a>) -> Option<Role<'a>>
     ensures { option_map (λ p. spec.place_of p) result
         ≡ spec.place_by (first_of (codes "port") (rows_of (found_of inside.now)))
         (rows_of (found_of inside.now)) }
@@ -401,21 +401,24 @@ fn asked_in<'a>(
     alloc: Global,
     name: &str,
     inside: &ArgMatches<'a>,
-) -> Result<Option<Asked<'a>>, AllocError>
+) -> Result<Option<Arguments<'a>>, AllocError>
     ensures { IfOk result (λ a. option_map (λ a. spec.asked_of a) a
         ≡ spec.asked_in name.now (rows_of (found_of inside.now))) }
 {
     match job_in(alloc, name, inside)? {
         Some(job) => {
             let kits = names_in(alloc, inside, "kit")?;
-            Ok(Some(Asked { kits, job }))
+            Ok(Some(Arguments { kits, job }))
         }
         None => Ok(None),
     }
 }
 
 // What `clap` has found.
-fn found_in<'a>(alloc: Global, matches: &ArgMatches<'a>) -> Result<Option<Asked<'a>>, AllocError>
+fn found_in<'a>(
+    alloc: Global,
+    matches: &ArgMatches<'a>,
+) -> Result<Option<Arguments<'a>>, AllocError>
     ensures { IfOk result (λ a. option_map (λ a. spec.asked_of a) a
         ≡ option_and_then (λ p. spec.asked_in p.0 p.1) (subcommand_rows_of matches.now)) }
 {
@@ -426,7 +429,7 @@ fn found_in<'a>(alloc: Global, matches: &ArgMatches<'a>) -> Result<Option<Asked<
 }
 
 // None for wrong arguments; out of memory stays an error.
-fn untold<'a>(e: Error) -> Result<Option<Asked<'a>>, AllocError>
+fn untold<'a>(e: Error) -> Result<Option<Arguments<'a>>, AllocError>
     ensures { IfOk result (λ a. (a ≡ None) × (kind_of e ≢ ErrorKind.OutOfMemory)) }
 {
     if e.kind() == ErrorKind::OutOfMemory {
@@ -437,12 +440,15 @@ fn untold<'a>(e: Error) -> Result<Option<Asked<'a>>, AllocError>
 }
 
 /// What the arguments after the program's name ask for, or nothing where they are refused.
-pub fn read_words<'a>(alloc: Global, words: &'a [String]) -> Result<Option<Asked<'a>>, AllocError>
+pub fn read_words<'a>(
+    alloc: Global,
+    words: &'a [String],
+) -> Result<Option<Arguments<'a>>, AllocError>
     ensures { IfOk result (λ a. option_map (λ a. spec.asked_of a) a
         ≡ spec.asked_by (map string_bytes words.entry.now)) }
 {
     if words.is_empty() {
-        return Ok(Some(Asked {
+        return Ok(Some(Arguments {
             kits: Vec::new(alloc),
             job: Job::OfFile(Wanted {
                 file: "-",
@@ -450,7 +456,7 @@ pub fn read_words<'a>(alloc: Global, words: &'a [String]) -> Result<Option<Asked
             }),
         }));
     }
-    match parsed(alloc, words) {
+    match parse(alloc, words) {
         Ok(matches) => found_in(alloc, &matches),
         Err(e) => untold(e),
     }

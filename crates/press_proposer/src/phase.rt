@@ -2,7 +2,7 @@ ghost use Rattle.std.specs.Prelude.{◌≡◌, ◌+◌, OnOk, OnErr};
 ghost use Rattle.press_proposer.specs.Phases.{awaits, can_ask, is_current, led, promises_in, with_promise};
 
 use crate::promises::{Promise, Promises};
-use press_wire::{Ballot, Node, Slot};
+use press_wire::{Ballot, MemberId, Slot};
 use std::alloc::AllocError;
 use std::mem;
 
@@ -46,7 +46,7 @@ impl Phase {
     }
 
     /// Whether the member's promise for the block is the first for what it prepares.
-    pub fn awaits(&self, from: Node, first: Slot, ballot: &Ballot) -> bool
+    pub fn awaits(&self, from: MemberId, first: Slot, ballot: &Ballot) -> bool
         ensures { result ≡ awaits self.now from first ballot.now }
     {
         match self {

@@ -6,14 +6,14 @@ ghost use Rattle.press_proposer.specs.Promises as model;
 
 use crate::queue::Queue;
 use press_apply::Value;
-use press_wire::{Node, Slot, Vote, Votes};
+use press_wire::{MemberId, Slot, Vote, Votes};
 use std::alloc::{AllocError, Global};
 use std::marker::Model;
 
 /// A member's promise, and the votes that it reports.
 #[derive(Debug)]
 pub struct Promise {
-    pub from: Node,
+    pub from: MemberId,
     pub votes: Votes,
 }
 
@@ -54,7 +54,7 @@ impl Promises {
     }
 
     /// Whether the member's promise is among these.
-    pub fn has(&self, member: Node) -> bool
+    pub fn has(&self, member: MemberId) -> bool
         ensures { result ≡ model.has_promised self.now member }
     {
         self.promises.iter().any(|promise| promise.from == member)

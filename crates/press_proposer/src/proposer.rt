@@ -22,7 +22,7 @@ use crate::promises::{Promise, Promises, lacks_one, value_of, value_with};
 use crate::queue::Queue;
 use press_acceptor::{Heading, PromiseStore, StoreFault, to_all};
 use press_apply::{Stamped, Value};
-use press_wire::{Ballot, Body, Message, Node, Round, Slot, Votes};
+use press_wire::{Ballot, Body, MemberId, Message, Round, Slot, Votes};
 use std::alloc::{AllocError, Global};
 use std::marker::Model;
 
@@ -30,7 +30,7 @@ use std::marker::Model;
 /// the block, and asks for votes slot by slot.
 #[derive(Debug)]
 pub struct Proposer {
-    id: Node,
+    id: MemberId,
     members: u8,
     queue: Queue,
     phase: Phase,
@@ -72,7 +72,7 @@ impl Proposer {
     /// A new, idle proposer of the node `id` of `members`.
     ///
     /// `last_round` is the last round of the store: no round up to it is used again, whatever the store answers later.
-    pub fn new(alloc: Global, id: Node, members: u8, last_round: u64) -> Proposer
+    pub fn new(alloc: Global, id: MemberId, members: u8, last_round: u64) -> Proposer
         requires { members ≤ 7 }
         ensures { result ≡ started id members last_round }
     {
@@ -185,7 +185,7 @@ impl Proposer {
     /// Takes a member's promise for the block with this first slot. At a majority it leads the block, and Accept for the next slot goes to all members.
     pub fn on_promise(
         &mut self,
-        from: Node,
+        from: MemberId,
         first: Slot,
         ballot: Ballot,
         votes: Votes,

@@ -1,4 +1,5 @@
--- The limits of a process, as Linux writes them (proc(5)), and digests by FNV-1a, as its authors' test vectors have them.
+-- The limits of a process, as Linux writes them (proc(5)), and digests by FNV-1a, as its authors'
+-- test vectors have them.
 use Rattle.std.proofs.Common.{◌≡◌, refl, List, ℕ, ◌++◌, Some, None}
 use Rattle.std.specs.Prelude.{codes}
 use Rattle.press_server.specs.Digests.{digest_of}

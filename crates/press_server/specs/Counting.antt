@@ -20,10 +20,10 @@ abbrev pub with_one : ℕ → Count → Count
 with_one status count = if count.status == status then record count { requests = one_more count.requests } else count
 
 -- one more of a status
-abbrev pub counted : ℕ → List Count → List Count
-counted status counts = map (with_one status) counts
+abbrev pub with_count : ℕ → List Count → List Count
+with_count status counts = map (with_one status) counts
 
 -- a request that got no reply is none
 abbrev pub counted_by : Result ℕ HttpFault → List Count → List Count
-counted_by (Ok status) counts = counted status counts
+counted_by (Ok status) counts = with_count status counts
 counted_by (Err fault) counts = counts

@@ -1,4 +1,5 @@
--- FNV-1a over 64 bits (Fowler, Noll and Vo); of several files behind each other with a byte between them (own).
+-- FNV-1a over 64 bits (Fowler, Noll and Vo); of several files behind each other with a byte between
+-- them (own).
 use Rattle.std.specs.Prelude.{ℕ, ◌*◌, ◌%◌, List, [], ◌∷◌, bit_xor}
 
 -- the digest behind further bytes
@@ -9,7 +10,8 @@ behind_bytes digest (byte ∷ rest) = behind_bytes (bit_xor digest byte * 109951
 abbrev pub digest_of : List ℕ → ℕ
 digest_of bytes = behind_bytes 14695981039346656037 bytes
 
--- the digest behind a further file; the byte in front of it stands in no UTF-8 (RFC 3629, 1), so that files that are cut elsewhere differ
+-- the digest behind a further file; the byte in front of it stands in no UTF-8 (RFC 3629, 1), so
+-- that files that are cut elsewhere differ
 abbrev pub behind_file : ℕ → List ℕ → ℕ
 behind_file digest bytes = behind_bytes digest (255 ∷ bytes)
 

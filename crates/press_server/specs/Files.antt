@@ -1,4 +1,5 @@
--- How many files a server may have open, by the text of a process's limits (proc(5), /proc/pid/limits), and how many connections (own).
+-- How many files a server may have open, by the text of a process's limits (proc(5),
+-- /proc/pid/limits), and how many connections (own).
 use Rattle.std.specs.Prelude.{ℕ, ◌-◌, ◌+◌, ◌*◌, ◌==◌, ◌&&◌, min, nat_le, Bool, true, List, [], ◌∷◌, length, take, drop, bytes_eq, codes, Option, None, Some, is_none, option_and_then, unwrap_or, if◌then◌else◌}
 use Rattle.std.specs.Char.{is_ascii_digit}
 
@@ -10,7 +11,8 @@ abbrev pub or_else : Option (List ℕ) → Option (List ℕ) → Option (List �
 or_else (Some found) other = Some found
 or_else None other = other
 
--- what follows a name at the beginning of a line, in the first line that begins so; a line begins where it is said to, and behind each LF
+-- what follows a name at the beginning of a line, in the first line that begins so; a line begins
+-- where it is said to, and behind each LF
 abbrev pub behind_name : List ℕ → Bool → List ℕ → Option (List ℕ)
 behind_name name begins [] = None
 behind_name name begins (byte ∷ text) =
@@ -31,7 +33,8 @@ number_from found (byte ∷ text) =
 abbrev pub open_files : List ℕ → Option ℕ
 open_files limits = option_and_then (number_from None) (behind_name (codes "Max open files") true limits)
 
--- 226 files are the server's own, and 1,024 at most are for connections; fewer than 64 of those are too few
+-- 226 files are the server's own, and 1,024 at most are for connections; fewer than 64 of those are
+-- too few
 abbrev pub connections_by : Option ℕ → Option ℕ
 connections_by None = Some 1024
 connections_by (Some files) = if nat_le 64 (files - 226) then Some (min 1024 (files - 226)) else None

@@ -1,7 +1,7 @@
 -- What a server prints when it listens (own).
 use Rattle.std.specs.Prelude.{ℕ, List, ◌++◌, codes, decimal}
-use Rattle.press_server.specs.declared.setup.Place.{Place}
-use Rattle.press_server.specs.declared.setup.Place.TheVariants.{Alone, Member}
+use Rattle.press_server.specs.declared.setup.Role.{Role}
+use Rattle.press_server.specs.declared.setup.Role.TheVariants.{Alone, Member}
 
 -- a node by itself at a port, or a member of that number among those that a text names
 pub data Where : Type 0 where
@@ -13,6 +13,6 @@ listening_line (alone_at port) = codes "listening on 127.0.0.1:" ++ (decimal por
 listening_line (member_of id peers) = codes "listening as " ++ (decimal id ++ (codes " of " ++ (peers ++ codes "\n")))
 
 -- as it is in memory
-abbrev pub where_of : Place → Where
+abbrev pub where_of : Role → Where
 where_of (Alone port) = alone_at port
 where_of (Member id peers tick) = member_of id peers.now

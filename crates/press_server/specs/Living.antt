@@ -8,13 +8,13 @@ use Rattle.press_node.specs.Nodes.{NodeMove, node_moved, state_of, store_of}
 use Rattle.press_node.specs.States.{NodeState, Up}
 use Rattle.press_node.specs.declared.fault.NodeFault.{NodeFault}
 use Rattle.press_callbacks.specs.Kits.{KitView}
-use Rattle.press_node.specs.declared.kept.Node.{Node}
+use Rattle.press_node.specs.declared.node.Node.{Node}
 use Rattle.press_member.specs.Acts.{Acts, Answers, Hears, View, view_of}
 use Rattle.press_member.specs.Coming.{AreItsMoves}
 use Rattle.press_member.specs.Lives.{Lives, Step}
 use Rattle.press_member.specs.declared.input.Input.{Input}
 use Rattle.press_member.specs.declared.input.Input.TheVariants.{Form, Page, Message as Letter, Report, Ended, Sent, Time}
-use Rattle.press_member.specs.declared.kept.Member.{Member}
+use Rattle.press_member.specs.declared.member.Member.{Member}
 use Rattle.press_member.specs.declared.output.Answer.{Answer}
 use Rattle.press_member.specs.declared.output.Outputs.{Outputs}
 use Rattle.press_server.specs.Turns.{ServesTurn}

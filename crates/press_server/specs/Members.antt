@@ -3,11 +3,11 @@ use Rattle.std.specs.Prelude.{ℕ, ◌-◌, ◌==◌, ◌&&◌, Bool, not, Optio
 use Rattle.std.specs.declared.net.ip_addr.IpAddr.{IpAddr}
 use Rattle.press_net.specs.Addresses.{has_ip, sockets_at}
 use Rattle.press_server.specs.declared.peers.Peers.{Peers}
-use Rattle.press_server.specs.declared.setup.Place.{Place}
-use Rattle.press_server.specs.declared.setup.Place.TheVariants.{Alone, Member}
+use Rattle.press_server.specs.declared.setup.Role.{Role}
+use Rattle.press_server.specs.declared.setup.Role.TheVariants.{Alone, Member}
 
 -- the number of a member in its cluster, if the place is in one
-abbrev pub number_of : Place → Option ℕ
+abbrev pub number_of : Role → Option ℕ
 number_of (Alone port) = None
 number_of (Member id peers tick) = Some id
 

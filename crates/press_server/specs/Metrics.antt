@@ -1,5 +1,6 @@
--- What a server tells those who watch it: the text format of Prometheus, version 0.0.4, of which a metric is two lines of what it is and a line for each number (names: own).
-use Rattle.std.specs.Prelude.{ℕ, Bool, List, ◌++◌, codes, decimal, flat_map, length, if◌then◌else◌, Option, None, Some}
+-- What a server tells those who watch it: the text format of Prometheus, version 0.0.4, of which a
+-- metric is two lines of what it is and a line for each number (names: own).
+use Rattle.std.specs.Prelude.{ℕ, Bool, List, ◌++◌, codes, decimal, flat_map, length, if◌then◌else◌}
 use Rattle.press_server.specs.declared.counts.Count.{Count}
 use Rattle.press_server.specs.declared.metrics.Among.{Among}
 use Rattle.press_server.specs.declared.metrics.Metrics.{Metrics}
@@ -36,11 +37,10 @@ of_server m =
     gauge (codes "open_connections") (codes "Connections that are open.") m.traffic.connections
     ++ counter (codes "lost_lines_total") (codes "Lines that standard error did not take.") m.traffic.lost
 
--- what a member knows of the others, and a node by itself has none of
-abbrev pub of_others : Option Among → List ℕ
-of_others None = codes ""
-of_others (Some among) =
-    gauge (codes "chosen_slots") (codes "Slots that are chosen, as far as the member knows.") among.chosen
+-- what it knows of its cluster
+abbrev pub of_others : Among → List ℕ
+of_others among =
+    gauge (codes "chosen_slots") (codes "Slots that are chosen, as far as the node knows.") among.chosen
     ++ counter (codes "foreign_members_total") (codes "Members that began to have other peers or another kit.") among.foreign
 
 unfoldable pub count_line : Count → List ℕ

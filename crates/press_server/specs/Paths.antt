@@ -1,4 +1,5 @@
--- The paths that a server has beside those of a site: which path, by which method (own; paths: the kit's `matchit`).
+-- The paths that a server has beside those of a site: which path, by which method (own; paths: the
+-- kit's `matchit`).
 use Rattle.std.specs.Prelude.{ℕ, List, [], bytes_eq, Option, Some, None, codes, if◌then◌else◌}
 use Rattle.matchit.specs.Rows.{RowsOf}
 use Rattle.matchit.specs.Seek.{first}

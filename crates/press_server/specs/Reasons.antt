@@ -37,7 +37,8 @@ line_of (Missing field) = codes "press: POST /command 400: " ++ (field ++ codes 
 line_of (Unfit field) = codes "press: POST /command 400: " ++ (field ++ codes " does not fit\n")
 line_of (Ahead limit) = codes "press: POST /command 400: at is more than " ++ (decimal limit ++ codes " seconds ahead\n")
 
--- what is said of a request's bytes: why the form is refused that the request in front of them carries
+-- what is said of a request's bytes: why the form is refused that the request in front of them
+-- carries
 abbrev pub IsLineAbout : Option ℕ → ℕ → List ℕ → List ℕ → Type 0
 IsLineAbout most now bytes line =
     (seen : List ℕ) × (left : Option (List ℕ)) × Consumes (Some bytes) left seen

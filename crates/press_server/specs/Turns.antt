@@ -1,5 +1,5 @@
--- A turn of a server: what a connection, and behind a command that was taken a wake with the node's own messages, make of a node (own). A fault of any event ends it
--- there.
+-- A turn of a server: what a connection, and behind a command that was taken a wake with the node's
+-- own messages, make of a node (own). A fault of any event ends it there.
 use Rattle.std.specs.Prelude.{◌≡◌, ◌≢◌, ◌⊎◌, ◌<◌, ◌≤◌, ℕ, zero, suc, false, List, [], ◌∷◌, ◌++◌, Option, None, Some, Result, Ok, Err}
 use Rattle.press_acceptor.specs.declared.fault.StoreFault.{StoreFault}
 use Rattle.press_http.specs.declared.fault.HttpFault.{HttpFault}
@@ -41,7 +41,8 @@ module _ {N : Type 0} (moved : N → N → NodeMove) where
       (outcome : Result (List Message) NodeFault) × (next : N) × (moved node next).plays Wake outcome
       × GoesOn (λ sent. Delivers most_deliveries sent next after fault) next after fault outcome
 
-  -- It is woken until a wake applies nothing more or is refused; what stops it ends that with a fault. The function counts what a node has applied.
+  -- It is woken until a wake applies nothing more or is refused; what stops it ends that with a
+  -- fault. The function counts what a node has applied.
   pub data CatchesUp (count : N → ℕ) : N → N → Option StoreFault → Type 0 where
     rests : (node after : N) → Wakes node after None → count after ≤ count node → CatchesUp count node after None
     is_refused : (node after : N) (fault : NodeFault) → Wakes node after (Some fault) → stops fault ≡ false → CatchesUp count node after None

@@ -6,12 +6,12 @@ ghost use Rattle.press_node.specs.States.{is_down};
 ghost use Rattle.press_server.specs.Living.{NodeLives};
 
 use crate::counts::Counts;
-use crate::metrics::{Metrics, show_metrics};
+use crate::metrics::{Among, Metrics, show_metrics};
 use crate::paths::{Own, Paths};
 use crate::reasons::{REFUSED, line_about};
 use crate::replies::{refuse, tell_desk};
 use crate::screen::{
-    Screen, Sort, Standing, is_of_desk, not_found, refuse_form, refuse_without_memory, show_ready,
+    Screen, Sort, Standing, is_of_desk, refuse_form, refuse_path, refuse_without_memory, show_ready,
 };
 use crate::turn::serve_turn;
 use press_acceptor::PromiseStore;
@@ -105,11 +105,16 @@ impl<S: PromiseStore> Alone<'_, S> {
     }
 
     fn show_metrics(&self, told: &mut Vec<u8>) -> Result<u16, HttpFault> {
+        let applied = self.node.applied();
+        let among = Among {
+            chosen: applied,
+            foreign: 0,
+        };
         let metrics = Metrics {
-            applied: self.node.applied(),
+            applied,
             is_down: self.node.is_down(),
             waiting: self.node.waiting_count() as u64,
-            among: None,
+            among,
             saves: self.screen.saves(),
             traffic: self.traffic,
             counts: self.counts.all(),
@@ -128,9 +133,9 @@ impl<S: PromiseStore> Alone<'_, S> {
             Some(Own::Ready) => self.show_ready(told),
             Some(Own::Metrics) => self.show_metrics(told),
             Some(Own::Editor) => self.screen.show_editor(self.alloc, told),
-            Some(Own::Members) | None => match self.screen.desk_asked(self.alloc, request) {
+            Some(Own::Members) | None => match self.screen.desk_question(self.alloc, request) {
                 Some(asked) => tell_desk(self.alloc, &self.node, asked, told),
-                None => not_found(told),
+                None => refuse_path(told),
             },
         }
     }
@@ -250,7 +255,7 @@ impl<S: PromiseStore> Answers for Alone<'_, S> {
     {}
 
     #[tactic(auto, using(crate::specs::Living::stays))]
-    fn called(&mut self, _place: usize, _errand: Errand, _reply: &[u8]) {}
+    fn end_call(&mut self, _place: usize, _errand: Errand, _reply: &[u8]) {}
 
     #[tactic(auto, using(crate::specs::Living::stays))]
     fn next_line(&mut self) -> Option<String> {

@@ -1,4 +1,5 @@
-//! How a batch goes over a connection: in the request that brings it, and in the reply to that, which is a batch as well.
+//! How a batch goes over a connection: in the request that brings it, and in the reply to that,
+//! which is a batch as well.
 
 ghost use Rattle.std.specs.Prelude.{◌≡◌, ◌≤◌, All, IfSome, length};
 ghost use Rattle.httparse.specs.Spans.{IsHeaderWithin};
@@ -8,7 +9,7 @@ use httparse::{Error, Status};
 use press_batch::{Batch, MOST_BATCH_BYTES, decode_batch};
 use press_http::HttpFault;
 use press_text::dec_u64;
-use press_wire::Node as Member;
+use press_wire::MemberId;
 use std::alloc::{AllocError, Global};
 use std::str::from_utf8;
 
@@ -83,8 +84,8 @@ fn count_by(buf: &[u8], fields: &[HeaderSpan]) -> Result<usize, HttpFault>
     }
 }
 
-/// The batch that a request brings, which may be longer than another body. A head is refused as that of any other
-/// request; Ended where the request isn't whole yet.
+/// The batch that a request brings, which may be longer than another body. A head is refused as
+/// that of any other request; Ended where the request isn't whole yet.
 pub fn body_in(request: &[u8]) -> Result<&[u8], HttpFault> {
     let mut fields = [EMPTY_HEADER_SPAN; MOST_FIELDS];
     let spans = match parse_request(request, &mut fields) {
@@ -125,7 +126,7 @@ fn body_of_done(reply: &[u8]) -> Option<&[u8]> {
 }
 
 /// The batch of a member in its reply to another.
-pub fn batch_by(alloc: Global, member: Member, reply: &[u8]) -> Option<Batch>
+pub fn batch_by(alloc: Global, member: MemberId, reply: &[u8]) -> Option<Batch>
     ensures { IfSome result (λ batch. batch.from ≡ member) }
 {
     match decode_batch(alloc, body_of_done(reply)?) {

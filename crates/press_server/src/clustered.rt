@@ -1,4 +1,5 @@
-//! A member of a cluster behind a server: what comes over sockets is given to it, and what it sends goes out.
+//! A member of a cluster behind a server: what comes over sockets is given to it, and what it sends
+//! goes out.
 
 ghost use Rattle.std.specs.Prelude.{◌≡◌, ◌≢◌, ℕ, ◌&&◌, IfOk, MatchBool, None, false, if◌then◌else◌};
 ghost use Rattle.press_member.specs.Acts.{is_open, stop_in, view_of};
@@ -14,9 +15,9 @@ use crate::metrics::{Among, Metrics, show_metrics};
 use crate::paths::{Own, Paths};
 use crate::peers::{Peers, member_at, place_of};
 use crate::reasons::{REFUSED, line_about};
-use crate::replies::{queued, refuse, refuse_by, taken, tell_answer, tell_desk};
+use crate::replies::{queued_reply, refuse, refuse_by, taken_reply, tell_answer, tell_desk};
 use crate::screen::{
-    Screen, Standing, not_found, refuse_for_now, refuse_form, refuse_without_memory, show_ready,
+    Screen, Standing, refuse_for_now, refuse_form, refuse_path, refuse_without_memory, show_ready,
 };
 use press_acceptor::{PromiseStore, StoreFault};
 use press_batch::{Batch, BatchFault, Report, decode_batch};
@@ -24,7 +25,7 @@ use press_http::{Asked, DeskRequest, HttpFault, Routes, read_request};
 use press_member::{Answer, Input, Member, Outputs};
 use press_net::{Answers, Errand, Outgoing, Time, Traffic, words_of};
 use press_node::NodeFault;
-use press_wire::{Message, Node as Id};
+use press_wire::{MemberId, Message};
 use std::alloc::{AllocError, Global};
 use std::net::{IpAddr, Ipv4Addr, SocketAddr};
 
@@ -190,10 +191,10 @@ impl<S: PromiseStore> Clustered<'_, S> {
             self.new.member ≡ self.old.member }
     {
         if !self.peers.is_other_at(message.from, from) {
-            return not_found(told);
+            return refuse_path(told);
         }
         let answer = self.play(Input::Message(message))?;
-        tell_answer(self.alloc, &taken(self.alloc), &answer, told)
+        tell_answer(self.alloc, &taken_reply(self.alloc), &answer, told)
     }
 
     // What a request that is one of a site's, or a member's message, is answered.
@@ -209,17 +210,17 @@ impl<S: PromiseStore> Clustered<'_, S> {
                     return refuse_form(told);
                 }
                 let answer = self.play(Input::Form(stamped))?;
-                tell_answer(self.alloc, &queued(self.alloc), &answer, told)
+                tell_answer(self.alloc, &queued_reply(self.alloc), &answer, told)
             }
             Asked::Page(target) => {
                 let answer = self.play(Input::Page(target))?;
-                tell_answer(self.alloc, &taken(self.alloc), &answer, told)
+                tell_answer(self.alloc, &taken_reply(self.alloc), &answer, told)
             }
         }
     }
 
     // How far a member is, as it says; whether it counts the same members and runs the same kit.
-    fn hear_report(&mut self, from: Id, report: Report) -> Result<bool, AllocError>
+    fn hear_report(&mut self, from: MemberId, report: Report) -> Result<bool, AllocError>
         requires always { Unit {0} }
         ensures lives { MemberLives S.seen self.old.member self.new.member }
         ensures same { IfOk result (λ is_same. MatchBool is_same
@@ -230,7 +231,8 @@ impl<S: PromiseStore> Clustered<'_, S> {
         Ok(!matches!(answer, Answer::Foreign))
     }
 
-    // The messages of a member, which are heard where it counts the same members and runs the same kit; whether they are.
+    // The messages of a member, which are heard where it counts the same members and runs the same
+    // kit; whether they are.
     fn hear(&mut self, batch: Batch) -> Result<bool, AllocError>
         requires always { Unit {0} }
         ensures lives { MemberLives S.seen self.old.member self.new.member }
@@ -265,7 +267,7 @@ impl<S: PromiseStore> Clustered<'_, S> {
     }
 
     // What waits for a member goes out with the reply to its batch.
-    fn tell_back(&mut self, to: Id, told: &mut Vec<u8>) -> Result<u16, HttpFault>
+    fn tell_back(&mut self, to: MemberId, told: &mut Vec<u8>) -> Result<u16, HttpFault>
         ensures { self.new.member ≡ self.old.member }
     {
         let sender = self.sender();
@@ -289,7 +291,7 @@ impl<S: PromiseStore> Clustered<'_, S> {
             Err(_) => return refuse(HttpFault::BadPeer, told),
         };
         if !self.peers.is_other_at(batch.from, from) {
-            return not_found(told);
+            return refuse_path(told);
         }
         if self.member.node().is_down() {
             return refuse_by(NodeFault::Down, told);
@@ -336,7 +338,7 @@ impl<S: PromiseStore> Clustered<'_, S> {
             applied: node.applied(),
             is_down: node.is_down(),
             waiting: node.waiting_count() as u64,
-            among: Some(among),
+            among,
             saves: self.screen.saves(),
             traffic: self.traffic,
             counts: self.counts.all(),
@@ -381,7 +383,7 @@ impl<S: PromiseStore> Clustered<'_, S> {
             }
             _ => {}
         }
-        if let Some(asked) = self.screen.desk_asked(self.alloc, &request) {
+        if let Some(asked) = self.screen.desk_question(self.alloc, &request) {
             return self.show_desk(asked, told);
         }
         match self.routes.route(self.alloc, &request) {
@@ -397,7 +399,7 @@ impl<S: PromiseStore> Clustered<'_, S> {
     {
         let (method, target) = words_of(request);
         match self.paths.at(method, target) {
-            Some(Own::Members) if !self.peers.has(from) => not_found(told),
+            Some(Own::Members) if !self.peers.has(from) => refuse_path(told),
             Some(Own::Members) => match body_in(request) {
                 Ok(body) => self.take(from, body, told),
                 Err(fault) => refuse(fault, told),
@@ -426,7 +428,8 @@ impl<S: PromiseStore> Clustered<'_, S> {
         }
     }
 
-    // What a member said back, if it did; whether it counts the same members, and runs the same kit.
+    // What a member said back, if it did; whether it counts the same members, and runs the same
+    // kit.
     #[tactic(auto, using(crate::specs::Living::none_comes))]
     fn hear_back(&mut self, said: Option<Batch>) -> bool
         requires always { Unit {0} }
@@ -494,7 +497,7 @@ impl<S: PromiseStore> Answers for Clustered<'_, S> {
     }
 
     #[tactic(auto, using(crate::specs::Living::none_comes))]
-    fn called(&mut self, place: usize, errand: Errand, reply: &[u8])
+    fn end_call(&mut self, place: usize, errand: Errand, reply: &[u8])
         requires always { Unit {0} }
         ensures { MemberLives S.seen self.old.member self.new.member }
     {

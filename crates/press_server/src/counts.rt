@@ -1,7 +1,7 @@
 //! How many requests were answered with each status.
 
 ghost use Rattle.std.specs.Prelude.{◌≡◌};
-ghost use Rattle.press_server.specs.Counting.{counted, counted_by, none_of, none_yet, with_one};
+ghost use Rattle.press_server.specs.Counting.{with_count, counted_by, none_of, none_yet, with_one};
 
 use press_http::HttpFault;
 
@@ -32,14 +32,15 @@ impl Count {
 }
 
 fn note_in(counts: &mut [Count], status: u16)
-    ensures { counts.new ≡ counted status counts.old }
+    ensures { counts.new ≡ with_count status counts.old }
 {
     for count in counts.iter_mut() {
         count.note(status);
     }
 }
 
-/// How many requests were answered with each status. None of these numbers goes past the most that 64 bits hold.
+/// How many requests were answered with each status. None of these numbers goes past the most that
+/// 64 bits hold.
 #[derive(Debug, Drop)]
 pub struct Counts {
     all: [Count; 11],

@@ -27,7 +27,8 @@ fn behind_bytes(digest: u64, bytes: &[u8]) -> u64
     digest
 }
 
-/// The digest of some bytes, by FNV-1a. It tells a mistake from what is meant, and nothing from what is forged.
+/// The digest of some bytes, by FNV-1a. It tells a mistake from what is meant, and nothing from
+/// what is forged.
 pub fn digest_of(bytes: &[u8]) -> u64
     ensures { result ≡ digest_of bytes.now }
 {

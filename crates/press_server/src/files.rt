@@ -3,8 +3,8 @@
 ghost use Rattle.std.specs.Prelude.{◌≡◌, None, drop, option_map, true};
 ghost use Rattle.press_server.specs.Files.{behind, behind_name, connections_by, number_from, open_files};
 
-// What a server has open beside connections: 192 requests to six peers at most, 32 each, its listener, three polls, the
-// standard streams, its store, and some to spare.
+// What a server has open beside connections: 192 requests to six peers at most, 32 each, its
+// listener, three polls, the standard streams, its store, and some to spare.
 pub const OWN: usize = 226;
 
 // A server that could have fewer connections at once doesn't start.
@@ -64,16 +64,17 @@ fn number_in(text: &[u8]) -> Option<u64>
     found
 }
 
-/// How many files may be open, by the text of a process's limits: the first number of the line that begins `Max open
-/// files`, which is the limit that holds. None where it says none, as that there is no limit.
+/// How many files may be open, by the text of a process's limits: the first number of the line that
+/// begins `Max open files`, which is the limit that holds. None where it says none, as that there
+/// is no limit.
 pub fn open_files(limits: &[u8]) -> Option<u64>
     ensures { result ≡ open_files limits.now }
 {
     number_in(behind_name(b"Max open files", limits)?)
 }
 
-/// How many connections may be open at once, of so many files: what the server itself needs is kept back. None where too
-/// few are left.
+/// How many connections may be open at once, of so many files: what the server itself needs is kept
+/// back. None where too few are left.
 pub fn most_connections(files: Option<u64>) -> Option<usize>
     ensures { result ≡ connections_by files }
 {

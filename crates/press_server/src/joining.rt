@@ -1,8 +1,9 @@
-//! What a member of a cluster begins with: its peers, its store, and how many slots it knows to be chosen.
+//! What a member of a cluster begins with: its peers, its store, and how many slots it knows to be
+//! chosen.
 
 ghost use Rattle.std.specs.Prelude.{◌≡◌, ◌≢◌, IfOk, MatchResult, option_map};
 ghost use Rattle.press_callbacks.specs.Kits.{kit_view};
-ghost use Rattle.press_member.specs.Acts.{begun, node_in, view_of};
+ghost use Rattle.press_member.specs.Acts.{first_view, node_in, view_of};
 ghost use Rattle.press_member.specs.Starting.{IsItsStart};
 ghost use Rattle.press_net.specs.Addresses.{listed};
 ghost use Rattle.press_node.specs.Nodes.{kit_of, node_moved, state_of, store_of};
@@ -14,7 +15,7 @@ use crate::clustered::{Clustered, Party};
 use crate::peers::{Peers, PeersFault};
 use crate::screen::Screen;
 use crate::serve_fault::ServeFault;
-use crate::setup::{Place, Setup};
+use crate::setup::{Role, Setup};
 use crate::timed::TimedStore;
 use crate::turn::catch_up;
 use press_acceptor::{PromiseStore, StoreFault};
@@ -28,17 +29,17 @@ use sqlite::Alter;
 use std::alloc::{AllocError, Global};
 use std::io::Write;
 
-/// A member's place: its peers, the milliseconds of its tick, the digest of its kit, and whether it stays where its node
-/// has stopped.
+/// A member's place: its peers, the milliseconds of its tick, the digest of its kit, and whether it
+/// stays where its node has stopped.
 #[derive(Drop)]
-pub struct Seat {
+pub struct Membership {
     peers: Peers,
     tick: u32,
     kit: u64,
     stays: bool,
 }
 
-impl Seat {
+impl Membership {
     fn members(&self) -> Result<u8, ServeFault>
         ensures { IfOk result (λ members. members ≡ listed self.now.peers.book) }
     {
@@ -98,16 +99,17 @@ fn tell_missing<E: Write>(alloc: Global, peers: &Peers, error: &mut E) {
     }
 }
 
-/// The place of the member that a server is to be, which wants a file for its store. None for a node by itself.
+/// The place of the member that a server is to be, which wants a file for its store. None for a
+/// node by itself.
 pub fn seat_of<E: Write>(
     rt: &HostRuntime,
     setup: &Setup<'_>,
     error: &mut E,
-) -> Result<Option<Seat>, ServeFault>
+) -> Result<Option<Membership>, ServeFault>
     ensures { IfOk result (λ seat. option_map (λ seat. seat.peers.own) seat
         ≡ number_of setup.now.place) }
 {
-    let Place::Member { id, peers, tick } = setup.place else {
+    let Role::Member { id, peers, tick } = setup.place else {
         return Ok(None);
     };
     if setup.store.is_none() {
@@ -118,7 +120,7 @@ pub fn seat_of<E: Write>(
         return Err(PeersFault::NotFound.into());
     }
     tell_missing(rt.alloc(), &peers, error);
-    Ok(Some(Seat {
+    Ok(Some(Membership {
         peers,
         tick,
         kit: setup.kit.unwrap_or(0),
@@ -137,8 +139,9 @@ fn admit(tie: Tie) -> Result<(), ServeFault>
     }
 }
 
-/// Ties a store to the member that has this place, or sees that it is no member's where there is none.
-pub fn tie<D: Alter>(store: &mut SqlStore<D>, seat: &Option<Seat>) -> Result<(), ServeFault> {
+/// Ties a store to the member that has this place, or sees that it is no member's where there is
+/// none.
+pub fn tie<D: Alter>(store: &mut SqlStore<D>, seat: &Option<Membership>) -> Result<(), ServeFault> {
     let owner = match seat {
         Some(seat) => Some(seat.owner()?),
         None => None,
@@ -146,8 +149,8 @@ pub fn tie<D: Alter>(store: &mut SqlStore<D>, seat: &Option<Seat>) -> Result<(),
     admit(store.tie(owner)?)
 }
 
-// How many slots are chosen, by what the store keeps: who proposes for a slot has applied those before it, so these are
-// all before the last one with a vote.
+// How many slots are chosen, by what the store keeps: who proposes for a slot has applied those
+// before it, so these are all before the last one with a vote.
 fn chosen_by<D: Alter>(store: &mut SqlStore<D>) -> Result<u64, StoreFault> {
     match store.last_vote()? {
         Some(slot) => Ok(u64::from(slot.number()).saturating_sub(1)),
@@ -207,7 +210,7 @@ fn start_member<S: PromiseStore + Drop>(
 ) -> Result<Member<S>, ServeFault>
     ensures kit { IfOk result (λ member. kit_of (node_in (view_of member)) ≡ kit_view kit) }
     ensures begins { IfOk result
-        (λ member. view_of member ≡ begun beginning (node_in (view_of member))) }
+        (λ member. view_of member ≡ first_view beginning (node_in (view_of member))) }
     ensures starts { IfOk result (λ member. IsItsStart S.seen (λ node. store_of node)
         (λ node. state_of node) store (view_of member)) }
 {
@@ -220,7 +223,7 @@ fn start_member<S: PromiseStore + Drop>(
     }
 }
 
-impl Seat {
+impl Membership {
     // The member begins over its store; the only one of its cluster has caught up with that.
     fn begin<S: PromiseStore + Drop>(
         &self,
@@ -232,7 +235,7 @@ impl Seat {
         requires always { Unit {0} }
         ensures kit { IfOk result (λ member. kit_of (node_in (view_of member)) ≡ kit_view kit) }
         ensures begins { IfOk result
-            (λ member. view_of member ≡ begun beginning (node_in (view_of member))) }
+            (λ member. view_of member ≡ first_view beginning (node_in (view_of member))) }
         ensures alone { listed self.now.peers.book ≡ 1 → IfOk result
             (λ member. HasCaughtUp (λ a b. node_moved S.seen a b)
             (λ n. applied_count (state_of n)) (λ n. (S.seen (store_of n)).is_honest → state_of n
@@ -250,11 +253,12 @@ impl Seat {
     }
 }
 
-/// Who is to be a member: its place, what its operator asked for, and the clock by which its saves are timed.
+/// Who is to be a member: its place, what its operator asked for, and the clock by which its saves
+/// are timed.
 #[derive(Drop)]
 pub struct Joiner<'s> {
     pub rt: &'s HostRuntime,
-    pub seat: Seat,
+    pub seat: Membership,
     pub screen: &'s Screen,
 }
 
@@ -272,7 +276,7 @@ pub fn join<'s, D: Alter + Drop>(
     let beginning = seat.beginning(chosen_by(&mut store)?)?;
     let store = TimedStore::new(rt, screen.tally(), store);
     let member = seat.begin(alloc, kit, store, beginning)?;
-    let Seat { peers, stays, .. } = seat;
+    let Membership { peers, stays, .. } = seat;
     let party = Party {
         peers,
         screen,

@@ -5,17 +5,19 @@ ghost use Rattle.press_server.specs.Going.{HasSameWay, asks_first, is_free, is_q
 
 use crate::peers::place_of;
 use press_batch::{BatchFault, BatchWriter, Report};
-use press_wire::{Body, Message, Node as Member};
+use press_wire::{Body, MemberId, Message};
 use std::alloc::{AllocError, Global};
 use std::collections::VecDeque;
 
-// The most messages that wait for one member: where one more comes, the oldest is lost, as a message may be.
+// The most messages that wait for one member: where one more comes, the oldest is lost, as a
+// message may be.
 const MOST_WAITING: usize = 3_333;
 
 // The most requests that are on their way to one member.
 const MOST_OPEN: u32 = 8;
 
-// How many milliseconds what waits leaves to the request before it: it goes out together then, and often with a reply.
+// How many milliseconds what waits leaves to the request before it: it goes out together then, and
+// often with a reply.
 const SHORT: u64 = 20;
 
 // A message that waited for longer than so many milliseconds is lost.
@@ -45,7 +47,7 @@ pub struct Parcel {
 #[derive(Clone, Copy)]
 pub struct Sender {
     pub alloc: Global,
-    pub from: Member,
+    pub from: MemberId,
     pub report: Report,
     pub now: u64,
 }
@@ -130,8 +132,8 @@ impl Lane {
         }
     }
 
-    // Puts the oldest that waits into a batch; how many questions that is. None where none waits, or for want of room or
-    // memory. One that no batch takes is lost.
+    // Puts the oldest that waits into a batch; how many questions that is. None where none waits,
+    // or for want of room or memory. One that no batch takes is lost.
     fn move_one(&mut self, batch: &mut BatchWriter) -> Option<u32>
         ensures way { HasSameWay self.new self.old }
         ensures stays { result ≡ None → self.new.waiting.items ≡ self.old.waiting.items }
@@ -160,7 +162,8 @@ impl Lane {
         self.lost = self.lost.saturating_add(asked);
     }
 
-    // Puts what waits into a batch, the oldest first, as much as it takes; how many questions that is.
+    // Puts what waits into a batch, the oldest first, as much as it takes; how many questions that
+    // is.
     fn move_all(&mut self, batch: &mut BatchWriter) -> u32
         ensures { HasSameWay self.new self.old }
     {
@@ -210,7 +213,8 @@ impl Lane {
         }
     }
 
-    // What waits before the first question goes out with a reply. Questions go with requests, whose ends are told.
+    // What waits before the first question goes out with a reply. Questions go with requests, whose
+    // ends are told.
     fn pack_reply(&mut self, sender: Sender) -> Result<BatchWriter, BatchFault>
         ensures { HasSameWay self.new self.old }
     {
@@ -251,7 +255,7 @@ impl Lanes {
     }
 
     /// A member is to say how far it is.
-    pub fn look(&mut self, to: Member) {
+    pub fn look(&mut self, to: MemberId) {
         if let Some(lane) = self.all.get_mut(place_of(to)) {
             lane.looks = lane.looks.saturating_add(1);
         }

@@ -1,4 +1,5 @@
-//! Nodes behind sockets: a turn of a server, a node by itself, and a node of a cluster whose messages go out as requests.
+//! Nodes behind sockets: a turn of a server, a node by itself, and a node of a cluster whose
+//! messages go out as requests.
 #![tactic(auto)]
 
 mod alone;
@@ -25,5 +26,5 @@ mod turn;
 pub use digest::{behind_file, digest_of};
 pub use serve_fault::ServeFault;
 pub use serving::begin;
-pub use setup::{Place, Setup};
+pub use setup::{Role, Setup};
 pub use turn::{serve_turn, wake};

@@ -11,12 +11,13 @@ use press_net::Traffic;
 use press_text::write_once;
 use std::alloc::{AllocError, Global};
 
-/// What a member knows of the others.
+/// What a node knows of its cluster. One by itself knows what it has applied, and hears of no
+/// other.
 #[derive(Clone, Copy, Debug)]
 pub struct Among {
     /// How many slots are chosen, as far as it knows.
     pub chosen: u64,
-    /// How often one of them began to have other peers or another kit.
+    /// How often another began to have other peers or another kit.
     pub foreign: u64,
 }
 
@@ -28,8 +29,7 @@ pub struct Metrics<'a> {
     pub is_down: bool,
     /// How many commands wait at its node to be chosen.
     pub waiting: u64,
-    /// None for a node by itself.
-    pub among: Option<Among>,
+    pub among: Among,
     pub saves: Saves,
     pub traffic: Traffic,
     pub counts: &'a [Count],
@@ -122,23 +122,20 @@ fn of_server(alloc: Global, metrics: &Metrics<'_>) -> Result<String, AllocError>
     two(alloc, connections.as_str(), lost.as_str())
 }
 
-fn of_others(alloc: Global, among: Option<Among>) -> Result<String, AllocError>
+fn of_others(alloc: Global, among: Among) -> Result<String, AllocError>
     ensures { IfOk result (λ t. string_bytes t ≡ of_others among) }
 {
-    let Some(Among { chosen, foreign }) = among else {
-        return Ok(String::new(alloc));
-    };
     let chosen = gauge(
         alloc,
         "chosen_slots",
-        "Slots that are chosen, as far as the member knows.",
-        chosen,
+        "Slots that are chosen, as far as the node knows.",
+        among.chosen,
     )?;
     let foreign = counter(
         alloc,
         "foreign_members_total",
         "Members that began to have other peers or another kit.",
-        foreign,
+        among.foreign,
     )?;
     two(alloc, chosen.as_str(), foreign.as_str())
 }

@@ -8,7 +8,7 @@ ghost use Rattle.press_server.specs.declared.peers.PeersFault.TheVariants.{NoMem
 
 use crate::digest::digest_of;
 use press_net::{AddressBook, Listed};
-use press_wire::Node as Member;
+use press_wire::MemberId;
 use std::alloc::{AllocError, Global};
 use std::net::{IpAddr, Net, SocketAddr};
 use thiserror::Error;
@@ -19,7 +19,7 @@ const MOST: usize = 7;
 /// The members, of which one is this node.
 pub struct Peers {
     book: AddressBook,
-    own: Member,
+    own: MemberId,
     digest: u64,
 }
 
@@ -55,7 +55,8 @@ impl From<AllocError> for PeersFault {
 }
 
 impl Peers {
-    /// The members whose addresses or names are in the text, with commas between; the node's number is its place there, from
+    /// The members whose addresses or names are in the text, with commas between; the node's number
+    /// is its place there, from
     /// 1. The name of another may be found later.
     pub fn read<N: Net>(alloc: Global, net: &N, number: u8, text: &str) -> Result<Peers, PeersFault>
         ensures own { IfOk result (λ peers. peers.own ≡ number) }
@@ -69,7 +70,7 @@ impl Peers {
             }
         }
         let digest = digest_of(text.as_bytes());
-        match Member::new(number) {
+        match MemberId::new(number) {
             Some(own) if usize::from(number) <= book.len() => Ok(Peers { book, own, digest }),
             _ => Err(PeersFault::Unknown),
         }
@@ -83,7 +84,7 @@ impl Peers {
     }
 
     /// This node.
-    pub fn own(&self) -> Member
+    pub fn own(&self) -> MemberId
         ensures { result ≡ self.now.own }
     {
         self.own
@@ -119,7 +120,7 @@ impl Peers {
     }
 
     /// Whether that is another member, which has that address.
-    pub fn is_other_at(&self, member: Member, ip: IpAddr) -> bool
+    pub fn is_other_at(&self, member: MemberId, ip: IpAddr) -> bool
         ensures { result ≡ is_other_at self.now member ip }
     {
         member != self.own && self.book.is_at(place_of(member), ip)
@@ -133,23 +134,24 @@ impl Peers {
         self.book.lose(place, tried);
     }
 
-    /// At that time, in milliseconds, the name of one to whom a request was lost may be looked up again.
+    /// At that time, in milliseconds, the name of one to whom a request was lost may be looked up
+    /// again.
     pub fn look_up<N: Net>(&mut self, net: &N, now: u64) {
         self.book.look_up(net, now);
     }
 }
 
 /// The place of a member, from 0.
-pub fn place_of(member: Member) -> usize
+pub fn place_of(member: MemberId) -> usize
     ensures { result ≡ member - 1 }
 {
     usize::from(member.number()).saturating_sub(1)
 }
 
 /// The member of that place.
-pub fn member_at(place: usize) -> Option<Member> {
+pub fn member_at(place: usize) -> Option<MemberId> {
     match u8::try_from(place.saturating_add(1)) {
-        Ok(number) => Member::new(number),
+        Ok(number) => MemberId::new(number),
         Err(_) => None,
     }
 }

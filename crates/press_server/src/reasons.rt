@@ -1,4 +1,5 @@
-//! Why a command was refused that came as a form: a line for whoever runs the server, since the reply doesn't say it.
+//! Why a command was refused that came as a form: a line for whoever runs the server, since the
+//! reply doesn't say it.
 
 ghost use Rattle.std.specs.Prelude.{◌≡◌, IfOk, IfSome, string_bytes};
 ghost use Rattle.press_http.specs.Forms.{fields_of};
@@ -62,7 +63,8 @@ fn ahead_line(alloc: Global, limit: u64) -> Result<String, AllocError>
     format!(in alloc; "press: POST /command 400: at is more than {limit} seconds ahead\n")
 }
 
-// A form that notes which of its fields was looked up last. Without memory for a name it notes none.
+// A form that notes which of its fields was looked up last. Without memory for a name it notes
+// none.
 #[derive(Drop)]
 struct Form<'f> {
     alloc: Global,
@@ -98,8 +100,8 @@ impl<'f> Lookup for Form<'f> {
     }
 }
 
-// The name of the field behind which no more of a form was read: the one at fault, since a command's fields are read in
-// order up to the first that is missing or unfit.
+// The name of the field behind which no more of a form was read: the one at fault, since a
+// command's fields are read in order up to the first that is missing or unfit.
 fn field_at_fault(alloc: Global, bytes: &[u8]) -> Option<Text> {
     let form = Form {
         alloc,
@@ -130,7 +132,8 @@ fn reason_in(alloc: Global, form: &[u8]) -> Option<Reason>
     reason_of_field(alloc, form, field)
 }
 
-// Why the form that a request carries is refused at that time. None where it isn't, and without memory.
+// Why the form that a request carries is refused at that time. None where it isn't, and without
+// memory.
 #[tactic(auto, using(crate::proofs::Blames::of_field))]
 fn reason_of(alloc: Global, screen: &Screen, now: u64, request: &Request) -> Option<Reason>
     ensures { IfSome result (IsReason (ahead_of screen.now) now request.now.body

@@ -5,7 +5,7 @@ ghost use Rattle.std.specs.Prelude.{◌≡◌, IfErr, IfOk, OnErr, Some};
 ghost use Rattle.press_text.specs.Streams.{AppendsProperFront};
 ghost use Rattle.press_http.specs.Replies.{fault_bytes};
 ghost use Rattle.press_node.specs.Nodes.{kit_of, state_of};
-ghost use Rattle.press_node.specs.Serving.{Tells, TellsFront, queued, status_of_node, taken};
+ghost use Rattle.press_node.specs.Serving.{Tells, TellsFront, queued_reply, status_of_node, taken_reply};
 ghost use Rattle.press_server.specs.Desk.{ShowsDesk, ShowsDeskFront, TellsFault, TellsFaultFront};
 
 use crate::screen::{refuse_for_now, refuse_without_memory};
@@ -18,8 +18,8 @@ use press_text::Text;
 use std::alloc::Global;
 
 /// The reply that a command waits to be chosen. Its body is short, so it takes no memory.
-pub fn queued(alloc: Global) -> Reply
-    ensures { result ≡ queued }
+pub fn queued_reply(alloc: Global) -> Reply
+    ensures { result ≡ queued_reply }
 {
     let Ok(body) = Text::from_str(alloc, "{\"queued\":true}") else {
         unreachable!()
@@ -32,8 +32,8 @@ pub fn queued(alloc: Global) -> Reply
 }
 
 /// The reply that a message was taken.
-pub fn taken(alloc: Global) -> Reply
-    ensures { result ≡ taken }
+pub fn taken_reply(alloc: Global) -> Reply
+    ensures { result ≡ taken_reply }
 {
     Reply {
         status: 200,

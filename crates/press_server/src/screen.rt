@@ -39,7 +39,7 @@ pub enum Sort {
     Other,
 }
 
-fn sort_of_asked(asked: &Asked) -> Sort
+fn sort_of_question(asked: &Asked) -> Sort
     ensures { result ≡ sort_named asked.now }
 {
     match asked {
@@ -50,7 +50,7 @@ fn sort_of_asked(asked: &Asked) -> Sort
 }
 
 // A request that is refused is of no sort; where there was no memory, nothing is known of it.
-fn sort_refused(fault: HttpFault) -> Result<Sort, HttpFault>
+fn sort_of_refusal(fault: HttpFault) -> Result<Sort, HttpFault>
     ensures { MatchResult result (λ sort. (sort ≡ Sort.Other) × (fault ≢ HttpFault.NoMemory))
         (λ e. (e ≡ HttpFault.NoMemory) × (fault ≡ HttpFault.NoMemory)) }
 {
@@ -67,11 +67,11 @@ pub fn sort_of(alloc: Global, bytes: &[u8]) -> Result<Sort, HttpFault>
     let mut rest = bytes;
     let request = match read_request(alloc, &mut rest) {
         Ok(request) => request,
-        Err(fault) => return sort_refused(fault),
+        Err(fault) => return sort_of_refusal(fault),
     };
     match route(alloc, &request) {
-        Ok(asked) => Ok(sort_of_asked(&asked)),
-        Err(fault) => sort_refused(fault),
+        Ok(asked) => Ok(sort_of_question(&asked)),
+        Err(fault) => sort_of_refusal(fault),
     }
 }
 
@@ -82,8 +82,8 @@ struct Editors {
     routes: DeskRoutes,
 }
 
-/// What an operator asked for: a page for editors, how far ahead of the machine's clock a command may be, in seconds,
-/// and that the server tells how it stands.
+/// What an operator asked for: a page for editors, how far ahead of the machine's clock a command
+/// may be, in seconds, and that the server tells how it stands.
 pub struct Screen {
     editors: Option<Editors>,
     ahead: Option<u64>,
@@ -101,7 +101,8 @@ impl Drop for Screen {
 }
 
 impl Screen {
-    /// The page for editors, the most seconds that a command may be ahead, and what saves are noted in; None asks for none.
+    /// The page for editors, the most seconds that a command may be ahead, and what saves are noted
+    /// in; None asks for none.
     pub fn new(
         alloc: Global,
         editor: Option<Text>,
@@ -198,8 +199,9 @@ impl Screen {
         }
     }
 
-    /// What a request asks of the desk, exactly where its path is one of the desk and there is a page for editors.
-    pub fn desk_asked(
+    /// What a request asks of the desk, exactly where its path is one of the desk and there is a
+    /// page for editors.
+    pub fn desk_question(
         &self,
         alloc: Global,
         request: &Request,
@@ -220,7 +222,7 @@ impl Screen {
     /// The page for editors.
     pub fn show_editor(&self, alloc: Global, told: &mut Vec<u8>) -> Result<u16, HttpFault> {
         let Some(Editors { page, .. }) = &self.editors else {
-            return not_found(told);
+            return refuse_path(told);
         };
         let reply = Reply {
             status: 200,
@@ -239,7 +241,7 @@ pub fn refuse_form(told: &mut Vec<u8>) -> Result<u16, HttpFault> {
 }
 
 /// There is nothing at this path.
-pub fn not_found(told: &mut Vec<u8>) -> Result<u16, HttpFault> {
+pub fn refuse_path(told: &mut Vec<u8>) -> Result<u16, HttpFault> {
     write_fault(told, 404)?;
     Ok(404)
 }

@@ -33,7 +33,8 @@ pub enum ServeFault {
     BadPeers,
     #[error("the line that it listens could not be written")]
     WriteFault,
-    /// The file is that of a member with another number, or of other peers; or a member's, and the node is by itself.
+    /// The file is that of a member with another number, or of other peers; or a member's, and the
+    /// node is by itself.
     #[error("the store is another member's")]
     Foreign,
     #[error("the disk failed")]

@@ -1,4 +1,5 @@
-//! A node behind a server, by itself or as a member of a cluster, over a store in memory or in a file.
+//! A node behind a server, by itself or as a member of a cluster, over a store in memory or in a
+//! file.
 
 ghost use Rattle.std.specs.Prelude.{◌≡◌, IfOk, string_bytes};
 ghost use Rattle.press_text.specs.Streams.{AppendsFront};
@@ -11,10 +12,10 @@ ghost use Rattle.press_server.specs.Turns.{HasCaughtUp};
 
 use crate::alone::Alone;
 use crate::files::{FEWEST, OWN, most_connections, open_files};
-use crate::joining::{Joiner, Seat, join, seat_of, tie};
+use crate::joining::{Joiner, Membership, join, seat_of, tie};
 use crate::screen::Screen;
 use crate::serve_fault::ServeFault;
-use crate::setup::{Place, Setup};
+use crate::setup::{Role, Setup};
 use crate::timed::{Tally, TimedStore};
 use crate::turn::catch_up;
 use press_acceptor::{MemoryStore, PromiseStore, StoreFault};
@@ -23,7 +24,7 @@ use press_net::{Answers, Lines, Server, Task};
 use press_node::{Node, StartFault};
 use press_store::SqlStore;
 use press_text::{Text, write_once};
-use press_wire::Node as Member;
+use press_wire::MemberId;
 use sqlite::{Alter, Connection, Error, ErrorCode};
 use std::alloc::{AllocError, Global};
 use std::fs;
@@ -37,10 +38,10 @@ const STANDARD_ERROR: i32 = 2;
 const LIMITS: &str = "/proc/self/limits";
 
 // The only member of its cluster.
-fn member() -> Member
+fn member() -> MemberId
     ensures { result ≡ 1 }
 {
-    let Some(member) = Member::new(1) else {
+    let Some(member) = MemberId::new(1) else {
         unreachable!()
     };
     member
@@ -94,12 +95,12 @@ fn member_line(alloc: Global, id: u8, peers: &str) -> Result<String, AllocError>
     format!(in alloc; "listening as {id} of {peers}\n")
 }
 
-fn listening_line(alloc: Global, place: &Place<'_>) -> Result<String, AllocError>
+fn listening_line(alloc: Global, place: &Role<'_>) -> Result<String, AllocError>
     ensures { IfOk result (λ t. string_bytes t ≡ listening_line (where_of place.now)) }
 {
     match place {
-        Place::Alone { port } => alone_line(alloc, *port),
-        Place::Member { id, peers, .. } => member_line(alloc, *id, peers),
+        Role::Alone { port } => alone_line(alloc, *port),
+        Role::Member { id, peers, .. } => member_line(alloc, *id, peers),
     }
 }
 
@@ -114,7 +115,7 @@ pub struct Start<'a> {
 
 // Writes the line that it listens.
 #[tactic(auto, using(crate::proofs::Fronts::nothing))]
-fn announce<W: Write>(alloc: Global, place: &Place<'_>, writer: &mut W) -> Result<(), ServeFault>
+fn announce<W: Write>(alloc: Global, place: &Role<'_>, writer: &mut W) -> Result<(), ServeFault>
     ensures { AppendsFront (W.contents writer.old) (W.contents writer.new)
         (listening_line (where_of place.now)) }
 {
@@ -143,7 +144,7 @@ fn serve_over<A: Answers, W: Write, E: Write>(
     let task = Task {
         turns: setup.turns,
         most,
-        is_timed: matches!(setup.place, Place::Member { .. }),
+        is_timed: matches!(setup.place, Role::Member { .. }),
     };
     let mut server = Server::listen(rt, answers.addr(), task)?;
     tell_kit(setup, error);
@@ -210,7 +211,8 @@ fn lacks_folder(rt: &HostRuntime, file: &str) -> bool {
     }
 }
 
-// Why a store that is told to be damaged could not be opened, as far as another look at its file tells.
+// Why a store that is told to be damaged could not be opened, as far as another look at its file
+// tells.
 fn why_shut(rt: &HostRuntime, file: &str) -> ServeFault {
     match Connection::open(rt, file) {
         Err(Error::SqliteFailure(ErrorCode::DatabaseBusy)) => ServeFault::StoreTaken,
@@ -234,10 +236,10 @@ fn loopback(port: u16) -> SocketAddr {
     SocketAddr::new(IpAddr::V4(Ipv4Addr::new(127, 0, 0, 1)), port)
 }
 
-fn port_of(place: Place<'_>) -> u16 {
+fn port_of(place: Role<'_>) -> u16 {
     match place {
-        Place::Alone { port } => port,
-        Place::Member { .. } => 0,
+        Role::Alone { port } => port,
+        Role::Member { .. } => 0,
     }
 }
 
@@ -246,7 +248,7 @@ fn port_of(place: Place<'_>) -> u16 {
 struct Beside<'a> {
     start: Start<'a>,
     // None for a node by itself.
-    seat: Option<Seat>,
+    seat: Option<Membership>,
     screen: Screen,
     kit: Kit,
 }
@@ -278,7 +280,7 @@ fn serve_alone<S: PromiseStore + Drop, W: Write, E: Write>(
 
 // A node by itself or a member of a cluster, over a store on a database.
 #[tactic(auto, using(crate::proofs::Fronts::nothing))]
-fn serve_stored<D: Alter + Drop, W: Write, E: Write>(
+fn serve_over_store<D: Alter + Drop, W: Write, E: Write>(
     beside: Beside<'_>,
     store: SqlStore<D>,
     writer: &mut W,
@@ -312,10 +314,11 @@ fn serve_stored<D: Alter + Drop, W: Write, E: Write>(
 }
 
 impl Setup<'_> {
-    /// Serves one node: it listens, writes its line, and serves connections until as many as were asked for had their
-    /// turn, or until it is ended, with a line for each on the other writer. One by itself has caught up with its store
-    /// by then; a member of a cluster answers no page and no command until its peers have nothing newer, and ends where its
-    /// store fails, unless it is to stay.
+    /// Serves one node: it listens, writes its line, and serves connections until as many as were
+    /// asked for had their turn, or until it is ended, with a line for each on the other writer.
+    /// One by itself has caught up with its store by then; a member of a cluster answers no page
+    /// and no command until its peers have nothing newer, and ends where its store fails, unless it
+    /// is to stay.
     #[tactic(auto, using(crate::proofs::Fronts::nothing))]
     pub fn serve<W: Write, E: Write>(
         &self,
@@ -343,7 +346,7 @@ impl Setup<'_> {
         };
         match self.store {
             Some(file) => match SqlStore::open(rt, file) {
-                Ok(store) => serve_stored(beside, store, writer, error),
+                Ok(store) => serve_over_store(beside, store, writer, error),
                 Err(fault) => Err(fault_of_open(rt, file, fault)),
             },
             None => serve_alone(beside, MemoryStore::new(rt.alloc()), writer, error),

@@ -1,11 +1,12 @@
 /// A server's place: by itself, or in a cluster.
 #[derive(Clone, Copy, Debug)]
-pub enum Place<'a> {
+pub enum Role<'a> {
     /// A node by itself, which listens at a port of 127.0.0.1.
     Alone {
         port: u16,
     },
-    /// The member of that number among those whose addresses the text names, with commas between; it listens at its own.
+    /// The member of that number among those whose addresses the text names, with commas between;
+    /// it listens at its own.
     Member {
         id: u8,
         peers: &'a str,
@@ -17,7 +18,7 @@ pub enum Place<'a> {
 /// What a server is to do.
 #[derive(Clone, Copy, Debug)]
 pub struct Setup<'a> {
-    pub place: Place<'a>,
+    pub place: Role<'a>,
     /// How many connections are served; without it, as many as come until it is ended.
     pub turns: Option<u32>,
     /// The file of its store, which is in memory without one.

@@ -46,7 +46,8 @@ impl Tally {
     }
 }
 
-/// A store whose saves are noted, where somebody is to know of them. It keeps what the one within keeps.
+/// A store whose saves are noted, where somebody is to know of them. It keeps what the one within
+/// keeps.
 pub struct TimedStore<'c, S> {
     rt: &'c HostRuntime,
     tally: Option<&'c Tally>,

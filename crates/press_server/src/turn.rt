@@ -1,4 +1,5 @@
-//! One turn of a server: a connection, and after a command that was taken a wake with what the node sends to itself.
+//! One turn of a server: a connection, and after a command that was taken a wake with what the node
+//! sends to itself.
 
 ghost use Rattle.std.specs.Prelude.{◌≡◌, ◌++◌, OnOk, MatchOption, false};
 ghost use Rattle.press_acceptor.specs.Seen.{fault_in};
@@ -16,12 +17,12 @@ use std::alloc::{AllocError, Global};
 use std::collections::VecDeque;
 use std::io::{Read, Write};
 
-// The most deliveries that follow a wake of a node of seven, whose seven questions bring it a promise, seven calls for
-// a vote and seven votes.
+// The most deliveries that follow a wake of a node of seven, whose seven questions bring it a
+// promise, seven calls for a vote and seven votes.
 const MOST_DELIVERIES: u32 = 22;
 
 // Plays an event.
-fn played<S: PromiseStore>(node: &mut Node<S>, event: Event) -> Result<Vec<Message>, NodeFault>
+fn play_event<S: PromiseStore>(node: &mut Node<S>, event: Event) -> Result<Vec<Message>, NodeFault>
     requires always { Unit {0} }
     ensures kit { kit_of node.new ≡ kit_of node.old }
     ensures plays { (node_moved S.seen node.old node.new).plays event (sent (λ v. v.items) result) }
@@ -56,7 +57,7 @@ fn deliver<S: PromiseStore>(
     for count in 0..most {
         match waiting.pop_front() {
             None => return Ok(()),
-            Some(message) => match played(node, Event::Deliver(message)) {
+            Some(message) => match play_event(node, Event::Deliver(message)) {
                 Err(fault) => return Err(fault),
                 Ok(sent) => match wait(waiting, sent) {
                     Ok(()) => {}
@@ -68,13 +69,14 @@ fn deliver<S: PromiseStore>(
     Ok(())
 }
 
-/// Wakes the node, and delivers its own messages, the oldest first, until none is left, 22 at most. The first fault ends it.
+/// Wakes the node, and delivers its own messages, the oldest first, until none is left, 22 at most.
+/// The first fault ends it.
 pub fn wake<S: PromiseStore>(alloc: Global, node: &mut Node<S>) -> Result<(), NodeFault>
     requires always { Unit {0} }
     ensures kit { kit_of node.new ≡ kit_of node.old }
     ensures wakes { Wakes (λ a b. node_moved S.seen a b) node.old node.new (fault_of result) }
 {
-    match played(node, Event::Wake) {
+    match play_event(node, Event::Wake) {
         Err(fault) => Err(fault),
         Ok(sent) => {
             let mut waiting = VecDeque::new(alloc);
@@ -102,8 +104,8 @@ pub fn stop_of(fault: NodeFault) -> Option<StoreFault>
     }
 }
 
-/// Has what its store keeps chosen again, and applied: wakes it until a wake applies nothing more or is refused. Out of
-/// memory, or a fault of the store, in one of them is returned.
+/// Has what its store keeps chosen again, and applied: wakes it until a wake applies nothing more
+/// or is refused. Out of memory, or a fault of the store, in one of them is returned.
 pub fn catch_up<S: PromiseStore>(alloc: Global, node: &mut Node<S>) -> Result<(), StoreFault>
     requires always { Unit {0} }
     ensures kit { kit_of node.new ≡ kit_of node.old }
@@ -124,8 +126,8 @@ pub fn catch_up<S: PromiseStore>(alloc: Global, node: &mut Node<S>) -> Result<()
     }
 }
 
-/// Serves one connection, and returns its status; after a command that was taken the node is woken. A fault in that
-/// wake ends the wake alone: the command was taken all the same.
+/// Serves one connection, and returns its status; after a command that was taken the node is woken.
+/// A fault in that wake ends the wake alone: the command was taken all the same.
 pub fn serve_turn<S: PromiseStore, R: Read, W: Write>(
     alloc: Global,
     node: &mut Node<S>,

@@ -6,10 +6,10 @@ use Rattle.press_acceptor.specs.declared.fault.StoreFault.{StoreFault}
 use Rattle.press_acceptor.specs.declared.fault.StoreFault.TheVariants.{NoMemory, Disk, Damaged}
 
 -- out of memory, the disk or a size; and damage for any other cause
-abbrev pub told : Error → StoreFault
-told (SqliteFailure OutOfMemory) = NoMemory
-told (SqliteFailure SystemIoFailure) = Disk
-told (SqliteFailure DatabaseCorrupt) = Disk
-told (SqliteFailure DiskFull) = Disk
-told (SqliteFailure TooBig) = Disk
-told _ = Damaged
+abbrev pub store_fault_of : Error → StoreFault
+store_fault_of (SqliteFailure OutOfMemory) = NoMemory
+store_fault_of (SqliteFailure SystemIoFailure) = Disk
+store_fault_of (SqliteFailure DatabaseCorrupt) = Disk
+store_fault_of (SqliteFailure DiskFull) = Disk
+store_fault_of (SqliteFailure TooBig) = Disk
+store_fault_of _ = Damaged

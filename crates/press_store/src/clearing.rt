@@ -6,7 +6,7 @@ ghost use Rattle.sqlite.specs.Held.{state};
 ghost use Rattle.press_store.specs.Moving.{Does, IsCleared, OthersKept, ShowsNone};
 ghost use Rattle.press_store.specs.Steps.{GoesOn, Keeps};
 
-use crate::slots::damaged;
+use crate::slots::damage;
 use sqlite::{Alter, Error, Row as Shown, Transaction};
 
 // Nothing is said of what stays in the table itself: that is asked afterwards.
@@ -53,7 +53,7 @@ pub fn clear<S: Alter>(tx: &mut Transaction<'_, S>) -> Result<(), Error>
     delete_rows(tx)?;
     let rows = rows_left(tx)?;
     if !is_none(&rows) {
-        return Err(damaged());
+        return Err(damage());
     }
     Ok(())
 }

@@ -11,7 +11,7 @@ ghost use Rattle.press_store.specs.Shown.{most_rounds, number_in};
 ghost use Rattle.press_store.specs.Steps.{GoesOn, Keeps};
 
 use crate::meta::number;
-use crate::slots::damaged;
+use crate::slots::damage;
 use sqlite::types::ValueRef;
 use sqlite::{Alter, Error, Row as Shown, Transaction};
 
@@ -124,7 +124,7 @@ pub fn mark<S: Alter>(tx: &mut Transaction<'_, S>) -> Result<(), Error>
     let after = number_of(tx, b"last_round")?;
     let version = number_of(tx, b"version")?;
     if !is_one(held) || !is_same_round(before, after) || !is_two(version) {
-        return Err(damaged());
+        return Err(damage());
     }
     Ok(())
 }

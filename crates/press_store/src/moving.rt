@@ -10,7 +10,7 @@ ghost use Rattle.press_store.specs.Steps.{GoesOn, Keeps};
 
 use crate::block::raise_promise;
 use crate::slots::{
-    damaged, find_slot, greater, last_slot, perhaps_ballot, rows_outside, spelled_vote,
+    damage, find_slot, greater, last_slot, perhaps_ballot, rows_outside, spelled_vote,
 };
 use crate::vote::add_vote;
 use press_wire::{Ballot, Slot};
@@ -34,7 +34,7 @@ fn move_row<S: Alter>(
         (λ _. ⊥) }
 {
     let Some(promised) = perhaps_ballot(row.get_ref(0)?, row.get_ref(1)?) else {
-        return Err(damaged());
+        return Err(damage());
     };
     let voted = perhaps_ballot(row.get_ref(2)?, row.get_ref(3)?);
     match (voted, row.get_ref(4)?) {
@@ -44,7 +44,7 @@ fn move_row<S: Alter>(
             add_vote(tx, slot, &vote, bytes)?;
             Ok(greater(promised, Some(ballot)))
         }
-        _ => Err(damaged()),
+        _ => Err(damage()),
     }
 }
 
@@ -66,7 +66,7 @@ fn move_slot<S: Alter>(
     match rows.as_slice() {
         [] => Ok(None),
         [row] => move_row(alloc, tx, slot, row),
-        _ => Err(damaged()),
+        _ => Err(damage()),
     }
 }
 
@@ -188,7 +188,7 @@ pub fn move_all_blocks<S: Alter>(alloc: Global, tx: &mut Transaction<'_, S>) -> 
     move_blocks(alloc, tx, count)?;
     let outside = rows_outside(tx, 16 * count)?;
     if !is_none(&outside) {
-        return Err(damaged());
+        return Err(damage());
     }
     Ok(())
 }

@@ -3,12 +3,12 @@
 ghost use Rattle.std.specs.Prelude.{◌≡◌};
 ghost use Rattle.press_store.specs.Owned as spec;
 
-use press_wire::Node;
+use press_wire::MemberId;
 
 /// The member whose file it is.
 #[derive(Clone, Copy, Debug, PartialEq, Eq)]
 pub struct Owner {
-    pub number: Node,
+    pub number: MemberId,
     /// How many members its cluster counts.
     pub members: u8,
     /// The digest of the list of peers.

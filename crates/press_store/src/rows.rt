@@ -6,7 +6,7 @@ ghost use Rattle.sqlite.specs.declared.types.Value.TheVariants.{Int, Blob};
 ghost use Rattle.press_store.specs.Owned as spec;
 ghost use Rattle.press_store.specs.Shown.{ballot_in, most_rounds, number_in};
 
-use press_wire::{Ballot, Node, Round, Slot};
+use press_wire::{Ballot, MemberId, Round, Slot};
 use sqlite::types::ValueRef;
 
 fn int_of(n: u64) -> i64
@@ -30,7 +30,7 @@ pub fn round_value<'a>(round: Round) -> ValueRef<'a>
     ValueRef::Int(int_of(round.number()))
 }
 
-pub fn node_value<'a>(node: Node) -> ValueRef<'a>
+pub fn node_value<'a>(node: MemberId) -> ValueRef<'a>
     ensures value { owned result ≡ Int (pos node) }
     ensures range { (1 ≤ node) × (node ≤ 7) }
 {
@@ -102,7 +102,7 @@ fn round(value: ValueRef<'_>) -> Option<Round>
     if n < 0 { None } else { Round::new(n as u64) }
 }
 
-pub fn member_number(n: i64) -> Option<Node>
+pub fn member_number(n: i64) -> Option<MemberId>
     ensures { result ≡ number_in 1 7 (Int n) }
 {
     node(ValueRef::Int(n))
@@ -118,7 +118,7 @@ pub fn member_count(n: i64) -> Option<u8>
     }
 }
 
-fn node(value: ValueRef<'_>) -> Option<Node>
+fn node(value: ValueRef<'_>) -> Option<MemberId>
     ensures { result ≡ number_in 1 7 (owned value.entry) }
 {
     let ValueRef::Int(n) = value else {
@@ -127,7 +127,7 @@ fn node(value: ValueRef<'_>) -> Option<Node>
     if n < 0 || n > 7 {
         None
     } else {
-        Node::new(n as u8)
+        MemberId::new(n as u8)
     }
 }
 

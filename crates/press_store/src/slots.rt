@@ -19,7 +19,7 @@ use sqlite::{Alter, Error, ErrorCode, Row as Shown, Transaction};
 use std::alloc::Global;
 
 /// What ends a migration where a row is damaged.
-pub fn damaged() -> Error {
+pub fn damage() -> Error {
     Error::InvalidQuery
 }
 
@@ -100,7 +100,7 @@ pub fn spelled_vote(alloc: Global, ballot: Ballot, bytes: &[u8]) -> Result<Vote,
     match decode_cmd(alloc, bytes) {
         Ok(value) => Ok(Vote { ballot, value }),
         Err(WireFault::NoMemory) => Err(Error::SqliteFailure(ErrorCode::OutOfMemory)),
-        Err(_) => Err(damaged()),
+        Err(_) => Err(damage()),
     }
 }
 

@@ -7,7 +7,7 @@ ghost use Rattle.sqlite.specs.Files.{file_state};
 ghost use Rattle.sqlite.specs.WalFiles.{image_at};
 ghost use Rattle.press_store.specs.Adopted.{Adopts, IsServed, IsHandedBack, is_half};
 ghost use Rattle.press_acceptor.specs.declared.fault.StoreFault.TheVariants.{Damaged};
-ghost use Rattle.press_store.specs.Faults.{told};
+ghost use Rattle.press_store.specs.Faults.{store_fault_of};
 ghost use Rattle.press_store.specs.Opened.{Begins, Finds, HoldsServed, IsUp, WereSound};
 ghost use Rattle.press_store.specs.Attempt.{IsReady};
 ghost use Rattle.press_store.specs.Kept.{seen_of};
@@ -114,7 +114,7 @@ impl<D: Alter> SqlStore<D> {
         match read_last(&mut self.conn) {
             Ok(Some(last)) => Ok(last),
             Ok(None) => Err(StoreFault::Damaged),
-            Err(error) => Err(counted(&mut self.faults, error)),
+            Err(error) => Err(count_fault(&mut self.faults, error)),
         }
     }
 
@@ -146,7 +146,7 @@ impl<D: Alter> SqlStore<D> {
         match tie_file(&mut self.conn, asked) {
             Ok(Some(tie)) => Ok(tie),
             Ok(None) => Err(StoreFault::Damaged),
-            Err(error) => Err(counted(&mut self.faults, error)),
+            Err(error) => Err(count_fault(&mut self.faults, error)),
         }
     }
 
@@ -209,8 +209,8 @@ impl SqlStore<FileStore<File>> {
 }
 
 // The fault that the error is, counted where it names the disk.
-fn counted(faults: &mut u64, error: Error) -> StoreFault
-    ensures told { faults.old < 18446744073709551615 → result ≡ told error }
+fn count_fault(faults: &mut u64, error: Error) -> StoreFault
+    ensures told { faults.old < 18446744073709551615 → result ≡ store_fault_of error }
     ensures disk { result ≡ StoreFault.Disk → faults.old < faults.new }
     ensures counts { faults.old ≤ faults.new }
 {
@@ -238,14 +238,14 @@ impl<D: Alter> PromiseStore for SqlStore<D> {
         match read_block(self.alloc, &mut self.conn, first) {
             Ok(Some(block)) => Ok(block),
             Ok(None) => Err(StoreFault::Damaged),
-            Err(error) => Err(counted(&mut self.faults, error)),
+            Err(error) => Err(count_fault(&mut self.faults, error)),
         }
     }
 
     fn save_promise(&mut self, first: Slot, ballot: Ballot) -> Result<(), StoreFault> {
         match put_promise(&mut self.conn, first, ballot) {
             Ok(_) => Ok(()),
-            Err(error) => Err(counted(&mut self.faults, error)),
+            Err(error) => Err(count_fault(&mut self.faults, error)),
         }
     }
 
@@ -257,7 +257,7 @@ impl<D: Alter> PromiseStore for SqlStore<D> {
         };
         match put_vote(&mut self.conn, slot, vote, &bytes) {
             Ok(()) => Ok(()),
-            Err(error) => Err(counted(&mut self.faults, error)),
+            Err(error) => Err(count_fault(&mut self.faults, error)),
         }
     }
 
@@ -265,14 +265,14 @@ impl<D: Alter> PromiseStore for SqlStore<D> {
         match read_round(&mut self.conn) {
             Ok(Some(round)) => Ok(round),
             Ok(None) => Err(StoreFault::Damaged),
-            Err(error) => Err(counted(&mut self.faults, error)),
+            Err(error) => Err(count_fault(&mut self.faults, error)),
         }
     }
 
     fn save_round(&mut self, round: Round) -> Result<(), StoreFault> {
         match put_round(&mut self.conn, round) {
             Ok(_) => Ok(()),
-            Err(error) => Err(counted(&mut self.faults, error)),
+            Err(error) => Err(count_fault(&mut self.faults, error)),
         }
     }
 

@@ -16,7 +16,7 @@ use Rattle.press_wire.specs.declared.fault.WireFault.TheVariants.{Short, BadFiel
 use Rattle.press_wire.specs.Fields.{checked, counted, byte_at, bytes_at, number_at, number4_at, number8_at, short_at, name_at, text_at, moment_at, status_at, node_at, slot_at, round_at, ballot_at}
 use Rattle.press_wire.specs.Held.{IsBytes, IsText, IsMoment, IsRound, IsNode, IsSlot, IsBallot}
 use Rattle.press_wire.specs.Kinds.{status_of, status_number}
-use Rattle.press_wire.specs.Ranges.{only, is_at_most, is_within, node_of, slot_of, round_of}
+use Rattle.press_wire.specs.Ranges.{only, is_at_most, is_within, member_id_of, slot_of, round_of}
 use Rattle.press_wire.specs.Spelling.{number4, number8, name, text, ballot}
 use Rattle.press_wire.proofs.Codec.{IsBytes-drop, IsBytes-take, IsBytes-rest, Takes, Codec, step, step_again, ok_is, checked_codec, only_named, only_passes, passes_only, or_next, or_none, recast, paired_codec}
 
@@ -148,7 +148,7 @@ slot_codec = recast (checked_codec number4_codec BadField slot_of same_number (o
 
 pub node_codec : Codec node_at one IsNode
 unfolding node_at
-node_codec = recast (checked_codec byte_codec BadField node_of same_number (only_named (is_within 1 7))) node_at one IsNode
+node_codec = recast (checked_codec byte_codec BadField member_id_of same_number (only_named (is_within 1 7))) node_at one IsNode
     (λ bytes. refl) (λ n. refl) (λ n fits. let t = only_passes (is_within 1 7) n n fits.1 in (grind (arith, nat_tests), grind (arith, nat_tests)))
     (λ n fits. (omega (arith, fits.1), passes_only (is_within 1 7) n (grind (arith, nat_tests))))
 

@@ -9,7 +9,7 @@ use Rattle.press_wire.specs.declared.ballot.Ballot.{Ballot}
 use Rattle.press_wire.specs.declared.fault.WireFault.{WireFault}
 use Rattle.press_wire.specs.declared.fault.WireFault.TheVariants.{Short, BadField}
 use Rattle.press_wire.specs.Kinds.{status_of}
-use Rattle.press_wire.specs.Ranges.{only, is_within, is_at_most, node_of, slot_of, round_of}
+use Rattle.press_wire.specs.Ranges.{only, is_within, is_at_most, member_id_of, slot_of, round_of}
 
 -- what is read off the front, and the bytes behind it
 abbrev pub Reading : Type 0 → Type 0
@@ -69,7 +69,7 @@ unfoldable pub status_at : Reading Status
 status_at bytes = checked BadField status_of byte_at bytes
 
 unfoldable pub node_at : Reading ℕ
-node_at bytes = checked BadField node_of byte_at bytes
+node_at bytes = checked BadField member_id_of byte_at bytes
 
 unfoldable pub slot_at : Reading ℕ
 slot_at bytes = checked BadField slot_of number4_at bytes

@@ -1,14 +1,14 @@
 ghost use Rattle.std.specs.Prelude.{◌≡◌};
 ghost use Rattle.press_wire.specs.Ballots.{is_less, is_same};
 
-use crate::node::Node;
+use crate::member_id::MemberId;
 use crate::round::Round;
 
 /// A proposal number: ballots are ordered by round, then by node (Paxos Made Simple, 2.2).
 #[derive(Clone, Copy, Debug, PartialEq, Eq, PartialOrd, Ord)]
 pub struct Ballot {
     pub round: Round,
-    pub node: Node,
+    pub node: MemberId,
 }
 
 impl Ballot {

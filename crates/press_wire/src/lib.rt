@@ -10,8 +10,8 @@ mod fault;
 mod held;
 mod kind;
 mod laws;
+mod member_id;
 mod message;
-mod node;
 mod read_message;
 mod read_value;
 mod reader;
@@ -31,8 +31,8 @@ pub use fault::WireFault;
 pub use laws::{
     messages_have_one_spelling, messages_read_back, values_have_one_spelling, values_read_back,
 };
+pub use member_id::MemberId;
 pub use message::{Body, Message};
-pub use node::Node;
 pub use round::Round;
 pub use slot::{Slot, is_first};
 pub use vote::Vote;

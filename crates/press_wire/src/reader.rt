@@ -9,7 +9,7 @@ ghost use Rattle.press_wire.specs.Ranges.{only};
 
 use crate::ballot::Ballot;
 use crate::fault::WireFault;
-use crate::node::Node;
+use crate::member_id::MemberId;
 use crate::round::Round;
 use crate::slot::Slot;
 use crate::status::status_from_number;
@@ -178,11 +178,11 @@ impl<'a> Reader<'a> {
     }
 
     #[tactic(auto, unfolding(crate::specs::Fields::node_at))]
-    pub fn node(&mut self) -> Result<Node, WireFault>
+    pub fn node(&mut self) -> Result<MemberId, WireFault>
         ensures read { Gives Refuses (λ x. Ok (x, self.new)) result (node_at self.old) }
         ensures memory { result ≢ Err WireFault.NoMemory }
     {
-        match Node::new(self.byte()?) {
+        match MemberId::new(self.byte()?) {
             Some(node) => Ok(node),
             None => Err(WireFault::BadField),
         }

@@ -1,4 +1,5 @@
--- What a node does at an event over its store in memory, by what every node says of it over any store.
+-- What a node does at an event over its store in memory, by what every node says of it over any
+-- store.
 use Rattle.std.proofs.Common.{ℕ, ◌+◌, ◌≡◌, ◌≤◌, ◌⊎◌, inl, inr, Bool, true, false, cond, List, [], ◌∷◌, length, Option, None, Some, option_map, IfSome, Result, Ok, Err, IfOk, IfErr, refl, sym, subst, ap, ◌∙◌}
 use Rattle.press_wire.specs.declared.message.Body.{Body}
 use Rattle.press_wire.specs.declared.message.Body.TheVariants.{Prepare, Promise, Nack, Accept, Accepted, Query}

@@ -11,7 +11,7 @@ pub mod Looking
 mod Members
 mod Nodes
 mod Onward
-mod Outcomes
+pub mod Outcomes
 mod Playing
 mod Proposals
 mod Readings

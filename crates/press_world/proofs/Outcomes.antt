@@ -1,4 +1,5 @@
--- A step that was played or refused has the outcome that its line shows, and a step that is refused leaves the world.
+-- A step that was played or refused has the outcome that its line shows, and a step that is refused
+-- leaves the world.
 use Rattle.std.proofs.Common.{ℕ, ◌+◌, ◌-◌, ◌≡◌, ◌≢◌, Bool, true, false, List, length, slice_get, Option, None, Some, option_and_then, option_map, Result, Ok, Err, OnOk, OnErr, refl, sym, subst, ap, ◌∙◌}
 use Rattle.std.specs.Io.KnownBytes.{Appends}
 use Rattle.press_callbacks.specs.Kits.{KitView}
@@ -16,7 +17,7 @@ use Rattle.press_world.specs.Refusing.{is_missing, receiver, refused_at, refused
 use Rattle.press_world.specs.Replays.{line_of, outcome, outcome_where, to_in, WritesLines}
 use Rattle.press_world.specs.Stepped.{FailsBy, Steps, with_cut}
 use Rattle.press_world.specs.Stored.{Stored, stored_comes, stored_does, stored_does_at, stored_effect, stored_restarted, stored_step}
-use Rattle.press_world.specs.Telling.{told}
+use Rattle.press_world.specs.Telling.{step_result}
 use Rattle.press_world.specs.Worlds.{Place, at_index, index_of, refusal_before, unless_refused}
 use Rattle.press_world.specs.declared.fault.WorldFault.{WorldFault}
 use Rattle.press_world.specs.declared.fault.WorldFault.TheVariants.{NoSuchMessage, NoSuchNode, Node}
@@ -69,11 +70,11 @@ refused_stays n s (Get number target) f h = refl
 -- ---- outcomes
 
 refused_so : (kit : KitView) (n : ℕ) (s t : Stored) (x : Step) (f : WorldFault) → refused_step s x ≡ Some f → t ≡ s → (t ≡ stored_step n s x) × (Err f ≡ outcome kit n s x)
-refused_so kit n s t x f h e = (e ∙ sym (refused_stays n s x f h), sym (ap (λ o. outcome_where o (told kit s (stored_step n s x) x)) h))
+refused_so kit n s t x f h e = (e ∙ sym (refused_stays n s x f h), sym (ap (λ o. outcome_where o (step_result kit s (stored_step n s x) x)) h))
 
 pub as_outcome : (kit : KitView) (n : ℕ) (s t : Stored) (x : Step) (r : Result Played WorldFault) → Steps kit n s x t r → r ≢ Err (Node NoMemory) → (t ≡ stored_step n s x) × (r ≡ outcome kit n s x)
 as_outcome kit n s t x (Ok played) h not_wanting =
-    (h.1, sym (ap (λ o. outcome_where o (told kit s (stored_step n s x) x)) h.0 ∙ ap (λ (u : Stored). Ok (told kit s u x)) (sym h.1) ∙ ap Ok (sym h.2)))
+    (h.1, sym (ap (λ o. outcome_where o (step_result kit s (stored_step n s x) x)) h.0 ∙ ap (λ (u : Stored). Ok (step_result kit s u x)) (sym h.1) ∙ ap Ok (sym h.2)))
 as_outcome kit n s t x (Err NoSuchMessage) h not_wanting = refused_so kit n s t x NoSuchMessage h.0 h.1
 as_outcome kit n s t x (Err NoSuchNode) h not_wanting = refused_so kit n s t x NoSuchNode h.0 h.1
 as_outcome kit n s t x (Err (Node fault)) h not_wanting = go (stops fault) h

@@ -14,11 +14,11 @@ use Rattle.press_node.specs.Nodes.{IsPageAt}
 use Rattle.press_node.specs.States.{Up, is_down_where}
 use Rattle.press_node.specs.declared.fault.NodeFault.{NodeFault}
 use Rattle.press_node.specs.declared.fault.NodeFault.TheVariants.{Down, NoMemory}
-use Rattle.press_world.specs.Happening.{Happens, told_at}
+use Rattle.press_world.specs.Happening.{Happens, event_result}
 use Rattle.press_world.specs.Refusing.{get_refused, is_missing, message_numbered, place_numbered, refused_at, refused_of, refused_step}
 use Rattle.press_world.specs.Stepped.{Fails, FailsBy, Steps, with_cut}
 use Rattle.press_world.specs.Stored.{Stored, stored_comes, stored_does, stored_restarted, stored_step}
-use Rattle.press_world.specs.Telling.{applied_in, first_of, is_cut, number_to, or_none, reply_at, told}
+use Rattle.press_world.specs.Telling.{applied_in, first_of, is_cut, number_to, or_none, reply_at, step_result}
 use Rattle.press_world.specs.Worlds.{Place, at_index, index_of}
 use Rattle.press_world.specs.declared.fault.WorldFault.{WorldFault}
 use Rattle.press_world.specs.declared.fault.WorldFault.TheVariants.{Node}
@@ -62,7 +62,7 @@ place_after s t number index e h = place_at t number index (e ∙ ap (λ k. inde
 pub steps_of : (kit : KitView) (n : ℕ) (s t : Stored) (x : Step) (which index : ℕ) (event : Event) (cut : Option Cut) (r : Result Played WorldFault) →
     refused_step s x ≡ refused_at (slice_get s.places index) event cut →
     ((stop : Option Cut) → stored_step n s (with_cut x stop) ≡ stored_does n s which index (slice_get s.places index) event stop) →
-    with_cut x cut ≡ x → told kit s t x ≡ told_at s t index cut →
+    with_cut x cut ≡ x → step_result kit s t x ≡ event_result s t index cut →
     Happens n s which index event cut t r → Steps kit n s x t r
 steps_of kit n s t x which index event cut (Ok played) refused by own tells h =
     (refused ∙ h.0, h.1 ∙ sym (by cut) ∙ ap (stored_step n s) own, h.2 ∙ sym tells)
@@ -118,7 +118,7 @@ told_same : (s t : Stored) (number index : ℕ) (cut : Option Cut) → number �
       stopped = is_cut cut;
       applied = or_none (applied_in (place_numbered t number));
       reply = None;
-    }) (told_at s t index cut)
+    }) (event_result s t index cut)
 told_same s t number index cut e p = λ i. record {
   node = e i;
   first = first_of (length s.sent) (length t.sent - length s.sent);

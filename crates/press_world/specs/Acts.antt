@@ -23,7 +23,8 @@ abbrev pub DoesAt : ℕ → ℕ → StoreMap → Option Running → Event → Op
 DoesAt n id store None event cut out new = ⊥
 DoesAt n id store (Some node) event cut out new = Gives (on_event n id store node event) (refusal_before cut (refusal store (Some node) event)) cut out store new
 
--- out of memory leaves the node down, with the store before its save or after it, and a store in memory has no other fault that stops; another refuses the event and changes nothing
+-- out of memory leaves the node down, with the store before its save or after it, and a store in
+-- memory has no other fault that stops; another refuses the event and changes nothing
 abbrev pub Fails : Answer → Option NodeFault → NodeFault → Bool → Place → Place → Type 0
 Fails a refused fault true old new =
     (fault ≡ NoMemory) × (refused ≡ None) × (new.up ≡ None) × ((new.store ≡ old.store) ⊎ (new.store ≡ saved_if old.store a.save))

@@ -9,8 +9,8 @@ use Rattle.press_world.specs.declared.fault.WorldFault.{WorldFault}
 use Rattle.press_world.specs.declared.played.Played.{Played}
 use Rattle.press_world.specs.declared.step.Cut.{Cut}
 
-abbrev pub told_at : Stored → Stored → ℕ → Option Cut → Played
-told_at before after index cut =
+abbrev pub event_result : Stored → Stored → ℕ → Option Cut → Played
+event_result before after index cut =
     record {
       node = index + 1;
       first = first_of (length before.sent) (length after.sent - length before.sent);
@@ -25,6 +25,6 @@ abbrev pub Happens : ℕ → Stored → ℕ → ℕ → Event → Option Cut →
 Happens n s which index event cut t (Ok played) =
     (refused_at (slice_get s.places index) event cut ≡ None)
     × (t ≡ stored_does n s which index (slice_get s.places index) event cut)
-    × (played ≡ told_at s t index cut)
+    × (played ≡ event_result s t index cut)
 Happens n s which index event cut t (Err fault) =
     Fails s (λ stop. stored_does n s which index (slice_get s.places index) event stop) (refused_at (slice_get s.places index) event cut) fault t

@@ -5,7 +5,8 @@ use Rattle.press_kit.specs.declared.place.Place.{Place}
 use Rattle.press_world.specs.declared.replay_fault.ReplayFault.{ReplayFault}
 use Rattle.press_world.specs.declared.replay_fault.ReplayFault.TheVariants.{NoMemory, ReadFault, WriteFault, BadSchedule}
 
--- BadSchedule is returned only where the bytes are bad at a place; a read may fail and memory run out at any time.
+-- BadSchedule is returned only where the bytes are bad at a place; a read may fail and memory run
+-- out at any time.
 abbrev pub Refuses : {Y : Type 0} → ReplayFault → Result Y Place → Type 0
 Refuses NoMemory found = Unit {0}
 Refuses ReadFault found = Unit {0}

@@ -1,5 +1,6 @@
--- Which fault refuses a step of a schedule (own): a node or a message that doesn't exist, a node that is down, or what a running node refuses.
--- A step that is refused changes nothing and plays no cut.
+-- Which fault refuses a step of a schedule (own): a node or a message that doesn't exist, a node
+-- that is down, or what a running node refuses. A step that is refused changes nothing and plays no
+-- cut.
 use Rattle.std.specs.Prelude.{ℕ, ◌-◌, ◌≡◌, Option, None, Some, option_and_then, option_map, length, slice_get}
 use Rattle.press_acceptor.specs.StoreMap.{StoreMap}
 use Rattle.press_wire.specs.declared.message.Message.{Message}

@@ -1,4 +1,5 @@
--- The number of each fault of a run, and the faults that stand for those of streams and of files (own).
+-- The number of each fault of a run, and the faults that stand for those of streams and of files
+-- (own).
 use Rattle.std.specs.Prelude.{ℕ}
 use Rattle.press_text.specs.declared.streams.ReadLimitedFault.{ReadLimitedFault}
 use Rattle.press_text.specs.declared.streams.ReadLimitedFault.TheVariants as reading

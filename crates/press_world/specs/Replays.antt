@@ -1,5 +1,5 @@
--- A schedule's transcript: the line of each step as it is played, from the world in which every node is new, and the last line; and what a replay of a file
--- writes (own).
+-- A schedule's transcript: the line of each step as it is played, from the world in which every
+-- node is new, and the last line; and what a replay of a file writes (own).
 use Rattle.std.specs.Prelude.{ℕ, ◌+◌, ◌≡◌, Option, None, Some, option_map, List, [], ◌∷◌, ◌++◌, map, Result, Ok, Err}
 use Rattle.std.specs.Io.KnownBytes.{Appends}
 use Rattle.press_callbacks.specs.Kits.{KitView}
@@ -8,7 +8,7 @@ use Rattle.press_text.specs.Streams.{AppendsFront}
 use Rattle.press_world.specs.ReadingFiles.{Has}
 use Rattle.press_world.specs.Refusing.{message_numbered, refused_step}
 use Rattle.press_world.specs.Stored.{Stored, new_stored, stored_step}
-use Rattle.press_world.specs.Telling.{applied_at, told}
+use Rattle.press_world.specs.Telling.{applied_at, step_result}
 use Rattle.press_world.specs.Transcript.{end_line, step_line}
 use Rattle.press_world.specs.declared.fault.WorldFault.{WorldFault}
 use Rattle.press_world.specs.declared.played.Played.{Played}
@@ -25,7 +25,7 @@ outcome_where (Some fault) played = Err fault
 
 -- what comes of a step of n nodes of this kit
 abbrev pub outcome : KitView → ℕ → Stored → Step → Result Played WorldFault
-outcome kit n s x = outcome_where (refused_step s x) (told kit s (stored_step n s x) x)
+outcome kit n s x = outcome_where (refused_step s x) (step_result kit s (stored_step n s x) x)
 
 -- the node that a delivered message is to
 abbrev pub to_in : Stored → Step → Option ℕ
@@ -55,7 +55,8 @@ abbrev pub WritesLines : {T E : Type 0} → List ℕ → Option (List ℕ) → O
 WritesLines bytes old new (Ok done) = Appends old new bytes
 WritesLines bytes old new (Err fault) = AppendsFront old new bytes
 
--- The transcript, or a prefix of it where a write failed or memory ran out; nothing where the file is bad or couldn't be read.
+-- The transcript, or a prefix of it where a write failed or memory ran out; nothing where the file
+-- is bad or couldn't be read.
 abbrev pub Writes : {T : Type 0} → (ℕ × List Step → List ℕ) → Result (ℕ × List Step) file.Place → Option (List ℕ) → Option (List ℕ) → Result T ReplayFault → Type 0
 Writes shows (Ok schedule) old new (Ok done) = Appends old new (shows schedule)
 Writes shows (Ok schedule) old new (Err NoMemory) = AppendsFront old new (shows schedule)

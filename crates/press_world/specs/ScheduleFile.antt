@@ -1,5 +1,6 @@
--- Schedule file: how many nodes there are and what is done in turn, as a JSON document (RFC 8259) gives it, or the first place at which it is bad (own).
--- Keys that nobody names are passed over. Whether a node or a message exists is found when its step is played.
+-- Schedule file: how many nodes there are and what is done in turn, as a JSON document (RFC 8259)
+-- gives it, or the first place at which it is bad (own). Keys that nobody names are passed over.
+-- Whether a node or a message exists is found when its step is played.
 use Rattle.std.specs.Prelude.{ℕ, ◌^◌, List, length, bytes_eq, nat_le, nat_lt, ◌&&◌, if◌then◌else◌, Option, Some, None, option_map, option_and_then, Result, Ok, codes}
 use Rattle.serde_json.specs.Data.{Data}
 use Rattle.serde_json.specs.Find.{get, as_str}
@@ -19,13 +20,13 @@ use Rattle.press_world.specs.declared.step_kind.StepKind.TheVariants as kind
 
 -- ---- cuts
 
-abbrev pub cut_named : List ℕ → Option Cut
-cut_named word =
+abbrev pub cut_by_word : List ℕ → Option Cut
+cut_by_word word =
     if bytes_eq word (codes "before") then Some BeforeSave else
     (if bytes_eq word (codes "save") then Some AfterSave else None)
 
 abbrev pub cut_where : Option (List ℕ) → Data → Option Cut
-cut_where (Some word) d = cut_named word
+cut_where (Some word) d = cut_by_word word
 cut_where None d = option_map AfterMessages (option_and_then (below (2 ^ 32)) (number_in d))
 
 -- a word, or a number of messages
@@ -38,8 +39,8 @@ cut_at at d = or_bad at (default None (λ told. option_map Some (cut_in told)) (
 
 -- ---- steps
 
-abbrev pub step_named : List ℕ → Option StepKind
-step_named word =
+abbrev pub kind_by_word : List ℕ → Option StepKind
+kind_by_word word =
     if bytes_eq word (codes "submit") then Some kind.Submit else
     (if bytes_eq word (codes "wake") then Some kind.Wake else
     (if bytes_eq word (codes "deliver") then Some kind.Deliver else
@@ -47,7 +48,7 @@ step_named word =
     (if bytes_eq word (codes "get") then Some kind.Get else None))))
 
 abbrev pub kind_in : Data → Option StepKind
-kind_in d = option_and_then step_named (option_and_then as_str (get (codes "do") d))
+kind_in d = option_and_then kind_by_word (option_and_then as_str (get (codes "do") d))
 
 abbrev pub target_at : Place → Data → Result Target Place
 target_at at d = do

@@ -1,4 +1,5 @@
--- What a step did to a world: it was played as the definition has it, or refused; or running out of memory ended it.
+-- What a step did to a world: it was played as the definition has it, or refused; or running out of
+-- memory ended it.
 use Rattle.std.specs.Prelude.{ℕ, ◌≡◌, ◌⊎◌, Bool, true, false, Option, None, Some, Result, Ok, Err}
 use Rattle.press_callbacks.specs.Kits.{KitView}
 use Rattle.press_node.specs.Faults.{stops}
@@ -6,7 +7,7 @@ use Rattle.press_node.specs.declared.fault.NodeFault.{NodeFault}
 use Rattle.press_node.specs.declared.fault.NodeFault.TheVariants.{NoMemory}
 use Rattle.press_world.specs.Refusing.{refused_step}
 use Rattle.press_world.specs.Stored.{Stored, stored_step}
-use Rattle.press_world.specs.Telling.{told}
+use Rattle.press_world.specs.Telling.{step_result}
 use Rattle.press_world.specs.declared.fault.WorldFault.{WorldFault}
 use Rattle.press_world.specs.declared.fault.WorldFault.TheVariants.{NoSuchMessage, NoSuchNode, Node}
 use Rattle.press_world.specs.declared.played.Played.{Played}
@@ -24,7 +25,8 @@ cut_of true = AfterSave
 abbrev pub IsCut : (Option Cut → Stored) → Stored → Type 0
 IsCut by t = (b : Bool) × (t ≡ by (Some (cut_of b)))
 
--- A fault of a node: the step was refused and nothing changed; or nothing refuses it and it was out of memory, which came before the event or stopped the node.
+-- A fault of a node: the step was refused and nothing changed; or nothing refuses it and it was out
+-- of memory, which came before the event or stopped the node.
 abbrev pub FailsBy : Stored → (Option Cut → Stored) → Option WorldFault → NodeFault → Bool → Stored → Type 0
 FailsBy s by refused fault true t = (fault ≡ NoMemory) × (refused ≡ None) × ((t ≡ s) ⊎ IsCut by t)
 FailsBy s by refused fault false t = (refused ≡ Some (Node fault)) × (t ≡ s)
@@ -44,5 +46,5 @@ with_cut (Get number target) stop = Get number target
 
 -- Of n nodes of this kit, the step made t of s, with this result.
 abbrev pub Steps : KitView → ℕ → Stored → Step → Stored → Result Played WorldFault → Type 0
-Steps kit n s x t (Ok played) = (refused_step s x ≡ None) × (t ≡ stored_step n s x) × (played ≡ told kit s t x)
+Steps kit n s x t (Ok played) = (refused_step s x ≡ None) × (t ≡ stored_step n s x) × (played ≡ step_result kit s t x)
 Steps kit n s x t (Err fault) = Fails s (λ stop. stored_step n s (with_cut x stop)) (refused_step s x) fault t

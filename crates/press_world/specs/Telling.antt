@@ -1,5 +1,5 @@
--- What is reported of a step that was played (own): whose step it was, the messages that were sent, whether it was cut, how many slots its node has applied,
--- and the reply to a request for a page.
+-- What is reported of a step that was played (own): whose step it was, the messages that were sent,
+-- whether it was cut, how many slots its node has applied, and the reply to a request for a page.
 use Rattle.std.specs.Prelude.{ℕ, ◌+◌, ◌-◌, ◌==◌, if◌then◌else◌, Bool, true, false, Option, None, Some, option_map, length}
 use Rattle.press_apply.specs.Apply.{site_after}
 use Rattle.press_callbacks.specs.Kits.{KitView}
@@ -71,8 +71,8 @@ reply_of kit s (Restart number) = None
 abbrev pub first_of : ℕ → ℕ → ℕ
 first_of before count = if count == 0 then 0 else before + 1
 
-abbrev pub told : KitView → Stored → Stored → Step → Played
-told kit before after s =
+abbrev pub step_result : KitView → Stored → Stored → Step → Played
+step_result kit before after s =
     record {
       node = node_of before s;
       first = first_of (length before.sent) (length after.sent - length before.sent);

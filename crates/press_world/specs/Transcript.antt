@@ -1,4 +1,5 @@
--- Transcript: for each step a line of its number, what it does and what came of it, below a page's line the page, and last what each node has applied (own).
+-- Transcript: for each step a line of its number, what it does and what came of it, below a page's
+-- line the page, and last what each node has applied (own).
 use Rattle.std.specs.Prelude.{ℕ, ◌+◌, ◌-◌, ◌==◌, Bool, true, false, if◌then◌else◌, List, [], ◌++◌, length, flat_map, Option, Some, None, Result, Ok, Err, codes, decimal}
 use Rattle.press_page.specs.declared.reply.Reply.{Reply}
 use Rattle.press_page.specs.declared.reply.Target.{Target}

@@ -41,13 +41,15 @@ AppliesChosen n trace places =
 abbrev pub ChoosesOnce : ℕ → List Fact → List Fact → Type 0
 ChoosesOnce n earlier later = (slot : ℕ) (v w : Value) → Chosen n earlier slot v → Chosen n later slot w → v ≡ w
 
--- two nodes that have applied as many values, the one at the earlier moment and the other at the later, have applied the same, and so show the same pages
+-- two nodes that have applied as many values, the one at the earlier moment and the other at the
+-- later, have applied the same, and so show the same pages
 abbrev pub ShowsAlike : List Place → List Place → Type 0
 ShowsAlike earlier later =
     (i j : ℕ) (vs ws : List Value) → HasApplied (slice_get earlier i) vs → HasApplied (slice_get later j) ws → length vs ≡ length ws →
     (vs ≡ ws) × ((kit : KitView) (target : Target) → page_of kit (site_after kit vs) target ≡ page_of kit (site_after kit ws) target)
 
--- The reply is the page of the site that the values of slots 1 to k make: the node has applied these k, and each is chosen.
+-- The reply is the page of the site that the values of slots 1 to k make: the node has applied
+-- these k, and each is chosen.
 pub record IsPage (n : ℕ) (trace : List Fact) (place : Option Place) (kit : KitView) (target : Target) (reply : Reply) : Type 0 where
   pub values : List Value
   pub own : HasApplied place values

@@ -1,10 +1,11 @@
-//! A cluster of nodes under any schedule: every message that was ever sent may come at any time, again, or never, and
-//! nodes may stop and start.
+//! A cluster of nodes under any schedule: every message that was ever sent may come at any time,
+//! again, or never, and nodes may stop and start.
 //!
-//! What a schedule chooses is chosen once, and pages are those of the chosen values. Schedules are read from files, and
-//! transcripts show their steps.
+//! What a schedule chooses is chosen once, and pages are those of the chosen values. Schedules are
+//! read from files, and transcripts show their steps.
 #![tactic(auto)]
 
+mod acting;
 mod cluster;
 mod entry;
 mod fault;
@@ -22,7 +23,6 @@ mod seen;
 mod step;
 mod step_kind;
 mod transcript;
-mod turn;
 mod world;
 
 pub use fault::WorldFault;

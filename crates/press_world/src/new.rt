@@ -8,9 +8,9 @@ ghost use Rattle.press_world.specs.Starts.{AreKit, statics_from, views_of};
 ghost use Rattle.press_world.specs.Stored.{new_stored};
 ghost use Rattle.press_world.specs.Worlds.{new_places};
 
+use crate::acting::member_at;
 use crate::cluster::Cluster;
 use crate::seat::Seat;
-use crate::turn::member_at;
 use crate::world::World;
 use press_callbacks::Kit;
 use press_learner::{chosen_by_majority, only_votes_that_came_are_kept};

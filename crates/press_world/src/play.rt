@@ -24,11 +24,11 @@ ghost use Rattle.press_world.specs.declared.step.Step.TheVariants.{
 };
 ghost use Rattle.press_node.specs.Faults.{stops};
 
+use crate::acting::Coming;
 use crate::fault::WorldFault;
 use crate::played::Played;
 use crate::seat::Seat;
 use crate::step::{Cut, Step};
-use crate::turn::Coming;
 use crate::world::World;
 use press_apply::Stamped;
 use press_learner::{chosen_by_majority, only_votes_that_came_are_kept};
@@ -100,7 +100,7 @@ impl World {
         ensures { result ≡ applied_in (place_numbered (model self.now) node) }
     {
         let index = index_of(node, self.cluster.seats.len())?;
-        self.cluster.seats.as_slice().get(index)?.counted()
+        self.cluster.seats.as_slice().get(index)?.applied_where_up()
     }
 
     fn seat(&self, index: usize) -> &Seat
@@ -111,7 +111,12 @@ impl World {
     }
 
     // Plays an event that the node at this index doesn't refuse, which a stop may cut.
-    fn turn(&mut self, index: usize, coming: Coming, cut: Option<Cut>) -> Result<usize, NodeFault>
+    fn play_event(
+        &mut self,
+        index: usize,
+        coming: Coming,
+        cut: Option<Cut>,
+    ) -> Result<usize, NodeFault>
         requires inside { index < size self.old }
         requires about { (p : Place) → slice_get (model self.old).places index ≡ Some p →
             IsAbout p.up coming.event coming.slot }
@@ -134,11 +139,11 @@ impl World {
     {
         chosen_by_majority();
         only_votes_that_came_are_kept();
-        self.cluster.turn(index, coming, cut)
+        self.cluster.play_event(index, coming, cut)
     }
 
     // The report of an event that was done, before which there were `before` messages.
-    fn told(&self, index: usize, before: usize, count: usize, cut: Option<Cut>) -> Played
+    fn report_of_event(&self, index: usize, before: usize, count: usize, cut: Option<Cut>) -> Played
         requires inside { index < size self.now }
         requires sent { before + count ≤ length (model self.now).sent }
         ensures { result ≡ record {
@@ -160,7 +165,8 @@ impl World {
         }
     }
 
-    // Plays an event that the node at this index doesn't refuse, which a stop may cut; returns its report.
+    // Plays an event that the node at this index doesn't refuse, which a stop may cut; returns its
+    // report.
     fn happen(
         &mut self,
         index: usize,
@@ -180,8 +186,8 @@ impl World {
             cut (model self.new) result }
     {
         let before = self.cluster.sent.len();
-        match self.turn(index, coming, cut) {
-            Ok(count) => Ok(self.told(index, before, count, cut)),
+        match self.play_event(index, coming, cut) {
+            Ok(count) => Ok(self.report_of_event(index, before, count, cut)),
             Err(fault) => Err(WorldFault::Node(fault)),
         }
     }
@@ -296,7 +302,7 @@ impl World {
         only_votes_that_came_are_kept();
         let before = self.cluster.sent.len();
         self.cluster.restart(index);
-        Ok(self.told(index, before, 0, None))
+        Ok(self.report_of_event(index, before, 0, None))
     }
 
     // Answers a page request at a node. Nothing changes.
@@ -312,14 +318,14 @@ impl World {
         };
         match self.cluster.seats[index].get(target) {
             Ok(reply) => {
-                let told = self.told(index, self.cluster.sent.len(), 0, None);
+                let told = self.report_of_event(index, self.cluster.sent.len(), 0, None);
                 Ok(told.with_reply(reply))
             }
             Err(fault) => Err(WorldFault::Node(fault)),
         }
     }
 
-    fn played(&mut self, step: &Step) -> Result<Played, WorldFault>
+    fn dispatch(&mut self, step: &Step) -> Result<Played, WorldFault>
         ensures statics { statics self.new ≡ statics self.old }
         ensures memory { IfErr result (λ fault. fault ≡ WorldFault.Node NodeFault.NoMemory →
             TakesMemory (model self.old) step.now) }
@@ -352,6 +358,6 @@ impl World {
         ensures headline { (kit : KitView) → HaveKit kit (statics self.old) →
             IsAnswered kit (size self.new) (facts self.new) (model self.new) step.now result }
     {
-        self.played(step)
+        self.dispatch(step)
     }
 }

@@ -58,12 +58,13 @@ fn counts(alloc: Global, seats: &[Seat]) -> Result<Vec<Option<u64>>, AllocError>
 {
     let mut counts = Vec::new(alloc);
     for seat in seats {
-        counts.push(seat.counted())?;
+        counts.push(seat.applied_where_up())?;
     }
     Ok(counts)
 }
 
-/// Writes the line of a step that was played, with its number, over the world after it; below a page's line the page.
+/// Writes the line of a step that was played, with its number, over the world after it; below a
+/// page's line the page.
 pub fn write_step<W: Write>(
     writer: &mut W,
     world: &World,
@@ -172,9 +173,11 @@ fn play_new<W: Write>(
     play_all(&mut world, steps, writer)
 }
 
-/// Writes the transcript of the schedule that a reader has left, over as many new nodes as it asks for, each with one of these kits.
+/// Writes the transcript of the schedule that a reader has left, over as many new nodes as it asks
+/// for, each with one of these kits.
 ///
-/// A bad schedule, or one that couldn't be read, writes nothing; a failed write or out of memory leaves a prefix of the transcript.
+/// A bad schedule, or one that couldn't be read, writes nothing; a failed write or out of memory
+/// leaves a prefix of the transcript.
 pub fn replay<R: Read, W: Write>(
     alloc: Global,
     kits: Vec<Kit>,

@@ -21,8 +21,8 @@ use std::alloc::Global;
 // The most steps that a schedule may have.
 const STEP_LIMIT: usize = 100_000;
 
-fn cut_named(word: &str) -> Option<Cut>
-    ensures { result ≡ spec.cut_named word.now }
+fn cut_by_word(word: &str) -> Option<Cut>
+    ensures { result ≡ spec.cut_by_word word.now }
 {
     if word == "before" {
         Some(Cut::BeforeSave)
@@ -33,22 +33,22 @@ fn cut_named(word: &str) -> Option<Cut>
     }
 }
 
-fn cut(value: &Value) -> Option<Cut>
+fn cut_in(value: &Value) -> Option<Cut>
     ensures { result ≡ spec.cut_in (view value.now) }
 {
     match value.as_str() {
-        Some(word) => cut_named(word),
+        Some(word) => cut_by_word(word),
         None => number32(value).map(Cut::AfterMessages),
     }
 }
 
 // None, where none is given.
-fn told_cut(fields: &Fields<'_>) -> Result<Option<Cut>, KitFileFault>
+fn cut_at(fields: &Fields<'_>) -> Result<Option<Cut>, KitFileFault>
     ensures { Gives Refuses Ok result (spec.cut_at fields.now.at (view fields.now.value.now)) }
 {
     match fields.value.get("cut") {
         None => Ok(None),
-        Some(told) => Ok(Some(cut(told).ok_or(fields.at)?)),
+        Some(told) => Ok(Some(cut_in(told).ok_or(fields.at)?)),
     }
 }
 
@@ -66,7 +66,7 @@ fn submit(fields: &Fields<'_>) -> Result<Step, KitFileFault>
     Ok(Step::Submit {
         node: fields.number("node")?,
         command: Stamped::read(fields.alloc, fields.at, fields.value)?,
-        cut: told_cut(fields)?,
+        cut: cut_at(fields)?,
     })
 }
 
@@ -76,7 +76,7 @@ fn wake(fields: &Fields<'_>) -> Result<Step, KitFileFault>
 {
     Ok(Step::Wake {
         node: fields.number("node")?,
-        cut: told_cut(fields)?,
+        cut: cut_at(fields)?,
     })
 }
 
@@ -86,7 +86,7 @@ fn deliver(fields: &Fields<'_>) -> Result<Step, KitFileFault>
 {
     Ok(Step::Deliver {
         message: fields.number("message")?,
-        cut: told_cut(fields)?,
+        cut: cut_at(fields)?,
     })
 }
 
@@ -177,10 +177,11 @@ fn schedule(alloc: Global, value: &Value, kits: usize) -> Result<(usize, Items<S
     Ok((nodes, steps(alloc, value)?))
 }
 
-/// How many nodes there are, `kits` at most, and the steps that the bytes of a schedule file give, in their order.
+/// How many nodes there are, `kits` at most, and the steps that the bytes of a schedule file give,
+/// in their order.
 ///
-/// Keys that nobody names are passed over; of a key that is repeated the last one counts. A file has at most 4,194,304
-/// bytes and 100,000 steps.
+/// Keys that nobody names are passed over; of a key that is repeated the last one counts. A file
+/// has at most 4,194,304 bytes and 100,000 steps.
 #[tactic(auto, unfolding(crate::specs::ScheduleFile::schedule_in))]
 pub fn read_schedule_file(
     alloc: Global,

@@ -25,7 +25,7 @@ use press_apply::Stamped;
 use press_callbacks::Kit;
 use press_node::{Event, NodeFault, State, few_messages_go_out};
 use press_page::{Reply, Target};
-use press_wire::{Message, Node as Member};
+use press_wire::{MemberId, Message};
 use std::alloc::Global;
 
 fn no_messages(alloc: Global) -> Vec<Message>
@@ -45,7 +45,7 @@ fn first_of(out: Vec<Message>, count: u32) -> Vec<Message>
 
 impl Seat {
     /// Starts the node `id` of `members` over an empty store.
-    pub(crate) fn start(alloc: Global, id: Member, members: u8, kit: Kit) -> Seat
+    pub(crate) fn start(alloc: Global, id: MemberId, members: u8, kit: Kit) -> Seat
         requires few { members ≤ 7 }
         requires member { id ≤ members }
         ensures place { place_of result ≡ restarted_place members id new_store }
@@ -63,7 +63,7 @@ impl Seat {
     }
 
     /// Starts it again over its store.
-    pub(crate) fn restart(&mut self, id: Member, members: u8)
+    pub(crate) fn restart(&mut self, id: MemberId, members: u8)
         requires few { members ≤ 7 }
         requires member { id ≤ members }
         requires id { self.old.state.id ≡ id }
@@ -89,7 +89,7 @@ impl Seat {
     }
 
     /// How many values it has applied since its start, where it is up.
-    pub(crate) fn counted(&self) -> Option<u64>
+    pub(crate) fn applied_where_up(&self) -> Option<u64>
         ensures { result ≡ applied_at (place_of self.now) }
     {
         if self.is_down() {
@@ -111,8 +111,8 @@ impl Seat {
         self.state.get(&self.kit, target)
     }
 
-    // Why an event is refused, given why it would be without a stop: only a node that is down refuses one that a stop cuts
-    // before its save.
+    // Why an event is refused, given why it would be without a stop: only a node that is down
+    // refuses one that a stop cuts before its save.
     fn unless_first(&self, cut: Option<Cut>, fault: Option<NodeFault>) -> Option<NodeFault>
         ensures { (event : Event) →
             fault ≡ refusal self.now.store (running_in self.now.state) event →

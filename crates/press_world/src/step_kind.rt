@@ -1,5 +1,5 @@
 ghost use Rattle.std.specs.Prelude.{◌≡◌};
-ghost use Rattle.press_world.specs.ScheduleFile.{step_named};
+ghost use Rattle.press_world.specs.ScheduleFile.{kind_by_word};
 
 /// What a step of a schedule does.
 #[derive(Clone, Copy, Debug, PartialEq, Eq)]
@@ -14,7 +14,7 @@ pub(crate) enum StepKind {
 impl StepKind {
     /// The kind of that word.
     pub fn named(word: &str) -> Option<StepKind>
-        ensures { result ≡ step_named word.now }
+        ensures { result ≡ kind_by_word word.now }
     {
         if word == "submit" {
             Some(StepKind::Submit)

@@ -13,7 +13,8 @@ use std::test::Fail;
 
 const NODES: usize = 7;
 
-// How many connections were made, how many ended for their client, and how many of those without a byte.
+// How many connections were made, how many ended for their client, and how many of those without a
+// byte.
 #[derive(Drop)]
 struct Seen {
     made: Cell<u32>,
@@ -167,8 +168,8 @@ fn seen_of(rt: &HostRuntime, schedule: &str) -> Result<(u32, u32, u32), Fail> {
     Ok(seen.counts())
 }
 
-// Each submit, message and request for a page has a connection, whose client sees it close; that of a step by which a node stops closes
-// without a byte. A form that is too long has none.
+// Each submit, message and request for a page has a connection, whose client sees it close; that of
+// a step by which a node stops closes without a byte. A form that is too long has none.
 #[test]
 fn each_step_has_a_connection_that_closes(rt: HostRuntime) -> Result<(), Fail> {
     let long = long_form(rt.alloc())?;

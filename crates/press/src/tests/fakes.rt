@@ -3,7 +3,8 @@ use std::io;
 use std::io::{Read, Write};
 use std::net::{SocketAddr, TcpStream};
 
-/// A reader that gives seven bytes at a time. The read after a given number fails, and any later one gives more.
+/// A reader that gives seven bytes at a time. The read after a given number fails, and any later
+/// one gives more.
 #[derive(Drop)]
 pub struct Failing {
     rest: &'static [u8],
@@ -79,7 +80,8 @@ pub enum Flush<'a> {
     Asks(Client<'a>),
 }
 
-/// A writer that takes three bytes at a time. The write after a given number fails or takes none, and any later one goes well.
+/// A writer that takes three bytes at a time. The write after a given number fails or takes none,
+/// and any later one goes well.
 #[derive(Drop)]
 pub struct Narrow<'a> {
     pub taken: Vec<u8>,
@@ -101,7 +103,7 @@ impl<'a> Narrow<'a> {
     }
 
     /// One whose writes go well.
-    pub fn flushed(alloc: Global, flush: Flush<'a>) -> Narrow<'a> {
+    pub fn with_flush(alloc: Global, flush: Flush<'a>) -> Narrow<'a> {
         Narrow {
             flush,
             ..Narrow::new(alloc, u32::MAX, true)

@@ -12,7 +12,8 @@ pub const LOOPING: &[u8] =
 pub const FAILED: &str =
     "<!DOCTYPE html>\n<html>\n<body>\n<h1>500 Internal Server Error</h1>\n</body>\n</html>\n";
 
-/// What a run left: its status, what it printed, what it reported of a fault, and how many bytes of its input it read.
+/// What a run left: its status, what it printed, what it reported of a fault, and how many bytes of
+/// its input it read.
 #[derive(Drop)]
 pub struct EndedRun {
     pub status: u8,
@@ -21,7 +22,7 @@ pub struct EndedRun {
     pub rest: usize,
 }
 
-fn ended(rt: &HostRuntime, words: &[String], file: &[u8]) -> EndedRun {
+fn run_to_end(rt: &HostRuntime, words: &[String], file: &[u8]) -> EndedRun {
     let mut input = file;
     let mut out: Vec<u8> = Vec::new(rt.alloc());
     let mut told: Vec<u8> = Vec::new(rt.alloc());
@@ -36,22 +37,22 @@ fn ended(rt: &HostRuntime, words: &[String], file: &[u8]) -> EndedRun {
 
 /// A run without arguments.
 pub fn ran(rt: &HostRuntime, file: &[u8]) -> EndedRun {
-    ended(rt, &[], file)
+    run_to_end(rt, &[], file)
 }
 
 /// A run for these arguments on the site of the stored run.
-pub fn asked(rt: &HostRuntime, words: &[&str]) -> Result<EndedRun, Fail> {
-    asked_of(rt, words, LETTERS)
+pub fn run_words(rt: &HostRuntime, words: &[&str]) -> Result<EndedRun, Fail> {
+    run_words_over(rt, words, LETTERS)
 }
 
 /// A run for these arguments on this file.
-pub fn asked_of(rt: &HostRuntime, words: &[&str], file: &[u8]) -> Result<EndedRun, Fail> {
-    let given = given(rt, words)?;
-    Ok(ended(rt, &given, file))
+pub fn run_words_over(rt: &HostRuntime, words: &[&str], file: &[u8]) -> Result<EndedRun, Fail> {
+    let given = words_of(rt, words)?;
+    Ok(run_to_end(rt, &given, file))
 }
 
 /// The arguments, as a program gets them.
-pub fn given(rt: &HostRuntime, words: &[&str]) -> Result<Vec<String>, Fail> {
+pub fn words_of(rt: &HostRuntime, words: &[&str]) -> Result<Vec<String>, Fail> {
     let mut given = Vec::new(rt.alloc());
     for word in words {
         given.push(String::from_str(rt.alloc(), word)?)?;

@@ -1,4 +1,4 @@
-use crate::tests::fixtures::{LETTERS, asked};
+use crate::tests::fixtures::{LETTERS, run_words};
 use std::fs;
 use std::test::Fail;
 
@@ -6,7 +6,8 @@ use std::test::Fail;
 const LOUD: &str =
     "{\"callbacks\":[{\"name\":\"loud\",\"script\":[{\"op\":\"set\",\"text\":[{\"from\":\"value\"},\"!\"]}]}],\"plugins\":[]}";
 
-// A plugin with a filter of its own, and one of another file; what that puts on a hook nothing runs.
+// A plugin with a filter of its own, and one of another file; what that puts on a hook nothing
+// runs.
 const LETTER: &str =
     "{\"callbacks\":[{\"name\":\"add\",\"script\":[{\"op\":\"set\",\"text\":[{\"from\":\"value\"},\"a\"]},{\"op\":\"add_hook\",\"hook\":\"never\",\"callback\":\"add\"}]}],\"plugins\":[{\"name\":\"letters\",\"load\":[{\"hook\":\"the_title\",\"callback\":\"add\"},{\"hook\":\"the_title\",\"callback\":\"loud\"}]}]}";
 
@@ -20,7 +21,7 @@ const AGAIN: &str =
 const PAGE: &str =
     "<!DOCTYPE html>\n<html>\n<head>\n<title>Press</title>\n</head>\n<body>\n<h1>Press</h1>\n<article id=\"post-1\">\n<h2><a href=\"/?p=1\">xa!</a></h2>\nHello\n</article>\n</body>\n</html>\n";
 
-fn written(rt: &HostRuntime) -> Result<(), Fail> {
+fn write_kits(rt: &HostRuntime) -> Result<(), Fail> {
     for (name, kit) in [
         ("loud.json", LOUD),
         ("letter.json", LETTER),
@@ -35,7 +36,7 @@ fn written(rt: &HostRuntime) -> Result<(), Fail> {
 
 #[test]
 fn kit_files_make_one_kit(rt: HostRuntime) -> Result<(), Fail> {
-    written(&rt)?;
+    write_kits(&rt)?;
     let slip =
         "press: warning in letter.json: callbacks[0] \"add\": script[1] puts a callback on a hook that nothing runs: \"never\"\n";
     for words in [
@@ -57,7 +58,7 @@ fn kit_files_make_one_kit(rt: HostRuntime) -> Result<(), Fail> {
             "post:1",
         ][..],
     ] {
-        assert!(rt; asked(&rt, words)?.left(0, PAGE, slip));
+        assert!(rt; run_words(&rt, words)?.left(0, PAGE, slip));
     }
     Ok(())
 }
@@ -65,7 +66,7 @@ fn kit_files_make_one_kit(rt: HostRuntime) -> Result<(), Fail> {
 // Each is told with its file, and nothing of the input is read.
 #[test]
 fn mistakes_are_those_of_their_files(rt: HostRuntime) -> Result<(), Fail> {
-    written(&rt)?;
+    write_kits(&rt)?;
     for (kits, told) in [
         (
             ["loud.json", "letter.json", "again.json"],
@@ -92,7 +93,7 @@ fn mistakes_are_those_of_their_files(rt: HostRuntime) -> Result<(), Fail> {
         let words = [
             "replay", "no/file", "--kit", one, "--kit", two, "--kit", three,
         ];
-        let refused = asked(&rt, &words)?;
+        let refused = run_words(&rt, &words)?;
         assert!(rt; refused.left(2, "", told), "at {one} {two} {three}");
         assert_eq!(rt; refused.rest, LETTERS.len());
     }
@@ -102,7 +103,7 @@ fn mistakes_are_those_of_their_files(rt: HostRuntime) -> Result<(), Fail> {
 // A load names a callback that neither file has.
 #[test]
 fn an_unknown_callback_is_told_within_its_file(rt: HostRuntime) -> Result<(), Fail> {
-    written(&rt)?;
+    write_kits(&rt)?;
     let words = [
         "page",
         "-",
@@ -114,6 +115,6 @@ fn an_unknown_callback_is_told_within_its_file(rt: HostRuntime) -> Result<(), Fa
     ];
     let unknown =
         "press: fault 4 in letter.json: plugins[0] \"letters\": load[1] names a callback that is not in the kit: \"loud\"\n";
-    assert!(rt; asked(&rt, &words)?.left(2, "", unknown));
+    assert!(rt; run_words(&rt, &words)?.left(2, "", unknown));
     Ok(())
 }

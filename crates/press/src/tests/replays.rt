@@ -1,4 +1,4 @@
-use crate::tests::fixtures::asked_of;
+use crate::tests::fixtures::run_words_over;
 use std::alloc::Global;
 use std::test::Fail;
 
@@ -40,13 +40,14 @@ fn schedules_are_replayed(rt: HostRuntime) -> Result<(), Fail> {
             "press: fault 72\n",
         ),
     ] {
-        let outcome = asked_of(&rt, &["replay", "-"], file.as_bytes())?;
+        let outcome = run_words_over(&rt, &["replay", "-"], file.as_bytes())?;
         assert!(rt; outcome.left(status, out, told), "at {file}");
     }
     Ok(())
 }
 
-// A step by which a node stops ends its connection without a reply: a client that received one would end the run.
+// A step by which a node stops ends its connection without a reply: a client that received one
+// would end the run.
 #[test]
 fn schedules_come_over_sockets(rt: HostRuntime) -> Result<(), Fail> {
     let long = long_form(rt.alloc())?;
@@ -56,13 +57,14 @@ fn schedules_come_over_sockets(rt: HostRuntime) -> Result<(), Fail> {
         (STOP_AFTER_MESSAGE, SENT),
         (long.as_str(), "1 submit 1 fault 2\nend 0\n"),
     ] {
-        let outcome = asked_of(&rt, &["loop", "-"], file.as_bytes())?;
+        let outcome = run_words_over(&rt, &["loop", "-"], file.as_bytes())?;
         assert!(rt; outcome.left(0, out, ""), "at {}", out.len());
     }
     Ok(())
 }
 
-/// A command whose form has 66,074 bytes, which no request may have: each `&` of its content takes three.
+/// A command whose form has 66,074 bytes, which no request may have: each `&` of its content takes
+/// three.
 pub fn long_form(alloc: Global) -> Result<String, Fail> {
     let mut file = String::from_str(
         alloc,

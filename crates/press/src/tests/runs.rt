@@ -18,8 +18,8 @@ fn runs_end(rt: HostRuntime) {
     assert!(rt; ran(&rt, b"{}").left(2, "", "press: fault 72\n"));
 }
 
-// The file without its first command, with a plugin that the kit lacks in it, with `grow` in its place, and a content of
-// nested tags.
+// The file without its first command, with a plugin that the kit lacks in it, with `grow` in its
+// place, and a content of nested tags.
 #[test]
 fn other_plugins_make_other_pages(rt: HostRuntime) -> Result<(), Fail> {
     for (plugin, title, content, shown) in [

@@ -1,5 +1,5 @@
 use crate::tests::fakes::{Client, Flush, Narrow};
-use crate::tests::fixtures::{asked, given};
+use crate::tests::fixtures::{run_words, words_of};
 use press_program::run;
 use std::fs;
 use std::net::{SocketAddr, TcpListener};
@@ -33,10 +33,10 @@ struct Served {
 
 // What comes of a request to a server for these words.
 fn ask(rt: &HostRuntime, words: &[&str], addr: SocketAddr, request: &[u8]) -> Result<Served, Fail> {
-    let words = given(rt, words)?;
+    let words = words_of(rt, words)?;
     let client = Client::new(rt, addr, request);
     let mut input: &[u8] = b"";
-    let mut out = Narrow::flushed(rt.alloc(), Flush::Asks(client));
+    let mut out = Narrow::with_flush(rt.alloc(), Flush::Asks(client));
     let mut told: Vec<u8> = Vec::new(rt.alloc());
     if run(rt, &words, &mut input, &mut out, &mut told) != 0 {
         return Err(Fail::from("no server"));
@@ -46,7 +46,7 @@ fn ask(rt: &HostRuntime, words: &[&str], addr: SocketAddr, request: &[u8]) -> Re
     Ok(Served { reply, told })
 }
 
-fn replied(
+fn reply_to(
     rt: &HostRuntime,
     words: &[&str],
     addr: SocketAddr,
@@ -56,7 +56,8 @@ fn replied(
     Ok(reply)
 }
 
-// Whether a server for these words refuses a form, with a line behind that of the request which says why.
+// Whether a server for these words refuses a form, with a line behind that of the request which
+// says why.
 fn refuses(
     rt: &HostRuntime,
     words: &[&str],
@@ -85,7 +86,7 @@ fn replied_by_member(
         "serve", "--id", "1", "--peers", peers, "--store", "member", "--turns", "1",
     ])?;
     words.extend_from_slice(more)?;
-    let reply = replied(rt, &words, addr, request)?;
+    let reply = reply_to(rt, &words, addr, request)?;
     fs::remove_file(rt, "member")?;
     fs::remove_file(rt, "member-wal")?;
     Ok(reply)
@@ -95,9 +96,9 @@ fn replied_by_member(
 fn a_failed_flush_is_told(rt: HostRuntime) -> Result<(), Fail> {
     let addr = free_addr(&rt, "127.0.0.1")?;
     let port = format!(in rt.alloc(); "{}", addr.port())?;
-    let words = given(&rt, &["serve", "--port", &port, "--turns", "0"])?;
+    let words = words_of(&rt, &["serve", "--port", &port, "--turns", "0"])?;
     let mut input: &[u8] = b"";
-    let mut out = Narrow::flushed(rt.alloc(), Flush::Fails);
+    let mut out = Narrow::with_flush(rt.alloc(), Flush::Fails);
     let mut told: Vec<u8> = Vec::new(rt.alloc());
     assert_eq!(rt; run(&rt, &words, &mut input, &mut out, &mut told), 2);
     let words = format!(in rt.alloc();
@@ -119,12 +120,13 @@ fn a_long_request_is_read_to_its_end(rt: HostRuntime) -> Result<(), Fail> {
         request.push_str("0123456789")?;
     }
     let words = ["serve", "--port", &port, "--turns", "1"];
-    let reply = replied(&rt, &words, addr, request.as_bytes())?;
+    let reply = reply_to(&rt, &words, addr, request.as_bytes())?;
     assert!(rt; reply.starts_with(b"HTTP/1.1 202 "));
     Ok(())
 }
 
-// A client of this machine has the address 127.0.0.1. The other member, in whose name it asks, is at that of the server.
+// A client of this machine has the address 127.0.0.1. The other member, in whose name it asks, is
+// at that of the server.
 #[test]
 fn a_message_of_a_stranger_is_not_taken(rt: HostRuntime) -> Result<(), Fail> {
     for (ip, status) in [
@@ -164,7 +166,7 @@ fn a_server_tells_how_it_stands_where_it_is_to(rt: HostRuntime) -> Result<(), Fa
             (&words[..], "HTTP/1.1 200 "),
             (&words[..5], "HTTP/1.1 404 "),
         ] {
-            let reply = replied(&rt, words, addr, request)?;
+            let reply = reply_to(&rt, words, addr, request)?;
             assert!(rt; reply.starts_with(status.as_bytes()), "at {}", words.len());
         }
     }
@@ -203,10 +205,10 @@ fn editors_are_answered_where_there_is_a_page_for_them(rt: HostRuntime) -> Resul
         "editor.html",
     ];
     for (request, reply) in DESK {
-        let told = replied(&rt, &words, addr, request)?;
+        let told = reply_to(&rt, &words, addr, request)?;
         assert!(rt; told.starts_with(reply), "at {}", reply.len());
     }
-    let told = replied(&rt, &words[..5], addr, DESK[0].0)?;
+    let told = reply_to(&rt, &words[..5], addr, DESK[0].0)?;
     assert!(rt; told.starts_with(b"HTTP/1.1 404 "));
     fs::remove_file(&rt, "editor.html")?;
     Ok(())
@@ -274,7 +276,7 @@ fn a_server_without_turns_ends(rt: HostRuntime) -> Result<(), Fail> {
     let line = format!(in rt.alloc(); "listening on {addr}\n")?;
     let words = ["serve", "--port", &port, "--turns", "0", "--store", "kept"];
     for words in [&words[..5], &words[..], &words[..]] {
-        let outcome = asked(&rt, words)?;
+        let outcome = run_words(&rt, words)?;
         assert!(rt; outcome.left(0, &line, KIT), "at {}", words.len());
     }
     fs::remove_file(&rt, "kept")?;

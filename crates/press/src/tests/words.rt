@@ -1,4 +1,4 @@
-use crate::tests::fixtures::{FAILED, LETTERS, LOOPING, asked, asked_of};
+use crate::tests::fixtures::{FAILED, LETTERS, LOOPING, run_words, run_words_over};
 use std::fs;
 use std::fs::File;
 use std::test::Fail;
@@ -10,6 +10,16 @@ const FRONT: &[u8] =
 const BEHIND: &[u8] =
     b"{\"commands\":[{\"editor\":\"ann\",\"seq\":2,\"at\":10,\"kind\":\"insert\",\"title\":\"x\",\"content\":\"Hello\",\"status\":\"publish\",\"date\":10}]}";
 
+// Two new titles of its post, in one file with its commands and in two files of their own.
+const RETITLED: &[u8] =
+    b"{\"commands\":[{\"editor\":\"ann\",\"seq\":1,\"at\":10,\"kind\":\"activate\",\"plugin\":\"letters\"},{\"editor\":\"ann\",\"seq\":2,\"at\":10,\"kind\":\"insert\",\"title\":\"x\",\"content\":\"Hello\",\"status\":\"publish\",\"date\":10},{\"editor\":\"ann\",\"seq\":3,\"at\":10,\"kind\":\"update\",\"id\":1,\"title\":\"y\",\"content\":\"Hello\"},{\"editor\":\"ann\",\"seq\":4,\"at\":10,\"kind\":\"update\",\"id\":1,\"title\":\"z\",\"content\":\"Hello\"}]}";
+
+const TITLE_Y: &[u8] =
+    b"{\"commands\":[{\"editor\":\"ann\",\"seq\":3,\"at\":10,\"kind\":\"update\",\"id\":1,\"title\":\"y\",\"content\":\"Hello\"}]}";
+
+const TITLE_Z: &[u8] =
+    b"{\"commands\":[{\"editor\":\"ann\",\"seq\":4,\"at\":10,\"kind\":\"update\",\"id\":1,\"title\":\"z\",\"content\":\"Hello\"}]}";
+
 #[test]
 fn words_ask_for_replies(rt: HostRuntime) -> Result<(), Fail> {
     for (file, target, status, body) in [
@@ -18,10 +28,10 @@ fn words_ask_for_replies(rt: HostRuntime) -> Result<(), Fail> {
         (LOOPING, "post:1", 1, FAILED),
         (LOOPING, "result:ann/3", 0, "{\"refused\":20}"),
     ] {
-        let reply = asked_of(&rt, &["page", "-", target], file)?;
+        let reply = run_words_over(&rt, &["page", "-", target], file)?;
         assert!(rt; reply.left(status, body, ""), "at {target}");
     }
-    let missing = asked(&rt, &["page", "--", "-", "json:2"])?;
+    let missing = run_words(&rt, &["page", "--", "-", "json:2"])?;
     assert!(rt; missing.left(1, "{\"code\":404}", ""));
     Ok(())
 }
@@ -29,11 +39,30 @@ fn words_ask_for_replies(rt: HostRuntime) -> Result<(), Fail> {
 #[test]
 fn files_behind_another_make_one_site_with_it(rt: HostRuntime) -> Result<(), Fail> {
     fs::write(&rt, "behind.json", BEHIND)?;
-    let whole = asked(&rt, &["page", "-", "post:1"])?;
+    let whole = run_words(&rt, &["page", "-", "post:1"])?;
     let words = ["page", "-", "post:1", "--then", "behind.json"];
-    let parted = asked_of(&rt, &words, FRONT)?;
+    let parted = run_words_over(&rt, &words, FRONT)?;
     assert_eq!(rt; parted.status, 0);
     assert_eq!(rt; parted.out.as_slice(), whole.out.as_slice());
+    Ok(())
+}
+
+#[test]
+fn further_files_are_read_in_their_order(rt: HostRuntime) -> Result<(), Fail> {
+    fs::write(&rt, "y.json", TITLE_Y)?;
+    fs::write(&rt, "z.json", TITLE_Z)?;
+    let whole = run_words_over(&rt, &["page", "-", "post:1"], RETITLED)?;
+    let first_y = [
+        "page", "-", "post:1", "--then", "y.json", "--then", "z.json",
+    ];
+    let in_order = run_words(&rt, &first_y)?;
+    assert_eq!(rt; in_order.status, 0);
+    assert_eq!(rt; in_order.out.as_slice(), whole.out.as_slice());
+    let first_z = [
+        "page", "-", "post:1", "--then", "z.json", "--then", "y.json",
+    ];
+    let turned = run_words(&rt, &first_z)?;
+    assert!(rt; turned.out.as_slice() != whole.out.as_slice());
     Ok(())
 }
 
@@ -46,14 +75,14 @@ fn a_bad_file_behind_another_is_told(rt: HostRuntime) -> Result<(), Fail> {
         ("no/such/file", "press: fault 40\n"),
     ] {
         let words = ["page", "-", "post:1", "--then", then];
-        assert!(rt; asked(&rt, &words)?.left(2, "", told), "at {then}");
+        assert!(rt; run_words(&rt, &words)?.left(2, "", told), "at {then}");
     }
     Ok(())
 }
 
 #[test]
 fn a_file_that_is_not_there_cannot_be_read(rt: HostRuntime) -> Result<(), Fail> {
-    let unknown = asked(&rt, &["page", "no/such/file", "front"])?;
+    let unknown = run_words(&rt, &["page", "no/such/file", "front"])?;
     assert!(rt; unknown.left(2, "", "press: fault 40\n"));
     assert_eq!(rt; unknown.rest, LETTERS.len());
     Ok(())
@@ -70,7 +99,7 @@ fn a_kit_file_is_opened_first(rt: HostRuntime) -> Result<(), Fail> {
             "serve", "--port", "8080", "--store", "none/f", "--kit", "no/such",
         ][..],
     ] {
-        let unknown = asked(&rt, words)?;
+        let unknown = run_words(&rt, words)?;
         assert!(rt; unknown.left(2, "", "press: fault 40 in no/such\n"));
         assert_eq!(rt; unknown.rest, LETTERS.len());
     }
@@ -79,19 +108,19 @@ fn a_kit_file_is_opened_first(rt: HostRuntime) -> Result<(), Fail> {
 
 #[test]
 fn other_words_are_refused(rt: HostRuntime) -> Result<(), Fail> {
-    assert!(rt; asked(&rt, &["--help"])?.is_refused());
-    assert!(rt; asked(&rt, &["help"])?.is_refused());
-    assert!(rt; asked(&rt, &["page", "-"])?.is_refused());
-    assert!(rt; asked(&rt, &["page", "-", "post:x"])?.is_refused());
-    assert!(rt; asked(&rt, &["page", "-", "front", "front"])?.is_refused());
-    assert!(rt; asked(&rt, &["page", "-x", "front"])?.is_refused());
+    assert!(rt; run_words(&rt, &["--help"])?.is_refused());
+    assert!(rt; run_words(&rt, &["help"])?.is_refused());
+    assert!(rt; run_words(&rt, &["page", "-"])?.is_refused());
+    assert!(rt; run_words(&rt, &["page", "-", "post:x"])?.is_refused());
+    assert!(rt; run_words(&rt, &["page", "-", "front", "front"])?.is_refused());
+    assert!(rt; run_words(&rt, &["page", "-x", "front"])?.is_refused());
     Ok(())
 }
 
 // Where the store can't be opened, as in a folder that does not exist, nothing is served.
 #[test]
 fn words_ask_for_a_server(rt: HostRuntime) -> Result<(), Fail> {
-    let outcome = asked(
+    let outcome = run_words(
         &rt,
         &[
             "serve", "--port", "8080", "--turns", "0", "--store", "none/f",
@@ -112,15 +141,15 @@ fn other_words_of_a_server_are_refused(rt: HostRuntime) -> Result<(), Fail> {
         ("+8080", "1"),
         ("8080", "x"),
     ] {
-        let outcome = asked(&rt, &["serve", "--port", port, "--turns", turns])?;
+        let outcome = run_words(&rt, &["serve", "--port", port, "--turns", turns])?;
         assert!(rt; outcome.is_refused(), "at {port} {turns}");
     }
-    assert!(rt; asked(&rt, &["serve", "--turns", "1"])?.is_refused());
+    assert!(rt; run_words(&rt, &["serve", "--turns", "1"])?.is_refused());
     Ok(())
 }
 
-// Options of a node by itself beside those of a member, a member without one of its options, and one whose addresses
-// are none.
+// Options of a node by itself beside those of a member, a member without one of its options, and
+// one whose addresses are none.
 #[test]
 fn words_of_a_server_that_do_not_fit_are_refused(rt: HostRuntime) -> Result<(), Fail> {
     let peers = "127.0.0.1:1,127.0.0.1:2";
@@ -135,7 +164,7 @@ fn words_of_a_server_that_do_not_fit_are_refused(rt: HostRuntime) -> Result<(), 
         &["serve", "--id", "3", "--peers", peers, "--store", "f"][..],
         &["serve", "--id", "1", "--peers", "here", "--store", "f"][..],
     ] {
-        assert!(rt; asked(&rt, words)?.is_refused());
+        assert!(rt; run_words(&rt, words)?.is_refused());
     }
     assert!(rt; File::open(&rt, "f").is_err());
     Ok(())
@@ -160,7 +189,7 @@ fn a_page_that_is_not_there_leaves_no_store(rt: HostRuntime) -> Result<(), Fail>
             "no/such",
         ][..],
     ] {
-        let unread = asked(&rt, words)?;
+        let unread = run_words(&rt, words)?;
         let told = "press: fault 40\npress: the page for editors no/such cannot be read\n";
         assert!(rt; unread.left(2, "", told));
     }
@@ -171,15 +200,15 @@ fn a_page_that_is_not_there_leaves_no_store(rt: HostRuntime) -> Result<(), Fail>
 // The members' addresses are read before the file, and the file before any of them is asked.
 #[test]
 fn words_ask_for_commands_to_be_sent(rt: HostRuntime) -> Result<(), Fail> {
-    assert!(rt; asked(&rt, &["send", "-"])?.is_refused());
-    assert!(rt; asked(&rt, &["send", "-", "here"])?.is_refused());
-    assert!(rt; asked(&rt, &["send", "-", "127.0.0.1:1", "--kit", "f"])?.is_refused());
-    let unknown = asked(&rt, &["send", "no/such/file", "127.0.0.1:1"])?;
+    assert!(rt; run_words(&rt, &["send", "-"])?.is_refused());
+    assert!(rt; run_words(&rt, &["send", "-", "here"])?.is_refused());
+    assert!(rt; run_words(&rt, &["send", "-", "127.0.0.1:1", "--kit", "f"])?.is_refused());
+    let unknown = run_words(&rt, &["send", "no/such/file", "127.0.0.1:1"])?;
     assert!(rt; unknown.left(2, "", "press: fault 40\n"));
     let words = ["send", "-", "127.0.0.1:1"];
-    let bad = asked_of(&rt, &words, b"{\"commands\":1}")?;
+    let bad = run_words_over(&rt, &words, b"{\"commands\":1}")?;
     assert!(rt; bad.left(2, "", "press: fault 72\n"));
-    let none = asked_of(&rt, &words, b"{\"commands\":[]}")?;
+    let none = run_words_over(&rt, &words, b"{\"commands\":[]}")?;
     assert!(rt; none.left(0, "0 done, 0 refused, 0 not taken, 0 left\n", ""));
     Ok(())
 }
@@ -187,15 +216,15 @@ fn words_ask_for_commands_to_be_sent(rt: HostRuntime) -> Result<(), Fail> {
 // Nothing listens at that port.
 #[test]
 fn words_ask_for_a_log_as_files(rt: HostRuntime) -> Result<(), Fail> {
-    assert!(rt; asked(&rt, &["export"])?.is_refused());
-    assert!(rt; asked(&rt, &["export", "here", "f"])?.is_refused());
-    assert!(rt; asked(&rt, &["export", "127.0.0.1:1,127.0.0.1:2", "f"])?.is_refused());
+    assert!(rt; run_words(&rt, &["export"])?.is_refused());
+    assert!(rt; run_words(&rt, &["export", "here", "f"])?.is_refused());
+    assert!(rt; run_words(&rt, &["export", "127.0.0.1:1,127.0.0.1:2", "f"])?.is_refused());
     let told = "press: fault 40\npress: 127.0.0.1:1 is away\n";
     for words in [
         &["export", "127.0.0.1:1", "f"][..],
         &["export", "127.0.0.1:1"][..],
     ] {
-        assert!(rt; asked(&rt, words)?.left(2, "", told));
+        assert!(rt; run_words(&rt, words)?.left(2, "", told));
     }
     assert!(rt; File::open(&rt, "f").is_err());
     assert!(rt; File::open(&rt, "site.json").is_err());

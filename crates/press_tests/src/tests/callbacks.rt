@@ -1,4 +1,4 @@
-use super::scripts::{appending, called, fails_once, given, goes_on};
+use super::scripts::{answer_of_turn, appending, call_in, fails_once, goes_on};
 use press_callbacks::{BoxedTurns, CallIn, Callback, Kit, Stored, script_turn};
 use press_text::CallbackId;
 use std::alloc::Global;
@@ -17,7 +17,7 @@ fn a_closure_in_no_box_is_called(rt: HostRuntime) -> Result<(), Fail> {
         script,
         move |i: &CallIn| fails_once(alloc, &calls, &own, i),
     );
-    let call = called(alloc, 0)?;
+    let call = call_in(alloc, 0)?;
     assert!(rt; goes_on(callback.turn(&call), "vq"));
     assert!(rt; callback.turn(&call).is_err());
     Ok(())
@@ -56,8 +56,8 @@ fn plays_script_not_closure(rt: HostRuntime) -> Result<(), Fail> {
     let calls = Cell::new(0u32);
     let call: BoxedTurns = Box::new(alloc, move |i: &CallIn| fails_once(alloc, &calls, &own, i))?;
     let stored = Stored::new(CallbackId::new("add_q")?, script, call);
-    assert!(rt; goes_on(given(alloc, &stored, 0), "vq"));
-    assert!(rt; given(alloc, &stored, 0).is_err());
-    assert!(rt; goes_on(given(alloc, &stored, 0), "vq"));
+    assert!(rt; goes_on(answer_of_turn(alloc, &stored, 0), "vq"));
+    assert!(rt; answer_of_turn(alloc, &stored, 0).is_err());
+    assert!(rt; goes_on(answer_of_turn(alloc, &stored, 0), "vq"));
     Ok(())
 }

@@ -18,7 +18,8 @@ use std::test::Fail;
 
 const NODES: usize = 3;
 
-// How many messages three nodes send for the first command, and for each later one, for whose block the first node needs no promises any more.
+// How many messages three nodes send for the first command, and for each later one, for whose block
+// the first node needs no promises any more.
 const FIRST_MESSAGES: u32 = 18;
 
 const MESSAGES: u32 = 12;
@@ -32,7 +33,8 @@ const POST: &str =
 
 const OUTCOME: &str = "{\"do\":\"get\",\"node\":3,\"target\":\"result:ann/1\"}\n]}\n";
 
-// The plugins of titles, shortcodes and options, and a post whose title and content they are called for.
+// The plugins of titles, shortcodes and options, and a post whose title and content they are called
+// for.
 const COMMANDS: [&str; 5] = [
     r#""editor":"ann","seq":1,"at":10,"kind":"activate","plugin":"letters""#,
     r#""editor":"ann","seq":2,"at":10,"kind":"activate","plugin":"grow""#,
@@ -45,7 +47,8 @@ const PAGES: &str = "{\"do\":\"get\",\"node\":1,\"target\":\"post:1\"},\n\
     {\"do\":\"get\",\"node\":2,\"target\":\"post:1\"},\n\
     {\"do\":\"get\",\"node\":3,\"target\":\"post:1\"}\n]}\n";
 
-// A schedule in which the first node chooses the commands one after the other, and then the last steps.
+// A schedule in which the first node chooses the commands one after the other, and then the last
+// steps.
 fn schedule(alloc: Global, commands: &[&str], last: &str) -> Result<String, AllocError> {
     let mut steps = format!(in alloc; "{{\"nodes\":3,\"steps\":[\n")?;
     let (mut message, mut count) = (1u64, FIRST_MESSAGES);
@@ -218,7 +221,7 @@ impl Cluster<'_> {
     }
 
     // The pages of the nodes once all have caught up.
-    fn restarted(&self, kits: Vec<Kit>) -> Result<Told, Fail>
+    fn restart(&self, kits: Vec<Kit>) -> Result<Told, Fail>
         requires count { length kits.items ≡ 3 }
         requires alike { (kit : KitView) × AreKit kit (views_of kits.items) }
     {
@@ -271,7 +274,8 @@ impl Told {
     }
 }
 
-// What a schedule gives over kits of whose closures' calls the one of that number runs out of memory.
+// What a schedule gives over kits of whose closures' calls the one of that number runs out of
+// memory.
 fn told_at(kit: &[u8], cluster: &Cluster<'_>, at: u64, how: How) -> Result<Told, Fail> {
     let alloc = cluster.alloc;
     let mut kits: Vec<Kit> = Vec::new(alloc);
@@ -292,7 +296,7 @@ fn told_at(kit: &[u8], cluster: &Cluster<'_>, at: u64, how: How) -> Result<Told,
     cluster.fuse.set(at);
     match how {
         How::Replays => Ok(cluster.transcript(kits)),
-        How::Restarts => cluster.restarted(kits),
+        How::Restarts => cluster.restart(kits),
     }
 }
 

@@ -1,4 +1,4 @@
-use super::moves::given;
+use super::moves::command_value;
 use press_apply::{Command, apply};
 use press_callbacks::{BoxedTurns, CallIn, Kit, Stored, script_turn};
 use press_demonstration::{grow, grow_turn, parts};
@@ -34,9 +34,9 @@ pub const DEMONSTRATION: &str = r#"{"callbacks":[
 {"name":"tags","load":[{"tag":"greet","callback":"greet"},{"tag":"box","callback":"box"}]}]}"#;
 
 // The plugin `notes` is activated, and a post inserted.
-fn noted(alloc: Global, kit: &Kit) -> Result<Site, Fail> {
+fn site_with_note(alloc: Global, kit: &Kit) -> Result<Site, Fail> {
     let mut site = Site::new(alloc);
-    let activate = given(
+    let activate = command_value(
         alloc,
         1,
         Command::Activate {
@@ -46,7 +46,7 @@ fn noted(alloc: Global, kit: &Kit) -> Result<Site, Fail> {
     if apply(alloc, &mut site, kit, &activate)? != Outcome::Done(0) {
         return Err(Fail::from("no plugin"));
     }
-    let insert = given(
+    let insert = command_value(
         alloc,
         2,
         Command::Insert(Draft {
@@ -88,7 +88,8 @@ fn the_demonstration_kit_of_a_file(rt: HostRuntime) -> Result<(), Fail> {
     Ok(())
 }
 
-// Two demonstration kits are the same. With its plugin `notes` a site has the id of the post that was saved last.
+// Two demonstration kits are the same. With its plugin `notes` a site has the id of the post that
+// was saved last.
 #[test]
 fn the_demonstration_kit(rt: HostRuntime) -> Result<(), Fail> {
     let alloc = rt.alloc();
@@ -109,7 +110,7 @@ fn the_demonstration_kit(rt: HostRuntime) -> Result<(), Fail> {
         return Err(Fail::from("two kits"));
     };
     assert!(rt; kit.same(again));
-    let site = noted(alloc, kit)?;
+    let site = site_with_note(alloc, kit)?;
     let saved = OptName::new(alloc, "last_saved")?;
     assert!(rt; site.option(&saved) == Some("1"));
     Ok(())

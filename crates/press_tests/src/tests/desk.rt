@@ -43,7 +43,7 @@ fn full(alloc: Global) -> Result<Site, Fail> {
 }
 
 // What is shown of a site behind seven commands, over a kit of nothing.
-fn seen(alloc: Global, asked: Desk) -> Result<Reply, Fail> {
+fn see(alloc: Global, asked: Desk) -> Result<Reply, Fail> {
     let site = full(alloc)?;
     let kit = Kit::build(alloc, Vec::new(alloc), Vec::new(alloc))?;
     let applied = Applied {
@@ -60,25 +60,25 @@ fn posts_are_seen_as_they_are_kept(rt: HostRuntime) -> Result<(), Fail> {
     let one = r#"{"content":"a&b","date":0,"id":1,"status":"publish","title":"one"}"#;
     let two = r#"{"content":"a&b","date":0,"id":2,"status":"draft","title":"two"}"#;
     let three = r#"{"content":"a&b","date":0,"id":3,"status":"trash","title":"three"}"#;
-    let reply = seen(alloc, Desk::Post(2))?;
+    let reply = see(alloc, Desk::Post(2))?;
     assert!(rt; reply.status == 200 && reply.kind == ContentKind::Json);
     assert_eq!(rt; reply.body.as_str(), two);
     let (before, count) = (u64::MAX, 2);
-    let reply = seen(alloc, Desk::Posts { before, count })?;
+    let reply = see(alloc, Desk::Posts { before, count })?;
     let meant = format!(in alloc; "{{\"posts\":[{three},{two}]}}")?;
     assert_eq!(rt; reply.body.as_str(), meant.as_str());
     let (before, count) = (3, 100);
-    let reply = seen(alloc, Desk::Posts { before, count })?;
+    let reply = see(alloc, Desk::Posts { before, count })?;
     let meant = format!(in alloc; "{{\"posts\":[{two},{one}]}}")?;
     assert_eq!(rt; reply.body.as_str(), meant.as_str());
-    assert!(rt; seen(alloc, Desk::Post(4))?.status == 404);
+    assert!(rt; see(alloc, Desk::Post(4))?.status == 404);
     Ok(())
 }
 
 #[test]
 fn the_site_is_seen(rt: HostRuntime) -> Result<(), Fail> {
     let alloc = rt.alloc();
-    let reply = seen(alloc, Desk::Site)?;
+    let reply = see(alloc, Desk::Site)?;
     let meant =
         r#"{"active":["p"],"applied":7,"counts":{"draft":1,"future":0,"pending":0,"private":0,"publish":1,"trash":1},"events":[{"arg":"x","every":"hourly","hook":"h","time":0}],"moment":0,"options":[{"name":"o","value":"v"}],"plugins":[],"profile":1}"#;
     assert_eq!(rt; reply.body.as_str(), meant);
@@ -93,11 +93,11 @@ fn a_preview_is_the_page(rt: HostRuntime) -> Result<(), Fail> {
     let kit = Kit::build(alloc, Vec::new(alloc), Vec::new(alloc))?;
     let shown = page(alloc, &site, &kit, &Target::Post(1))?;
     assert_eq!(rt;
-        seen(alloc, Desk::Preview(1))?.body.as_str(),
+        see(alloc, Desk::Preview(1))?.body.as_str(),
         shown.body.as_str()
     );
     assert!(rt; page(alloc, &site, &kit, &Target::Post(2))?.status == 404);
-    assert!(rt; seen(alloc, Desk::Preview(2))?.status == 200);
-    assert!(rt; seen(alloc, Desk::Preview(4))?.status == 404);
+    assert!(rt; see(alloc, Desk::Preview(2))?.status == 200);
+    assert!(rt; see(alloc, Desk::Preview(4))?.status == 404);
     Ok(())
 }

@@ -10,7 +10,7 @@ use press_callbacks::Kit;
 use press_node::{Event, Node, NodeFault, StartFault, serve_one};
 use press_page::Target;
 use press_site::Outcome;
-use press_wire::{Message, Node as Member};
+use press_wire::{MemberId, Message};
 use std::alloc::Global;
 use std::collections::VecDeque;
 use std::test::Fail;
@@ -53,16 +53,16 @@ fn chooses(alloc: Global, node: &mut Node<Mendable>, command: &Stamped) -> Resul
 }
 
 // The only member.
-fn member() -> Member
+fn member() -> MemberId
     ensures { result ≡ 1 }
 {
-    let Some(member) = Member::new(1) else {
+    let Some(member) = MemberId::new(1) else {
         unreachable!()
     };
     member
 }
 
-fn started(alloc: Global, kit: Kit, store: Mendable) -> Result<Node<Mendable>, Fail> {
+fn start(alloc: Global, kit: Kit, store: Mendable) -> Result<Node<Mendable>, Fail> {
     match Node::start(alloc, member(), 1, kit, store) {
         Ok(node) => Ok(node),
         Err(_) => Err(Fail::from("no start")),
@@ -129,7 +129,8 @@ struct Came {
     page: Vec<u8>,
 }
 
-/// A new node that applies some commands, the last of them over closures of which one runs out of memory.
+/// A new node that applies some commands, the last of them over closures of which one runs out of
+/// memory.
 #[derive(Clone, Copy, Drop)]
 pub struct OnNode<'a> {
     pub alloc: Global,
@@ -168,7 +169,8 @@ impl OnNode<'_> {
         }
     }
 
-    // Whether the call of that number runs out of memory while the last command is applied, which leaves the node down; none if it leaves anything else.
+    // Whether the call of that number runs out of memory while the last command is applied, which
+    // leaves the node down; none if it leaves anything else.
     fn is_refused_at(&self, node: &mut Node<Mendable>, at: u64) -> Option<bool>
         requires always { Unit {0} }
     {
@@ -182,7 +184,8 @@ impl OnNode<'_> {
         }
     }
 
-    // Whether a call of a closure that runs out of memory while a page is made gives 503, and leaves the page as it was.
+    // Whether a call of a closure that runs out of memory while a page is made gives 503, and
+    // leaves the page as it was.
     fn shows_again(&self, node: &mut Node<Mendable>, at: u64, ample: &[u8]) -> bool
         requires always { Unit {0} }
     {
@@ -198,7 +201,8 @@ impl OnNode<'_> {
         }
     }
 
-    // The front page of a node over what another one stored, where each of its calls can run out of memory.
+    // The front page of a node over what another one stored, where each of its calls can run out of
+    // memory.
     fn page(&self, node: &mut Node<Mendable>) -> Option<Vec<u8>>
         requires always { Unit {0} }
     {
@@ -219,15 +223,16 @@ impl OnNode<'_> {
         }
     }
 
-    // A node of whose calls that one runs out of memory, and a node over its kit and its store, which a start that is refused hands back.
+    // A node of whose calls that one runs out of memory, and a node over its kit and its store,
+    // which a start that is refused hands back.
     fn came_at(&self, kit: Kit, at: u64) -> Result<Came, Fail>
         requires always { Unit {0} }
     {
-        let mut node = started(self.alloc, kit, Mendable::new(self.alloc))?;
+        let mut node = start(self.alloc, kit, Mendable::new(self.alloc))?;
         let is_refused = self.is_refused_at(&mut node, at);
         let (kit, store) = node.down();
         let (kit, store) = refused_start(self.alloc, kit, store.shut())?;
-        let mut again = started(self.alloc, kit, store.mended())?;
+        let mut again = start(self.alloc, kit, store.mend())?;
         let page = self.page(&mut again);
         let (kit, _) = again.down();
         match (is_refused, page) {
@@ -240,7 +245,8 @@ impl OnNode<'_> {
         }
     }
 
-    // The kit, where each of the calls can run out of memory with the page as it is with ample memory, and none after them.
+    // The kit, where each of the calls can run out of memory with the page as it is with ample
+    // memory, and none after them.
     fn comes_back(&self, kit: Kit, calls: u64) -> Result<Kit, Fail>
         requires always { Unit {0} }
     {
@@ -266,13 +272,14 @@ impl OnNode<'_> {
         Ok(())
     }
 
-    // How many calls of closures a start over this store makes, where each of them can run out of memory: the node is down, and the next one starts over both.
+    // How many calls of closures a start over this store makes, where each of them can run out of
+    // memory: the node is down, and the next one starts over both.
     fn starts_again(&self, kit: Kit, store: Mendable) -> Result<u64, Fail>
         requires always { Unit {0} }
     {
         let (mut kit, mut store) = (kit, store);
         for at in 1..=u64::MAX {
-            let mut node = started(self.alloc, kit, store)?;
+            let mut node = start(self.alloc, kit, store)?;
             self.fuse.set(at);
             let fault = self.catches_up(&mut node).err();
             let is_blown = self.fuse.is_blown();
@@ -288,7 +295,8 @@ impl OnNode<'_> {
         Ok(0)
     }
 
-    /// Each of the commands after those before it, which makes so many calls; and a start over what is stored of all.
+    /// Each of the commands after those before it, which makes so many calls; and a start over what
+    /// is stored of all.
     pub fn all_come_back(&self, kit: Kit, calls: &[(u64, Outcome)]) -> Result<(), Fail>
         requires always { Unit {0} }
     {
@@ -302,7 +310,7 @@ impl OnNode<'_> {
             kit = node.comes_back(kit, *calls)?;
             all = all.saturating_add(*calls);
         }
-        let mut node = started(self.alloc, kit, Mendable::new(self.alloc))?;
+        let mut node = start(self.alloc, kit, Mendable::new(self.alloc))?;
         self.chooses_all(&mut node, 0)?;
         let (kit, store) = node.down();
         if self.starts_again(kit, store)? == all {

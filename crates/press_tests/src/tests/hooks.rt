@@ -3,7 +3,8 @@ use press_text::{CallbackId, HookName, NameFault};
 use std::alloc::{AllocError, Global};
 use std::test::Fail;
 
-// An edit of a hook that has an entry at each of the priorities 5, 10, 20, 30 and 40, while three runs of it have reached 10, 20 and 30.
+// An edit of a hook that has an entry at each of the priorities 5, 10, 20, 30 and 40, while three
+// runs of it have reached 10, 20 and 30.
 #[derive(Clone, Copy)]
 enum Edit {
     Put(i64),
@@ -46,7 +47,8 @@ fn run_behind(table: &mut HookTable, hook: &HookName, times: usize) -> Result<Ru
     Ok(run)
 }
 
-// What the innermost run, the one around it and the outermost return after the edit: four priorities, 00 where there is none.
+// What the innermost run, the one around it and the outermost return after the edit: four
+// priorities, 00 where there is none.
 fn left_after(alloc: Global, edit: Edit) -> Result<[i64; 3], NameFault> {
     let hook = HookName::new(alloc, "h")?;
     let callback = CallbackId::new("c")?;

@@ -2,7 +2,7 @@ ghost use Rattle.std.specs.Prelude.{◌≡◌, ◌≤◌};
 
 use crate::tests::synod::{ballot, noop, slot};
 use press_learner::Learner;
-use press_wire::{Node, Vote};
+use press_wire::{MemberId, Vote};
 use std::test::Fail;
 
 // The member's vote in the first node's ballot of the round.
@@ -10,7 +10,7 @@ fn votes(learner: &mut Learner, number: u8, round: u64) -> Result<(), Fail>
     requires { number ≤ learner.old.members }
     ensures { learner.new.members ≡ learner.old.members }
 {
-    let Some(member) = Node::new(number) else {
+    let Some(member) = MemberId::new(number) else {
         return Err(Fail::from("no node"));
     };
     let vote = Vote {

@@ -48,7 +48,7 @@ impl Mendable {
     }
 
     /// What is kept, over a device that works.
-    pub fn mended(self) -> Mendable {
+    pub fn mend(self) -> Mendable {
         let Mendable {
             memory,
             works: _,

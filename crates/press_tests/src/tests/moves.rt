@@ -21,7 +21,7 @@ fn full(alloc: Global) -> Result<Site, Fail> {
 }
 
 /// A command of ann's at the first moment.
-pub fn given(alloc: Global, seq: u64, command: Command) -> Result<Value, Fail> {
+pub fn command_value(alloc: Global, seq: u64, command: Command) -> Result<Value, Fail> {
     let editor = Name::new(alloc, "ann")?;
     Ok(Value::Cmd(Stamped {
         token: Token { editor, seq },
@@ -37,13 +37,13 @@ fn the_last_post_is_moved(rt: HostRuntime) -> Result<(), Fail> {
     let kit = Kit::build(alloc, Vec::new(alloc), Vec::new(alloc))?;
     let mut site = full(alloc)?;
     let id = 10_000;
-    let trash = given(alloc, 1, Command::Trash { id })?;
+    let trash = command_value(alloc, 1, Command::Trash { id })?;
     assert_eq!(rt; apply(alloc, &mut site, &kit, &trash)?, Outcome::Done(id));
-    let untrash = given(alloc, 2, Command::Untrash { id })?;
+    let untrash = command_value(alloc, 2, Command::Untrash { id })?;
     assert_eq!(rt; apply(alloc, &mut site, &kit, &untrash)?, Outcome::Done(id));
-    let again = given(alloc, 3, Command::Trash { id })?;
+    let again = command_value(alloc, 3, Command::Trash { id })?;
     assert_eq!(rt; apply(alloc, &mut site, &kit, &again)?, Outcome::Done(id));
-    let delete = given(alloc, 4, Command::Delete { id })?;
+    let delete = command_value(alloc, 4, Command::Delete { id })?;
     assert_eq!(rt; apply(alloc, &mut site, &kit, &delete)?, Outcome::Done(id));
     Ok(())
 }

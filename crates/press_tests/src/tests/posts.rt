@@ -16,7 +16,7 @@ fn insert(alloc: Global, posts: &mut Posts) -> Result<(), PostFault> {
 }
 
 // As many posts as there may be.
-fn filled(alloc: Global) -> Result<Posts, PostFault> {
+fn fill(alloc: Global) -> Result<Posts, PostFault> {
     let mut posts = Posts::new(alloc);
     for _ in 0..10_000 {
         insert(alloc, &mut posts)?;
@@ -27,7 +27,7 @@ fn filled(alloc: Global) -> Result<Posts, PostFault> {
 #[test]
 fn one_post_too_many_is_refused(rt: HostRuntime) -> Result<(), Fail> {
     let alloc = rt.alloc();
-    let mut posts = filled(alloc)?;
+    let mut posts = fill(alloc)?;
     assert_eq!(rt;
         insert(alloc, &mut posts).err(),
         Some(PostFault::TooManyPosts)

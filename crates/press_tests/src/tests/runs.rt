@@ -31,7 +31,7 @@ fn filter_of(alloc: Global, text: &str) -> Result<Job, Fail> {
 }
 
 // What the filter gives from a fresh boot.
-fn filtered(alloc: Global, kit: &Kit, site: Site, job: Job) -> Result<String, RunFault> {
+fn run_filter(alloc: Global, kit: &Kit, site: Site, job: Job) -> Result<String, RunFault> {
     let mut machine = Machine::new(alloc, kit, site)?;
     machine.run(kit, job)
 }
@@ -46,7 +46,7 @@ fn a_closure_wants_memory(rt: HostRuntime) -> Result<(), Fail> {
     let call: BoxedTurns = Box::new(alloc, move |i: &CallIn| fails_once(alloc, &calls, &own, i))?;
     let kit = kit_of(alloc, Stored::new(CallbackId::new("add_q")?, script, call))?;
     let site = site_of(alloc)?;
-    let text = filtered(alloc, &kit, site, filter_of(alloc, "x")?);
+    let text = run_filter(alloc, &kit, site, filter_of(alloc, "x")?);
     assert_eq!(rt; text.err(), Some(RunFault::NoMemory));
     Ok(())
 }

@@ -41,7 +41,7 @@ pub fn fails_once(
 }
 
 /// A call at a turn, with the value `v`.
-pub fn called(alloc: Global, turn: usize) -> Result<CallIn, AllocError> {
+pub fn call_in(alloc: Global, turn: usize) -> Result<CallIn, AllocError> {
     Ok(CallIn {
         args: Texts::new(alloc),
         atts: attributes(alloc, "")?,
@@ -54,8 +54,8 @@ pub fn called(alloc: Global, turn: usize) -> Result<CallIn, AllocError> {
 }
 
 /// What a callback gives on that call.
-pub fn given(alloc: Global, stored: &Stored, turn: usize) -> Result<Turn, AllocError> {
-    stored.turn(&called(alloc, turn)?)
+pub fn answer_of_turn(alloc: Global, stored: &Stored, turn: usize) -> Result<Turn, AllocError> {
+    stored.turn(&call_in(alloc, turn)?)
 }
 
 /// Whether a turn goes on with this value.

@@ -37,7 +37,8 @@ fn activation(alloc: Global, plugin: &str) -> Result<Effect, NameFault> {
     })
 }
 
-// A site with something of each kind: a post, one in the trash, an event, an option and an active plugin.
+// A site with something of each kind: a post, one in the trash, an event, an option and an active
+// plugin.
 fn full(alloc: Global) -> Result<Site, Fail> {
     let mut site = Site::new(alloc);
     site.effect(publish(alloc)?)?;
@@ -79,17 +80,17 @@ fn changes(alloc: Global) -> Result<Vec<Effect>, Fail> {
     ]?)
 }
 
-fn shown(alloc: Global, site: &Site) -> Result<String, AllocError> {
+fn show(alloc: Global, site: &Site) -> Result<String, AllocError> {
     format!(in alloc; "{site:?}")
 }
 
 // The site after changes, as it stood and as it stands.
-fn changed(alloc: Global, site: Site, effects: Vec<Effect>) -> Result<(Site, String), SiteFault> {
+fn change(alloc: Global, site: Site, effects: Vec<Effect>) -> Result<(Site, String), SiteFault> {
     let mut open = site.begin();
     for effect in effects {
         open.effect(effect)?;
     }
-    let stands = shown(alloc, open.site())?;
+    let stands = show(alloc, open.site())?;
     Ok((open.back(), stands))
 }
 
@@ -97,11 +98,11 @@ fn changed(alloc: Global, site: Site, effects: Vec<Effect>) -> Result<(Site, Str
 fn a_site_goes_back_from_each_change(rt: HostRuntime) -> Result<(), Fail> {
     let alloc = rt.alloc();
     let site = full(alloc)?;
-    let before = shown(alloc, &site.copy()?)?;
+    let before = show(alloc, &site.copy()?)?;
     for effect in changes(alloc)? {
-        let (back, stood) = changed(alloc, site.copy()?, vec![in alloc; effect]?)?;
+        let (back, stood) = change(alloc, site.copy()?, vec![in alloc; effect]?)?;
         assert_ne!(rt; stood.as_str(), before.as_str());
-        assert_eq!(rt; shown(alloc, &back)?.as_str(), before.as_str());
+        assert_eq!(rt; show(alloc, &back)?.as_str(), before.as_str());
     }
     Ok(())
 }
@@ -110,8 +111,8 @@ fn a_site_goes_back_from_each_change(rt: HostRuntime) -> Result<(), Fail> {
 fn a_site_goes_back_from_all_changes(rt: HostRuntime) -> Result<(), Fail> {
     let alloc = rt.alloc();
     let site = full(alloc)?;
-    let before = shown(alloc, &site.copy()?)?;
-    let (back, _) = changed(alloc, site, changes(alloc)?)?;
-    assert_eq!(rt; shown(alloc, &back)?.as_str(), before.as_str());
+    let before = show(alloc, &site.copy()?)?;
+    let (back, _) = change(alloc, site, changes(alloc)?)?;
+    assert_eq!(rt; show(alloc, &back)?.as_str(), before.as_str());
     Ok(())
 }

@@ -1,12 +1,12 @@
 use press_apply::{Command, Stamped, Value};
 use press_site::Token;
 use press_text::{Moment, Name};
-use press_wire::{Ballot, Node, Round, Slot};
+use press_wire::{Ballot, MemberId, Round, Slot};
 use std::alloc::Global;
 use std::test::Fail;
 
-pub fn node(number: u8) -> Result<Node, Fail> {
-    Ok(Node::new(number).ok_or("no node")?)
+pub fn node(number: u8) -> Result<MemberId, Fail> {
+    Ok(MemberId::new(number).ok_or("no node")?)
 }
 
 pub fn round(number: u64) -> Result<Round, Fail> {

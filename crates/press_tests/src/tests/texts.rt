@@ -1,7 +1,8 @@
 use press_text::{HookName, Moment, NameFault};
 use std::test::Fail;
 
-// The row `names-and-moments`: the empty text, 65 letters, a space, and a second past the last moment.
+// The row `names-and-moments`: the empty text, 65 letters, a space, and a second past the last
+// moment.
 #[test]
 fn names_and_moments(rt: HostRuntime) -> Result<(), Fail> {
     let alloc = rt.alloc();

@@ -1,4 +1,5 @@
-//! The first shortcode read off a small text: at every place, in every case, without a memory of what came before.
+//! The first shortcode read off a small text: at every place, in every case, without a memory of
+//! what came before.
 
 ghost use Rattle.std.specs.Prelude.{◌<◌, ◌≤◌, length};
 

@@ -1,4 +1,5 @@
-//! Closures that run out of memory at each of their calls in turn: in each kind of command, in pages, in runs, and on a node.
+//! Closures that run out of memory at each of their calls in turn: in each kind of command, in
+//! pages, in runs, and on a node.
 
 use crate::tests::demonstration::DEMONSTRATION;
 use crate::tests::downs::OnNode;
@@ -14,8 +15,9 @@ use std::alloc::{AllocError, Global};
 use std::rc::Rc;
 use std::test::Fail;
 
-// Each kind of command, done and refused, over a callback that keeps what it was called with, and one that calls itself without end. Then
-// pages with a shortcode, a running hook that grows, and a shortcode within another one's content and within an attribute.
+// Each kind of command, done and refused, over a callback that keeps what it was called with, and
+// one that calls itself without end. Then pages with a shortcode, a running hook that grows, and a
+// shortcode within another one's content and within an attribute.
 const KIT: &str = r#"{"callbacks":[
 {"name":"keep","script":[{"op":"set_option","name":"kept","value":[{"from":"value"},{"arg":0}]},{"op":"return","text":[{"from":"value"}]}]},
 {"name":"greet","script":[{"op":"return","text":["Hello ",{"att":"name"}]}]},
@@ -105,8 +107,8 @@ const COMMANDS: [(u64, Outcome); 29] = [
 const FORM: &[u8] = b"POST /command HTTP/1.1\r\nHost: a\r\nContent-Length: 87\r\n\r\n\
     editor=ann&seq=2&at=10&kind=insert&title=x&content=%5Bgreet+name%3DBo%5D&status=publish";
 
-// A boot with all plugins of the demonstration kit but `loop`: the titles of `grow` and `letters`, the shortcodes of `tags` with their `marks`,
-// the option of `notes`.
+// A boot with all plugins of the demonstration kit but `loop`: the titles of `grow` and `letters`,
+// the shortcodes of `tags` with their `marks`, the option of `notes`.
 const ALL: &str = r#"{"kit":{"callbacks":[],"plugins":[]},
 "commands":[{"editor":"ann","seq":1,"at":10,"kind":"activate","plugin":"letters"},
 {"editor":"ann","seq":2,"at":10,"kind":"activate","plugin":"grow"},
@@ -187,8 +189,8 @@ struct Wants<'a> {
 }
 
 impl Wants<'_> {
-    // How many calls of closures a command makes, where each of them can run out of memory with the site as it was, and what becomes of it; the
-    // site has it applied.
+    // How many calls of closures a command makes, where each of them can run out of memory with the
+    // site as it was, and what becomes of it; the site has it applied.
     fn calls_of(&self, site: &mut Site, value: &Value) -> Result<(u64, Outcome), Fail> {
         let before = site.copy()?;
         self.fuse.set(0);
@@ -243,7 +245,8 @@ impl Wants<'_> {
         Ok(calls)
     }
 
-    // How many calls of closures a run makes, where each of them can run out of memory; the machine has done it, and its answer is a line more.
+    // How many calls of closures a run makes, where each of them can run out of memory; the machine
+    // has done it, and its answer is a line more.
     fn calls_in(
         &self,
         machine: &mut Machine<Site>,
@@ -305,7 +308,8 @@ fn job_of(alloc: Global, play: &Play) -> Result<Job, AllocError> {
     })
 }
 
-// How often each of a play file's commands, pages and plays calls the closures, what becomes of the commands, and a line of each play's answer.
+// How often each of a play file's commands, pages and plays calls the closures, what becomes of the
+// commands, and a line of each play's answer.
 #[derive(Drop)]
 struct Counts {
     commands: Vec<(u64, Outcome)>,
@@ -314,7 +318,8 @@ struct Counts {
     answers: String,
 }
 
-// The counts of a play file over this kit, on one site and on nodes, which get the second command by the form, where there is one.
+// The counts of a play file over this kit, on one site and on nodes, which get the second command
+// by the form, where there is one.
 fn counts_of(
     alloc: Global,
     kit: KitParts,

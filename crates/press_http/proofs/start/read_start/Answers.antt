@@ -15,4 +15,4 @@ pub returns : goal.returns
 returns g c =
     let t = c.in_ok-seen.ensures in
     let same : c.deref.result.now ≡ seen_by t.0 = c.deref.ensures.value ∙ t.4.0 in
-    (t.0, t.1, t.2, t.3, begun_says _ _ t.0 _ (rw same at c.begun.ensures _) t.4.2)
+    (t.0, t.1, t.2, t.3, begun_says _ _ t.0 _ (rw same at c.start_of_head.ensures _) t.4.2)

@@ -9,8 +9,8 @@ pub returns-in-Err-BadKitFile-clause-fault : goal.returns-in-Err-BadKitFile-clau
 returns-in-Err-BadKitFile-clause-fault c =
     let is : kit_in c.index-files-i.result.bytes.items ≡ Err c.in-Err-BadKitFile.at = search rules in
     let bad = reads_bad c.args.files.now (read_together (files_of c.args.files.now)) (joint_of c.loop-i.joint) c.loop-i.i c.index-files-i.result c.in-Err-BadKitFile.at (omega arith) c.index-files-i.is is c.loop-i.invariant in
-    let told : RefusesFiles (Err (file_of c.index-files-i.result, c.in-Err-BadKitFile.at)) c.refused.result = search rules in
-    subst (λ found. RefusesFiles found c.refused.result) (sym bad) told
+    let told : RefusesFiles (Err (file_of c.index-files-i.result, c.in-Err-BadKitFile.at)) c.refusal_at.result = search rules in
+    subst (λ found. RefusesFiles found c.refusal_at.result) (sym bad) told
 
 pub loop-i-preserved : goal.loop-i-preserved
 loop-i-preserved c =

@@ -7,7 +7,7 @@ returns-then-has_name c = shares_it c.args.shares.now c.loop-i.parts c.loop-i.i 
 
 pub loop-i-preserved : goal.loop-i-preserved
 loop-i-preserved c =
-    rw c.turned-parts.ensures (lacks_it c.args.shares.now c.loop-i.parts c.loop-i.i c.args.at c.args.name.now _ _ (omega arith) (sym c.has_name.ensures ∙ c.if-has_name.false) c.loop-i.invariant)
+    rw c.turn_parts-parts.ensures (lacks_it c.args.shares.now c.loop-i.parts c.loop-i.i c.args.at c.args.name.now _ _ (omega arith) (sym c.has_name.ensures ∙ c.if-has_name.false) c.loop-i.invariant)
 
 pub returns : goal.returns
 returns c = nobody_has_it c.args.shares.now c.loop-i.parts c.loop-i.i c.args.at c.args.name.now _ (omega arith) c.loop-i.invariant

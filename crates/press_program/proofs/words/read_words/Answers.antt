@@ -1,7 +1,7 @@
 use Rattle.std.proofs.Common.{◌≡◌, ◌==◌, false, length, map, option_map, string_bytes, sym, ap, ◌∙◌}
 use Rattle.std.proofs.lemmas.List.{length-map}
 use Rattle.std.proofs.lemmas.Result.{IfOk-weaker}
-use Rattle.press_program.proofs.Asked.{asked_nothing}
+use Rattle.press_program.proofs.Arguments.{asked_nothing}
 use Rattle.press_program.specs.Words.{asked_of}
 use Rattle.press_program.proofs.words.read_words.Goals as goal
 

@@ -15,14 +15,14 @@ returns-in-None-clause-delivers g c =
 pub returns-in-Err-clause-delivers : goal.returns-in-Err-clause-delivers
 returns-in-Err-clause-delivers g c =
     let i = c.loop-count.invariant.whole in
-    i.2 c.played.new.node (Some c.in-Err.fault) (one_more (λ a b. node_moved g.S.PromiseStore.seen a b) (i.0 - 1) i.0 c.loop-count.waiting.items c.pop_front.new.self.items c.in-Some.message
-    c.loop-count.node c.played.new.node c.played.new.node (Err c.in-Err.fault) (Some c.in-Err.fault) (omega (arith, i.1, c.loop-count-test.true)) c.in-Some.ensures.items c.in-Err.ensures.plays (refl, refl))
+    i.2 c.play_event.new.node (Some c.in-Err.fault) (one_more (λ a b. node_moved g.S.PromiseStore.seen a b) (i.0 - 1) i.0 c.loop-count.waiting.items c.pop_front.new.self.items c.in-Some.message
+    c.loop-count.node c.play_event.new.node c.play_event.new.node (Err c.in-Err.fault) (Some c.in-Err.fault) (omega (arith, i.1, c.loop-count-test.true)) c.in-Some.ensures.items c.in-Err.ensures.plays (refl, refl))
 
 pub returns-in-Err-wait-clause-delivers : goal.returns-in-Err-wait-clause-delivers
 returns-in-Err-wait-clause-delivers g c =
     let i = c.loop-count.invariant.whole in
-    i.2 c.played.new.node (Some NoMemory) (one_more (λ a b. node_moved g.S.PromiseStore.seen a b) (i.0 - 1) i.0 c.loop-count.waiting.items c.pop_front.new.self.items c.in-Some.message
-    c.loop-count.node c.played.new.node c.played.new.node (Ok c.in-Ok.sent.items) (Some NoMemory) (omega (arith, i.1, c.loop-count-test.true)) c.in-Some.ensures.items c.in-Ok.ensures.plays (inr (refl, refl)))
+    i.2 c.play_event.new.node (Some NoMemory) (one_more (λ a b. node_moved g.S.PromiseStore.seen a b) (i.0 - 1) i.0 c.loop-count.waiting.items c.pop_front.new.self.items c.in-Some.message
+    c.loop-count.node c.play_event.new.node c.play_event.new.node (Ok c.in-Ok.sent.items) (Some NoMemory) (omega (arith, i.1, c.loop-count-test.true)) c.in-Some.ensures.items c.in-Ok.ensures.plays (inr (refl, refl)))
 
 pub loop-count-preserved : goal.loop-count-preserved
 loop-count-preserved g c =
@@ -33,8 +33,8 @@ loop-count-preserved g c =
         i.0 - 1,
         omega (arith, i.1, c.loop-count-test.true),
         λ after fault d. i.2 after fault (one_more (λ a b. node_moved g.S.PromiseStore.seen a b) (i.0 - 1) i.0 c.loop-count.waiting.items c.pop_front.new.self.items c.in-Some.message
-            c.loop-count.node c.played.new.node after (Ok c.in-Ok.sent.items) fault (omega (arith, i.1, c.loop-count-test.true)) c.in-Some.ensures.items c.in-Ok.ensures.plays
-            (inl (same_waiting (λ a b. node_moved g.S.PromiseStore.seen a b) (i.0 - 1) c.wait.new.waiting.items _ c.played.new.node after fault c.in-Ok-wait.ensures d))),
+            c.loop-count.node c.play_event.new.node after (Ok c.in-Ok.sent.items) fault (omega (arith, i.1, c.loop-count-test.true)) c.in-Some.ensures.items c.in-Ok.ensures.plays
+            (inl (same_waiting (λ a b. node_moved g.S.PromiseStore.seen a b) (i.0 - 1) c.wait.new.waiting.items _ c.play_event.new.node after fault c.in-Ok-wait.ensures d))),
       );
     }
 

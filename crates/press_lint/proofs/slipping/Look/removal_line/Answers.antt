@@ -4,5 +4,5 @@ use Rattle.press_lint.proofs.slipping.Look.removal_line.Goals as goal
 
 pub returns : goal.returns
 returns c =
-    let what_is : c.as_str.result.now ≡ spec.removal_told c.args.hook.now c.args.callback.now c.args.priority = search rules in
+    let what_is : c.as_str.result.now ≡ spec.tell_removal c.args.hook.now c.args.callback.now c.args.priority = search rules in
     subst (λ w. IfOk c.slip.result (λ t. string_bytes t ≡ spec.slip c.args.self.now.front.now c.args.self.now.run.kit.now c.args.at w)) what_is c.slip.ensures

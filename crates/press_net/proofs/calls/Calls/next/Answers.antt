@@ -2,7 +2,7 @@ use Rattle.std.proofs.Common.{rules, ◌≡◌, ◌<◌, refl, length, slice_ind
 use Rattle.std.proofs.lemmas.List.Quantifiers.{position-Some}
 use Rattle.std.proofs.lemmas.Option.{slice_get_read}
 use Rattle.press_net.specs.declared.calls.Lane.{Lane}
-use Rattle.press_net.specs.Lanes.{sent, queue_of, is_ready, ready, front_at}
+use Rattle.press_net.specs.Lanes.{after_send, queue_of, is_ready, ready, front_at}
 use Rattle.press_net.proofs.Lanes.{changes, first_is_ready}
 use Rattle.press_net.proofs.calls.Calls.next.Goals as goal
 
@@ -25,6 +25,6 @@ returns-clause-lanes c =
     let item : slice_index_or c.args.self.now.lanes.items c.in_ok-place.place c.in_ok-get_mut.field-0.now ≡ c.in_ok-get_mut.field-0.now = search rules in
     let is : slice_get c.args.self.now.lanes.items c.in_ok-place.place ≡ Some c.in_ok-get_mut.field-0.now = slice_get_read c.args.self.now.lanes.items _ c.in_ok-place.place lane refl within (sym item) in
     let yes : is_ready (queue_of c.in_ok-get_mut.field-0.now) ≡ true = first_is_ready c.args.self.now c.in_ok-place.place c.in_ok-get_mut.field-0.now first is in
-    let by : queue_of c.send.new.self ≡ sent (queue_of c.in_ok-get_mut.field-0.now) = c.send.ensures.sent ∙ ap (λ b. if b then sent (queue_of c.in_ok-get_mut.field-0.now) else queue_of c.in_ok-get_mut.field-0.now) yes in
-    let changed = changes c.args.self.now c.in_ok-place.place c.in_ok-get_mut.field-0.now c.send.new.self sent is by in
+    let by : queue_of c.send.new.self ≡ after_send (queue_of c.in_ok-get_mut.field-0.now) = c.send.ensures.sent ∙ ap (λ b. if b then after_send (queue_of c.in_ok-get_mut.field-0.now) else queue_of c.in_ok-get_mut.field-0.now) yes in
+    let changed = changes c.args.self.now c.in_ok-place.place c.in_ok-get_mut.field-0.now c.send.new.self after_send is by in
     search rules

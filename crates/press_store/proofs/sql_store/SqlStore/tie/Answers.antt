@@ -36,7 +36,7 @@ returns-in-Ok-None-clause-version g c honest = subst (λ (k : Kept _). VersionSt
 
 pub returns-in-Err-clause-looks : goal.returns-in-Err-clause-looks
 returns-in-Err-clause-looks g c honest =
-    looked_told g.D.Store c.args.self.now (record { conn = c.tie_file.new.conn; faults = c.counted.new.faults; is_ours = c.self.inside.is_ours })
+    looked_told g.D.Store c.args.self.now (record { conn = c.tie_file.new.conn; faults = c.count_fault.new.faults; is_ours = c.self.inside.is_ours })
     (subst (λ (k : Kept _). Looked (state g.D.Store k.conn) (state g.D.Store c.tie_file.new.conn)) c.self.view_is (c.tie_file.ensures.looks honest.0 (c.self.invariant honest.1)))
 
 pub returns-in-Err-clause-untouched : goal.returns-in-Err-clause-untouched

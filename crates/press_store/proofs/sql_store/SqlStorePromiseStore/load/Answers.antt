@@ -17,7 +17,7 @@ returns-in-Ok-None-clause-looks g c honest =
 
 pub returns-in-Err-clause-looks : goal.returns-in-Err-clause-looks
 returns-in-Err-clause-looks g c honest =
-    looked_told g.D.Store c.args.self.now (record { conn = c.read_block.new.conn; faults = c.counted.new.faults; is_ours = c.self.inside.is_ours })
+    looked_told g.D.Store c.args.self.now (record { conn = c.read_block.new.conn; faults = c.count_fault.new.faults; is_ours = c.self.inside.is_ours })
     (subst (λ (k : Kept _). Looked (state g.D.Store k.conn) (state g.D.Store c.read_block.new.conn)) c.self.view_is (c.read_block.ensures.looks honest.0 (c.self.invariant honest.1)))
 
 pub returns-in-Ok-Some-clause-opened : goal.returns-in-Ok-Some-clause-opened

@@ -8,5 +8,5 @@ use Rattle.press_store.proofs.sql_store.SqlStorePromiseStore.save_round.Goals as
 
 pub returns-in-Err-clause-saves : goal.returns-in-Err-clause-saves
 returns-in-Err-clause-saves g c honest =
-    failed_told g.D.Store c.args.self.now (record { conn = c.put_round.new.conn; faults = c.counted.new.faults; is_ours = c.self.inside.is_ours }) (λ store. with_round store c.args.round) c.in-Err.error
+    failed_told g.D.Store c.args.self.now (record { conn = c.put_round.new.conn; faults = c.count_fault.new.faults; is_ours = c.self.inside.is_ours }) (λ store. with_round store c.args.round) c.in-Err.error
     (subst (λ (k : Kept _). Saved {A = ℕ} (λ store. with_round store c.args.round) (state g.D.Store k.conn) (state g.D.Store c.put_round.new.conn) (Err c.in-Err.error)) c.self.view_is (c.in-Err.ensures.saves honest.0 (c.self.invariant honest.1)))

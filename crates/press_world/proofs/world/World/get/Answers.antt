@@ -22,7 +22,7 @@ returns-in-Ok g c =
           let same : (static_of seat).kit ≡ kit = all_at (λ x. x.kit ≡ kit) (statics w) index (static_of seat) have (map_get static_of seats index seat at) in
           get_steps kit (size w) (model w) c.args.number index c.args.target.now seat.store seat.state.up c.in-Ok.reply c.with_reply.result c.in-Some.ensures (map_get place_of seats index seat at)
           (subst (λ k. IsPageAt k seat.state.up c.args.target.now c.in-Ok.reply) same c.in-Ok.ensures.page)
-          (c.with_reply.ensures ∙ ap (λ t. record { node = t.node; first = t.first; count = t.count; stopped = t.stopped; applied = t.applied; reply = Some c.in-Ok.reply }) c.told-told.ensures);
+          (c.with_reply.ensures ∙ ap (λ t. record { node = t.node; first = t.first; count = t.count; stopped = t.stopped; applied = t.applied; reply = Some c.in-Ok.reply }) c.report_of_event-told.ensures);
     }
 
 pub returns-in-Err : goal.returns-in-Err

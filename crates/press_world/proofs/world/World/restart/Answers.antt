@@ -27,7 +27,7 @@ returns-clause-steps g c kit =
     let w = c.args.self.now in
     let after = c.restart.new.self in
     let p = some_place (model w).places c.in-Some.index (numbered (length (model w).places) c.args.number c.in-Some.index c.in-Some.ensures).1 in
-    restart_steps kit (size w) (model w) (kept_in after) c.args.number c.in-Some.index p.0 c.told.result c.in-Some.ensures p.1
+    restart_steps kit (size w) (model w) (kept_in after) c.args.number c.in-Some.index p.0 c.report_of_event.result c.in-Some.ensures p.1
     (same_size place_of static_of w.cluster.seats.items after.seats.items c.restart.ensures.statics)
     (restarted_sent (size w) (model w) (kept_in after) c.in-Some.index c.restart.ensures.restarted)
-    c.restart.ensures.restarted c.told.ensures
+    c.restart.ensures.restarted c.report_of_event.ensures

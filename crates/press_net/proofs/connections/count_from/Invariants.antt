@@ -1,0 +1,10 @@
+use Rattle.std.proofs.Common.{◌≡◌, ◌+◌, ◌≤◌, drop}
+use Rattle.press_net.specs.Talking.{count_of, is_from}
+use Rattle.press_net.proofs.connections.count_from.Given as goal
+
+-- those before the place are counted, and those behind it are still to be
+abbrev pub invariant-loop-slot : goal.invariant-loop-slot
+invariant-loop-slot l = record {
+  few : l.count ≤ l.slot-index;
+  count : l.count + count_of (is_from l.from) (drop l.slot-index l.slots) ≡ count_of (is_from l.from) l.slots;
+}

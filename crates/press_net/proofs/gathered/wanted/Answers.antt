@@ -1,6 +1,0 @@
-use Rattle.std.proofs.Common.{refl}
-use Rattle.press_net.proofs.Padding.{wants}
-use Rattle.press_net.proofs.gathered.wanted.Goals as goal
-
-pub returns : goal.returns
-returns c = wants _ c.read_pieces.ensures.0 _ _ (refl, refl, refl) c.read_pieces.ensures.1
