@@ -175,12 +175,12 @@ form_brought true e refused ds is h = first_brought [] e refused ds is h
 form_brought false e refused ds is h = none_brought [] ds h
 
 has_brought : {N : Type 0} (old : View N) (up : Option Up) (Whole : Type 0) (i : Input) (refused : Option NodeFault) (ds : List (Deed N)) → Has old up Whole i refused ds → AreBrought (heard_in i) ds
-has_brought old up Whole (input.Form command) refused ds h = form_brought old.is_open (event.Submit command) refused ds tt h
+has_brought old up Whole (input.Command command) refused ds h = form_brought old.is_open (event.Submit command) refused ds tt h
 has_brought old up Whole (input.Page target) refused ds h = none_brought [] ds h
 has_brought old up Whole (input.Message message) refused ds h = delivery_brought (message ∷ []) old.id (count_where up + 1) message refused ds (inl refl) h
 has_brought old up Whole (input.Report from report) refused ds h = none_brought [] ds h
 has_brought old up Whole (input.Ended to asked is_taken) refused ds h = none_brought [] ds h
-has_brought old up Whole input.Sent refused ds h = own_first [] old.id Whole old.own ds h
+has_brought old up Whole input.HearOwn refused ds h = own_first [] old.id Whole old.own ds h
 has_brought old up Whole (input.Time now) refused ds h = due_brought [] ds h
 
 comes : (sent own heard : List Message) (cause : Cause) (e : Event) → AreSent sent own → AreSent sent heard → IsCause own cause e → IsBroughtBy heard cause e → Comes sent e

@@ -17,7 +17,7 @@ use Rattle.press_member.specs.Deeds.{Deed}
 use Rattle.press_member.specs.Turns.{AreQuestions, Brings, Delivers, HearsFirst, MayWake, Moment, Turned}
 use Rattle.press_batch.specs.declared.report.Digests.{Digests}
 use Rattle.press_member.specs.declared.input.Input.{Input}
-use Rattle.press_member.specs.declared.input.Input.TheVariants.{Form, Page, Message as Letter, Report, Ended, Sent, Time}
+use Rattle.press_member.specs.declared.input.Input.TheVariants.{Command, Page, Message as Letter, Report, Ended, HearOwn, Time}
 use Rattle.press_member.specs.declared.output.Answer.{Answer}
 use Rattle.press_member.specs.declared.output.Answer.TheVariants as answer
 use Rattle.press_member.specs.declared.output.Outputs.{Outputs}
@@ -48,9 +48,9 @@ Submits false event refused deeds = deeds ≡ []
 
 -- which deeds an input has a member do, where an event that it brings is refused so
 abbrev pub Has : {N : Type 0} → View N → Option Up → Type 0 → Input → Option NodeFault → List (Deed N) → Type 0
-Has old up Whole (Form command) refused deeds = Submits old.is_open (event.Submit command) refused deeds
+Has old up Whole (Command command) refused deeds = Submits old.is_open (event.Submit command) refused deeds
 Has old up Whole (Letter message) refused deeds = Delivers old.id (count_where up + 1) message refused deeds
-Has old up Whole Sent refused deeds = HearsFirst old.id Whole old.own deeds
+Has old up Whole HearOwn refused deeds = HearsFirst old.id Whole old.own deeds
 Has old up Whole (Time now) refused deeds = MayWake deeds ⊎ AreQuestions deeds
 Has old up Whole (Page target) refused deeds = deeds ≡ []
 Has old up Whole (Report from report) refused deeds = deeds ≡ []
@@ -58,9 +58,9 @@ Has old up Whole (Ended to asked is_taken) refused deeds = deeds ≡ []
 
 -- an input for which memory may be wanting
 abbrev pub TakesMemory : {N : Type 0} → View N → Input → Type 0
-TakesMemory old (Form command) = IsTrue old.is_open
+TakesMemory old (Command command) = IsTrue old.is_open
 TakesMemory old (Letter message) = Unit {0}
-TakesMemory old Sent = Unit {0}
+TakesMemory old HearOwn = Unit {0}
 TakesMemory old (Time now) = Unit {0}
 TakesMemory old (Page target) = ⊥
 TakesMemory old (Report from report) = ⊥
@@ -87,12 +87,12 @@ Hears own theirs given = ((given ≡ answer.Taken) × (theirs ≡ own)) ⊎ ((gi
 
 -- what is answered to an input
 abbrev pub Answers : {N : Type 0} → View N → KitView → Option Up → Input → Option NodeFault → Answer → Type 0
-Answers old kit up (Form command) refused given = given ≡ taken_if old.is_open refused
+Answers old kit up (Command command) refused given = given ≡ taken_if old.is_open refused
 Answers old kit up (Letter message) refused given = given ≡ taken_answer refused
 Answers old kit up (Page target) refused given = Shows old.is_open kit up target given
 Answers old kit up (Report from report) refused given = Hears old.digests report.digests given
 Answers old kit up (Ended to asked is_taken) refused given = given ≡ answer.Nothing
-Answers old kit up Sent refused given = given ≡ answer.Nothing
+Answers old kit up HearOwn refused given = given ≡ answer.Nothing
 Answers old kit up (Time now) refused given = given ≡ answer.Nothing
 
 -- A member before and after an input: its node moved by the deeds that the input has it do, each by

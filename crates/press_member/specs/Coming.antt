@@ -8,17 +8,17 @@ use Rattle.press_member.specs.Acts.{View}
 use Rattle.press_member.specs.Among.{AreBy, IsAmong}
 use Rattle.press_member.specs.Members.{AreMoves, Members, Move, after_all}
 use Rattle.press_member.specs.declared.input.Input.{Input}
-use Rattle.press_member.specs.declared.input.Input.TheVariants.{Form, Page, Message as Letter, Report, Ended, Sent, Time}
+use Rattle.press_member.specs.declared.input.Input.TheVariants.{Command, Page, Message as Letter, Report, Ended, HearOwn, Time}
 use Rattle.press_member.specs.declared.output.Outputs.{Outputs}
 
 -- the messages that an input brings
 abbrev pub heard_in : Input → List Message
-heard_in (Form command) = []
+heard_in (Command command) = []
 heard_in (Page target) = []
 heard_in (Letter message) = message ∷ []
 heard_in (Report from report) = []
 heard_in (Ended to asked is_taken) = []
-heard_in Sent = []
+heard_in HearOwn = []
 heard_in (Time now) = []
 
 module _ {S : Type 0} (seen : S → Seen) where

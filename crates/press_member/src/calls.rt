@@ -263,7 +263,7 @@ impl<S: PromiseStore> Member<S> {
             (view_of self.new) result }
     {
         match input {
-            Input::Form(command) => self.on_form(command),
+            Input::Command(command) => self.on_command(command),
             Input::Page(target) => Ok(self.on_page(&target)),
             Input::Message(message) => self.on_message(message),
             Input::Report { from, report } => Ok(self.on_report(from, report)),
@@ -272,7 +272,7 @@ impl<S: PromiseStore> Member<S> {
                 asked,
                 is_taken,
             } => Ok(self.on_end(to, asked, is_taken)),
-            Input::Sent => self.on_sent(),
+            Input::HearOwn => self.on_own(),
             Input::Time(now) => self.on_time(now),
         }
     }
@@ -294,9 +294,9 @@ impl<S: PromiseStore> Member<S> {
         Ok(played.answer())
     }
 
-    fn on_form(&mut self, command: Stamped) -> Result<Outputs, AllocError>
+    fn on_command(&mut self, command: Stamped) -> Result<Outputs, AllocError>
         requires always { Unit {0} }
-        ensures acts { Acts (λ a b. node_moved S.seen a b) (input.Form command)
+        ensures acts { Acts (λ a b. node_moved S.seen a b) (input.Command command)
             (view_of self.old) (view_of self.new) result }
     {
         if !self.is_open() {
@@ -465,9 +465,9 @@ impl<S: PromiseStore> Member<S> {
         Outputs::only(self.alloc, Answer::Nothing)
     }
 
-    fn on_sent(&mut self) -> Result<Outputs, AllocError>
+    fn on_own(&mut self) -> Result<Outputs, AllocError>
         requires always { Unit {0} }
-        ensures acts { Acts (λ a b. node_moved S.seen a b) input.Sent
+        ensures acts { Acts (λ a b. node_moved S.seen a b) input.HearOwn
             (view_of self.old) (view_of self.new) result }
     {
         let mut messages = Vec::new(self.alloc);

@@ -7,7 +7,7 @@ use press_wire::{MemberId, Message};
 #[derive(Debug, Drop)]
 pub enum Input {
     /// An editor's command comes.
-    Form(Stamped),
+    Command(Stamped),
     /// A page of the site is asked for, or a reply in JSON.
     Page(Target),
     /// A message comes to it from another member.
@@ -25,7 +25,7 @@ pub enum Input {
         is_taken: bool,
     },
     /// What it has sent is on its way: it may hear what it has sent to itself.
-    Sent,
+    HearOwn,
     /// Milliseconds of a clock that doesn't go back.
     Time(u64),
 }

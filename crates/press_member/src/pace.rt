@@ -300,7 +300,7 @@ impl Pace {
         match sign_of(message, own, is_for_all) {
             Sign::Nothing => {}
             Sign::Prepares => self.lead(slot, true),
-            Sign::Asks => self.lead(slot, false),
+            Sign::Accepts => self.lead(slot, false),
             Sign::Other(member) => {
                 let place = u64::from(member.number()).saturating_sub(1);
                 self.leave_to(place, slot);

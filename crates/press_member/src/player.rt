@@ -50,8 +50,8 @@ impl<S: Drop> Drop for Player<S> {
 #[derive(Clone, Copy)]
 pub enum Played {
     Refused(NodeFault),
-    /// It was done; whether it asks members for their votes.
-    Done { asks: bool },
+    /// It was done; whether it queries members for their votes.
+    Done { queries: bool },
 }
 
 impl<S> Player<S> {
@@ -74,7 +74,7 @@ impl<S> Player<S> {
 impl Played {
     // Whether the node proposes something.
     fn proposes(self) -> bool {
-        matches!(self, Played::Done { asks: false })
+        matches!(self, Played::Done { queries: false })
     }
 
     /// Whether it was done.
@@ -137,10 +137,10 @@ impl<S: PromiseStore> Player<S> {
                 Ok(Played::Refused(fault))
             }
             Ok(sent) => {
-                let asks = sent.iter().any(is_question);
+                let queries = sent.iter().any(is_question);
                 self.pace.note_all(&sent, self.id);
                 put_all(self.id, sent, &mut self.own, out)?;
-                Ok(Played::Done { asks })
+                Ok(Played::Done { queries })
             }
         }
     }

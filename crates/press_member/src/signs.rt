@@ -14,7 +14,7 @@ pub enum Sign {
     /// It prepares a block itself.
     Prepares,
     /// It asks for votes itself.
-    Asks,
+    Accepts,
     /// The member of that number proposes.
     Other(MemberId),
     /// Another would, and is refused.
@@ -28,7 +28,7 @@ pub enum Sign {
 pub fn sign_of(message: &Message, own: MemberId, is_for_all: bool) -> Sign {
     match &message.body {
         Body::Prepare { .. } => Sign::Prepares,
-        Body::Accept { .. } => Sign::Asks,
+        Body::Accept { .. } => Sign::Accepts,
         Body::Promise { .. } if message.to != own => Sign::Other(message.to),
         Body::Accepted { vote } if is_for_all && vote.ballot.node != own => {
             Sign::Other(vote.ballot.node)

@@ -33,7 +33,7 @@ fn report_of(report: simulation::Report) -> Report {
 pub fn input_of(alloc: Global, input: simulation::Input<Message>) -> Option<member::Input> {
     match input {
         simulation::Input::Time(clock) => Some(member::Input::Time(clock)),
-        simulation::Input::Sent => Some(member::Input::Sent),
+        simulation::Input::Sent => Some(member::Input::HearOwn),
         simulation::Input::Letter(message) => Some(member::Input::Message(message)),
         simulation::Input::Report { from, report } => Some(member::Input::Report {
             from: id_at(from)?,
@@ -48,7 +48,7 @@ pub fn input_of(alloc: Global, input: simulation::Input<Message>) -> Option<memb
             asked,
             is_taken,
         }),
-        simulation::Input::Form(number) => Some(member::Input::Form(form(alloc, number)?)),
+        simulation::Input::Form(number) => Some(member::Input::Command(form(alloc, number)?)),
         simulation::Input::Page => Some(member::Input::Page(Target::Front)),
     }
 }

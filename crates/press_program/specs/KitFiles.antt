@@ -10,8 +10,8 @@ use Rattle.press_kit.specs.declared.kit_parts.Scripted.{Scripted}
 use Rattle.press_kit.specs.declared.place.Place.{Place}
 use Rattle.press_lint.specs.Files.{TellsFiles}
 use Rattle.press_lint.specs.Joints.{File, Joint, files_of, read_together}
-use Rattle.press_program.specs.declared.kitting.Chosen.{Chosen}
-use Rattle.press_program.specs.declared.kitting.Chosen.TheVariants.{Demonstration, OfFiles}
+use Rattle.press_program.specs.declared.kitting.KitSource.{KitSource}
+use Rattle.press_program.specs.declared.kitting.KitSource.TheVariants.{Demonstration, OfFiles}
 use Rattle.press_program.specs.declared.kitting.KitFault.{KitFault}
 use Rattle.press_program.specs.declared.kitting.KitFault.TheVariants as kit
 use Rattle.press_text.specs.Streams.{AppendsFront}
@@ -34,9 +34,9 @@ view_where (Ok joint) = view_in joint.kit
 view_where (Err bad) = record { scripts = []; plugins = [] }
 
 -- the kit of a run
-abbrev pub view_chosen : Chosen → KitView
-view_chosen Demonstration = demonstration
-view_chosen (OfFiles files) = view_where (read_together (files_of files.items))
+abbrev pub view_of_source : KitSource → KitView
+view_of_source Demonstration = demonstration
+view_of_source (OfFiles files) = view_where (read_together (files_of files.items))
 
 -- files of these names, with whatever bytes
 abbrev pub AreNamed : List (List ℕ) → List File → Type 0

@@ -67,7 +67,7 @@ fn try_page<R: Read>(
 }
 
 // The end of a run on the file that a reader has left, for what is asked of its site.
-fn page_end<R: Read>(alloc: Global, kit: &Kit, target: &Target, reader: &mut R) -> Ending
+fn run_page<R: Read>(alloc: Global, kit: &Kit, target: &Target, reader: &mut R) -> Ending
     ensures took { TakesAtMost (R.remaining reader.old) (R.remaining reader.new) (file_limit + 1) }
     ensures ends { EndsOn (kit_view kit.now) target.now (R.remaining reader.old) result }
 {
@@ -79,7 +79,7 @@ fn page_end<R: Read>(alloc: Global, kit: &Kit, target: &Target, reader: &mut R) 
 
 // The end of a replay of the schedule that a reader has left.
 #[tactic(auto, unfolding(crate::specs::Endings::EndsReplay))]
-fn replay_end<R: Read, W: Write>(
+fn run_replay<R: Read, W: Write>(
     alloc: Global,
     kits: Vec<Kit>,
     reader: &mut R,
@@ -100,7 +100,7 @@ fn replay_end<R: Read, W: Write>(
 
 // The same over sockets of the loopback.
 #[tactic(auto, unfolding(crate::specs::Endings::EndsLoop))]
-fn loop_end<Rt: AllocGlobal + Net, R: Read, W: Write>(
+fn run_loop<Rt: AllocGlobal + Net, R: Read, W: Write>(
     rt: &Rt,
     kits: Vec<Kit>,
     reader: &mut R,
@@ -121,7 +121,7 @@ fn loop_end<Rt: AllocGlobal + Net, R: Read, W: Write>(
 
 /// The end of a run for a task, over kits that are alike and as many as it wants, on the file that
 /// a reader has left.
-pub fn end_over<Rt: AllocGlobal + Net, R: Read, W: Write>(
+pub fn run_task<Rt: AllocGlobal + Net, R: Read, W: Write>(
     rt: &Rt,
     kits: Vec<Kit>,
     task: &Task,
@@ -136,8 +136,8 @@ pub fn end_over<Rt: AllocGlobal + Net, R: Read, W: Write>(
         (W.contents writer.old) (W.contents writer.new) result }
 {
     match task {
-        Task::Page(target) => page_end(rt.alloc(), &kits[0], target, reader),
-        Task::Replay => replay_end(rt.alloc(), kits, reader, writer),
-        Task::Loop => loop_end(rt, kits, reader, writer),
+        Task::Page(target) => run_page(rt.alloc(), &kits[0], target, reader),
+        Task::Replay => run_replay(rt.alloc(), kits, reader, writer),
+        Task::Loop => run_loop(rt, kits, reader, writer),
     }
 }

@@ -9,10 +9,10 @@ ghost use Rattle.press_server.specs.Digests.{behind_files, digest_of_files};
 ghost use Rattle.press_server.specs.Listening.{listening_line, where_of};
 ghost use Rattle.press_text.specs.Streams.{AppendsFront, TakesAtMost};
 ghost use Rattle.press_program.specs.Endings.{Does, IsServed, Listens, ReadsFor};
-ghost use Rattle.press_program.specs.KitFiles.{view_chosen, view_where};
+ghost use Rattle.press_program.specs.KitFiles.{view_of_source, view_where};
 ghost use Rattle.press_program.specs.Words.{job_of, server_of};
 
-use crate::kitting::Chosen;
+use crate::kitting::KitSource;
 use crate::over::Over;
 use crate::reasons::{reason_of, serve_line};
 use crate::serves::Serves;
@@ -118,15 +118,15 @@ impl<S: Serves> Hosting<'_, '_, S> {
         writer: &mut W,
         error: &mut E,
     ) -> Result<(), ServeFault>
-        ensures { IsServed S.served (view_chosen self.now.over.kit.now) (server_of setup.now) result
+        ensures { IsServed S.served (view_of_source self.now.over.kit.now) (server_of setup.now) result
             (W.contents writer.old) (W.contents writer.new) }
     {
         match self.over.kit {
-            Chosen::Demonstration => match self.serve_demonstration(setup, writer, error) {
+            KitSource::Demonstration => match self.serve_demonstration(setup, writer, error) {
                 Ok(ended) => ended,
                 Err(_) => Err(ServeFault::NoMemory),
             },
-            Chosen::OfFiles(files) => match self.serve_files(files, setup, writer, error) {
+            KitSource::OfFiles(files) => match self.serve_files(files, setup, writer, error) {
                 Ok(ended) => ended,
                 Err(_) => Err(ServeFault::NoMemory),
             },
@@ -135,7 +135,7 @@ impl<S: Serves> Hosting<'_, '_, S> {
 
     // Runs a server, and reports its fault.
     fn serve<W: Write, E: Write>(&self, setup: &Setup<'_>, writer: &mut W, error: &mut E) -> u8
-        ensures { Listens S.served (view_chosen self.now.over.kit.now) (server_of setup.now) result
+        ensures { Listens S.served (view_of_source self.now.over.kit.now) (server_of setup.now) result
             (W.contents writer.old) (W.contents writer.new) }
     {
         match self.host(setup, writer, error) {
@@ -151,7 +151,7 @@ impl<S: Serves> Hosting<'_, '_, S> {
     }
 
     /// What is to be done, over this kit.
-    pub fn does<R: Read, W: Write, E: Write>(
+    pub fn run_job<R: Read, W: Write, E: Write>(
         &self,
         job: &Job<'_>,
         reader: &mut R,
@@ -162,7 +162,7 @@ impl<S: Serves> Hosting<'_, '_, S> {
             (R.remaining reader.new) (file_limit + 1) }
         ensures reads { ReadsFor (job_of job.now) (R.remaining reader.old)
             (R.remaining reader.new) }
-        ensures does { Does S.served (view_chosen self.now.over.kit.now) (job_of job.now)
+        ensures does { Does S.served (view_of_source self.now.over.kit.now) (job_of job.now)
             (R.remaining reader.old) result (W.contents writer.old) (W.contents writer.new)
             (E.contents error.old) (E.contents error.new) }
     {

@@ -16,7 +16,7 @@ use thiserror::Error;
 
 /// The kit that a run plays with.
 #[derive(Debug, Drop)]
-pub enum Chosen<'f> {
+pub enum KitSource<'f> {
     Demonstration,
     /// That of these kit files, in their order.
     OfFiles(Vec<NamedFile<'f>>),

@@ -7,12 +7,12 @@ ghost use Rattle.press_lint.specs.Joints.{files_of, read_together};
 ghost use Rattle.press_text.specs.Streams.{TakesAtMost};
 ghost use Rattle.press_program.specs.Endings as spec;
 ghost use Rattle.press_program.specs.Endings.{known_of, EndsTask, Shows};
-ghost use Rattle.press_program.specs.KitFiles.{view_chosen, view_where};
+ghost use Rattle.press_program.specs.KitFiles.{view_of_source, view_where};
 ghost use Rattle.press_program.specs.Words.{is_input, wanted_of};
 ghost use Rattle.press_demonstration.specs.Demonstration.{demonstration};
 
-use crate::ending::{Ending, end_over};
-use crate::kitting::Chosen;
+use crate::ending::{Ending, run_task};
+use crate::kitting::KitSource;
 use crate::task::Task;
 use crate::telling::finish;
 use crate::wanted::Wanted;
@@ -41,12 +41,12 @@ fn kits_for(task: &Task) -> usize
 #[derive(Drop)]
 pub(crate) struct Over<'r, 'f, Rt> {
     pub rt: &'r Rt,
-    pub kit: &'r Chosen<'f>,
+    pub kit: &'r KitSource<'f>,
 }
 
 impl<Rt: AllocGlobal + Net> Over<'_, '_, Rt> {
     // The end for what is asked of a file, over demonstration kits.
-    fn end_over_demonstration<R: Read, W: Write>(
+    fn run_over_demonstration<R: Read, W: Write>(
         &self,
         task: &Task,
         reader: &mut R,
@@ -67,11 +67,11 @@ impl<Rt: AllocGlobal + Net> Over<'_, '_, Rt> {
                 Err(_) => return Err(ReplayFault::NoMemory),
             }
         }
-        Ok(end_over(self.rt, kits, task, reader, writer))
+        Ok(run_task(self.rt, kits, task, reader, writer))
     }
 
     // The same over kits of these kit files.
-    fn end_over_files<R: Read, W: Write>(
+    fn run_over_files<R: Read, W: Write>(
         &self,
         files: &[NamedFile<'_>],
         task: &Task,
@@ -97,10 +97,10 @@ impl<Rt: AllocGlobal + Net> Over<'_, '_, Rt> {
                 Err(_) => return Err(ReplayFault::NoMemory),
             }
         }
-        Ok(end_over(self.rt, kits, task, reader, writer))
+        Ok(run_task(self.rt, kits, task, reader, writer))
     }
 
-    fn try_end<R: Read, W: Write>(
+    fn try_run<R: Read, W: Write>(
         &self,
         task: &Task,
         reader: &mut R,
@@ -108,31 +108,26 @@ impl<Rt: AllocGlobal + Net> Over<'_, '_, Rt> {
     ) -> Result<Ending, ReplayFault>
         ensures took { TakesAtMost (R.remaining reader.old)
             (R.remaining reader.new) (file_limit + 1) }
-        ensures ends { IfOk result (λ end. EndsTask (view_chosen self.now.kit.now) task.now
+        ensures ends { IfOk result (λ end. EndsTask (view_of_source self.now.kit.now) task.now
             (R.remaining reader.old) (W.contents writer.old) (W.contents writer.new) end) }
         ensures err { IfErr result (λ e. (e ≡ ReplayFault.NoMemory)
             × (W.contents writer.new ≡ W.contents writer.old)) }
     {
         match self.kit {
-            Chosen::Demonstration => self.end_over_demonstration(task, reader, writer),
-            Chosen::OfFiles(files) => self.end_over_files(files, task, reader, writer),
+            KitSource::Demonstration => self.run_over_demonstration(task, reader, writer),
+            KitSource::OfFiles(files) => self.run_over_files(files, task, reader, writer),
         }
     }
 
     // The end of a run on the file that a reader has left.
     #[tactic(auto, using(crate::proofs::Ends::out_of_memory))]
-    fn end_of_reader<R: Read, W: Write>(
-        &self,
-        task: &Task,
-        reader: &mut R,
-        writer: &mut W,
-    ) -> Ending
+    fn run_reader<R: Read, W: Write>(&self, task: &Task, reader: &mut R, writer: &mut W) -> Ending
         ensures took { TakesAtMost (R.remaining reader.old)
             (R.remaining reader.new) (file_limit + 1) }
-        ensures ends { EndsTask (view_chosen self.now.kit.now) task.now (R.remaining reader.old)
+        ensures ends { EndsTask (view_of_source self.now.kit.now) task.now (R.remaining reader.old)
             (W.contents writer.old) (W.contents writer.new) result }
     {
-        match self.try_end(task, reader, writer) {
+        match self.try_run(task, reader, writer) {
             Ok(end) => end,
             Err(fault) => Ending::Fault(fault),
         }
@@ -142,12 +137,12 @@ impl<Rt: AllocGlobal + Net> Over<'_, '_, Rt> {
 impl<Rt: AllocGlobal + Files + Net> Over<'_, '_, Rt> {
     // The end of a run on a file by its name. One that can't be opened counts as one that can't be
     // read.
-    fn end_of_named<W: Write>(&self, wanted: &Wanted<'_>, writer: &mut W) -> Ending
-        ensures { EndsTask (view_chosen self.now.kit.now) wanted.now.task None
+    fn run_named<W: Write>(&self, wanted: &Wanted<'_>, writer: &mut W) -> Ending
+        ensures { EndsTask (view_of_source self.now.kit.now) wanted.now.task None
             (W.contents writer.old) (W.contents writer.new) result }
     {
         match fs::open(self.rt, wanted.file) {
-            Ok(mut file) => self.end_of_reader(&wanted.task, &mut file, writer),
+            Ok(mut file) => self.run_reader(&wanted.task, &mut file, writer),
             Err(e) if e.kind() == io::ErrorKind::OutOfMemory => {
                 Ending::Fault(ReplayFault::NoMemory)
             }
@@ -155,7 +150,7 @@ impl<Rt: AllocGlobal + Files + Net> Over<'_, '_, Rt> {
         }
     }
 
-    fn end_of_input<R: Read, W: Write>(
+    fn run_input<R: Read, W: Write>(
         &self,
         wanted: &Wanted<'_>,
         reader: &mut R,
@@ -165,14 +160,14 @@ impl<Rt: AllocGlobal + Files + Net> Over<'_, '_, Rt> {
             (R.remaining reader.new) (file_limit + 1) }
         ensures stays { is_input wanted.now.file.now ≡ false →
             Keeps (R.remaining reader.old) (R.remaining reader.new) }
-        ensures ends { EndsTask (view_chosen self.now.kit.now) wanted.now.task
+        ensures ends { EndsTask (view_of_source self.now.kit.now) wanted.now.task
             (known_of wanted.now.file.now (R.remaining reader.old))
             (W.contents writer.old) (W.contents writer.new) result }
     {
         if wanted.file == "-" {
-            self.end_of_reader(&wanted.task, reader, writer)
+            self.run_reader(&wanted.task, reader, writer)
         } else {
-            self.end_of_named(wanted, writer)
+            self.run_named(wanted, writer)
         }
     }
 
@@ -188,11 +183,11 @@ impl<Rt: AllocGlobal + Files + Net> Over<'_, '_, Rt> {
             (R.remaining reader.new) (file_limit + 1) }
         ensures stays { is_input wanted.now.file.now ≡ false →
             Keeps (R.remaining reader.old) (R.remaining reader.new) }
-        ensures shows { Shows (view_chosen self.now.kit.now) (wanted_of wanted.now)
+        ensures shows { Shows (view_of_source self.now.kit.now) (wanted_of wanted.now)
             (R.remaining reader.old) result (W.contents writer.old) (W.contents writer.new)
             (E.contents error.old) (E.contents error.new) }
     {
-        let end = self.end_of_input(wanted, reader, writer);
+        let end = self.run_input(wanted, reader, writer);
         finish(end, writer, error)
     }
 }

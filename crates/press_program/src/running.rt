@@ -7,7 +7,7 @@ ghost use Rattle.press_program.specs.Endings.{ReadsAsked, ReadsFor, RefusesWords
 ghost use Rattle.press_program.specs.Words.{asked_by, asked_of, job_of};
 
 use crate::hosting::Hosting;
-use crate::kitting::{Chosen, ReadKits, Unusable, read_kits};
+use crate::kitting::{KitSource, ReadKits, Unusable, read_kits};
 use crate::over::Over;
 use crate::serves::{Serves, Sockets};
 use crate::telling::{fail, refuse, refuse_kit, tell};
@@ -35,16 +35,16 @@ impl Arguments<'_> {
     {
         let Program { rt, serves } = *program;
         if self.kits.is_empty() {
-            let kit = Chosen::Demonstration;
+            let kit = KitSource::Demonstration;
             let over = Over { rt, kit: &kit };
-            return Hosting { over, serves }.does(&self.job, reader, writer, error);
+            return Hosting { over, serves }.run_job(&self.job, reader, writer, error);
         }
         match read_kits(rt, &self.kits) {
             Ok(ReadKits { files, slips }) => {
                 tell(error, slips.as_bytes());
-                let kit = Chosen::OfFiles(files);
+                let kit = KitSource::OfFiles(files);
                 let over = Over { rt, kit: &kit };
-                Hosting { over, serves }.does(&self.job, reader, writer, error)
+                Hosting { over, serves }.run_job(&self.job, reader, writer, error)
             }
             Err(Unusable { file, fault }) => refuse_kit(rt.alloc(), file, &fault, error),
         }

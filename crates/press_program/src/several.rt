@@ -7,11 +7,11 @@ ghost use Rattle.press_kit.specs.KitFile.{file_limit};
 ghost use Rattle.press_lint.specs.Joints.{files_of, read_together};
 ghost use Rattle.press_text.specs.Streams.{TakesAtMost};
 ghost use Rattle.press_program.specs.Endings.{ending_of, known_of, page_ending, EndsBehind, ReadsBehind, ShowsFiles};
-ghost use Rattle.press_program.specs.KitFiles.{view_chosen, view_where};
+ghost use Rattle.press_program.specs.KitFiles.{view_of_source, view_where};
 ghost use Rattle.press_program.specs.Words.{is_input, several_of};
 
 use crate::ending::{Ending, page_after};
-use crate::kitting::Chosen;
+use crate::kitting::KitSource;
 use crate::over::Over;
 use crate::sites::{read_all_named, site_of};
 use crate::telling::finish;
@@ -89,12 +89,12 @@ impl<Rt: AllocGlobal> Over<'_, '_, Rt> {
 
     // The page of the site that commands make over the kit of the run.
     fn page_of(&self, target: &Target, commands: Items<Stamped>) -> Result<Ending, AllocError>
-        ensures { IfOk result (λ end. end ≡ page_ending (view_chosen self.now.kit.now)
+        ensures { IfOk result (λ end. end ≡ page_ending (view_of_source self.now.kit.now)
             target.now (Ok commands)) }
     {
         match self.kit {
-            Chosen::Demonstration => self.demonstrated_page(target, commands),
-            Chosen::OfFiles(files) => self.filed_page(files, target, commands),
+            KitSource::Demonstration => self.demonstrated_page(target, commands),
+            KitSource::OfFiles(files) => self.filed_page(files, target, commands),
         }
     }
 }
@@ -110,7 +110,7 @@ impl<Rt: AllocGlobal + Files> Over<'_, '_, Rt> {
             (R.remaining reader.new) (file_limit + 1) }
         ensures stays { is_input files.now.file.now ≡ false →
             Keeps (R.remaining reader.old) (R.remaining reader.new) }
-        ensures ends { EndsBehind (view_chosen self.now.kit.now) files.now.target
+        ensures ends { EndsBehind (view_of_source self.now.kit.now) files.now.target
             (known_of files.now.file.now (R.remaining reader.old))
             (length (several_of files.now).further) (ending_of result) }
     {
@@ -130,7 +130,7 @@ impl<Rt: AllocGlobal + Files> Over<'_, '_, Rt> {
             (R.remaining reader.new) (file_limit + 1) }
         ensures stays { is_input files.now.file.now ≡ false →
             Keeps (R.remaining reader.old) (R.remaining reader.new) }
-        ensures shows { ShowsFiles (view_chosen self.now.kit.now) (several_of files.now)
+        ensures shows { ShowsFiles (view_of_source self.now.kit.now) (several_of files.now)
             (R.remaining reader.old) result (W.contents writer.old) (W.contents writer.new)
             (E.contents error.old) (E.contents error.new) }
     {

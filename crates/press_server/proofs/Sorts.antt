@@ -7,8 +7,8 @@ use Rattle.press_http.specs.declared.fault.HttpFault.{HttpFault}
 use Rattle.press_http.specs.declared.fault.HttpFault.TheVariants.{NoMemory}
 use Rattle.press_node.specs.Serving.{AsksFor}
 use Rattle.press_server.specs.Screening.{IsOfSort, sort_named}
-use Rattle.press_server.specs.declared.screen.Sort.{Sort}
-use Rattle.press_server.specs.declared.screen.Sort.TheVariants.{Other}
+use Rattle.press_server.specs.declared.operator_options.Sort.{Sort}
+use Rattle.press_server.specs.declared.operator_options.Sort.TheVariants.{Other}
 
 abbrev pub fault_or : Result Asked HttpFault → HttpFault → HttpFault
 fault_or (Ok what) e = e

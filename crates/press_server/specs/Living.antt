@@ -13,7 +13,7 @@ use Rattle.press_member.specs.Acts.{Acts, Answers, Hears, View, view_of}
 use Rattle.press_member.specs.Coming.{AreItsMoves}
 use Rattle.press_member.specs.Lives.{Lives, Step}
 use Rattle.press_member.specs.declared.input.Input.{Input}
-use Rattle.press_member.specs.declared.input.Input.TheVariants.{Form, Page, Message as Letter, Report, Ended, Sent, Time}
+use Rattle.press_member.specs.declared.input.Input.TheVariants.{Command, Page, Message as Letter, Report, Ended, HearOwn, Time}
 use Rattle.press_member.specs.declared.member.Member.{Member}
 use Rattle.press_member.specs.declared.output.Answer.{Answer}
 use Rattle.press_member.specs.declared.output.Outputs.{Outputs}
@@ -87,19 +87,19 @@ MemberLives seen old new = IsLife seen (λ a b. node_moved seen a b) (λ node. s
 -- what is answered to a report: whether it is of the same members and the same kit
 abbrev pub Compares : {N : Type 0} → View N → Input → Answer → Type 0
 Compares member (Report from report) given = Hears member.digests report.digests given
-Compares member (Form command) given = Unit {0}
+Compares member (Command command) given = Unit {0}
 Compares member (Page target) given = Unit {0}
 Compares member (Letter message) given = Unit {0}
 Compares member (Ended to asked is_taken) given = Unit {0}
-Compares member Sent given = Unit {0}
+Compares member HearOwn given = Unit {0}
 Compares member (Time now) given = Unit {0}
 
 -- by what is answered to an input
 pub compared : {N : Type 0} (member : View N) (kit : KitView) (up : Option Up) (input : Input) (refused : Option NodeFault) (given : Answer) → Answers member kit up input refused given → Compares member input given
 compared member kit up (Report from report) refused given answers = answers
-compared member kit up (Form command) refused given answers = tt
+compared member kit up (Command command) refused given answers = tt
 compared member kit up (Page target) refused given answers = tt
 compared member kit up (Letter message) refused given answers = tt
 compared member kit up (Ended to asked is_taken) refused given answers = tt
-compared member kit up Sent refused given answers = tt
+compared member kit up HearOwn refused given answers = tt
 compared member kit up (Time now) refused given answers = tt

@@ -6,9 +6,9 @@ use Rattle.press_http.specs.declared.fault.HttpFault.{HttpFault}
 use Rattle.press_http.specs.declared.fault.HttpFault.TheVariants.{NoMemory}
 use Rattle.std.specs.Io.KnownBytes.{Consumes}
 use Rattle.press_node.specs.Serving.{AsksFor}
-use Rattle.press_server.specs.declared.screen.Screen.{Screen}
-use Rattle.press_server.specs.declared.screen.Sort.{Sort}
-use Rattle.press_server.specs.declared.screen.Sort.TheVariants.{Peer, Command, Page, Other}
+use Rattle.press_server.specs.declared.operator_options.OperatorOptions.{OperatorOptions}
+use Rattle.press_server.specs.declared.operator_options.Sort.{Sort}
+use Rattle.press_server.specs.declared.operator_options.Sort.TheVariants.{Peer, Command, Page, Other}
 
 abbrev pub sort_named : Asked → Sort
 sort_named (asked.Peer message) = Peer
@@ -36,9 +36,9 @@ is_ahead None at now = false
 is_ahead (Some most) at now = nat_lt (min (now + most) 18446744073709551615) at
 
 -- there is a page for editors
-abbrev pub has_page : Screen → Bool
-has_page screen = is_some screen.editors
+abbrev pub has_page : OperatorOptions → Bool
+has_page options = is_some options.editors
 
 -- how far ahead a command may be
-abbrev pub ahead_of : Screen → Option ℕ
-ahead_of screen = screen.ahead
+abbrev pub ahead_of : OperatorOptions → Option ℕ
+ahead_of options = options.ahead

@@ -7,12 +7,13 @@ ghost use Rattle.press_server.specs.Living.{NodeLives};
 
 use crate::counts::Counts;
 use crate::metrics::{Among, Metrics, show_metrics};
+use crate::operator_options::{
+    OperatorOptions, Sort, Standing, is_of_desk, refuse_form, refuse_path, refuse_without_memory,
+    show_ready,
+};
 use crate::paths::{Own, Paths};
 use crate::reasons::{REFUSED, line_about};
 use crate::replies::{refuse, tell_desk};
-use crate::screen::{
-    Screen, Sort, Standing, is_of_desk, refuse_form, refuse_path, refuse_without_memory, show_ready,
-};
 use crate::turn::serve_turn;
 use press_acceptor::PromiseStore;
 use press_http::{HttpFault, Request, read_request};
@@ -26,7 +27,7 @@ pub struct Alone<'s, S: PromiseStore> {
     alloc: Global,
     addr: SocketAddr,
     node: Node<S>,
-    screen: &'s Screen,
+    options: &'s OperatorOptions,
     paths: Paths,
     counts: Counts,
     traffic: Traffic,
@@ -41,7 +42,7 @@ impl<S: PromiseStore + Drop> Drop for Alone<'_, S> {
             alloc: _,
             addr: _,
             node: _,
-            screen: _,
+            options: _,
             paths: _,
             counts: _,
             traffic: _,
@@ -57,7 +58,7 @@ impl<'s, S: PromiseStore + Drop> Alone<'s, S> {
         alloc: Global,
         addr: SocketAddr,
         node: Node<S>,
-        screen: &'s Screen,
+        options: &'s OperatorOptions,
     ) -> Result<Alone<'s, S>, AllocError> {
         let paths = Paths::new(alloc)?;
         let counts = Counts::new();
@@ -73,7 +74,7 @@ impl<'s, S: PromiseStore + Drop> Alone<'s, S> {
             alloc,
             addr,
             node,
-            screen,
+            options,
             paths,
             counts,
             traffic,
@@ -115,7 +116,7 @@ impl<S: PromiseStore> Alone<'_, S> {
             is_down: self.node.is_down(),
             waiting: self.node.waiting_count() as u64,
             among,
-            saves: self.screen.saves(),
+            saves: self.options.saves(),
             traffic: self.traffic,
             counts: self.counts.all(),
         };
@@ -132,8 +133,8 @@ impl<S: PromiseStore> Alone<'_, S> {
         match own {
             Some(Own::Ready) => self.show_ready(told),
             Some(Own::Metrics) => self.show_metrics(told),
-            Some(Own::Editor) => self.screen.show_editor(self.alloc, told),
-            Some(Own::Members) | None => match self.screen.desk_question(self.alloc, request) {
+            Some(Own::Editor) => self.options.show_editor(self.alloc, told),
+            Some(Own::Members) | None => match self.options.desk_question(self.alloc, request) {
                 Some(asked) => tell_desk(self.alloc, &self.node, asked, told),
                 None => refuse_path(told),
             },
@@ -165,8 +166,8 @@ impl<S: PromiseStore> Alone<'_, S> {
         requires always { Unit {0} }
         ensures { NodeLives S.seen self.old.node self.new.node }
     {
-        match self.screen.sort_of(self.alloc, method, request)? {
-            Sort::Command(at) if self.screen.is_ahead(at, self.time.seconds) => refuse_form(told),
+        match self.options.sort_of(self.alloc, method, request)? {
+            Sort::Command(at) if self.options.is_ahead(at, self.time.seconds) => refuse_form(told),
             _ => {
                 let mut rest = request;
                 serve_turn(self.alloc, &mut self.node, &mut rest, told)
@@ -180,7 +181,7 @@ impl<S: PromiseStore> Alone<'_, S> {
     {
         self.counts.note(replied);
         if matches!(replied, Ok(REFUSED)) {
-            self.line = line_about(self.alloc, self.screen, self.time.seconds, request);
+            self.line = line_about(self.alloc, self.options, self.time.seconds, request);
         }
     }
 
@@ -191,8 +192,8 @@ impl<S: PromiseStore> Alone<'_, S> {
     {
         let (method, target) = words_of(request);
         match self.paths.at(method, target) {
-            Some(own) if self.screen.has(own) => self.reply_itself(Some(own), request, told),
-            _ if self.screen.has_editor() && is_of_desk(target) => {
+            Some(own) if self.options.has(own) => self.reply_itself(Some(own), request, told),
+            _ if self.options.has_editor() && is_of_desk(target) => {
                 self.reply_itself(None, request, told)
             }
             _ => self.reply_to_site(method, request, told),

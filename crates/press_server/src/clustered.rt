@@ -12,13 +12,14 @@ use crate::counts::Counts;
 use crate::foreign::ForeignLines;
 use crate::lanes::{Lanes, Parcel, Sender};
 use crate::metrics::{Among, Metrics, show_metrics};
+use crate::operator_options::{
+    OperatorOptions, Standing, refuse_for_now, refuse_form, refuse_path, refuse_without_memory,
+    show_ready,
+};
 use crate::paths::{Own, Paths};
 use crate::peers::{Peers, member_at, place_of};
 use crate::reasons::{REFUSED, line_about};
 use crate::replies::{queued_reply, refuse, refuse_by, taken_reply, tell_answer, tell_desk};
-use crate::screen::{
-    Screen, Standing, refuse_for_now, refuse_form, refuse_path, refuse_without_memory, show_ready,
-};
 use press_acceptor::{PromiseStore, StoreFault};
 use press_batch::{Batch, BatchFault, Report, decode_batch};
 use press_http::{Asked, DeskRequest, HttpFault, Routes, read_request};
@@ -33,7 +34,7 @@ use std::net::{IpAddr, Ipv4Addr, SocketAddr};
 #[derive(Drop)]
 pub struct Party<'s> {
     pub peers: Peers,
-    pub screen: &'s Screen,
+    pub options: &'s OperatorOptions,
     /// Whether it stays where its node has stopped.
     pub stays: bool,
 }
@@ -43,7 +44,7 @@ pub struct Clustered<'s, S: PromiseStore> {
     alloc: Global,
     member: Member<S>,
     peers: Peers,
-    screen: &'s Screen,
+    options: &'s OperatorOptions,
     paths: Paths,
     routes: Routes,
     lanes: Lanes,
@@ -62,7 +63,7 @@ impl<S: PromiseStore + Drop> Drop for Clustered<'_, S> {
             alloc: _,
             member: _,
             peers: _,
-            screen: _,
+            options: _,
             paths: _,
             routes: _,
             lanes: _,
@@ -87,7 +88,7 @@ impl<'s, S: PromiseStore + Drop> Clustered<'s, S> {
     {
         let Party {
             peers,
-            screen,
+            options,
             stays,
         } = party;
         let traffic = Traffic {
@@ -106,7 +107,7 @@ impl<'s, S: PromiseStore + Drop> Clustered<'s, S> {
             alloc,
             member,
             peers,
-            screen,
+            options,
             paths,
             routes,
             lanes,
@@ -165,16 +166,16 @@ impl<S: PromiseStore> Clustered<'_, S> {
     {
         self.counts.note(replied);
         if matches!(replied, Ok(REFUSED)) {
-            self.line = line_about(self.alloc, self.screen, self.time.seconds, request);
+            self.line = line_about(self.alloc, self.options, self.time.seconds, request);
         }
     }
 
     // A command that is too far ahead is refused, once the member takes any.
     fn is_refused(&self, at: u64) -> bool
         ensures { result ≡ (is_open (view_of self.now.member)
-            && is_ahead self.now.screen.now.ahead at self.now.time.seconds) }
+            && is_ahead self.now.options.now.ahead at self.now.time.seconds) }
     {
-        self.member.is_open() && self.screen.is_ahead(at, self.time.seconds)
+        self.member.is_open() && self.options.is_ahead(at, self.time.seconds)
     }
 
     // A single message comes from an address: it is heard where its sender has that.
@@ -209,7 +210,7 @@ impl<S: PromiseStore> Clustered<'_, S> {
                 if self.is_refused(stamped.at.seconds()) {
                     return refuse_form(told);
                 }
-                let answer = self.play(Input::Form(stamped))?;
+                let answer = self.play(Input::Command(stamped))?;
                 tell_answer(self.alloc, &queued_reply(self.alloc), &answer, told)
             }
             Asked::Page(target) => {
@@ -339,7 +340,7 @@ impl<S: PromiseStore> Clustered<'_, S> {
             is_down: node.is_down(),
             waiting: node.waiting_count() as u64,
             among,
-            saves: self.screen.saves(),
+            saves: self.options.saves(),
             traffic: self.traffic,
             counts: self.counts.all(),
         };
@@ -377,13 +378,13 @@ impl<S: PromiseStore> Clustered<'_, S> {
         };
         match own {
             Some(Own::Ready) => return self.show_ready(told),
-            Some(Own::Metrics) if self.screen.has_status() => return self.show_metrics(told),
-            Some(Own::Editor) if self.screen.has_editor() => {
-                return self.screen.show_editor(self.alloc, told);
+            Some(Own::Metrics) if self.options.has_status() => return self.show_metrics(told),
+            Some(Own::Editor) if self.options.has_editor() => {
+                return self.options.show_editor(self.alloc, told);
             }
             _ => {}
         }
-        if let Some(asked) = self.screen.desk_question(self.alloc, &request) {
+        if let Some(asked) = self.options.desk_question(self.alloc, &request) {
             return self.show_desk(asked, told);
         }
         match self.routes.route(self.alloc, &request) {
@@ -493,7 +494,7 @@ impl<S: PromiseStore> Answers for Clustered<'_, S> {
         requires always { Unit {0} }
         ensures { MemberLives S.seen self.old.member self.new.member }
     {
-        self.note(Input::Sent);
+        self.note(Input::HearOwn);
     }
 
     #[tactic(auto, using(crate::specs::Living::none_comes))]

@@ -12,8 +12,8 @@ ghost use Rattle.press_server.specs.Members.{number_of};
 ghost use Rattle.press_server.specs.Turns.{HasCaughtUp};
 
 use crate::clustered::{Clustered, Party};
+use crate::operator_options::OperatorOptions;
 use crate::peers::{Peers, PeersFault};
-use crate::screen::Screen;
 use crate::serve_fault::ServeFault;
 use crate::setup::{Role, Setup};
 use crate::timed::TimedStore;
@@ -259,7 +259,7 @@ impl Membership {
 pub struct Joiner<'s> {
     pub rt: &'s HostRuntime,
     pub seat: Membership,
-    pub screen: &'s Screen,
+    pub options: &'s OperatorOptions,
 }
 
 /// The member, over its store.
@@ -270,16 +270,16 @@ pub fn join<'s, D: Alter + Drop>(
 ) -> Result<Clustered<'s, TimedStore<'s, SqlStore<D>>>, ServeFault>
     requires always { Unit {0} }
 {
-    let Joiner { rt, seat, screen } = joiner;
+    let Joiner { rt, seat, options } = joiner;
     let alloc = rt.alloc();
     let mut store = store;
     let beginning = seat.beginning(chosen_by(&mut store)?)?;
-    let store = TimedStore::new(rt, screen.tally(), store);
+    let store = TimedStore::new(rt, options.tally(), store);
     let member = seat.begin(alloc, kit, store, beginning)?;
     let Membership { peers, stays, .. } = seat;
     let party = Party {
         peers,
-        screen,
+        options,
         stays,
     };
     Ok(Clustered::new(alloc, member, party)?)

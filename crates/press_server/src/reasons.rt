@@ -7,7 +7,7 @@ ghost use Rattle.press_http.specs.Routes.{asked};
 ghost use Rattle.press_server.specs.Screening.{ahead_of};
 ghost use Rattle.press_server.specs.Reasons.{IsLineAbout, IsOfField, IsReason, line_of};
 
-use crate::screen::Screen;
+use crate::operator_options::OperatorOptions;
 use press_fields::{FieldFault, Lookup, read_command};
 use press_http::{Asked, HttpFault, Request, first_value, read_request, route};
 use press_text::{Text, dec_u64};
@@ -135,12 +135,17 @@ fn reason_in(alloc: Global, form: &[u8]) -> Option<Reason>
 // Why the form that a request carries is refused at that time. None where it isn't, and without
 // memory.
 #[tactic(auto, using(crate::proofs::Blames::of_field))]
-fn reason_of(alloc: Global, screen: &Screen, now: u64, request: &Request) -> Option<Reason>
-    ensures { IfSome result (IsReason (ahead_of screen.now) now request.now.body
+fn reason_of(
+    alloc: Global,
+    options: &OperatorOptions,
+    now: u64,
+    request: &Request,
+) -> Option<Reason>
+    ensures { IfSome result (IsReason (ahead_of options.now) now request.now.body
         (asked request.now.method request.now.target request.now.body)) }
 {
     match route(alloc, request) {
-        Ok(Asked::Command(stamped)) => match screen.limit_behind(stamped.at.seconds(), now) {
+        Ok(Asked::Command(stamped)) => match options.limit_behind(stamped.at.seconds(), now) {
             Some(limit) => Some(Reason::Ahead(limit)),
             None => None,
         },
@@ -150,14 +155,19 @@ fn reason_of(alloc: Global, screen: &Screen, now: u64, request: &Request) -> Opt
 }
 
 /// The line about a form that was refused at that time. Without memory there is none.
-pub fn line_about(alloc: Global, screen: &Screen, now: u64, bytes: &[u8]) -> Option<String>
-    ensures { IfSome result (λ line. IsLineAbout (ahead_of screen.now) now bytes.now
+pub fn line_about(
+    alloc: Global,
+    options: &OperatorOptions,
+    now: u64,
+    bytes: &[u8],
+) -> Option<String>
+    ensures { IfSome result (λ line. IsLineAbout (ahead_of options.now) now bytes.now
         (string_bytes line)) }
 {
     let mut rest = bytes;
     let Ok(request) = read_request(alloc, &mut rest) else {
         return None;
     };
-    let reason = reason_of(alloc, screen, now, &request)?;
+    let reason = reason_of(alloc, options, now, &request)?;
     reason.line(alloc).ok()
 }

@@ -8,7 +8,7 @@ ghost use Rattle.press_node.specs.Nodes.{kit_of, state_of};
 ghost use Rattle.press_node.specs.Serving.{Tells, TellsFront, queued_reply, status_of_node, taken_reply};
 ghost use Rattle.press_server.specs.Desk.{ShowsDesk, ShowsDeskFront, TellsFault, TellsFaultFront};
 
-use crate::screen::{refuse_for_now, refuse_without_memory};
+use crate::operator_options::{refuse_for_now, refuse_without_memory};
 use press_http::{DeskRequest, HttpFault, write_fault, write_reply};
 use press_log::show_log;
 use press_member::Answer;

@@ -13,7 +13,7 @@ ghost use Rattle.press_server.specs.Turns.{HasCaughtUp};
 use crate::alone::Alone;
 use crate::files::{FEWEST, OWN, most_connections, open_files};
 use crate::joining::{Joiner, Membership, join, seat_of, tie};
-use crate::screen::Screen;
+use crate::operator_options::OperatorOptions;
 use crate::serve_fault::ServeFault;
 use crate::setup::{Role, Setup};
 use crate::timed::{Tally, TimedStore};
@@ -187,7 +187,7 @@ fn most_open<E: Write>(rt: &HostRuntime, error: &mut E) -> Result<usize, ServeFa
     }
 }
 
-fn screen_of(rt: &HostRuntime, setup: &Setup<'_>) -> Result<Screen, ServeFault> {
+fn options_of(rt: &HostRuntime, setup: &Setup<'_>) -> Result<OperatorOptions, ServeFault> {
     let editor = match setup.editor {
         None => None,
         Some(file) => match fs::read_to_string(rt, file) {
@@ -200,7 +200,7 @@ fn screen_of(rt: &HostRuntime, setup: &Setup<'_>) -> Result<Screen, ServeFault> 
     } else {
         None
     };
-    Ok(Screen::new(rt.alloc(), editor, setup.ahead.map(u64::from), tally)?)
+    Ok(OperatorOptions::new(rt.alloc(), editor, setup.ahead.map(u64::from), tally)?)
 }
 
 // Whether the folder of a file doesn't exist.
@@ -249,7 +249,7 @@ struct Beside<'a> {
     start: Start<'a>,
     // None for a node by itself.
     seat: Option<Membership>,
-    screen: Screen,
+    options: OperatorOptions,
     kit: Kit,
 }
 
@@ -266,15 +266,15 @@ fn serve_alone<S: PromiseStore + Drop, W: Write, E: Write>(
 {
     let Beside {
         start,
-        screen,
+        options,
         kit,
         ..
     } = beside;
     let Start { rt, setup, .. } = start;
-    let store = TimedStore::new(rt, screen.tally(), store);
+    let store = TimedStore::new(rt, options.tally(), store);
     let node = begin_caught_up(rt.alloc(), kit, store)?;
     let addr = loopback(port_of(setup.place));
-    let mut alone = Alone::new(rt.alloc(), addr, node, &screen)?;
+    let mut alone = Alone::new(rt.alloc(), addr, node, &options)?;
     serve_over(start, &mut alone, writer, error)
 }
 
@@ -296,14 +296,14 @@ fn serve_over_store<D: Alter + Drop, W: Write, E: Write>(
     };
     let Beside {
         start,
-        screen,
+        options,
         kit,
         ..
     } = beside;
     let joiner = Joiner {
         rt: start.rt,
         seat,
-        screen: &screen,
+        options: &options,
     };
     let mut clustered = join(joiner, kit, store)?;
     serve_over(start, &mut clustered, writer, error)?;
@@ -337,11 +337,11 @@ impl Setup<'_> {
             setup: self,
             most,
         };
-        let screen = screen_of(rt, self)?;
+        let options = options_of(rt, self)?;
         let beside = Beside {
             start,
             seat,
-            screen,
+            options,
             kit,
         };
         match self.store {

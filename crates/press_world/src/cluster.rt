@@ -1,4 +1,4 @@
-//! The type of a cluster's parts; its calls are in `turn.rt`.
+//! The type of a cluster's parts; its calls are in `cluster_events.rt`.
 
 use crate::entry::Entry;
 use crate::seat::Seat;

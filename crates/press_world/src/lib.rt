@@ -5,8 +5,8 @@
 //! read from files, and transcripts show their steps.
 #![tactic(auto)]
 
-mod acting;
 mod cluster;
+mod cluster_events;
 mod entry;
 mod fault;
 mod laws;

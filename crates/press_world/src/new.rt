@@ -8,8 +8,8 @@ ghost use Rattle.press_world.specs.Starts.{AreKit, statics_from, views_of};
 ghost use Rattle.press_world.specs.Stored.{new_stored};
 ghost use Rattle.press_world.specs.Worlds.{new_places};
 
-use crate::acting::member_at;
 use crate::cluster::Cluster;
+use crate::cluster_events::member_at;
 use crate::seat::Seat;
 use crate::world::World;
 use press_callbacks::Kit;

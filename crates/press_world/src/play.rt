@@ -24,7 +24,7 @@ ghost use Rattle.press_world.specs.declared.step.Step.TheVariants.{
 };
 ghost use Rattle.press_node.specs.Faults.{stops};
 
-use crate::acting::Coming;
+use crate::cluster_events::EventAtSlot;
 use crate::fault::WorldFault;
 use crate::played::Played;
 use crate::seat::Seat;
@@ -114,7 +114,7 @@ impl World {
     fn play_event(
         &mut self,
         index: usize,
-        coming: Coming,
+        coming: EventAtSlot,
         cut: Option<Cut>,
     ) -> Result<usize, NodeFault>
         requires inside { index < size self.old }
@@ -170,7 +170,7 @@ impl World {
     fn happen(
         &mut self,
         index: usize,
-        coming: Coming,
+        coming: EventAtSlot,
         cut: Option<Cut>,
     ) -> Result<Played, WorldFault>
         requires inside { index < size self.old }
@@ -220,7 +220,7 @@ impl World {
         let Ok(command) = command.copy(self.alloc) else {
             return Err(WorldFault::Node(NodeFault::NoMemory));
         };
-        let coming = Coming {
+        let coming = EventAtSlot {
             event: Event::Submit(command),
             slot: first_slot(),
             which: 0,
@@ -250,7 +250,7 @@ impl World {
         if let Some(fault) = self.seat(index).refusal_of_wake(cut) {
             return Err(WorldFault::Node(fault));
         }
-        let coming = Coming {
+        let coming = EventAtSlot {
             event: Event::Wake,
             slot: self.next_slot(index),
             which: 0,
@@ -279,7 +279,7 @@ impl World {
         let Ok(message) = sent.copy(self.alloc) else {
             return Err(WorldFault::Node(NodeFault::NoMemory));
         };
-        let coming = Coming {
+        let coming = EventAtSlot {
             slot: message.slot,
             event: Event::Deliver(message),
             which,

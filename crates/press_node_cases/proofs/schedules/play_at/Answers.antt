@@ -2,8 +2,8 @@ use Rattle.press_kit.specs.KitFile.{kit_in}
 use Rattle.press_node_cases.proofs.Kits.{view_where}
 use Rattle.press_node_cases.proofs.schedules.play_at.Goals as goal
 
-pub restarted-requires-clause-alike : goal.restarted-requires-clause-alike
-restarted-requires-clause-alike c = (view_where (kit_in c.args.kit.now), c.loop-i.invariant.alike)
+pub restart-requires-clause-alike : goal.restart-requires-clause-alike
+restart-requires-clause-alike c = (view_where (kit_in c.args.kit.now), c.loop-i.invariant.alike)
 
 pub transcript-requires-clause-alike : goal.transcript-requires-clause-alike
 transcript-requires-clause-alike c = (view_where (kit_in c.args.kit.now), c.loop-i.invariant.alike)

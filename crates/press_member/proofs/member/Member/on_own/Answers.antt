@@ -6,7 +6,7 @@ use Rattle.press_member.specs.Played.{moment_of}
 use Rattle.press_member.specs.Turns.{HearsAll, HearsFirst, MayWake}
 use Rattle.press_member.proofs.Inputs.{turns}
 use Rattle.press_member.proofs.Turning.{hears_first, hears_only, other_kind, turns_on}
-use Rattle.press_member.proofs.member.Member.on_sent.Goals as goal
+use Rattle.press_member.proofs.member.Member.on_own.Goals as goal
 
 pub returns-in_err-hear_own : goal.returns-in_err-hear_own
 returns-in_err-hear_own g c =
@@ -16,7 +16,7 @@ returns-in_err-hear_own g c =
     let id = c.args.self.now.player.id in
     let own = c.args.self.now.player.own.items in
     rw (p.1) (record {
-      acts = turns (λ a b. node_moved g.S.PromiseStore.seen a b) input.Sent _ _ _ None c.new-messages.result.items c.hear_own.new.out.items (record { id = h.id; members = refl; digests = refl; kit = h.kit }) c.new-messages.ensures.items
+      acts = turns (λ a b. node_moved g.S.PromiseStore.seen a b) input.HearOwn _ _ _ None c.new-messages.result.items c.hear_own.new.out.items (record { id = h.id; members = refl; digests = refl; kit = h.kit }) c.new-messages.ensures.items
           (other_kind (λ a b. node_moved g.S.PromiseStore.seen a b) n id (HearsAll id (IsTrue false) own) (HearsFirst id (IsTrue false) own) (IsTrue false) (moment_of c.args.self.now.player) (moment_of c.hear_own.new.self) c.new-messages.result.items c.hear_own.new.out.items (hears_only id (IsTrue false) own) (h.turned n)) tt tt tt;
     })
 
@@ -29,7 +29,7 @@ returns-in_err-follow g c =
     let id = c.args.self.now.player.id in
     let own = c.args.self.now.player.own.items in
     rw (p.1) (record {
-      acts = turns (λ a b. node_moved g.S.PromiseStore.seen a b) input.Sent _ _ _ None c.new-messages.result.items c.follow.new.out.items (record { id = f.id ∙ h.id; members = refl; digests = refl; kit = f.kit ∙ h.kit }) c.new-messages.ensures.items
+      acts = turns (λ a b. node_moved g.S.PromiseStore.seen a b) input.HearOwn _ _ _ None c.new-messages.result.items c.follow.new.out.items (record { id = f.id ∙ h.id; members = refl; digests = refl; kit = f.kit ∙ h.kit }) c.new-messages.ensures.items
           (turns_on (λ a b. node_moved g.S.PromiseStore.seen a b) n id (HearsAll id (IsTrue true) own) MayWake (HearsFirst id (IsTrue false) own) (IsTrue true) (IsTrue false) (IsTrue false) (moment_of c.args.self.now.player) (moment_of c.hear_own.new.self) (moment_of c.follow.new.self) c.new-messages.result.items c.hear_own.new.out.items c.follow.new.out.items
           (h.turned n) c.hear_own.new.self.id h.id (f.turned n) (hears_first id (IsTrue true) (IsTrue false) own (λ w. refl)) (λ w. refl) (λ w. w)) tt tt tt;
     })
@@ -43,7 +43,7 @@ returns g c =
     let id = c.args.self.now.player.id in
     let own = c.args.self.now.player.own.items in
     record {
-      acts = turns (λ a b. node_moved g.S.PromiseStore.seen a b) input.Sent _ _ _ None c.new-messages.result.items c.follow.new.out.items (record { id = f.id ∙ h.id; members = a.count; digests = a.digests; kit = f.kit ∙ h.kit }) c.new-messages.ensures.items
+      acts = turns (λ a b. node_moved g.S.PromiseStore.seen a b) input.HearOwn _ _ _ None c.new-messages.result.items c.follow.new.out.items (record { id = f.id ∙ h.id; members = a.count; digests = a.digests; kit = f.kit ∙ h.kit }) c.new-messages.ensures.items
           (turns_on (λ a b. node_moved g.S.PromiseStore.seen a b) n id (HearsAll id (IsTrue true) own) MayWake (HearsFirst id (IsTrue true) own) (IsTrue true) (IsTrue true) (IsTrue true) (moment_of c.args.self.now.player) (moment_of c.hear_own.new.self) (moment_of c.follow.new.self) c.new-messages.result.items c.hear_own.new.out.items c.follow.new.out.items
           (h.turned n) c.hear_own.new.self.id h.id (f.turned n) (hears_first id (IsTrue true) (IsTrue true) own (λ w. w)) (λ w. w) (λ w. w))
           (ap (λ v. v.items) c.with.ensures.messages) c.with.ensures.answer tt;

@@ -23,7 +23,7 @@ use press_wire::{MemberId, Message, Slot};
 
 /// What comes to a node, and the slot that it is about.
 #[derive(Drop)]
-pub(crate) struct Coming {
+pub(crate) struct EventAtSlot {
     pub event: Event,
     pub slot: Slot,
     /// Which message brought it, if one did, counted from 0.
@@ -79,7 +79,7 @@ impl Cluster {
     pub(crate) fn play_event(
         &mut self,
         index: usize,
-        coming: Coming,
+        coming: EventAtSlot,
         cut: Option<Cut>,
     ) -> Result<usize, NodeFault>
         requires inside { index < length self.old.seats.items }
@@ -102,7 +102,7 @@ impl Cluster {
             (refused_at (slice_get (places_of self.old.seats.items) index) coming.event cut) fault
             (stops fault) (kept_in self.new)) }
     {
-        let Coming { event, slot, which } = coming;
+        let EventAtSlot { event, slot, which } = coming;
         let member = member_at(index);
         match self.trace.reserve(2) {
             Ok(()) => {}

@@ -4,7 +4,7 @@ use Rattle.press_callbacks.specs.Kits.{scripts_given}
 use Rattle.press_lint.specs.Joints.{files_of, read_together}
 use Rattle.press_program.specs.KitFiles.{view_where}
 use Rattle.press_world.specs.Starts.{AreKit, views_of}
-use Rattle.press_program.proofs.over.Over.end_over_files.Given as goal
+use Rattle.press_program.proofs.over.Over.run_over_files.Given as goal
 
 abbrev pub invariant-loop-i : goal.invariant-loop-i
 invariant-loop-i g l = record {

@@ -1,6 +1,6 @@
 use Rattle.std.proofs.Common.{Some, inl, inr}
 use Rattle.press_server.proofs.Sorts.{asked_sort, refused_sort}
-use Rattle.press_server.proofs.screen.sort_of.Goals as goal
+use Rattle.press_server.proofs.operator_options.sort_of.Goals as goal
 
 pub returns-in-Err : goal.returns-in-Err
 returns-in-Err c =

@@ -3,7 +3,7 @@ use Rattle.std.specs.Vec.Iter.{into_iter_items}
 use Rattle.press_callbacks.specs.Kits.{scripts_given}
 use Rattle.press_demonstration.specs.Demonstration.{demonstration, scripts}
 use Rattle.press_world.specs.Starts.{AreKit, views_of}
-use Rattle.press_program.proofs.over.Over.end_over_demonstration.Given as goal
+use Rattle.press_program.proofs.over.Over.run_over_demonstration.Given as goal
 
 abbrev pub invariant-loop-i : goal.invariant-loop-i
 invariant-loop-i g l = record {

@@ -84,15 +84,15 @@ struct Editors {
 
 /// What an operator asked for: a page for editors, how far ahead of the machine's clock a command
 /// may be, in seconds, and that the server tells how it stands.
-pub struct Screen {
+pub struct OperatorOptions {
     editors: Option<Editors>,
     ahead: Option<u64>,
     tally: Option<Tally>,
 }
 
-impl Drop for Screen {
+impl Drop for OperatorOptions {
     fn drop(self) {
-        let Screen {
+        let OperatorOptions {
             editors: _,
             ahead: _,
             tally: _,
@@ -100,7 +100,7 @@ impl Drop for Screen {
     }
 }
 
-impl Screen {
+impl OperatorOptions {
     /// The page for editors, the most seconds that a command may be ahead, and what saves are noted
     /// in; None asks for none.
     pub fn new(
@@ -108,9 +108,9 @@ impl Screen {
         editor: Option<Text>,
         ahead: Option<u64>,
         tally: Option<Tally>,
-    ) -> Result<Screen, AllocError>
-        ensures page { IfOk result (λ screen. has_page screen ≡ is_some editor) }
-        ensures ahead { IfOk result (λ screen. ahead_of screen ≡ ahead) }
+    ) -> Result<OperatorOptions, AllocError>
+        ensures page { IfOk result (λ options. has_page options ≡ is_some editor) }
+        ensures ahead { IfOk result (λ options. ahead_of options ≡ ahead) }
     {
         let editors = match editor {
             Some(page) => Some(Editors {
@@ -119,7 +119,7 @@ impl Screen {
             }),
             None => None,
         };
-        Ok(Screen {
+        Ok(OperatorOptions {
             editors,
             ahead,
             tally,

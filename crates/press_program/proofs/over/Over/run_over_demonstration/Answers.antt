@@ -6,7 +6,7 @@ use Rattle.press_demonstration.specs.Demonstration.{demonstration, scripts}
 use Rattle.press_kit.specs.KitFile.{file_limit}
 use Rattle.press_program.proofs.Kits.{pushed, untaken}
 use Rattle.press_program.proofs.Pushes.{is_done}
-use Rattle.press_program.proofs.over.Over.end_over_demonstration.Goals as goal
+use Rattle.press_program.proofs.over.Over.run_over_demonstration.Goals as goal
 
 pub returns-in_err-new-2-clause-took : goal.returns-in_err-new-2-clause-took
 returns-in_err-new-2-clause-took g c = untaken (g.R.Read.remaining c.args.reader.now) (file_limit + 1)
@@ -20,11 +20,11 @@ returns-in_err-push-in-Ok-clause-took g c = untaken (g.R.Read.remaining c.args.r
 pub returns-in-Err-clause-took : goal.returns-in-Err-clause-took
 returns-in-Err-clause-took g c = untaken (g.R.Read.remaining c.args.reader.now) (file_limit + 1)
 
-pub end_over-requires-clause-alike : goal.end_over-requires-clause-alike
-end_over-requires-clause-alike g c = (demonstration, c.loop-i.invariant.alike)
+pub run_task-requires-clause-alike : goal.run_task-requires-clause-alike
+run_task-requires-clause-alike g c = (demonstration, c.loop-i.invariant.alike)
 
 pub returns-clause-ends : goal.returns-clause-ends
-returns-clause-ends g c = c.end_over.ensures.ends demonstration c.loop-i.invariant.alike
+returns-clause-ends g c = c.run_task.ensures.ends demonstration c.loop-i.invariant.alike
 
 pub loop-i-preserved : goal.loop-i-preserved
 loop-i-preserved g c =
@@ -41,7 +41,7 @@ loop-i-preserved g c =
       alike = pushed kit_view demonstration c.loop-i.kits.items _ c.in-Ok.kit items c.loop-i.invariant.alike view_is;
     }
 
-pub end_over-requires-clause-count : goal.end_over-requires-clause-count
-end_over-requires-clause-count g c =
+pub run_task-requires-clause-count : goal.run_task-requires-clause-count
+run_task-requires-clause-count g c =
     let all : c.loop-i._i ≡ c.kits_for-i-end.result = omega (arith, c.loop-i.invariant.most) in
     c.loop-i.invariant.count ∙ all ∙ c.kits_for-i-end.ensures

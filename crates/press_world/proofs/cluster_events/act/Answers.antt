@@ -4,7 +4,7 @@ use Rattle.press_world.specs.Acts.{DoesAt, FailsAt}
 use Rattle.press_world.specs.Seats.{static_of, place_of}
 use Rattle.press_world.proofs.Changed.{found, kept_by, map_get, map_set, if_ok, if_err}
 use Rattle.press_world.proofs.Members.{member_of, members_of}
-use Rattle.press_world.proofs.acting.act.Goals as goal
+use Rattle.press_world.proofs.cluster_events.act.Goals as goal
 
 pub returns-clause-statics : goal.returns-clause-statics
 returns-clause-statics g c =
