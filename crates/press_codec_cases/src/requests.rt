@@ -3,7 +3,7 @@ use press_http::{Asked, HttpFault, form_command, read_request, route};
 use std::alloc::{AllocError, Global};
 
 /// What a request asks; a form is read by itself.
-pub fn parse_request(alloc: Global, reader: &mut Pieces<'_>) -> Result<Asked, HttpFault> {
+pub fn read_and_route(alloc: Global, reader: &mut Pieces<'_>) -> Result<Asked, HttpFault> {
     let request = read_request(alloc, reader)?;
     match route(alloc, &request)? {
         Asked::Command(_) => {
@@ -16,7 +16,7 @@ pub fn parse_request(alloc: Global, reader: &mut Pieces<'_>) -> Result<Asked, Ht
 
 /// What a reader's bytes ask, or the status of their fault.
 pub fn line(alloc: Global, mut reader: Pieces<'_>) -> Result<String, AllocError> {
-    match parse_request(alloc, &mut reader) {
+    match read_and_route(alloc, &mut reader) {
         Ok(asked) => format!(in alloc; "{asked:?}"),
         Err(fault) => match fault.status() {
             Some(status) => format!(in alloc; "{status} {fault}"),

@@ -1,6 +1,6 @@
 use crate::kind::Kind;
 use crate::pieces::{Failure, Pieces};
-use crate::requests::parse_request;
+use crate::requests::read_and_route;
 use crate::wires::Spelled;
 use press_apply::Value;
 use press_wire::Message;
@@ -47,7 +47,7 @@ fn outcome_of_spelling<T: Spelled>(alloc: Global, bytes: &[u8]) -> Outcome {
 }
 
 fn outcome_of_request(alloc: Global, bytes: &[u8]) -> Outcome {
-    match parse_request(alloc, &mut Pieces::new(bytes, 4096, Failure::Never)) {
+    match read_and_route(alloc, &mut Pieces::new(bytes, 4096, Failure::Never)) {
         Ok(_) => Outcome::Read,
         Err(fault) => fault.status().map_or(Outcome::Closed, Outcome::Fault),
     }

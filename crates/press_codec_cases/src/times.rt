@@ -1,6 +1,6 @@
 use crate::kind::Kind;
 use crate::pieces::{Failure, Pieces};
-use crate::requests::parse_request;
+use crate::requests::read_and_route;
 use crate::wires::Spelled;
 use httparse::spans::{EMPTY_HEADER_SPAN, parse_request};
 use press_apply::Value;
@@ -19,7 +19,7 @@ fn once(alloc: Global, kind: Kind, bytes: &[u8]) {
         Kind::Command => spell_again::<Value>(alloc, bytes),
         Kind::Message => spell_again::<Message>(alloc, bytes),
         Kind::Request => {
-            let _ = parse_request(alloc, &mut Pieces::new(bytes, 4096, Failure::Never));
+            let _ = read_and_route(alloc, &mut Pieces::new(bytes, 4096, Failure::Never));
         }
     }
 }

@@ -94,7 +94,7 @@ fn save_round<S: PromiseStore>(store: &mut S, round: u64) -> Result<(), StoreFau
 }
 
 // The line of what is kept of the block of a slot.
-fn block_line<S: PromiseStore>(
+fn load_line<S: PromiseStore>(
     alloc: Global,
     store: &mut S,
     slot: u32,
@@ -146,7 +146,7 @@ fn answer_line<D: Alter>(
             Ok(()) => format!(in alloc; "round {round} is saved\n"),
             Err(fault) => fault_line(alloc, fault),
         },
-        Ask::Load(slot) => block_line(alloc, store, slot),
+        Ask::Load(slot) => load_line(alloc, store, slot),
         Ask::Promise(slot, round) => match promise(store, slot, round) {
             Ok(()) => format!(in alloc; "the block of slot {slot} is promised\n"),
             Err(fault) => fault_line(alloc, fault),

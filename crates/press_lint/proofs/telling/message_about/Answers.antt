@@ -8,7 +8,7 @@ returns-in-Own c =
     let behind = behind_is c.args.shares.now (c.loop-i.i + 1) in
     let side = sym (rw behind at c.side_before.ensures) ∙ c.in-Own.is in
     let own = tells_own c.args.shares.now c.loop-i.parts c.loop-i.i c.args.mistake.now c.loop-i.at c.in-Own.own _ _ (omega arith) side c.loop-i.invariant in
-    IfOk-weaker c.told.result _ _ (λ m h. h ∙ own) (rw behind at c.told.ensures)
+    IfOk-weaker c.tell.result _ _ (λ m h. h ∙ own) (rw behind at c.tell.ensures)
 
 pub loop-i-preserved : goal.loop-i-preserved
 loop-i-preserved c =
