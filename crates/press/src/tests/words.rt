@@ -12,13 +12,13 @@ const BEHIND: &[u8] =
 
 // Two new titles of its post, in one file with its commands and in two files of their own.
 const RETITLED: &[u8] =
-    b"{\"commands\":[{\"editor\":\"ann\",\"seq\":1,\"at\":10,\"kind\":\"activate\",\"plugin\":\"letters\"},{\"editor\":\"ann\",\"seq\":2,\"at\":10,\"kind\":\"insert\",\"title\":\"x\",\"content\":\"Hello\",\"status\":\"publish\",\"date\":10},{\"editor\":\"ann\",\"seq\":3,\"at\":10,\"kind\":\"update\",\"id\":1,\"title\":\"y\",\"content\":\"Hello\"},{\"editor\":\"ann\",\"seq\":4,\"at\":10,\"kind\":\"update\",\"id\":1,\"title\":\"z\",\"content\":\"Hello\"}]}";
+    b"{\"commands\":[{\"editor\":\"ann\",\"seq\":1,\"at\":10,\"kind\":\"activate\",\"plugin\":\"letters\"},{\"editor\":\"ann\",\"seq\":2,\"at\":10,\"kind\":\"insert\",\"title\":\"x\",\"content\":\"Hello\",\"status\":\"publish\",\"date\":10},{\"editor\":\"ann\",\"seq\":3,\"at\":10,\"kind\":\"update\",\"id\":1,\"title\":\"y\",\"content\":\"Hello\",\"status\":\"publish\",\"date\":10},{\"editor\":\"ann\",\"seq\":4,\"at\":10,\"kind\":\"update\",\"id\":1,\"title\":\"z\",\"content\":\"Hello\",\"status\":\"publish\",\"date\":10}]}";
 
 const TITLE_Y: &[u8] =
-    b"{\"commands\":[{\"editor\":\"ann\",\"seq\":3,\"at\":10,\"kind\":\"update\",\"id\":1,\"title\":\"y\",\"content\":\"Hello\"}]}";
+    b"{\"commands\":[{\"editor\":\"ann\",\"seq\":3,\"at\":10,\"kind\":\"update\",\"id\":1,\"title\":\"y\",\"content\":\"Hello\",\"status\":\"publish\",\"date\":10}]}";
 
 const TITLE_Z: &[u8] =
-    b"{\"commands\":[{\"editor\":\"ann\",\"seq\":4,\"at\":10,\"kind\":\"update\",\"id\":1,\"title\":\"z\",\"content\":\"Hello\"}]}";
+    b"{\"commands\":[{\"editor\":\"ann\",\"seq\":4,\"at\":10,\"kind\":\"update\",\"id\":1,\"title\":\"z\",\"content\":\"Hello\",\"status\":\"publish\",\"date\":10}]}";
 
 #[test]
 fn words_ask_for_replies(rt: HostRuntime) -> Result<(), Fail> {
