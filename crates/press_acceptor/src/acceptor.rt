@@ -20,12 +20,14 @@ use std::alloc::Global;
 
 /// The acceptor of Paxos Made Simple (2.2 and 2.3): all that it knows is in its store.
 ///
-/// What an answer says was saved before it is given. A fault leaves the store as it was before or after the save.
+/// What an answer says was saved before it is given. A fault leaves the store as it was before or
+/// after the save.
 #[derive(Clone, Copy, Debug)]
 pub struct Acceptor;
 
 impl Acceptor {
-    /// Promises a ballot that is greater than the promise for the block, and reports the votes for its slots.
+    /// Promises a ballot that is greater than the promise for the block, and reports the votes for
+    /// its slots.
     pub fn on_prepare<S: PromiseStore>(
         store: &mut S,
         first: Slot,
@@ -46,8 +48,8 @@ impl Acceptor {
         Ok(Said::Promise(block.votes))
     }
 
-    /// Votes for a proposal in a ballot that is at least the promise for its block; a repeated request is answered with
-    /// the vote that was cast.
+    /// Votes for a proposal in a ballot that is at least the promise for its block; a repeated
+    /// request is answered with the vote that was cast.
     pub fn on_accept<S: PromiseStore>(
         alloc: Global,
         store: &mut S,

@@ -53,9 +53,11 @@ impl Question {
 }
 
 impl Acceptor {
-    /// Answers a prepare request, an accept request or a query to the node `id`; other messages get no answer.
+    /// Answers a prepare request, an accept request or a query to the node `id`; other messages get
+    /// no answer.
     ///
-    /// What the messages say was saved before they are given. A fault leaves the store as it was before or after the save.
+    /// What the messages say was saved before they are given. A fault leaves the store as it was
+    /// before or after the save.
     pub fn answer<S: PromiseStore>(
         alloc: Global,
         store: &mut S,

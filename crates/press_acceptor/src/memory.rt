@@ -60,7 +60,8 @@ impl Kept {
         self.block.promised = Some(ballot);
     }
 
-    // Casts the vote for the slot again, where it is for the same value; says whether it is. It takes no memory.
+    // Casts the vote for the slot again, where it is for the same value; says whether it is. It
+    // takes no memory.
     fn cast_again(&mut self, slot: Slot, vote: &Vote) -> bool
         ensures same { result ≡ true → self.new ≡ record {
           promised = Some vote.now.ballot;
@@ -94,8 +95,8 @@ impl Kept {
     }
 }
 
-/// A store in memory. Its device never fails, and nothing is lost but by dropping it. To save another promise for a block, the same value in
-/// another ballot, or a round takes no memory.
+/// A store in memory. Its device never fails, and nothing is lost but by dropping it. To save
+/// another promise for a block, the same value in another ballot, or a round takes no memory.
 #[derive(Debug)]
 pub struct MemoryStore {
     blocks: BTreeMap<u32, Kept>,
@@ -172,7 +173,8 @@ impl MemoryStore {
         }
     }
 
-    // Puts a promise in the place of another for the block; says whether there is one. It takes no memory.
+    // Puts a promise in the place of another for the block; says whether there is one. It takes no
+    // memory.
     fn promise_again(&mut self, first: Slot, ballot: &Ballot) -> bool
         requires { is_first first ≡ true }
         ensures same { result ≡ true → self.new ≡ with_promise self.old first ballot.now }
@@ -186,7 +188,8 @@ impl MemoryStore {
         true
     }
 
-    // Casts the vote for the slot again, where it is for the same value; says whether it is. It takes no memory.
+    // Casts the vote for the slot again, where it is for the same value; says whether it is. It
+    // takes no memory.
     fn cast_again(&mut self, slot: Slot, vote: &Vote) -> bool
         ensures same { result ≡ true → self.new ≡ with_vote self.old slot vote.now }
         ensures left { result ≡ false → self.new ≡ self.old }

@@ -24,9 +24,10 @@ use press_text::{Copied, Moment, Name};
 use std::alloc::{AllocError, Global};
 use std::mem;
 
-/// Applies a value: its outcome, which the site keeps under the command's token. A known token answers the outcome that it has and moves
-/// the moment alone, without memory. A refused command leaves nothing else behind; after running out of memory the site is as it was.
-/// The command works on the site itself, which goes back: it costs what it changes.
+/// Applies a value: its outcome, which the site keeps under the command's token. A known token
+/// answers the outcome that it has and moves the moment alone, without memory. A refused command
+/// leaves nothing else behind; after running out of memory the site is as it was. The command works
+/// on the site itself, which goes back: it costs what it changes.
 pub fn apply(
     alloc: Global,
     site: &mut Site,

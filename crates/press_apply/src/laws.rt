@@ -13,9 +13,9 @@ ghost use Rattle.press_apply.specs.declared.command.Stamped.{Stamped};
 ghost use Rattle.press_apply.specs.declared.value.Value.{Value};
 ghost use Rattle.press_apply.specs.declared.value.Value.TheVariants.{Cmd};
 
-/// The first outcome of a token is stored, and stays what it is whatever is applied after it. A later command with that
-/// token answers it and moves nothing but the moment, so a list of values gives the same site as the list in which such
-/// commands carry their moments alone.
+/// The first outcome of a token is stored, and stays what it is whatever is applied after it. A
+/// later command with that token answers it and moves nothing but the moment, so a list of values
+/// gives the same site as the list in which such commands carry their moments alone.
 pub fn token_answers_once()
     ensures stored { (kit : KitView) (site : SiteView) (c : Stamped)
         → outcome_of c.token (applied kit site (Cmd c)).0.outcomes

@@ -1,4 +1,5 @@
-//! Commands to a site, each with its token and its moment, and the values that are applied to a site one after another.
+//! Commands to a site, each with its token and its moment, and the values that are applied to a
+//! site one after another.
 #![tactic(auto)]
 
 mod actions;

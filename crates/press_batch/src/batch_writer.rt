@@ -54,7 +54,8 @@ impl BatchWriter {
         })
     }
 
-    /// Puts the message behind the others: true. Where it doesn't fit any more nothing changes: false.
+    /// Puts the message behind the others: true. Where it doesn't fit any more nothing changes:
+    /// false.
     #[tactic(auto, using(crate::proofs::Lengths::length_piece))]
     pub fn push(&mut self, message: &Message) -> Result<bool, BatchFault>
         ensures put { IfOk result (λ is_put. self.new

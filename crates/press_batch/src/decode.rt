@@ -16,7 +16,8 @@ use crate::report::Report;
 use press_wire::MemberId;
 use std::alloc::Global;
 
-/// The report that all of the bytes spell, and who sends it; else the fault of the first field that fails. It takes no memory.
+/// The report that all of the bytes spell, and who sends it; else the fault of the first field that
+/// fails. It takes no memory.
 #[tactic(auto, unfolding(crate::specs::Reading::read_report))]
 pub fn decode_report(bytes: &[u8]) -> Result<(MemberId, Report), BatchFault>
     ensures read { Gives Refuses Ok result (read_report bytes.now) }
@@ -32,8 +33,8 @@ pub fn decode_report(bytes: &[u8]) -> Result<(MemberId, Report), BatchFault>
     Ok((from, report))
 }
 
-/// The batch that all of the bytes spell; else TooLong for more than 1,048,576 bytes, and then the fault of the first field or message that
-/// fails. Memory is taken for messages alone.
+/// The batch that all of the bytes spell; else TooLong for more than 1,048,576 bytes, and then the
+/// fault of the first field or message that fails. Memory is taken for messages alone.
 #[tactic(auto, unfolding(crate::specs::Reading::read_batch))]
 pub fn decode_batch(alloc: Global, bytes: &[u8]) -> Result<Batch, BatchFault>
     ensures read { Gives Refuses (λ b. Ok (carried b)) result (read_batch bytes.now) }

@@ -27,8 +27,8 @@ pub fn encode_report(alloc: Global, from: MemberId, report: &Report) -> Result<V
     Ok(bytes)
 }
 
-/// The bytes that spell the batch. BadMessage where a message in it is too long to have any, TooLong where one ends
-/// past 1,048,576 bytes: what comes first.
+/// The bytes that spell the batch. BadMessage where a message in it is too long to have any,
+/// TooLong where one ends past 1,048,576 bytes: what comes first.
 #[tactic(auto, unfolding(crate::specs::Spelling::spelled_batch))]
 pub fn encode_batch(alloc: Global, batch: &Batch) -> Result<Vec<u8>, BatchFault>
     ensures spelled { IfOk result (λ bytes. bytes.items ≡ spelled_batch (carried batch.now)) }

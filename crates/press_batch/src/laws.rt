@@ -36,7 +36,8 @@ pub fn batches_have_one_spelling()
         read_batch d ≡ Ok b → c ≡ d }
 {}
 
-/// A batch is refused exactly where a message in it is too long in itself, or it has over 1,048,576 bytes.
+/// A batch is refused exactly where a message in it is too long in itself, or it has over 1,048,576
+/// bytes.
 pub fn what_is_refused_is_too_long()
     ensures not_refused { (b : Carried) → refusal b ≡ None →
         AreShort b.messages × (length (spelled_batch b) ≤ most_bytes) }
@@ -44,7 +45,8 @@ pub fn what_is_refused_is_too_long()
         refusal b ≡ None }
 {}
 
-/// One message more is spelled behind the others, so what a `BatchWriter` wrote is the spelling of all that was put.
+/// One message more is spelled behind the others, so what a `BatchWriter` wrote is the spelling of
+/// all that was put.
 pub fn a_last_message_is_spelled_last()
     ensures { (b : Carried) (m : Message) → spelled_batch (with_last m b)
         ≡ spelled_batch b ++ spelled_piece (spelled_message m) }

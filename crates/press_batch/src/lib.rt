@@ -1,4 +1,5 @@
-//! The bytes of what members of a cluster send each other in one request: how far the sender is, and messages.
+//! The bytes of what members of a cluster send each other in one request: how far the sender is,
+//! and messages.
 //!
 //! Each batch has one spelling, and no other bytes are read.
 #![tactic(auto)]

@@ -1,4 +1,5 @@
-/// Which members a member counts, and which kit it runs. Members whose digests differ don't hear each other.
+/// Which members a member counts, and which kit it runs. Members whose digests differ don't hear
+/// each other.
 #[derive(Clone, Copy, Debug, PartialEq, Eq)]
 pub struct Digests {
     pub peers: u64,

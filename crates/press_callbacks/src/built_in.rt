@@ -5,7 +5,8 @@ ghost use Rattle.press_callbacks.specs.BuiltIns.{do_shortcode as named_do_shortc
 
 use press_text::CallbackId;
 
-/// The name of the built-in callback that answers the shortcode scan of its first argument (`do_shortcode`).
+/// The name of the built-in callback that answers the shortcode scan of its first argument
+/// (`do_shortcode`).
 pub fn do_shortcode() -> CallbackId
     ensures { result ≡ named_do_shortcode }
 {
@@ -15,8 +16,8 @@ pub fn do_shortcode() -> CallbackId
     }
 }
 
-/// The name of the built-in callback that publishes the post whose id is its first argument, if it is future and due, and
-/// answers that argument (`check_and_publish_future_post`).
+/// The name of the built-in callback that publishes the post whose id is its first argument, if it
+/// is future and due, and answers that argument (`check_and_publish_future_post`).
 pub fn check_and_publish_future_post() -> CallbackId
     ensures { result ≡ named_check_and_publish }
 {

@@ -6,7 +6,8 @@ use crate::script::{CallIn, Script, Turn};
 use press_text::CallbackId;
 use std::alloc::AllocError;
 
-/// A closure beside the script that it plays. (No ghost field can cite an `Fn` bound, so the fact is asked at each call.)
+/// A closure beside the script that it plays. (No ghost field can cite an `Fn` bound, so the fact
+/// is asked at each call.)
 #[derive(Drop)]
 pub struct Callback<F: Fn(&CallIn) -> Result<Turn, AllocError>> {
     id: CallbackId,

@@ -15,8 +15,8 @@ const FREE: usize = usize::MAX;
 // An odd number whose bits follow no rule: 2^64 by the golden ratio.
 const MIXING: u64 = 0x9E37_79B9_7F4A_7C15;
 
-/// Places of callbacks, each in a slot that the hash of its name gives, or soon behind it. A place is looked at before it
-/// is believed, so nothing is said of what stands here.
+/// Places of callbacks, each in a slot that the hash of its name gives, or soon behind it. A place
+/// is looked at before it is believed, so nothing is said of what stands here.
 pub struct Hints {
     slots: Vec<usize>,
     mask: usize,
@@ -51,7 +51,8 @@ impl Hints {
         Ok(hints)
     }
 
-    // Puts a place into the first free slot from that of the hash on. Where all that are looked at are taken, it has no hint.
+    // Puts a place into the first free slot from that of the hash on. Where all that are looked at
+    // are taken, it has no hint.
     fn put(&mut self, first: usize, place: usize) {
         for i in 0..TRIES {
             let at = first.wrapping_add(i) & self.mask;
@@ -80,8 +81,8 @@ impl Hints {
     }
 }
 
-// The words of a name up to its end, mixed. The first bytes of a word are its highest, which a product moves no lower, so
-// the half that is used is the upper one of a last product.
+// The words of a name up to its end, mixed. The first bytes of a word are its highest, which a
+// product moves no lower, so the half that is used is the upper one of a last product.
 fn hash(id: &CallbackId) -> usize {
     let mut mixed = 0u64;
     for i in 0..4 {

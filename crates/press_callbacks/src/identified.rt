@@ -30,7 +30,8 @@ pub fn is_of_id<T: Identified>(x: &T, id: &CallbackId) -> bool
     x.callback_id().order(id).is_eq()
 }
 
-/// Where the first callback of that name stands among these in the order of their names, found by halves.
+/// Where the first callback of that name stands among these in the order of their names, found by
+/// halves.
 pub fn place_of<T: Identified>(sorted: &[T], id: &CallbackId) -> Option<usize>
     requires { in_order T.id sorted.now ≡ true }
     ensures { result ≡ place_of T.id id.now sorted.now }

@@ -16,10 +16,11 @@ use press_text::{CallbackId, Name};
 use std::alloc::Global;
 
 impl Kit {
-    /// Refuses by TwoNames (two callbacks or two plugins of one name, or a callback with the name of a built-in one), then
-    /// UnknownCallback (a load or a script names a callback that is neither there nor built in), then BadLoad (more than 1,000
-    /// hook loads or 128 tag loads in all plugins together). The kit's callbacks are those given, closures and all.
-    /// Takes memory for hints to where they stand, and none where there are none.
+    /// Refuses by TwoNames (two callbacks or two plugins of one name, or a callback with the name
+    /// of a built-in one), then UnknownCallback (a load or a script names a callback that is
+    /// neither there nor built in), then BadLoad (more than 1,000 hook loads or 128 tag loads in
+    /// all plugins together). The kit's callbacks are those given, closures and all. Takes memory
+    /// for hints to where they stand, and none where there are none.
     pub fn build(
         alloc: Global,
         callbacks: Vec<Stored>,
@@ -55,7 +56,8 @@ impl Kit {
         }
     }
 
-    /// The place of the callback of that name, which serves for many turns: by its hint, and where none leads there by binary search.
+    /// The place of the callback of that name, which serves for many turns: by its hint, and where
+    /// none leads there by binary search.
     pub fn place(&self, id: CallbackId) -> Option<usize>
         ensures script { script_at result (scripts_in self.now)
             ≡ script_of id (scripts_in self.now) }

@@ -1,4 +1,5 @@
-//! Why callbacks and plugins make no kit: whether every callback that a script or a load names is there.
+//! Why callbacks and plugins make no kit: whether every callback that a script or a load names is
+//! there.
 
 ghost use Rattle.std.specs.Prelude.{◌≡◌, ◌≢◌, ◌+◌, List, IfSome, true, nat_lt, count_by};
 ghost use Rattle.std.specs.List.{list_all, list_any};

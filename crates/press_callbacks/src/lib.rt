@@ -1,7 +1,8 @@
-//! Scripts and their turns, closures kept beside the scripts that they play, and kits of callbacks and plugins.
+//! Scripts and their turns, closures kept beside the scripts that they play, and kits of callbacks
+//! and plugins.
 //!
-//! Contracts see a kit as plain data, by name; no public call returns the script of a callback that is in a kit.
-//! `script_turn` plays a script that its caller holds.
+//! Contracts see a kit as plain data, by name; no public call returns the script of a callback that
+//! is in a kit. `script_turn` plays a script that its caller holds.
 #![tactic(auto)]
 
 mod built_in;

@@ -37,7 +37,7 @@ impl<'a> Pieces<'a> {
     {
         while self.piece.is_empty() {
             if let [first, rest @ ..] = self.to_escape {
-                self.piece = escaped(first);
+                self.piece = escape_of(first);
                 self.to_escape = rest;
                 return;
             }
@@ -78,7 +78,7 @@ pub(crate) fn are_same(mut left: Pieces, mut right: Pieces) -> bool
 }
 
 // A byte as HTML has it.
-fn escaped(byte: &u8) -> &[u8]
+fn escape_of(byte: &u8) -> &[u8]
     ensures { result.now ≡ escaped_byte byte.now }
 {
     match *byte {

@@ -305,8 +305,8 @@ impl Same for Plugin {
 }
 
 impl Kit {
-    /// Whether the two kits have the same callbacks by name and script and the same plugins by name and loads, in whatever order
-    /// they were given.
+    /// Whether the two kits have the same callbacks by name and script and the same plugins by name
+    /// and loads, in whatever order they were given.
     pub fn same(&self, other: &Kit) -> bool
         ensures { IsTrue result ↔ (kit_view self.now ≡ kit_view other.now) }
     {

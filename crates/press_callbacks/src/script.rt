@@ -25,7 +25,8 @@ pub enum Part {
     Lit(Text),
     /// What is read there, as it is.
     Raw(Source),
-    /// What is read there, with `&`, `<`, `>`, `"` and `'` written as entities (`esc_html`, `esc_attr`).
+    /// What is read there, with `&`, `<`, `>`, `"` and `'` written as entities (`esc_html`,
+    /// `esc_attr`).
     Escaped(Source),
 }
 
@@ -70,7 +71,8 @@ pub enum Op {
         hook: HookName,
         priority: Option<i64>,
     },
-    /// Puts a tag into the table of shortcodes; one that is no name of a tag is not added (`add_shortcode`).
+    /// Puts a tag into the table of shortcodes; one that is no name of a tag is not added
+    /// (`add_shortcode`).
     AddTag {
         tag: Text,
         callback: CallbackId,
@@ -105,14 +107,16 @@ pub enum Op {
         name: OptName,
         value: Parts,
     },
-    /// Schedules an event that many seconds from now (`wp_schedule_single_event`, `wp_schedule_event`).
+    /// Schedules an event that many seconds from now (`wp_schedule_single_event`,
+    /// `wp_schedule_event`).
     Schedule {
         after: u64,
         every: Every,
         hook: HookName,
         arg: Parts,
     },
-    /// Publishes the post with that id in decimal, if it is future and due (`check_and_publish_future_post`).
+    /// Publishes the post with that id in decimal, if it is future and due
+    /// (`check_and_publish_future_post`).
     Publish(Parts),
     /// Writes a text to the page.
     Echo(Parts),
@@ -123,8 +127,9 @@ pub enum Op {
 /// The steps of a callback, in order; past the last it returns its value.
 pub type Script = Items<Op>;
 
-/// What a callback sees at one turn: at its start `value` is the first argument and `last` is empty.
-/// A callback of a hook has no attributes and empty `content` and `tag`; one of a shortcode has no arguments.
+/// What a callback sees at one turn: at its start `value` is the first argument and `last` is
+/// empty. A callback of a hook has no attributes and empty `content` and `tag`; one of a shortcode
+/// has no arguments.
 #[derive(Debug, Drop)]
 pub struct CallIn {
     pub args: Texts,

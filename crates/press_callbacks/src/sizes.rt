@@ -58,7 +58,7 @@ fn is_within(parts: &[Part], call: &CallIn, most: usize) -> bool
 {
     let mut room = most;
     for part in parts {
-        match part_left(part, call, room) {
+        match room_behind(part, call, room) {
             Some(left) => room = left,
             None => return false,
         }
@@ -67,18 +67,18 @@ fn is_within(parts: &[Part], call: &CallIn, most: usize) -> bool
 }
 
 // What is left of some room behind a part.
-fn part_left(part: &Part, call: &CallIn, room: usize) -> Option<usize>
+fn room_behind(part: &Part, call: &CallIn, room: usize) -> Option<usize>
     ensures { result ≡ left_of room (length (part_text call.now part.now)) }
 {
     match part {
         Part::Lit(t) => room.checked_sub(t.len()),
         Part::Raw(source) => room.checked_sub(source_text(source, call).len()),
-        Part::Escaped(source) => escaped_left(source_text(source, call).as_bytes(), room),
+        Part::Escaped(source) => room_behind_escape(source_text(source, call).as_bytes(), room),
     }
 }
 
 #[tactic(auto, using(crate::proofs::Past::past_bytes))]
-fn escaped_left(text: &[u8], room: usize) -> Option<usize>
+fn room_behind_escape(text: &[u8], room: usize) -> Option<usize>
     ensures { result ≡ left_of room (length (escaped text.now)) }
 {
     let mut left = room;

@@ -1,4 +1,5 @@
-//! Things in the order of their names, so that a name is found by binary search and equal names are neighbours.
+//! Things in the order of their names, so that a name is found by binary search and equal names are
+//! neighbours.
 
 ghost use Rattle.std.specs.Prelude.{◌≡◌, true};
 ghost use Rattle.press_callbacks.specs.Order.{in_order};

@@ -10,7 +10,8 @@ use std::alloc::AllocError;
 /// A closure in a box that gives a callback's turns.
 pub type BoxedTurns = Box<dyn Fn(&CallIn) -> Result<Turn, AllocError>>;
 
-/// A callback whose closure is boxed: it may be called on every input, and what it gives is its script's turn.
+/// A callback whose closure is boxed: it may be called on every input, and what it gives is its
+/// script's turn.
 pub struct Stored {
     id: CallbackId,
     script: Script,
@@ -66,7 +67,8 @@ impl Stored {
         self.script.as_slice()
     }
 
-    /// Whether each text of the turn that is due on this input has at most so many bytes. No text is made.
+    /// Whether each text of the turn that is due on this input has at most so many bytes. No text
+    /// is made.
     pub fn fits(&self, input: &CallIn, most: usize) -> bool
         ensures { result ≡ are_within most (turn_of self.now.script input.now) }
     {

@@ -9,8 +9,9 @@ use crate::sources::source_text;
 use press_text::{Copied, Items, Text, Texts, esc_html};
 use std::alloc::{AllocError, Global};
 
-/// What one turn of a script asks for: that of the op at place `turn`, and past the last op Return of the value.
-/// It may serve as a closure's body. Set, `do_shortcode`, publish and echo take no memory where their text is empty.
+/// What one turn of a script asks for: that of the op at place `turn`, and past the last op Return
+/// of the value. It may serve as a closure's body. Set, `do_shortcode`, publish and echo take no
+/// memory where their text is empty.
 pub fn script_turn(alloc: Global, script: &Script, call: &CallIn) -> Result<Turn, AllocError>
     ensures turn { IfOk result (λ t. t ≡ turn_of script.now call.now) }
     ensures memory { OnErr result (TakesMemory (turn_of script.now call.now)) }
@@ -23,7 +24,8 @@ pub fn script_turn(alloc: Global, script: &Script, call: &CallIn) -> Result<Turn
     }
 }
 
-// The commonest turns have functions of their own: a call clears the room of all arms of its function.
+// The commonest turns have functions of their own: a call clears the room of all arms of its
+// function.
 #[inline(never)]
 fn last_turn(alloc: Global, call: &CallIn) -> Result<Turn, AllocError>
     ensures { IfOk result (λ t. t ≡ Return call.now.value) }
@@ -84,7 +86,7 @@ fn op_turn(alloc: Global, op: &Op, call: &CallIn) -> Result<Turn, AllocError>
         Op::RemoveTag { tag } => Ok(Turn::RemoveTag {
             tag: tag.copy(alloc)?,
         }),
-        Op::SkipIf { left, right, n } => Ok(Turn::Skip(skipped(*n, left, right, call))),
+        Op::SkipIf { left, right, n } => Ok(Turn::Skip(skip_count(*n, left, right, call))),
         Op::Apply { hook, value, more } => {
             let hook = hook.copy(alloc)?;
             let texts = value_and_more(alloc, value, more, call)?;
@@ -119,7 +121,7 @@ fn op_turn(alloc: Global, op: &Op, call: &CallIn) -> Result<Turn, AllocError>
 }
 
 // How many ops a SkipIf passes over: those that it names where the two texts are equal.
-fn skipped(n: u16, left: &Parts, right: &Parts, call: &CallIn) -> u16
+fn skip_count(n: u16, left: &Parts, right: &Parts, call: &CallIn) -> u16
     ensures { result ≡ skipped (text_of call.now left.now) (text_of call.now right.now) n }
 {
     let left = Pieces::new(call, left.as_slice());
@@ -211,11 +213,11 @@ fn push_part(alloc: Global, text: &mut Text, part: &Part, call: &CallIn) -> Resu
     match part {
         Part::Lit(t) => text.push(t),
         Part::Raw(source) => push_source(text, source, call),
-        Part::Escaped(source) => text.push(&escaped(alloc, source, call)?),
+        Part::Escaped(source) => text.push(&escape(alloc, source, call)?),
     }
 }
 
-fn escaped(alloc: Global, source: &Source, call: &CallIn) -> Result<Text, AllocError>
+fn escape(alloc: Global, source: &Source, call: &CallIn) -> Result<Text, AllocError>
     ensures text { IfOk result (λ t. t ≡ escaped (source_text call.now source.now)) }
     ensures memory { OnErr result (0 < length (source_text call.now source.now)) }
 {

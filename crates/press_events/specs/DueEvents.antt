@@ -60,11 +60,6 @@ add_event e events =
     (if stands e events then Ok (events, false) else
     (if nat_le 4096 (length events) then Err TooManyEvents else Ok (scheduled e events, true)))
 
--- the refusal alone
-abbrev pub fault_of : Result (List Event × Bool) EventFault → Option EventFault
-fault_of (Ok after) = None
-fault_of (Err fault) = Some fault
-
 -- ---- cancelling takes out each event of the hook and argument
 
 abbrev pub cancels : List ℕ → List ℕ → List Event → Bool

@@ -2,7 +2,7 @@
 
 ghost use Rattle.std.specs.Prelude.{◌≡◌, ℕ, [], ◌<◌, ◌≤◌, length, take, true, false, IfOk, IfErr, OnOk, OnErr, IfSome, IfNone, insert, remove, slice_index_or, is_some, not, option_map, vec_len, vec_capacity};
 ghost use Rattle.std.specs.List.Sorted.{IsPartitionPoint};
-ghost use Rattle.press_events.specs.DueEvents.{is_earlier, is_later, place_of, stands, place_in, HasEachOnce, IsByTime, IsSchedule, Adds, add_event, cancelled, cancels, is_full_without, fault_of, due, take_event, put_again, scheduled};
+ghost use Rattle.press_events.specs.DueEvents.{is_earlier, is_later, place_of, stands, place_in, HasEachOnce, IsByTime, IsSchedule, Adds, add_event, cancelled, cancels, is_full_without, due, take_event, put_again, scheduled};
 ghost use Rattle.press_events.specs.Shifts.{comes_again, Enters, IsOnly, MayGoBack, MayShiftBack, ShiftsBack, event_at, move_event, shift_back, stands_alone};
 ghost use Rattle.press_events.specs.declared.fault.EventFault.TheVariants.{NoMemory};
 ghost use Rattle.press_events.specs.declared.shift.Shift.TheVariants.{Moved, Went};
@@ -69,7 +69,8 @@ impl Events {
         let _events = &self.events;
     }
 
-    /// Schedules an event; false, and no change, where one of its identity is scheduled already (`wp_schedule_event`).
+    /// Schedules an event; false, and no change, where one of its identity is scheduled already
+    /// (`wp_schedule_event`).
     pub fn add(&mut self, event: Event) -> Result<bool, EventFault>
         ensures { Adds result (add_event event self.old) self.old self.new }
     {
@@ -116,8 +117,8 @@ impl Events {
         Ok(Shift::Came { place })
     }
 
-    /// Takes an event as `take` does, where it comes again; what takes that back. None, and no change, where it isn't scheduled or
-    /// goes. Takes no memory.
+    /// Takes an event as `take` does, where it comes again; what takes that back. None, and no
+    /// change, where it isn't scheduled or goes. Takes no memory.
     pub fn take_again(&mut self, event: &Event, now: Moment) -> Option<Shift>
         ensures told { is_some result ≡ comes_again event.now now self.old }
         ensures did { IfSome result (λ _. is_some (place_of event.now self.old) ≡ true) }
@@ -131,8 +132,9 @@ impl Events {
         self.move_to(place, time, every)
     }
 
-    /// The place of the event of that time, hook and argument, where no other has that hook and argument. None also where another
-    /// argument has the number of that one, since no other event is looked at.
+    /// The place of the event of that time, hook and argument, where no other has that hook and
+    /// argument. None also where another argument has the number of that one, since no other event
+    /// is looked at.
     pub fn only_place(&self, time: Moment, hook: &str, arg: &str) -> Option<usize>
         ensures told { is_some result ≡ stands_alone time hook.now arg.now self.now }
         ensures place { IfSome result (λ place. IsOnly hook.now arg.now place self.now) }
@@ -147,8 +149,9 @@ impl Events {
         place_at(&self.events, time, hook, arg)
     }
 
-    /// Gives the event at a place another time and recurrence; what takes that back. None, and no change, where no event is at that
-    /// place, or another has the identity that it would get. Takes no memory.
+    /// Gives the event at a place another time and recurrence; what takes that back. None, and no
+    /// change, where no event is at that place, or another has the identity that it would get.
+    /// Takes no memory.
     pub fn move_to(&mut self, place: usize, time: Moment, every: Every) -> Option<Shift>
         ensures does { option_map (λ _. self.new) result ≡ move_event place time every self.old }
         ensures back { MayGoBack result self.new self.old }
@@ -181,7 +184,8 @@ impl Events {
         })
     }
 
-    /// Takes an event that doesn't come again; what takes that back. None, and no change, where it isn't scheduled.
+    /// Takes an event that doesn't come again; what takes that back. None, and no change, where it
+    /// isn't scheduled.
     pub fn take_away(&mut self, event: &Event) -> Result<Option<Shift>, AllocError>
         ensures told { IfOk result (λ s. is_some s ≡ is_some (place_of event.now self.old)) }
         ensures after { OnOk result ((now : ℕ) → comes_again event.now now self.old ≡ false
@@ -220,22 +224,6 @@ impl Events {
         }
     }
 
-    /// Why an event is refused, if it is.
-    pub fn add_fault(&self, event: &Event) -> Option<EventFault>
-        ensures { result ≡ fault_of (add_event event.now self.now) }
-    {
-        if event.arg.len() > MOST_ARG {
-            return Some(EventFault::TooLong);
-        }
-        if stands(&self.events, event) {
-            return None;
-        }
-        if self.events.len() >= MOST_EVENTS {
-            return Some(EventFault::TooManyEvents);
-        }
-        None
-    }
-
     /// Whether an event of that hook and argument is scheduled.
     pub fn has(&self, hook: &str, arg: &str) -> bool
         ensures { result ≡ cancels hook.now arg.now self.now }
@@ -243,7 +231,8 @@ impl Events {
         self.marks.has(mark(arg)) && any_of(&self.events, hook, arg)
     }
 
-    /// Removes every event of that hook and argument; returns whether there was one (`wp_clear_scheduled_hook`).
+    /// Removes every event of that hook and argument; returns whether there was one
+    /// (`wp_clear_scheduled_hook`).
     pub fn cancel(&mut self, hook: &HookName, arg: &str) -> bool
         ensures answer { result ≡ cancels hook.now arg.now self.old }
         ensures after { self.new ≡ cancelled hook.now arg.now self.old }
@@ -255,7 +244,8 @@ impl Events {
         left < all
     }
 
-    /// Whether there is no room for another event once every event of that hook and argument is removed.
+    /// Whether there is no room for another event once every event of that hook and argument is
+    /// removed.
     pub fn is_full_without(&self, hook: &str, arg: &str) -> bool
         ensures { result ≡ is_full_without hook.now arg.now self.now }
     {
@@ -278,8 +268,9 @@ impl Events {
         due(self.alloc, self.events.as_slice(), now)
     }
 
-    /// Removes the event of that identity if it is scheduled as Once, and else moves it to its first time after now
-    /// (`wp_reschedule_event`). False, and no change, where it isn't scheduled. Takes no memory.
+    /// Removes the event of that identity if it is scheduled as Once, and else moves it to its
+    /// first time after now (`wp_reschedule_event`). False, and no change, where it isn't
+    /// scheduled. Takes no memory.
     pub fn take(&mut self, event: &Event, now: Moment) -> bool
         ensures answer { result ≡ is_some (place_of event.now self.old) }
         ensures after { self.new ≡ take_event event.now now self.old }

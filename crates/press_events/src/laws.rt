@@ -2,7 +2,8 @@ ghost use Rattle.std.specs.Prelude.{◌≡◌, List, [], ℕ, ◌<◌, ◌≤◌
 ghost use Rattle.press_events.specs.declared.event.Event.{Event};
 ghost use Rattle.press_events.specs.DueEvents.{HasEachOnce, IsLeastAfter, IsSchedule, add_all, add_event, moment_after, take_event};
 
-/// A recurring event comes again at the first moment after now that is one interval or more behind its time, counted in whole intervals.
+/// A recurring event comes again at the first moment after now that is one interval or more behind
+/// its time, counted in whole intervals.
 pub fn comes_again_first()
     ensures { (interval time now : ℕ) → 0 < interval
         → IsLeastAfter interval time now (moment_after interval time now) }

@@ -7,7 +7,8 @@ ghost use Rattle.press_events.specs.Marks.{IsTwice, count_of, mark, one};
 use std::alloc::{AllocError, Global};
 use std::marker::Model;
 
-/// Numbers in their order, each as often as it was put in: whether one is there is found by binary search.
+/// Numbers in their order, each as often as it was put in: whether one is there is found by binary
+/// search.
 #[derive(Debug)]
 pub struct Marks {
     marks: Vec<u64>,

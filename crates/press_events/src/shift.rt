@@ -16,7 +16,8 @@ pub enum Shift {
         time: Moment,
         every: Every,
     },
-    /// The event at that place went; with room for it and all others, and for the numbers of their arguments.
+    /// The event at that place went; with room for it and all others, and for the numbers of their
+    /// arguments.
     Went {
         place: usize,
         event: Event,

@@ -112,8 +112,9 @@ impl<'f, F: Lookup> Reader<'f, F> {
     }
 }
 
-/// The command that fields give, with its token and its moment. BadField where one is missing or out of its range; what a
-/// site refuses of a command is not looked at here. Memory is first taken for looking up the editor, or for its name.
+/// The command that fields give, with its token and its moment. BadField where one is missing or
+/// out of its range; what a site refuses of a command is not looked at here. Memory is first taken
+/// for looking up the editor, or for its name.
 pub fn read_command<F: Lookup>(alloc: Global, fields: &F) -> Result<Stamped, FieldFault>
     ensures gives { Gives Refuses Ok result (spec.command_of (F.seen fields.now)) }
     ensures memory { F.lends fields.now (codes "editor") → GrowsBehind result

@@ -1,4 +1,5 @@
-//! The command that fields give, which are looked up by their names: those of a form or of an object in a file.
+//! The command that fields give, which are looked up by their names: those of a form or of an
+//! object in a file.
 #![tactic(auto)]
 
 mod command;

@@ -19,7 +19,8 @@ pub trait Lookup {
             ((seen self.now).text name.now) }
         ensures memory { lends self.now name.now → result ≢ Err FieldFault.NoMemory };
 
-    /// The number of that name, if there is such a field. BadField where it has no whole number below 2^64.
+    /// The number of that name, if there is such a field. BadField where it has no whole number
+    /// below 2^64.
     fn number(&self, name: &str) -> Result<Option<u64>, FieldFault>
         ensures gives { Gives Refuses Ok result ((seen self.now).number name.now) }
         ensures memory { lends self.now name.now → result ≢ Err FieldFault.NoMemory };

@@ -9,8 +9,8 @@ use Rattle.std.specs.declared.cmp.Ordering.TheVariants.{Less, Equal, Greater}
 use Rattle.std.proofs.lemmas.Int.{ints}
 use Rattle.std.proofs.lemmas.List.{length-take-le, get_or-set_same}
 use Rattle.press_hooks.specs.declared.entry.Entry.{Entry}
-use Rattle.press_hooks.specs.declared.member.Member.{Member}
-use Rattle.press_hooks.specs.Members.{entry_at, member_of, accepted_if, is_member_of}
+use Rattle.press_hooks.specs.declared.group_entry.GroupEntry.{GroupEntry}
+use Rattle.press_hooks.specs.GroupEntries.{entry_at, group_entry_of, accepted_if, is_group_entry_of}
 use Rattle.press_hooks.specs.NextEntry.{is_past, first_of}
 use Rattle.press_hooks.specs.Hooked.{Grouped, with_members, group_entries, entries_of, IsEach, IsByPriority, AreGroups, IsPlaceAt, up_to, put_entry, is_of, is_named, accepted_where}
 use Rattle.press_hooks.proofs.Cuts.{each_at, each_joined, each_weaker, front_kept, all_pass, none_pass, filter_joined, map_joined, append_none, length_mapped}
@@ -30,7 +30,7 @@ unlike p q h = grind (arith, ints)
 
 -- ---- entries of groups
 
-each_member : (P : ℤ → Type 0) (p : ℤ) (ms : List Member) → P p → IsEach (λ (e : Entry). P e.priority) (map (entry_at p) ms)
+each_member : (P : ℤ → Type 0) (p : ℤ) (ms : List GroupEntry) → P p → IsEach (λ (e : Entry). P e.priority) (map (entry_at p) ms)
 each_member P p [] h = tt
 each_member P p (m ∷ ms) h = (h, each_member P p ms h)
 
@@ -38,7 +38,7 @@ pub each_entry : (P : ℤ → Type 0) (gs : List Grouped) → IsEach (λ (g : Gr
 each_entry P [] h = tt
 each_entry P (g ∷ gs) h = each_joined (λ (e : Entry). P e.priority) (group_entries g) (entries_of gs) (each_member P g.priority g.members h.0) (each_entry P gs h.1)
 
-order_joined : (p : ℤ) (ms : List Member) (ys : List Entry) → IsEach (λ (f : Entry). int_lt f.priority p ≡ false) ys → IsByPriority ys → IsByPriority (map (entry_at p) ms ++ ys)
+order_joined : (p : ℤ) (ms : List GroupEntry) (ys : List Entry) → IsEach (λ (f : Entry). int_lt f.priority p ≡ false) ys → IsByPriority ys → IsByPriority (map (entry_at p) ms ++ ys)
 order_joined p [] ys h o = o
 order_joined p (m ∷ ms) ys h o =
     (each_joined (λ (f : Entry). int_lt f.priority p ≡ false) (map (entry_at p) ms) ys (each_member (λ q. int_lt q p ≡ false) p ms (itself p)) h, order_joined p ms ys h o)
@@ -106,7 +106,7 @@ next_up_to (g ∷ gs) (suc i) d o lt =
 
 -- ---- the group that stands first
 
-first_member : (p : ℤ) (ms : List Member) (ys : List Entry) → 0 < length ms → option_map (λ (e : Entry). e.priority) (first_of (map (entry_at p) ms ++ ys)) ≡ Some p
+first_member : (p : ℤ) (ms : List GroupEntry) (ys : List Entry) → 0 < length ms → option_map (λ (e : Entry). e.priority) (first_of (map (entry_at p) ms ++ ys)) ≡ Some p
 first_member p [] ys h = absurd (omega arith)
 first_member p (m ∷ ms) ys h = refl
 
@@ -242,28 +242,28 @@ at_found p (g ∷ gs) (suc i) d o lt at =
     ∙ (ap (λ xs. xs ++ filter t (entries_of gs)) (none_pass t (group_entries g) (each_member (λ q. int_eq q p ≡ false) g.priority g.members (less_unlike g.priority p less)))
     ∙ at_found p gs i d o.2 lt' (λ h. at h))
 
-any_member : (c : List ℕ) (p : ℤ) (ms : List Member) → list_any (λ (m : Member). bytes_eq m.callback c) ms ≡ list_any (λ (e : Entry). bytes_eq e.callback c) (map (entry_at p) ms)
+any_member : (c : List ℕ) (p : ℤ) (ms : List GroupEntry) → list_any (λ (m : GroupEntry). bytes_eq m.callback c) ms ≡ list_any (λ (e : Entry). bytes_eq e.callback c) (map (entry_at p) ms)
 any_member c p [] = refl
 any_member c p (m ∷ ms) = ap (λ b. bytes_eq m.callback c || b) (any_member c p ms)
 
-pub has_found : (p : ℤ) (c : List ℕ) (gs : List Grouped) (i : ℕ) (g : Grouped) {b : Bool} → AreGroups gs → i < length gs → HoldsAt (λ (h : Grouped). int_cmp h.priority p ≡ Equal) gs i → g ≡ get_or gs i g → b ≡ list_any (λ (m : Member). bytes_eq m.callback c) g.members → b ≡ list_any (λ (e : Entry). bytes_eq e.callback c) (filter (λ (e : Entry). int_eq e.priority p) (entries_of gs))
+pub has_found : (p : ℤ) (c : List ℕ) (gs : List Grouped) (i : ℕ) (g : Grouped) {b : Bool} → AreGroups gs → i < length gs → HoldsAt (λ (h : Grouped). int_cmp h.priority p ≡ Equal) gs i → g ≡ get_or gs i g → b ≡ list_any (λ (m : GroupEntry). bytes_eq m.callback c) g.members → b ≡ list_any (λ (e : Entry). bytes_eq e.callback c) (filter (λ (e : Entry). int_eq e.priority p) (entries_of gs))
 has_found p c gs i g o lt at is h =
     h ∙ (any_member c g.priority g.members
     ∙ (ap (λ (x : Grouped). list_any (λ (e : Entry). bytes_eq e.callback c) (group_entries x)) is ∙ ap (list_any (λ (e : Entry). bytes_eq e.callback c)) (sym (at_found p gs i g o lt at))))
 
 -- ---- the first entry of a callback
 
-find_joined : (c : List ℕ) (p : ℤ) (ms : List Member) (ys : List Entry) {o : Option ℤ} → o ≡ option_map (λ (e : Entry). e.priority) (find (λ (e : Entry). bytes_eq e.callback c) ys) → cond (list_any (λ (m : Member). bytes_eq m.callback c) ms) (Some p) o ≡ option_map (λ (e : Entry). e.priority) (find (λ (e : Entry). bytes_eq e.callback c) (map (entry_at p) ms ++ ys))
+find_joined : (c : List ℕ) (p : ℤ) (ms : List GroupEntry) (ys : List Entry) {o : Option ℤ} → o ≡ option_map (λ (e : Entry). e.priority) (find (λ (e : Entry). bytes_eq e.callback c) ys) → cond (list_any (λ (m : GroupEntry). bytes_eq m.callback c) ms) (Some p) o ≡ option_map (λ (e : Entry). e.priority) (find (λ (e : Entry). bytes_eq e.callback c) (map (entry_at p) ms ++ ys))
 find_joined c p [] ys k = k
 find_joined c p (m ∷ ms) ys k = by (bytes_eq m.callback c) _ (find_joined c p ms ys k)
   where
-    by : (b : Bool) (o : Option ℤ) → cond (list_any (λ (l : Member). bytes_eq l.callback c) ms) (Some p) o ≡ option_map (λ (e : Entry). e.priority) (find (λ (e : Entry). bytes_eq e.callback c) (map (entry_at p) ms ++ ys)) → cond (b || list_any (λ (l : Member). bytes_eq l.callback c) ms) (Some p) o ≡ option_map (λ (e : Entry). e.priority) (cond b (Some (entry_at p m)) (find (λ (e : Entry). bytes_eq e.callback c) (map (entry_at p) ms ++ ys)))
+    by : (b : Bool) (o : Option ℤ) → cond (list_any (λ (l : GroupEntry). bytes_eq l.callback c) ms) (Some p) o ≡ option_map (λ (e : Entry). e.priority) (find (λ (e : Entry). bytes_eq e.callback c) (map (entry_at p) ms ++ ys)) → cond (b || list_any (λ (l : GroupEntry). bytes_eq l.callback c) ms) (Some p) o ≡ option_map (λ (e : Entry). e.priority) (cond b (Some (entry_at p m)) (find (λ (e : Entry). bytes_eq e.callback c) (map (entry_at p) ms ++ ys)))
     by true o ih = refl
     by false o ih = ih
 
-pub find_entries : (c : List ℕ) (gs : List Grouped) → option_map (λ (g : Grouped). g.priority) (find (λ (g : Grouped). list_any (λ (m : Member). bytes_eq m.callback c) g.members) gs) ≡ option_map (λ (e : Entry). e.priority) (find (λ (e : Entry). bytes_eq e.callback c) (entries_of gs))
+pub find_entries : (c : List ℕ) (gs : List Grouped) → option_map (λ (g : Grouped). g.priority) (find (λ (g : Grouped). list_any (λ (m : GroupEntry). bytes_eq m.callback c) g.members) gs) ≡ option_map (λ (e : Entry). e.priority) (find (λ (e : Entry). bytes_eq e.callback c) (entries_of gs))
 find_entries c [] = refl
-find_entries c (g ∷ gs) = mapped (list_any (λ (m : Member). bytes_eq m.callback c) g.members) _ ∙ find_joined c g.priority g.members (entries_of gs) (find_entries c gs)
+find_entries c (g ∷ gs) = mapped (list_any (λ (m : GroupEntry). bytes_eq m.callback c) g.members) _ ∙ find_joined c g.priority g.members (entries_of gs) (find_entries c gs)
   where
     mapped : (b : Bool) (o : Option Grouped) → option_map (λ (h : Grouped). h.priority) (cond b (Some g) o) ≡ cond b (Some g.priority) (option_map (λ (h : Grouped). h.priority) o)
     mapped true o = refl
@@ -337,7 +337,7 @@ empty_removed (h ∷ gs) zero g g' lt is e =
     ap (λ ms. map (entry_at g'.priority) ms ++ entries_of gs) (sym (empty_where g'.members same))
 empty_removed (h ∷ gs) (suc i) g g' lt is e = let lt' : i < length gs = omega arith in ap (λ ys. group_entries h ++ ys) (empty_removed gs i g g' lt' is e)
 
-pub order_removed : (gs : List Grouped) (i : ℕ) (d g g' : Grouped) (ms : List Member) → AreGroups gs → i < length gs → g ≡ get_or (set gs i g') i g → (length g.members ≡ 0 → ⊥) → d ≡ get_or gs i d → g' ≡ with_members ms d → AreGroups (set gs i g')
+pub order_removed : (gs : List Grouped) (i : ℕ) (d g g' : Grouped) (ms : List GroupEntry) → AreGroups gs → i < length gs → g ≡ get_or (set gs i g') i g → (length g.members ≡ 0 → ⊥) → d ≡ get_or gs i d → g' ≡ with_members ms d → AreGroups (set gs i g')
 order_removed gs i d g g' ms o lt is some x k =
     let same : g ≡ g' = is ∙ get_or-set_same gs i g' g lt in
     let filled : 0 < length g'.members = positive (length g'.members) (λ e. some (ap (λ (f : Grouped). length f.members) same ∙ e)) in
@@ -406,25 +406,25 @@ put_missing e x (g ∷ gs) (suc i) k le low high =
     ap (λ ys. group_entries g ++ ys) (put_missing e x gs i k le' (λ j d a b. low (suc j) d (omega arith) (omega arith)) (λ j d a b. high (suc j) d (omega arith) (omega arith)))
     ∙ sym (put_behind e (group_entries g) (entries_of gs) (each_member (λ q. int_lt e.priority q ≡ false) g.priority g.members (not_after g.priority e.priority less)))
 
-pub group_put : (e : Entry) (gs : List Grouped) (i : ℕ) (d g' : Grouped) → AreGroups gs → i < length gs → HoldsAt (λ (g : Grouped). int_cmp g.priority e.priority ≡ Equal) gs i → d ≡ get_or gs i d → g' ≡ with_members (d.members ++ member_of e ∷ []) d → entries_of (set gs i g') ≡ put_entry e (entries_of gs)
+pub group_put : (e : Entry) (gs : List Grouped) (i : ℕ) (d g' : Grouped) → AreGroups gs → i < length gs → HoldsAt (λ (g : Grouped). int_cmp g.priority e.priority ≡ Equal) gs i → d ≡ get_or gs i d → g' ≡ with_members (d.members ++ group_entry_of e ∷ []) d → entries_of (set gs i g') ≡ put_entry e (entries_of gs)
 group_put e gs i d g' o lt at x k =
     let same : (get_or gs i d).priority ≡ e.priority = cmp_equal (get_or gs i d).priority e.priority (at d) in
     let more : group_entries g' ≡ group_entries (get_or gs i d) ++ e ∷ [] =
-    ap group_entries (k ∙ ap (λ (g : Grouped). with_members (g.members ++ member_of e ∷ []) g) x)
-    ∙ (map_joined (entry_at (get_or gs i d).priority) (get_or gs i d).members (member_of e ∷ []) ∙ ap (λ p. group_entries (get_or gs i d) ++ entry_at p (member_of e) ∷ []) same) in
+    ap group_entries (k ∙ ap (λ (g : Grouped). with_members (g.members ++ group_entry_of e ∷ []) g) x)
+    ∙ (map_joined (entry_at (get_or gs i d).priority) (get_or gs i d).members (group_entry_of e ∷ []) ∙ ap (λ p. group_entries (get_or gs i d) ++ entry_at p (group_entry_of e) ∷ []) same) in
     put_found e gs i d g' o lt at more
 
 length_more : {X : Type 0} (xs : List X) (x : X) → 0 < length (xs ++ x ∷ [])
 length_more [] x = omega arith
 length_more (y ∷ ys) x = omega arith
 
-pub order_put : (e : Entry) (gs : List Grouped) (i : ℕ) (d g' : Grouped) → AreGroups gs → i < length gs → d ≡ get_or gs i d → g' ≡ with_members (d.members ++ member_of e ∷ []) d → AreGroups (set gs i g')
+pub order_put : (e : Entry) (gs : List Grouped) (i : ℕ) (d g' : Grouped) → AreGroups gs → i < length gs → d ≡ get_or gs i d → g' ≡ with_members (d.members ++ group_entry_of e ∷ []) d → AreGroups (set gs i g')
 order_put e gs i d g' o lt x k =
-    let some : 0 < length g'.members = rw k (length_more d.members (member_of e)) in
+    let some : 0 < length g'.members = rw k (length_more d.members (group_entry_of e)) in
     order_set gs i d g' lt (ap (λ (g : Grouped). g.priority) k ∙ ap (λ (g : Grouped). g.priority) x) some o
 
 abbrev new_group : Entry → Grouped
-new_group e = record { priority = e.priority; members = member_of e ∷ [] }
+new_group e = record { priority = e.priority; members = group_entry_of e ∷ [] }
 
 pub new_put : (e : Entry) (x : Grouped) (gs : List Grouped) (i : ℕ) → x ≡ new_group e → i ≤ length gs → IsPartitionPoint (λ (g : Grouped). int_cmp g.priority e.priority ≡ Less) (λ (g : Grouped). int_cmp g.priority e.priority ≡ Greater) gs i → entries_of (insert gs i x) ≡ put_entry e (entries_of gs)
 new_put e x gs i k le parts = put_missing e x gs i (ap group_entries k) le parts.0 parts.1
@@ -437,7 +437,7 @@ order_new e x gs i k le parts o =
 -- ---- the entry named with its `accepted`
 
 module _ (p : ℤ) (c : List ℕ) (a : ℕ) where
-  accepted_group : (q : ℤ) (ms : List Member) → int_eq q p ≡ true → map (entry_at q) (map (accepted_if c a) ms) ≡ map (accepted_where p c a) (map (entry_at q) ms)
+  accepted_group : (q : ℤ) (ms : List GroupEntry) → int_eq q p ≡ true → map (entry_at q) (map (accepted_if c a) ms) ≡ map (accepted_where p c a) (map (entry_at q) ms)
   accepted_group q [] k = refl
   accepted_group q (m ∷ ms) k = ap₂ (λ (e : Entry) es. e ∷ es) (by (bytes_eq m.callback c) (int_eq q p) k) (accepted_group q ms k)
     where
@@ -448,7 +448,7 @@ module _ (p : ℤ) (c : List ℕ) (a : ℕ) where
   skipped_group : (g : Grouped) → int_eq g.priority p ≡ false → map (accepted_where p c a) (group_entries g) ≡ group_entries g
   skipped_group g k = skipped g.members
     where
-      skipped : (ms : List Member) → map (accepted_where p c a) (map (entry_at g.priority) ms) ≡ map (entry_at g.priority) ms
+      skipped : (ms : List GroupEntry) → map (accepted_where p c a) (map (entry_at g.priority) ms) ≡ map (entry_at g.priority) ms
       skipped [] = refl
       skipped (m ∷ ms) = ap₂ (λ (e : Entry) es. e ∷ es) (ap (λ w. cond (w && bytes_eq m.callback c) (let e : Entry = entry_at g.priority m in record e { accepted = a }) (entry_at g.priority m)) k) (skipped ms)
 
@@ -472,38 +472,38 @@ module _ (p : ℤ) (c : List ℕ) (a : ℕ) where
 -- ---- without the entries named
 
 module _ (p : ℤ) (c : Option (List ℕ)) where
-  same_test : (o : Option (List ℕ)) (q : ℤ) (m : Member) → is_of o (entry_at q m) ≡ is_member_of o m
+  same_test : (o : Option (List ℕ)) (q : ℤ) (m : GroupEntry) → is_of o (entry_at q m) ≡ is_group_entry_of o m
   same_test None q m = refl
   same_test (Some callback) q m = refl
 
-  gone_group : (q : ℤ) (ms : List Member) → int_eq q p ≡ true → map (entry_at q) (filter (λ (m : Member). not (is_member_of c m)) ms) ≡ filter (λ (e : Entry). not (is_named (Some p) c e)) (map (entry_at q) ms)
+  gone_group : (q : ℤ) (ms : List GroupEntry) → int_eq q p ≡ true → map (entry_at q) (filter (λ (m : GroupEntry). not (is_group_entry_of c m)) ms) ≡ filter (λ (e : Entry). not (is_named (Some p) c e)) (map (entry_at q) ms)
   gone_group q [] k = refl
   gone_group q (m ∷ ms) k =
-      by (is_member_of c m) (gone_group q ms k) ∙ ap (λ b. cond (not b) (entry_at q m ∷ gone) gone) (sym test)
+      by (is_group_entry_of c m) (gone_group q ms k) ∙ ap (λ b. cond (not b) (entry_at q m ∷ gone) gone) (sym test)
     where
       gone : List Entry
       gone = filter (λ (e : Entry). not (is_named (Some p) c e)) (map (entry_at q) ms)
 
-      test : is_named (Some p) c (entry_at q m) ≡ is_member_of c m
+      test : is_named (Some p) c (entry_at q m) ≡ is_group_entry_of c m
       test = ap (λ b. b && is_of c (entry_at q m)) k ∙ same_test c q m
 
-      by : (b : Bool) → map (entry_at q) (filter (λ (l : Member). not (is_member_of c l)) ms) ≡ gone → map (entry_at q) (cond (not b) (m ∷ filter (λ (l : Member). not (is_member_of c l)) ms) (filter (λ (l : Member). not (is_member_of c l)) ms)) ≡ cond (not b) (entry_at q m ∷ gone) gone
+      by : (b : Bool) → map (entry_at q) (filter (λ (l : GroupEntry). not (is_group_entry_of c l)) ms) ≡ gone → map (entry_at q) (cond (not b) (m ∷ filter (λ (l : GroupEntry). not (is_group_entry_of c l)) ms) (filter (λ (l : GroupEntry). not (is_group_entry_of c l)) ms)) ≡ cond (not b) (entry_at q m ∷ gone) gone
       by true ih = ih
       by false ih = ap (λ es. entry_at q m ∷ es) ih
 
   kept_group : (g : Grouped) → int_eq g.priority p ≡ false → filter (λ (e : Entry). not (is_named (Some p) c e)) (group_entries g) ≡ group_entries g
   kept_group g k = all_pass (λ (e : Entry). not (is_named (Some p) c e)) (group_entries g) (kept g.members)
     where
-      kept : (ms : List Member) → IsEach (λ (e : Entry). not (is_named (Some p) c e) ≡ true) (map (entry_at g.priority) ms)
+      kept : (ms : List GroupEntry) → IsEach (λ (e : Entry). not (is_named (Some p) c e) ≡ true) (map (entry_at g.priority) ms)
       kept [] = tt
       kept (m ∷ ms) = (ap (λ b. not (b && is_of c (entry_at g.priority m))) k, kept ms)
 
-  pub removed_found : (gs : List Grouped) (i : ℕ) (d g' : Grouped) → AreGroups gs → i < length gs → HoldsAt (λ (g : Grouped). int_cmp g.priority p ≡ Equal) gs i → d ≡ get_or gs i d → g' ≡ with_members (filter (λ (m : Member). not (is_member_of c m)) d.members) d → entries_of (set gs i g') ≡ filter (λ (e : Entry). not (is_named (Some p) c e)) (entries_of gs)
+  pub removed_found : (gs : List Grouped) (i : ℕ) (d g' : Grouped) → AreGroups gs → i < length gs → HoldsAt (λ (g : Grouped). int_cmp g.priority p ≡ Equal) gs i → d ≡ get_or gs i d → g' ≡ with_members (filter (λ (m : GroupEntry). not (is_group_entry_of c m)) d.members) d → entries_of (set gs i g') ≡ filter (λ (e : Entry). not (is_named (Some p) c e)) (entries_of gs)
   removed_found gs i d g' o lt at x k =
       let old : Grouped = get_or gs i d in
       let f : List Entry → List Entry = filter (λ (e : Entry). not (is_named (Some p) c e)) in
       let same : int_eq old.priority p ≡ true = subst (λ q. int_eq q p ≡ true) (sym (cmp_equal old.priority p (at d))) (eq_itself p) in
-      let group : group_entries g' ≡ f (group_entries old) = ap group_entries (k ∙ ap (λ (g : Grouped). with_members (filter (λ (m : Member). not (is_member_of c m)) g.members) g) x) ∙ gone_group old.priority old.members same in
+      let group : group_entries g' ≡ f (group_entries old) = ap group_entries (k ∙ ap (λ (g : Grouped). with_members (filter (λ (m : GroupEntry). not (is_group_entry_of c m)) g.members) g) x) ∙ gone_group old.priority old.members same in
       edited p f (filter_joined (λ (e : Entry). not (is_named (Some p) c e))) refl kept_group gs i d g' o lt at group
 
   pub removed_missing : (gs : List Grouped) (i : ℕ) → IsPartitionPoint (λ (g : Grouped). int_cmp g.priority p ≡ Less) (λ (g : Grouped). int_cmp g.priority p ≡ Greater) gs i → entries_of gs ≡ filter (λ (e : Entry). not (is_named (Some p) c e)) (entries_of gs)

@@ -6,11 +6,11 @@ use Rattle.std.proofs.lemmas.Bool.{eqb-true, eqb-false}
 use Rattle.std.proofs.lemmas.Bool.Decides.{Decides-int_eq}
 use Rattle.press_hooks.specs.declared.row.Row.{Row}
 use Rattle.press_hooks.specs.declared.entry.Entry.{Entry}
-use Rattle.press_hooks.specs.declared.member.Member.{Member}
+use Rattle.press_hooks.specs.declared.group_entry.GroupEntry.{GroupEntry}
 use Rattle.press_hooks.specs.declared.open_run.OpenRun.{OpenRun}
 use Rattle.press_hooks.specs.HookRows.{is_row, is_of_hook, lesser, least_priority, priority_of, has_rows, entry_of}
 use Rattle.press_hooks.specs.NextEntry.{entries_at, is_past, is_ahead, next_priority, first_of, moved_to, refilled, refilled_by, is_done}
-use Rattle.press_hooks.specs.Members.{entry_at}
+use Rattle.press_hooks.specs.GroupEntries.{entry_at}
 use Rattle.press_hooks.specs.Hooked.{row_of, IsEach, IsByPriority}
 use Rattle.press_hooks.proofs.Cuts.{filter_two, filter_alike}
 
@@ -170,24 +170,24 @@ unmoved_by rows run (x ∷ xs) e = refl
 pub unmoved : (rows : List Row) (run : OpenRun) → is_done run.rest ≡ false → run ≡ refilled rows run
 unmoved rows run e = unmoved_by rows run run.rest e
 
-done_drop : (p : ℤ) (ms : List Member) (i : ℕ) → i ≡ length ms → is_done (map (entry_at p) (drop i ms)) ≡ true
+done_drop : (p : ℤ) (ms : List GroupEntry) (i : ℕ) → i ≡ length ms → is_done (map (entry_at p) (drop i ms)) ≡ true
 done_drop p [] zero h = refl
 done_drop p [] (suc i) h = refl
 done_drop p (x ∷ xs) zero h = absurd (omega arith)
 done_drop p (x ∷ xs) (suc i) h = let h' : i ≡ length xs = omega arith in done_drop p xs i h'
 
-left_drop : (p : ℤ) (ms : List Member) (i : ℕ) → i < length ms → is_done (map (entry_at p) (drop i ms)) ≡ false
+left_drop : (p : ℤ) (ms : List GroupEntry) (i : ℕ) → i < length ms → is_done (map (entry_at p) (drop i ms)) ≡ false
 left_drop p [] i h = absurd (omega arith)
 left_drop p (x ∷ xs) zero h = refl
 left_drop p (x ∷ xs) (suc i) h = let h' : i < length xs = omega arith in left_drop p xs i h'
 
-given_by : (p : ℤ) (ms : List Member) (i n : ℕ) (b : Bool) → nat_eq i n ≡ b → n ≡ length ms → i ≤ length ms → b ≡ is_done (map (entry_at p) (drop i ms))
+given_by : (p : ℤ) (ms : List GroupEntry) (i n : ℕ) (b : Bool) → nat_eq i n ≡ b → n ≡ length ms → i ≤ length ms → b ≡ is_done (map (entry_at p) (drop i ms))
 given_by p ms i n true k e h = sym (done_drop p ms i (eqb-true i n k ∙ e))
 given_by p ms i n false k e h = let differ : i ≢ n = eqb-false i n k in let lt : i < length ms = omega arith in sym (left_drop p ms i lt)
 
-pub all_given : (p : ℤ) (ms : List Member) (i n : ℕ) → n ≡ length ms → i ≤ length ms → nat_eq i n ≡ is_done (map (entry_at p) (drop i ms))
+pub all_given : (p : ℤ) (ms : List GroupEntry) (i n : ℕ) → n ≡ length ms → i ≤ length ms → nat_eq i n ≡ is_done (map (entry_at p) (drop i ms))
 all_given p ms i n e h = given_by p ms i n (nat_eq i n) refl e h
 
-pub filled : (p : ℤ) (ms : List Member) → map (entry_at p) ms ≡ map (entry_at p) (drop 0 ms)
+pub filled : (p : ℤ) (ms : List GroupEntry) → map (entry_at p) ms ≡ map (entry_at p) (drop 0 ms)
 filled p [] = refl
 filled p (m ∷ ms) = refl

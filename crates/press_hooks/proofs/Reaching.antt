@@ -5,11 +5,11 @@ use Rattle.std.specs.List.{list_any}
 use Rattle.std.proofs.lemmas.Bool.{eqb-true}
 use Rattle.press_hooks.specs.declared.row.Row.{Row}
 use Rattle.press_hooks.specs.declared.entry.Entry.{Entry}
-use Rattle.press_hooks.specs.declared.member.Member.{Member}
+use Rattle.press_hooks.specs.declared.group_entry.GroupEntry.{GroupEntry}
 use Rattle.press_hooks.specs.declared.open_run.OpenRun.{OpenRun}
 use Rattle.press_hooks.specs.HookRows.{is_of_hook}
 use Rattle.press_hooks.specs.NextEntry.{is_past, first_of, refilled, next_priority, is_done, moves_on}
-use Rattle.press_hooks.specs.Members.{entry_at}
+use Rattle.press_hooks.specs.GroupEntries.{entry_at}
 use Rattle.press_hooks.specs.Hooked.{Grouped, group_entries, entries_of, row_of, AreGroups, up_to}
 use Rattle.press_hooks.specs.Placed.{at_group}
 use Rattle.press_hooks.proofs.ByPriority.{order_entries, order_drop, ahead_entries, first_priority, first_entries, next_up_to}
@@ -69,6 +69,6 @@ some_group (g ∷ gs) b o e = ap not (e ∙ not_zero (length gs) (nat_eq (suc (l
     not_zero n true k = let e : suc n ≡ 0 = eqb-true (suc n) 0 k in absurd (omega arith)
     not_zero n false k = refl
 
-    filled : (ms : List Member) → 0 < length ms → true ≡ list_any (λ (e : Entry). true) (map (entry_at g.priority) ms ++ entries_of gs)
+    filled : (ms : List GroupEntry) → 0 < length ms → true ≡ list_any (λ (e : Entry). true) (map (entry_at g.priority) ms ++ entries_of gs)
     filled [] lt = absurd (omega arith)
     filled (m ∷ ms) lt = refl

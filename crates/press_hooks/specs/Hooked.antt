@@ -7,16 +7,16 @@ use Rattle.std.specs.Ordering.{nat_cmp, int_cmp, int_eq}
 use Rattle.std.specs.declared.cmp.Ordering.TheVariants.{Less, Equal, Greater}
 use Rattle.press_hooks.specs.declared.row.Row.{Row}
 use Rattle.press_hooks.specs.declared.entry.Entry.{Entry}
-use Rattle.press_hooks.specs.declared.member.Member.{Member}
-use Rattle.press_hooks.specs.Members.{entry_at}
+use Rattle.press_hooks.specs.declared.group_entry.GroupEntry.{GroupEntry}
+use Rattle.press_hooks.specs.GroupEntries.{entry_at}
 use Rattle.press_hooks.specs.NextEntry.{is_past}
 
 -- the entries of a priority
 pub record Grouped : Type 0 where
   pub priority : ℤ
-  pub members : List Member
+  pub members : List GroupEntry
 
-abbrev pub with_members : List Member → Grouped → Grouped
+abbrev pub with_members : List GroupEntry → Grouped → Grouped
 with_members members g = record g { members = members }
 
 abbrev pub group_entries : Grouped → List Entry

@@ -4,7 +4,7 @@ use Rattle.std.specs.Cmp.Lexicographic.{bytes_decides}
 use Rattle.std.specs.Hash as fed
 use Rattle.std.proofs.Common.{ap}
 use Rattle.press_text.specs.Padded.{eight, number, padded}
-use Rattle.press_hooks.specs.declared.member.Member.{Member}
+use Rattle.press_hooks.specs.declared.group_entry.GroupEntry.{GroupEntry}
 
 -- the number that eight bytes of a name spell, zeros behind it up to 32
 abbrev word : List ℕ → ℕ → ℕ
@@ -18,8 +18,8 @@ pub writes_alike : (a b : List ℕ) → IsTrue (bytes_eq a b) → writes a ≡ w
 writes_alike a b e = ap writes ((bytes_decides a b).0 e)
 
 -- one of a group, as a map has it
-abbrev pub member_in : List ℕ × ℕ → Member
-member_in e = record { callback = e.0; accepted = e.1 }
+abbrev pub group_entry_in : List ℕ × ℕ → GroupEntry
+group_entry_in e = record { callback = e.0; accepted = e.1 }
 
-abbrev pub members_in : List (List ℕ × ℕ) → List Member
-members_in es = map member_in es
+abbrev pub group_entries_in : List (List ℕ × ℕ) → List GroupEntry
+group_entries_in es = map group_entry_in es

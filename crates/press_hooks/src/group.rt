@@ -2,18 +2,19 @@ ghost use Rattle.std.specs.Prelude.{◌≡◌, ◌+◌, ◌++◌, ◌∷◌, ◌
 ghost use Rattle.std.specs.List.{list_any};
 ghost use Rattle.indexmap.specs.IndexMap.{index_map_len};
 ghost use Rattle.press_hooks.specs.Hooked.{with_members};
-ghost use Rattle.press_hooks.specs.Keys.{members_in};
-ghost use Rattle.press_hooks.specs.Members.{member_of, is_member_of, accepted_if};
+ghost use Rattle.press_hooks.specs.Keys.{group_entries_in};
+ghost use Rattle.press_hooks.specs.GroupEntries.{group_entry_of, is_group_entry_of, accepted_if};
 
 use crate::entry::Entry;
+use crate::group_entry::GroupEntry;
 use crate::key::Key;
-use crate::member::Member;
 use indexmap::IndexMap;
 use press_text::{CallbackId, Copied};
 use std::alloc::{AllocError, Global};
 use std::marker::Model;
 
-/// The entries of a hook at one priority, in the order in which they were added: how many arguments each callback accepts.
+/// The entries of a hook at one priority, in the order in which they were added: how many arguments
+/// each callback accepts.
 #[derive(Debug)]
 pub struct Group {
     priority: i64,
@@ -31,11 +32,11 @@ impl Drop for Group {
 
 impl Model for Group {
     ghost use Rattle.press_hooks.specs.Hooked.{Grouped};
-    ghost use Rattle.press_hooks.specs.Keys.{members_in};
+    ghost use Rattle.press_hooks.specs.Keys.{group_entries_in};
 
     ghost Value = { Grouped };
 
-    ghost view = { λ g. record { priority = g.priority; members = members_in g.members.entries } };
+    ghost view = { λ g. record { priority = g.priority; members = group_entries_in g.members.entries } };
 }
 
 impl Group {
@@ -43,7 +44,7 @@ impl Group {
     pub fn with_entry(alloc: Global, entry: &Entry) -> Result<Group, AllocError>
         ensures { IfOk result (λ g. g ≡ record {
           priority = entry.now.priority;
-          members = member_of entry.now ∷ [];
+          members = group_entry_of entry.now ∷ [];
         }) }
     {
         let mut members = IndexMap::new(alloc);
@@ -94,7 +95,7 @@ impl Group {
     pub fn put(&mut self, entry: &Entry) -> Result<(), AllocError>
         requires { list_any (λ m. bytes_eq m.callback entry.now.callback) self.old.members ≡ false }
         ensures put { OnOk result (self.new ≡ with_members (self.old.members
-            ++ member_of entry.now ∷ []) self.old) }
+            ++ group_entry_of entry.now ∷ []) self.old) }
         ensures refused { OnErr result (self.new ≡ self.old) }
     {
         self.members
@@ -105,7 +106,7 @@ impl Group {
     /// Removes the entry of a callback, or all; returns how many there were.
     pub fn remove(&mut self, callback: Option<CallbackId>) -> usize
         ensures members { self.new ≡ with_members (filter
-            (λ m. not (is_member_of callback m)) self.old.members) self.old }
+            (λ m. not (is_group_entry_of callback m)) self.old.members) self.old }
         ensures gone { result + length self.new.members ≡ length self.old.members }
     {
         let before = self.members.len();
@@ -118,7 +119,7 @@ impl Group {
     }
 
     /// Copies the entries behind what is there.
-    pub fn copy_to(&self, members: &mut Vec<Member>) -> Result<(), AllocError>
+    pub fn copy_to(&self, members: &mut Vec<GroupEntry>) -> Result<(), AllocError>
         ensures copied { OnOk result (members.new.items ≡ members.old.items ++ self.now.members) }
         ensures refused { OnErr result (members.new.items ≡ members.old.items) }
     {
@@ -139,12 +140,12 @@ impl Copied for Group {
 }
 
 // Copies a map's entries behind what is there, where there is room for them.
-fn push_all(members: &mut Vec<Member>, entries: &IndexMap<Key, u32>)
+fn push_all(members: &mut Vec<GroupEntry>, entries: &IndexMap<Key, u32>)
     requires { vec_len members.old + index_map_len entries.now ≤ vec_capacity members.old }
-    ensures { members.new.items ≡ members.old.items ++ members_in entries.now.entries }
+    ensures { members.new.items ≡ members.old.items ++ group_entries_in entries.now.entries }
 {
     for (key, accepted) in entries {
-        members.push_reserved(Member {
+        members.push_reserved(GroupEntry {
             callback: key.callback(),
             accepted: *accepted,
         });

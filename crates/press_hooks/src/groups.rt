@@ -88,7 +88,8 @@ fn put_group(groups: &mut Vec<Group>, place: usize, group: Group) -> Result<(), 
     Ok(())
 }
 
-/// Removes the entry of a priority and a callback, or all of that priority; returns how many there were.
+/// Removes the entry of a priority and a callback, or all of that priority; returns how many there
+/// were.
 pub(crate) fn remove(groups: &mut Vec<Group>, priority: i64, callback: Option<CallbackId>) -> usize
     requires { AreGroups groups.old.items }
     ensures entries { entries_of groups.new.items ≡ filter

@@ -88,7 +88,8 @@ impl Hook {
         groups::put(alloc, &mut self.groups, entry)
     }
 
-    /// Removes the entry of a priority and a callback, or all of that priority; returns how many there were.
+    /// Removes the entry of a priority and a callback, or all of that priority; returns how many
+    /// there were.
     pub fn remove(&mut self, priority: i64, callback: Option<CallbackId>) -> usize
         ensures name { self.new.name ≡ self.old.name }
         ensures entries { hook_entries self.new ≡ filter

@@ -17,7 +17,8 @@ fn find(hooks: &[Hook], name: &HookName) -> Result<usize, usize>
     hooks.binary_search_by(|h| h.cmp_name(name))
 }
 
-// The same of a hook that stood at a place when it was last looked for, which is looked at before it is believed.
+// The same of a hook that stood at a place when it was last looked for, which is looked at before
+// it is believed.
 fn find_near(hooks: &[Hook], name: &HookName, place: usize) -> Result<usize, usize>
     requires { IsByName hooks.now }
     ensures { IsPlaceOf name.now hooks.now result }
@@ -115,7 +116,8 @@ fn put_hook(hooks: &mut Vec<Hook>, place: usize, hook: Hook) -> Result<(), Alloc
     Ok(())
 }
 
-/// Removes the hook's entry of a priority and a callback, or all of that priority; returns how many there were.
+/// Removes the hook's entry of a priority and a callback, or all of that priority; returns how many
+/// there were.
 pub(crate) fn remove(
     hooks: &mut Vec<Hook>,
     name: &HookName,

@@ -5,9 +5,9 @@ ghost use Rattle.press_hooks.specs.Placed.{at_group, one_taken, IsInPlace, mende
 
 use crate::entry::Entry;
 use crate::group::Group;
+use crate::group_entry::GroupEntry;
 use crate::groups::count_up_to;
-use crate::member::Member;
-use crate::rows::Rows;
+use crate::hook_list::HookList;
 use press_text::HookName;
 use std::alloc::{AllocError, Global};
 use std::marker::Model;
@@ -16,7 +16,7 @@ use std::marker::Model;
 #[derive(Debug)]
 pub struct Rest {
     priority: i64,
-    members: Vec<Member>,
+    members: Vec<GroupEntry>,
     given: usize,
 }
 
@@ -33,7 +33,7 @@ impl Drop for Rest {
 impl Model for Rest {
     ghost use Rattle.std.specs.Prelude.{◌≤◌, List, map, drop, length};
     ghost use Rattle.press_hooks.specs.declared.entry.Entry.{Entry};
-    ghost use Rattle.press_hooks.specs.Members.{entry_at};
+    ghost use Rattle.press_hooks.specs.GroupEntries.{entry_at};
 
     ghost Value = { List Entry };
 
@@ -42,7 +42,8 @@ impl Model for Rest {
     ghost invariant = { λ r. r.given ≤ length r.members.items };
 }
 
-/// An open run of a hook: the priority last reached, and what is left of the entries that were there then.
+/// An open run of a hook: the priority last reached, and what is left of the entries that were
+/// there then.
 #[derive(Debug)]
 pub struct OpenRun {
     pub hook: HookName,
@@ -135,7 +136,7 @@ impl Rest {
         if self.given == self.members.len() {
             return None;
         }
-        let Member { callback, accepted } = self.members[self.given];
+        let GroupEntry { callback, accepted } = self.members[self.given];
         self.given += 1;
         Some(Entry {
             priority: self.priority,
@@ -145,12 +146,14 @@ impl Rest {
     }
 }
 
-/// An open run, and its cursor: how many groups of its hook have priorities not greater than the one reached.
+/// An open run, and its cursor: how many groups of its hook have priorities not greater than the
+/// one reached.
 #[derive(Debug)]
 pub struct PlacedRun {
     pub run: OpenRun,
     pub cursor: usize,
-    // Where its hook stood when the run began. That is looked at before it is believed, so nothing is said of it.
+    // Where its hook stood when the run began. That is looked at before it is believed, so nothing
+    // is said of it.
     place: usize,
 }
 
@@ -179,7 +182,7 @@ impl PlacedRun {
     }
 
     /// Takes the next entry, from the group at the cursor where the last group is done.
-    pub fn advance(&mut self, rows: &Rows) -> Result<Option<Entry>, AllocError>
+    pub fn advance(&mut self, rows: &HookList) -> Result<Option<Entry>, AllocError>
         requires { IsInPlace rows.now self.old }
         ensures given { IfOk result (λ e. e ≡ next_entry (table_rows rows.now) self.old.run) }
         ensures after { IfOk result (λ e. self.new.run
@@ -193,7 +196,7 @@ impl PlacedRun {
     }
 
     // Gets to the next group where the last one is done.
-    fn fill(&mut self, rows: &Rows) -> Result<(), AllocError>
+    fn fill(&mut self, rows: &HookList) -> Result<(), AllocError>
         requires { IsInPlace rows.now self.old }
         ensures filled { OnOk result (self.new.run ≡ refilled (table_rows rows.now) self.old.run) }
         ensures place { IsInPlace rows.now self.new }
@@ -206,7 +209,7 @@ impl PlacedRun {
         Ok(())
     }
 
-    fn move_on(&mut self, rows: &Rows) -> Result<(), AllocError>
+    fn move_on(&mut self, rows: &HookList) -> Result<(), AllocError>
         requires done { is_done self.old.run.rest ≡ true }
         requires place { IsInPlace rows.now self.old }
         ensures moved { OnOk result (self.new.run ≡ refilled (table_rows rows.now) self.old.run) }
@@ -223,7 +226,7 @@ impl PlacedRun {
     }
 
     // Counts the cursor of a run of that hook anew.
-    fn mend(&mut self, hook: &HookName, rows: &Rows)
+    fn mend(&mut self, hook: &HookName, rows: &HookList)
         ensures { self.new ≡ mended hook.now rows.now self.old }
     {
         if self.run.hook.is(hook) {
@@ -233,7 +236,7 @@ impl PlacedRun {
 }
 
 /// Counts the cursors of the hook's runs anew after an edit of its rows.
-pub(crate) fn mend_all(runs: &mut Vec<PlacedRun>, hook: &HookName, rows: &Rows)
+pub(crate) fn mend_all(runs: &mut Vec<PlacedRun>, hook: &HookName, rows: &HookList)
     ensures { runs.new.items ≡ map (mended hook.now rows.now) runs.old.items }
 {
     for run in runs.iter_mut() {

@@ -5,19 +5,19 @@ ghost use Rattle.press_hooks.specs.NextEntry.{no_rows, with_rows, is_innermost, 
 
 use crate::entry::Entry;
 use crate::groups;
+use crate::hook_list::HookList;
 use crate::open_run::{PlacedRun, mend_all};
-use crate::rows::Rows;
 use press_text::{CallbackId, HookName};
 use std::alloc::{AllocError, Global};
 use std::marker::Model;
 
 /// The entries of every hook, and the runs that are open (`WP_Hook`).
 ///
-/// Rows are ordered by hook, then by priority, then by when they were added.
+/// HookList are ordered by hook, then by priority, then by when they were added.
 #[derive(Debug)]
 pub struct HookTable {
     alloc: Global,
-    rows: Rows,
+    rows: HookList,
     runs: Vec<PlacedRun>,
 }
 
@@ -69,7 +69,7 @@ impl HookTable {
     {
         HookTable {
             alloc,
-            rows: Rows::new(alloc),
+            rows: HookList::new(alloc),
             runs: Vec::new(alloc),
         }
     }
@@ -91,8 +91,9 @@ impl HookTable {
         })
     }
 
-    /// Adds an entry, or sets `accepted` of the one that is there already, which keeps its place (`add_filter`).
-    /// False, and no change, where a new entry would be the 1,025th. Takes memory only for a new entry.
+    /// Adds an entry, or sets `accepted` of the one that is there already, which keeps its place
+    /// (`add_filter`). False, and no change, where a new entry would be the 1,025th. Takes memory
+    /// only for a new entry.
     pub fn add(
         &mut self,
         hook: &HookName,
@@ -118,7 +119,8 @@ impl HookTable {
         Ok(stands)
     }
 
-    /// Removes the entry of that callback at that priority; returns whether there was one (`remove_filter`).
+    /// Removes the entry of that callback at that priority; returns whether there was one
+    /// (`remove_filter`).
     pub fn remove(&mut self, hook: &HookName, callback: CallbackId, priority: i64) -> bool
         ensures answer { result ≡ list_any (is_row hook.now priority callback) self.old.rows }
         ensures rows { self.new ≡ with_rows (remove_row hook.now callback priority self.old.rows)
@@ -168,7 +170,8 @@ impl HookTable {
         self.begin_near(hook, 0)
     }
 
-    /// The same of a hook that stands at that place or not: where it does, the run finds its groups there.
+    /// The same of a hook that stands at that place or not: where it does, the run finds its groups
+    /// there.
     pub fn begin_near(&mut self, hook: &HookName, place: usize) -> Result<RunId, AllocError>
         ensures begun { IfOk result (λ id. self.new ≡ run_begun hook.now self.old) }
         ensures named { IfOk result (λ id. id ≡ length self.old.open_runs) }

@@ -136,9 +136,10 @@ impl DeskRoutes {
         place_in(&self.router, path)
     }
 
-    /// What a request asks for, by its path, then its method, then its id or query. NotFound for a path that is not
-    /// one of these, or whose id or number doesn't read; NotAllowed for another method than GET. Only a field
-    /// of a query that may be the one that is looked for takes memory.
+    /// What a request asks for, by its path, then its method, then its id or query. NotFound for a
+    /// path that is not one of these, or whose id or number doesn't read; NotAllowed for another
+    /// method than GET. Only a field of a query that may be the one that is looked for takes
+    /// memory.
     #[tactic(auto, unfolding(crate::specs::Desk::desk_asked))]
     pub fn route(&self, alloc: Global, request: &Request) -> Result<DeskRequest, HttpFault>
         ensures asked { Gives Refuses Ok result

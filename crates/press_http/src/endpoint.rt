@@ -41,8 +41,8 @@ pub(crate) fn place_in<P: Copy + Drop>(routes: &Router<P>, path: &str) -> Result
     }
 }
 
-/// Puts a path, and what it is for, into a table. Each refusal is told as want of memory: for paths that are
-/// well formed and stand once.
+/// Puts a path, and what it is for, into a table. Each refusal is told as want of memory: for paths
+/// that are well formed and stand once.
 #[tactic(auto, using(crate::proofs::Tables::inserted), unfolding(crate::specs::Routes::with_route))]
 pub fn add_route<P: Drop>(router: &mut Router<P>, path: &str, place: P) -> Result<(), AllocError>
     ensures { OnOk result (router.new ≡ with_route path.now place router.old) }

@@ -61,8 +61,9 @@ impl<'f> Lookup for Form<'f> {
     }
 }
 
-/// The command that a form gives, with its token and its moment. BadForm where a field is missing or out of its range;
-/// what a site refuses of a command is not looked at here. Memory is first taken for a name with `+` or `%`, or for the editor.
+/// The command that a form gives, with its token and its moment. BadForm where a field is missing
+/// or out of its range; what a site refuses of a command is not looked at here. Memory is first
+/// taken for a name with `+` or `%`, or for the editor.
 #[tactic(auto, unfolding(crate::specs::Forms::command_in))]
 pub fn form_command(alloc: Global, form: &[u8]) -> Result<Stamped, HttpFault>
     ensures value { Gives Refuses Ok result (spec.command_in form.now) }

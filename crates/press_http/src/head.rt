@@ -32,8 +32,8 @@ fn look(buf: &[u8], headers: &mut [HeaderSpan]) -> Result<Option<RequestSpans>, 
     }
 }
 
-/// Reads a head in the pieces in which it comes: the bytes that were seen, which begin with the head, and where its parts are.
-/// Bytes after the head follow it.
+/// Reads a head in the pieces in which it comes: the bytes that were seen, which begin with the
+/// head, and where its parts are. Bytes after the head follow it.
 pub fn read_head<R: Pieces>(
     alloc: Global,
     reader: &mut R,

@@ -13,8 +13,9 @@ use crate::start::{Start, read_start};
 use std::alloc::Global;
 use std::io::Read;
 
-/// Reads a request as `read_request` does, and says which reads it makes: each one where what was seen before it is no
-/// whole request, and has no fault that more bytes leave; none after one that failed, or that found the end.
+/// Reads a request as `read_request` does, and says which reads it makes: each one where what was
+/// seen before it is no whole request, and has no fault that more bytes leave; none after one that
+/// failed, or that found the end.
 pub fn read_pieces<R: Pieces>(alloc: Global, reader: &mut R) -> Result<Request, HttpFault>
     ensures { (reads : List (Option (List ℕ)))
         × Reads R.gives WantsMore reads reader.old reader.new
@@ -37,8 +38,9 @@ pub fn read_pieces<R: Pieces>(alloc: Global, reader: &mut R) -> Result<Request, 
     })
 }
 
-/// Reads a request, in whatever pieces it comes, and no more than it needs but for what comes with its last piece. The
-/// first read that fails ends it with ReadFault; a read of nothing is the end of the input.
+/// Reads a request, in whatever pieces it comes, and no more than it needs but for what comes with
+/// its last piece. The first read that fails ends it with ReadFault; a read of nothing is the end
+/// of the input.
 pub fn read_request<R: Read>(alloc: Global, reader: &mut R) -> Result<Request, HttpFault>
     ensures { (seen : List ℕ)
         × Consumes (R.remaining reader.old) (R.remaining reader.new) seen

@@ -88,8 +88,8 @@ fn write_both<W: Write>(writer: &mut W, first: &[u8], second: &[u8]) -> Result<(
     Ok(())
 }
 
-/// Writes a reply, each byte once. Out of memory is returned before anything is written; a write that failed, or took
-/// nothing, is not tried again.
+/// Writes a reply, each byte once. Out of memory is returned before anything is written; a write
+/// that failed, or took nothing, is not tried again.
 pub fn write_reply<W: Write>(alloc: Global, writer: &mut W, reply: &Reply) -> Result<(), HttpFault>
     ensures ok { OnOk result (Appends (W.contents writer.old) (W.contents writer.new)
         (reply_bytes reply.now)) }
@@ -144,8 +144,8 @@ fn fixed_reply(status: u16) -> &'static str
     }
 }
 
-/// Writes the reply of a status with its fixed body, each byte once, and takes no memory. A write that failed, or took
-/// nothing, is not tried again.
+/// Writes the reply of a status with its fixed body, each byte once, and takes no memory. A write
+/// that failed, or took nothing, is not tried again.
 pub fn write_fault<W: Write>(writer: &mut W, status: u16) -> Result<(), HttpFault>
     requires { IsReplyStatus status }
     ensures ok { OnOk result (Appends (W.contents writer.old) (W.contents writer.new)

@@ -160,9 +160,9 @@ fn check_method(method: &str, place: Endpoint) -> Result<Endpoint, HttpFault>
 }
 
 impl Routes {
-    /// What a request asks for: by its path, then its method, then what it carries. NotFound for a path that is not
-    /// served, or whose id, editor or number doesn't read; NotAllowed for another method; BadForm and BadPeer for what a
-    /// command or a message can't be read from.
+    /// What a request asks for: by its path, then its method, then what it carries. NotFound for a
+    /// path that is not served, or whose id, editor or number doesn't read; NotAllowed for another
+    /// method; BadForm and BadPeer for what a command or a message can't be read from.
     #[tactic(auto, unfolding(crate::specs::Routes::asked))]
     pub fn route(&self, alloc: Global, request: &Request) -> Result<Asked, HttpFault>
         ensures asked { Gives Refuses Ok result (spec.asked request.now.method request.now.target

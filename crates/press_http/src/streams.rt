@@ -10,7 +10,8 @@ use crate::pieces::Pieces;
 
 const PIECE: usize = 4096;
 
-/// Reads once, at most `room` bytes, and puts them at the end; returns how many came: 0 is the end, and takes no memory.
+/// Reads once, at most `room` bytes, and puts them at the end; returns how many came: 0 is the end,
+/// and takes no memory.
 pub fn read_some<R: Pieces>(
     reader: &mut R,
     out: &mut Vec<u8>,

@@ -39,7 +39,8 @@ pub fn has_only(value: &Value, keys: &[&str]) -> bool
     }
 }
 
-/// An object at a place, whose fields are read by their keys. What can't be read is bad at that place.
+/// An object at a place, whose fields are read by their keys. What can't be read is bad at that
+/// place.
 #[derive(Clone, Copy)]
 pub struct Fields<'v> {
     pub alloc: Global,

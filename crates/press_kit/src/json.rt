@@ -33,7 +33,7 @@ fn json(alloc: Global, bytes: &[u8]) -> Result<Value, KitFileFault>
 
 /// The value of a file that is not too long.
 #[tactic(auto, unfolding(crate::specs::KitFile::file_in))]
-pub fn file(alloc: Global, bytes: &[u8]) -> Result<Value, KitFileFault>
+pub fn parse_file(alloc: Global, bytes: &[u8]) -> Result<Value, KitFileFault>
     ensures gives { Gives Refuses (λ v. Ok (view v)) result (file_in bytes.now) }
     ensures long { file_limit < length bytes.now
         → IsErrOf result (KitFileFault.BadKitFile place.File) }

@@ -7,7 +7,7 @@ ghost use Rattle.press_kit.specs.KitFile as spec;
 
 use crate::fault::KitFileFault;
 use crate::fields::Fields;
-use crate::json::file;
+use crate::json::parse_file;
 use crate::listed::each;
 use crate::place::Place;
 use press_callbacks::{Plugin, Script};
@@ -57,13 +57,14 @@ pub(crate) fn kit(alloc: Global, value: &Value) -> Result<KitParts, KitFileFault
 
 /// The callbacks and plugins that the bytes of a kit file give.
 ///
-/// Of a key that is repeated the last one counts; a key that nobody names is bad. A file has at most 4,194,304 bytes.
+/// Of a key that is repeated the last one counts; a key that nobody names is bad. A file has at
+/// most 4,194,304 bytes.
 #[tactic(auto, unfolding(crate::specs::KitFile::kit_in))]
 pub fn read_kit_file(alloc: Global, bytes: &[u8]) -> Result<KitParts, KitFileFault>
     ensures gives { Gives Refuses Ok result (spec.kit_in bytes.now) }
     ensures long { spec.file_limit < length bytes.now
         → IsErrOf result (KitFileFault.BadKitFile place.File) }
 {
-    let value = file(alloc, bytes)?;
+    let value = parse_file(alloc, bytes)?;
     kit(alloc, &value)
 }

@@ -1,8 +1,8 @@
-//! Kit files, play files and site files: callbacks with their scripts, plugins, plays and commands, as their author
-//! writes them in JSON.
+//! Kit files, play files and site files: callbacks with their scripts, plugins, plays and commands,
+//! as their author writes them in JSON.
 //!
-//! A file gives what the definitions give, or the first place at which it is bad. `file`, `Fields`, `Listed` and `each`
-//! read other files in the same way.
+//! A file gives what the definitions give, or the first place at which it is bad. `file`, `Fields`,
+//! `Listed` and `each` read other files in the same way.
 #![tactic(auto)]
 
 mod commands;
@@ -21,7 +21,7 @@ mod site_file;
 
 pub use fault::KitFileFault;
 pub use fields::{Fields, list, number32};
-pub use json::{FILE_LIMIT, file};
+pub use json::{FILE_LIMIT, parse_file};
 pub use kit_parts::{KitParts, Scripted, read_kit_file};
 pub use listed::{Listed, each};
 pub use place::Place;

@@ -19,7 +19,8 @@ use press_text::Every;
 use serde_json::Value;
 use std::alloc::Global;
 
-// The most arguments that a step hands to a hook's callbacks, the text that a filter runs on among them.
+// The most arguments that a step hands to a hook's callbacks, the text that a filter runs on among
+// them.
 const MOST_ARGS: usize = 3;
 
 fn every_named(word: &str) -> Option<Every>

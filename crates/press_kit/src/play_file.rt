@@ -10,7 +10,7 @@ ghost use Rattle.press_kit.specs.PlayFile as spec;
 
 use crate::fault::KitFileFault;
 use crate::fields::{Fields, list, number32};
-use crate::json::file;
+use crate::json::parse_file;
 use crate::kit_parts::{KitParts, kit};
 use crate::listed::{Listed, each};
 use crate::place::Place;
@@ -42,8 +42,8 @@ pub struct Play {
     pub trace: bool,
 }
 
-/// A kit, the plugins that are active or the commands that make the site, the pages that are shown of it, and what is
-/// to be played on it in turn.
+/// A kit, the plugins that are active or the commands that make the site, the pages that are shown
+/// of it, and what is to be played on it in turn.
 #[derive(Debug, Drop)]
 pub struct PlayFile {
     pub kit: KitParts,
@@ -268,7 +268,8 @@ fn play_file(alloc: Global, value: &Value) -> Result<PlayFile, KitFileFault>
     })
 }
 
-/// The kit, the active plugins or the commands, the pages and the plays that the bytes of a play file give.
+/// The kit, the active plugins or the commands, the pages and the plays that the bytes of a play
+/// file give.
 ///
 /// The key `shows` is for whoever reads the file. A file has at most 4,194,304 bytes.
 #[tactic(auto, unfolding(crate::specs::PlayFile::play_file_in))]
@@ -277,6 +278,6 @@ pub fn read_play_file(alloc: Global, bytes: &[u8]) -> Result<PlayFile, KitFileFa
     ensures long { file_limit < length bytes.now
         → IsErrOf result (KitFileFault.BadKitFile place.File) }
 {
-    let value = file(alloc, bytes)?;
+    let value = parse_file(alloc, bytes)?;
     play_file(alloc, &value)
 }

@@ -11,7 +11,7 @@ ghost use Rattle.press_kit.specs.SiteFile as spec;
 
 use crate::fault::KitFileFault;
 use crate::fields::Fields;
-use crate::json::file;
+use crate::json::parse_file;
 use crate::listed::each;
 use crate::place::Place;
 use press_apply::Stamped;
@@ -55,14 +55,14 @@ pub(crate) fn commands(alloc: Global, value: &Value) -> Result<Items<Stamped>, K
 
 /// The commands that the bytes of a site file give, in their order.
 ///
-/// Keys that nobody names are ignored; of a key that is repeated the last one counts. A file has at most 4,194,304
-/// bytes and 100,000 commands.
+/// Keys that nobody names are ignored; of a key that is repeated the last one counts. A file has at
+/// most 4,194,304 bytes and 100,000 commands.
 #[tactic(auto, unfolding(crate::specs::SiteFile::site_in))]
 pub fn read_site_file(alloc: Global, bytes: &[u8]) -> Result<Items<Stamped>, KitFileFault>
     ensures gives { Gives Refuses Ok result (spec.site_in bytes.now) }
     ensures long { file_limit < length bytes.now
         → IsErrOf result (KitFileFault.BadKitFile place.File) }
 {
-    let value = file(alloc, bytes)?;
+    let value = parse_file(alloc, bytes)?;
     commands(alloc, &value)
 }

@@ -11,8 +11,9 @@ use press_wire::{Ballot, MemberId, Slot, Vote};
 use std::alloc::{AllocError, Global};
 use std::marker::Model;
 
-/// The votes of a cluster's members for the next 64 slots, and how many slots are applied. They are in a ring, with a
-/// place for each of these slots and members: the place of an applied slot is used again for the slot 64 after it.
+/// The votes of a cluster's members for the next 64 slots, and how many slots are applied. They are
+/// in a ring, with a place for each of these slots and members: the place of an applied slot is
+/// used again for the slot 64 after it.
 #[derive(Debug)]
 pub struct Learner {
     members: u8,
@@ -130,7 +131,8 @@ impl Learner {
         None
     }
 
-    /// The value that is chosen for the next slot, by the kept votes. None once 1,000,000 slots are applied.
+    /// The value that is chosen for the next slot, by the kept votes. None once 1,000,000 slots are
+    /// applied.
     pub fn next_chosen(&self) -> Option<&Value>
         ensures value { option_copied result ≡ chosen_next self.now }
         ensures last { IsSome result → self.now.applied < 1000000 }
@@ -165,8 +167,9 @@ impl Learner {
         Ok(())
     }
 
-    /// Takes a vote that came. It is kept if its slot is one of the next 64 and the member has no kept vote of as great a ballot for it,
-    /// and else dropped. The first vote that is kept takes memory, for all that come.
+    /// Takes a vote that came. It is kept if its slot is one of the next 64 and the member has no
+    /// kept vote of as great a ballot for it, and else dropped. The first vote that is kept takes
+    /// memory, for all that come.
     pub fn on_vote(&mut self, from: MemberId, slot: Slot, vote: Vote) -> Result<(), AllocError>
         requires { from ≤ self.old.members }
         ensures ok { OnOk result (self.new ≡ with_vote self.old from slot vote) }

@@ -1,5 +1,5 @@
-//! The learner of Paxos Made Simple for many slots at once: it keeps the members' votes for the next slots, and says which value is chosen
-//! for the next one. It asks nobody and stores nothing.
+//! The learner of Paxos Made Simple for many slots at once: it keeps the members' votes for the
+//! next slots, and says which value is chosen for the next one. It asks nobody and stores nothing.
 #![tactic(auto)]
 
 mod laws;

@@ -28,7 +28,8 @@ fn empty_ring(alloc: Global, members: u8) -> Result<Vec<Option<Vote>>, AllocErro
     Ok(ring)
 }
 
-/// Makes room for the members' votes, if there is none yet: it takes memory once. What is in the ring stays.
+/// Makes room for the members' votes, if there is none yet: it takes memory once. What is in the
+/// ring stays.
 pub(crate) fn make_room(
     ring: &mut Vec<Option<Vote>>,
     alloc: Global,

@@ -15,14 +15,14 @@ use crate::fault::LintFault;
 use crate::linted::Linted;
 use crate::mistakes::mistake_in;
 use crate::slipping::slips;
-use press_kit::{KitFileFault, KitParts, Place, file, read_kit_file};
+use press_kit::{KitFileFault, KitParts, Place, parse_file, read_kit_file};
 use std::alloc::{AllocError, Global};
 
 /// The message about a bad file.
 pub fn bad(alloc: Global, bytes: &[u8], at: Place) -> Result<String, AllocError>
     ensures { IfOk result (λ t. TellsBad (file_in bytes.now) at (string_bytes t)) }
 {
-    match file(alloc, bytes) {
+    match parse_file(alloc, bytes) {
         Ok(kit) => bad_line(alloc, &kit, at),
         Err(KitFileFault::BadKitFile(_)) => no_json(alloc, bytes),
         Err(KitFileFault::NoMemory) => Err(AllocError),

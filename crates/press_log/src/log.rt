@@ -42,7 +42,8 @@ fn log_value(alloc: Global, values: &[Value], from: u64) -> Result<Json, AllocEr
     json!(in alloc; {"applied": applied, "commands": commands})
 }
 
-/// The values behind the first so many, 64 at most, each as a site file has its command; one without a command has its moment alone.
+/// The values behind the first so many, 64 at most, each as a site file has its command; one
+/// without a command has its moment alone.
 #[tactic(auto, using(crate::proofs::Cuts::no_float_log))]
 pub fn show_log(alloc: Global, values: &[Value], from: u64) -> Result<Reply, AllocError>
     ensures { IfOk result (λ r. r ≡ log_reply values.now from) }

@@ -2,12 +2,12 @@
 #![tactic(auto)]
 
 mod beginning;
-mod calls;
 mod example;
 mod input;
 mod laws;
 mod letters;
 mod member;
+mod methods;
 mod output;
 mod pace;
 mod peers;

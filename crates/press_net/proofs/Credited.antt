@@ -1,11 +1,11 @@
 -- What is told of a request at a place.
 use Rattle.std.proofs.Common.{◌≡◌, ℕ, List, Option, Some, MatchOption, sym, subst}
 use Rattle.press_net.specs.declared.answers.Errand.{Errand}
-use Rattle.press_net.specs.declared.call.Call.{Call}
+use Rattle.press_net.specs.declared.outgoing_connection.OutgoingConnection.{OutgoingConnection}
 use Rattle.press_net.specs.Answering.{Credit, credit}
 use Rattle.press_net.specs.Lanes.{HasSameAim, IsCredited, reply_in}
 
-pub credited : {A : Type 0} (hears : A → Credit → A → Type 0) (slot : Option Call) (call stepped : Call) (told : Option (List ℕ)) (old new : A)
+pub credited : {A : Type 0} (hears : A → Credit → A → Type 0) (slot : Option OutgoingConnection) (call stepped : OutgoingConnection) (told : Option (List ℕ)) (old new : A)
     → slot ≡ Some call → HasSameAim stepped call → told ≡ reply_in stepped.course stepped.reply.items
     → MatchOption told (new ≡ old) (λ reply. hears old (credit call.place call.errand reply) new)
     → MatchOption slot (new ≡ old) (λ call. IsCredited hears call old new)

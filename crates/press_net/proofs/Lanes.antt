@@ -4,12 +4,12 @@ use Rattle.std.proofs.Math.Seq.{map-set_same}
 use Rattle.std.proofs.lemmas.List.{map-append, map-set, replicate-append-replicate}
 use Rattle.std.proofs.lemmas.List.Quantifiers.{position-Some}
 use Rattle.std.proofs.lemmas.Option.{get_or_from_slice_get, slice_get-map}
-use Rattle.press_net.specs.declared.calls.Calls.{Calls}
-use Rattle.press_net.specs.declared.calls.Lane.{Lane}
+use Rattle.press_net.specs.declared.outgoing_connections.OutgoingConnections.{OutgoingConnections}
+use Rattle.press_net.specs.declared.outgoing_connections.Lane.{Lane}
 use Rattle.press_net.specs.Lanes.{Queue, empty, queue_of, queues, changed_at, is_ready, ready}
 
 -- another lane in its place is a change of its queue
-pub changes : (calls : Calls) (place : ℕ) (lane other : Lane) (change : Queue → Queue) → slice_get calls.lanes.items place ≡ Some lane → queue_of other ≡ change (queue_of lane) → map queue_of (slice_set calls.lanes.items place other) ≡ changed_at change place (queues calls)
+pub changes : (calls : OutgoingConnections) (place : ℕ) (lane other : Lane) (change : Queue → Queue) → slice_get calls.lanes.items place ≡ Some lane → queue_of other ≡ change (queue_of lane) → map queue_of (slice_set calls.lanes.items place other) ≡ changed_at change place (queues calls)
 changes calls place lane other change is by =
     map-set queue_of calls.lanes.items place other
     ∙ ap (slice_set (queues calls) place) by
@@ -20,7 +20,7 @@ pub stays : (lanes : List Lane) (place : ℕ) (lane other : Lane) → slice_inde
 stays lanes place lane other item same = map-set_same queue_of lanes place other lane (same ∙ ap queue_of (sym item))
 
 -- the first that is ready is ready
-pub first_is_ready : (calls : Calls) (place : ℕ) (lane : Lane) → ready calls ≡ Some place → slice_get calls.lanes.items place ≡ Some lane → is_ready (queue_of lane) ≡ true
+pub first_is_ready : (calls : OutgoingConnections) (place : ℕ) (lane : Lane) → ready calls ≡ Some place → slice_get calls.lanes.items place ≡ Some lane → is_ready (queue_of lane) ≡ true
 first_is_ready calls place lane first is =
     ap (λ (l : Lane). is_ready (queue_of l)) (sym (get_or_from_slice_get calls.lanes.items place lane lane is))
     ∙ (position-Some (λ (l : Lane). is_ready (queue_of l)) calls.lanes.items place lane first).1

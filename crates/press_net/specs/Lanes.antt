@@ -7,11 +7,11 @@ use Rattle.std.specs.declared.time.Instant.{Instant}
 use Rattle.press_net.specs.Answering.{Credit, credit}
 use Rattle.press_net.specs.declared.answers.Errand.{Errand}
 use Rattle.mio.specs.declared.net.stream.TcpStream.{TcpStream}
-use Rattle.press_net.specs.declared.call.Call.{Call}
-use Rattle.press_net.specs.declared.call.Course.{Course}
-use Rattle.press_net.specs.declared.call.Course.TheVariants.{Goes, Whole, Lost}
-use Rattle.press_net.specs.declared.calls.Calls.{Calls}
-use Rattle.press_net.specs.declared.calls.Lane.{Lane}
+use Rattle.press_net.specs.declared.outgoing_connection.OutgoingConnection.{OutgoingConnection}
+use Rattle.press_net.specs.declared.outgoing_connection.Course.{Course}
+use Rattle.press_net.specs.declared.outgoing_connection.Course.TheVariants.{Goes, Whole, Lost}
+use Rattle.press_net.specs.declared.outgoing_connections.OutgoingConnections.{OutgoingConnections}
+use Rattle.press_net.specs.declared.outgoing_connections.Lane.{Lane}
 
 -- what waits for one member, and how many are open
 pub record Queue : Type 0 where
@@ -21,11 +21,11 @@ pub record Queue : Type 0 where
 abbrev pub queue_of : Lane → Queue
 queue_of lane = record { waiting = lane.waiting.items; «open» = lane.«open» }
 
-abbrev pub queues : Calls → List Queue
+abbrev pub queues : OutgoingConnections → List Queue
 queues calls = map queue_of calls.lanes.items
 
 -- the connection to the member at a place that stays open
-abbrev pub kept_at : Calls → ℕ → Option TcpStream
+abbrev pub kept_at : OutgoingConnections → ℕ → Option TcpStream
 kept_at calls place = option_and_then (λ lane. lane.kept) (slice_get calls.lanes.items place)
 
 -- the queues with the one at a place changed
@@ -57,14 +57,14 @@ abbrev pub after_send : Queue → Queue
 after_send queue = record { waiting = drop 1 queue.waiting; «open» = queue.«open» + 1 }
 
 -- all of a request is out, or it had two milliseconds for that
-abbrev pub is_out : Instant → Call → Bool
+abbrev pub is_out : Instant → OutgoingConnection → Bool
 is_out now call = nat_le (length call.request.bytes.items) call.request.sent || nat_le 2000000 (instant_nanos now - instant_nanos call.begun)
 
 -- no request at a place is still going out
-abbrev pub is_out_at : Instant → Option Call → Bool
+abbrev pub is_out_at : Instant → Option OutgoingConnection → Bool
 is_out_at now slot = unwrap_or (option_map (is_out now) slot) true
 
-abbrev pub are_out : Instant → Calls → Bool
+abbrev pub are_out : Instant → OutgoingConnections → Bool
 are_out now calls = list_all (is_out_at now) calls.places.items
 
 -- one may go out: fewer than 32 are open, and one waits
@@ -72,15 +72,15 @@ abbrev pub is_ready : Queue → Bool
 is_ready queue = nat_lt queue.«open» 32 && nat_lt 0 (length queue.waiting)
 
 -- the first lane of which one may go out
-abbrev pub ready : Calls → Option ℕ
+abbrev pub ready : OutgoingConnections → Option ℕ
 ready calls = position (λ lane. is_ready (queue_of lane)) calls.lanes.items
 
 -- the first that waits there
-abbrev pub front_at : Calls → ℕ → Option Outgoing
+abbrev pub front_at : OutgoingConnections → ℕ → Option Outgoing
 front_at calls place = option_and_then (λ lane. slice_get lane.waiting.items 0) (slice_get calls.lanes.items place)
 
 -- the request at a place
-abbrev pub call_at : Calls → ℕ → Option Call
+abbrev pub call_at : OutgoingConnections → ℕ → Option OutgoingConnection
 call_at calls place = option_and_then (λ call. call) (slice_get calls.places.items place)
 
 -- what a request is, and how far
@@ -92,7 +92,7 @@ pub record Request : Type 0 where
   pub reply : List ℕ
   pub course : Course
 
-abbrev pub request_of : Call → Request
+abbrev pub request_of : OutgoingConnection → Request
 request_of call = record { place = call.place; errand = call.errand; bytes = call.request.bytes.items; sent = call.request.sent; reply = call.reply.items; course = call.course }
 
 -- nothing of it is sent yet
@@ -100,7 +100,7 @@ abbrev pub asked_by : Outgoing → Request
 asked_by outgoing = record { place = outgoing.place; errand = outgoing.errand; bytes = outgoing.bytes.items; sent = 0; reply = []; course = Goes }
 
 -- the same request, for the same member, begun at the same time
-abbrev pub HasSameAim : Call → Call → Type 0
+abbrev pub HasSameAim : OutgoingConnection → OutgoingConnection → Type 0
 HasSameAim new old =
     (new.place ≡ old.place) × (new.errand ≡ old.errand) × (new.begun ≡ old.begun) × (new.request.bytes ≡ old.request.bytes)
 
@@ -111,17 +111,17 @@ reply_in Whole reply = Some reply
 reply_in Lost reply = Some []
 
 -- the request after a step: its own reply is told of it, and none of any other
-abbrev pub IsCredited : {A : Type 0} → (A → Credit → A → Type 0) → Call → A → A → Type 0
+abbrev pub IsCredited : {A : Type 0} → (A → Credit → A → Type 0) → OutgoingConnection → A → A → Type 0
 IsCredited hears call old new =
-    (stepped : Call) × HasSameAim stepped call
+    (stepped : OutgoingConnection) × HasSameAim stepped call
     × MatchOption (reply_in stepped.course stepped.reply.items) (new ≡ old) (λ reply. hears old (credit call.place call.errand reply) new)
 
 -- two seconds or more are over since it began
-abbrev pub is_call_late : Instant → Call → Bool
+abbrev pub is_call_late : Instant → OutgoingConnection → Bool
 is_call_late now call = nat_le 2000000000 (instant_nanos now - instant_nanos call.begun)
 
 -- the first free place is it, else one more
-abbrev pub MakesRoom : List (Option Call) → List (Option Call) → ℕ → Type 0
+abbrev pub MakesRoom : List (Option OutgoingConnection) → List (Option OutgoingConnection) → ℕ → Type 0
 MakesRoom old new place =
     ((position is_none old ≡ Some place) × (new ≡ old))
     ⊎ ((position is_none old ≡ None) × (place ≡ length old) × (new ≡ old ++ None ∷ []))

@@ -2,18 +2,18 @@
 use Rattle.std.specs.Prelude.{ℕ, ◌≡◌, ◌-◌, ◌/◌, ◌%◌, ◌==◌, Option, option_map, unwrap_or, Bool, false, if◌then◌else◌}
 use Rattle.press_net.specs.declared.server.Holder.{Holder}
 use Rattle.press_net.specs.declared.server.Server.{Server}
-use Rattle.press_net.specs.declared.server.Holder.TheVariants.{Listener, Connection, Call}
+use Rattle.press_net.specs.declared.server.Holder.TheVariants.{Listener, Connection, OutgoingConnection}
 
 -- 0 is the listener's, the odd ones are of connections, the other even ones of requests that go out
 abbrev pub holder_named : ℕ → Holder
 holder_named number =
-    if number == 0 then Listener else if (number - 1) % 2 == 0 then Connection ((number - 1) / 2) else Call ((number - 1) / 2)
+    if number == 0 then Listener else if (number - 1) % 2 == 0 then Connection ((number - 1) / 2) else OutgoingConnection ((number - 1) / 2)
 
 abbrev pub connection_of : ℕ → Holder
 connection_of = Connection
 
 abbrev pub call_of : ℕ → Holder
-call_of = Call
+call_of = OutgoingConnection
 
 -- nothing but the requests that go out has changed
 abbrev pub KeepsAllButCalls : Server → Server → Type 0

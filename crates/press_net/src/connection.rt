@@ -304,7 +304,7 @@ impl Connection {
     }
 
     // Looks at what came, if that is due; returns whether the connection had its turn.
-    fn look<A: Answers, E: Write>(
+    fn answer_if_whole<A: Answers, E: Write>(
         &mut self,
         answers: &mut A,
         ended: bool,
@@ -367,7 +367,7 @@ impl Connection {
                 false
             }
             Ok(ended) => {
-                let had_turn = self.look(answers, ended, now, log);
+                let had_turn = self.answer_if_whole(answers, ended, now, log);
                 // What still comes behind that is drained once the reply is out.
                 self.has_more &= !had_turn;
                 had_turn
@@ -458,13 +458,13 @@ impl Connection {
     pub fn let_out(&mut self, now: Instant) {
         self.is_held = false;
         self.taken = now;
-        if self.reply(now).is_err() {
+        if self.send_reply(now).is_err() {
             self.phase = Phase::Over;
         }
     }
 
     // What is left to do after a look.
-    fn reply(&mut self, now: Instant) -> io::Result<()> {
+    fn send_reply(&mut self, now: Instant) -> io::Result<()> {
         if self.phase == Phase::Writing && !self.is_held && self.send(now)? {
             self.finish(now)?;
         }
@@ -482,7 +482,7 @@ impl Connection {
     {
         self.has_more = false;
         let had_turn = self.phase == Phase::Reading && self.hear(answers, now, log);
-        if self.reply(now).is_err() {
+        if self.send_reply(now).is_err() {
             self.phase = Phase::Over;
         }
         had_turn

@@ -4,12 +4,12 @@
 
 mod addresses;
 mod answers;
-mod call;
-mod calls;
 mod connection;
 mod connections;
 mod dial;
 mod lines;
+mod outgoing_connection;
+mod outgoing_connections;
 mod outlet;
 mod reply;
 mod request_buffer;

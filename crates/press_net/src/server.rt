@@ -11,12 +11,12 @@ ghost use Rattle.press_net.specs.Talking.{free_where, group_of, is_crowded, is_r
 ghost use Rattle.press_net.specs.Turning.{KeepsAllButCalls, call_of, ends_at, holder_named, connection_of};
 
 use crate::answers::{Answers, Outgoing, Time, Traffic};
-use crate::call::Call;
-use crate::calls::Calls;
 use crate::connection::{Arrival, Connection, Group, Phase, log_close, log_line};
 use crate::connections::{Connections, Round};
 use crate::dial::connect_from;
 use crate::lines::Log;
+use crate::outgoing_connection::OutgoingConnection;
+use crate::outgoing_connections::OutgoingConnections;
 use mio::net::{TcpListener, TcpStream};
 use mio::{Events, Interest, Poll, Token};
 use std::alloc::Global;
@@ -63,7 +63,7 @@ enum Holder {
     // The connection of that place.
     Connection(usize),
     // The request of that place.
-    Call(usize),
+    OutgoingConnection(usize),
 }
 
 fn holder_of(token: Token) -> Holder
@@ -73,7 +73,7 @@ fn holder_of(token: Token) -> Holder
     match number.checked_sub(1) {
         None => Holder::Listener,
         Some(rest) if rest % 2 == 0 => Holder::Connection(rest / 2),
-        Some(rest) => Holder::Call(rest / 2),
+        Some(rest) => Holder::OutgoingConnection(rest / 2),
     }
 }
 
@@ -187,7 +187,7 @@ pub struct Server {
     // Where it listens, from where requests go out too.
     addr: SocketAddr,
     connections: Connections,
-    calls: Calls,
+    calls: OutgoingConnections,
     // Those whose replies are held, the oldest first, and when one was last let out.
     held: VecDeque<Held>,
     last_out: Instant,
@@ -251,7 +251,7 @@ impl Server {
             listener,
             addr,
             connections: Connections::new(rt.alloc(), most),
-            calls: Calls::new(rt.alloc()),
+            calls: OutgoingConnections::new(rt.alloc()),
             held: VecDeque::new(rt.alloc()),
             last_out: now,
             waits_since: None,
@@ -519,12 +519,12 @@ impl Server {
         let place = self.calls.free_place()?;
         let call = match self.calls.take_stream(outgoing.place) {
             Some(stream) if is_open(&stream) => {
-                let call = Call::new(self.alloc, stream, outgoing, now);
+                let call = OutgoingConnection::new(self.alloc, stream, outgoing, now);
                 self.call_again(place, call)?
             }
             _ => {
                 let stream = connect_from(rt, self.addr, addr)?;
-                let call = Call::new(self.alloc, stream, outgoing, now);
+                let call = OutgoingConnection::new(self.alloc, stream, outgoing, now);
                 self.call_first(place, call)?
             }
         };
@@ -533,7 +533,11 @@ impl Server {
     }
 
     // A request begins at a place, on a connection of which the poll hasn't heard.
-    fn call_first(&mut self, place: usize, call: Call) -> io::Result<Call> {
+    fn call_first(
+        &mut self,
+        place: usize,
+        call: OutgoingConnection,
+    ) -> io::Result<OutgoingConnection> {
         let mut call = call;
         // A batch is written at once, so nothing is to be gathered by the socket.
         let _ = call.stream().set_nodelay(true);
@@ -549,7 +553,11 @@ impl Server {
 
     // A request begins at a place, on a connection that stayed open. What came for it meanwhile the
     // poll tells at once.
-    fn call_again(&mut self, place: usize, call: Call) -> io::Result<Call> {
+    fn call_again(
+        &mut self,
+        place: usize,
+        call: OutgoingConnection,
+    ) -> io::Result<OutgoingConnection> {
         let mut call = call;
         let interest = if call.send()? {
             Interest::READABLE
@@ -619,7 +627,7 @@ impl Server {
     {
         for event in events.iter() {
             match holder_of(event.token()) {
-                Holder::Call(place) => self.step_call(answers, place),
+                Holder::OutgoingConnection(place) => self.step_call(answers, place),
                 Holder::Connection(_) | Holder::Listener => {}
             }
         }
@@ -658,7 +666,7 @@ impl Server {
         for event in events.iter() {
             match holder_of(event.token()) {
                 Holder::Connection(place) => self.step(answers, place, log),
-                Holder::Call(_) => {}
+                Holder::OutgoingConnection(_) => {}
                 Holder::Listener => some_may_wait = true,
             }
         }

@@ -2,12 +2,12 @@
 //! messages and requests with pages.
 #![tactic(auto)]
 
-mod calls;
 mod earlier;
 mod event;
 mod fault;
 mod fixed;
 mod laws;
+mod methods;
 mod node;
 mod serve;
 mod start_fault;

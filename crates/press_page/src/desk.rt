@@ -1,4 +1,5 @@
-//! What editors see of a site: its posts as they are kept, the page that one would have, and the site itself.
+//! What editors see of a site: its posts as they are kept, the page that one would have, and the
+//! site itself.
 
 ghost use Rattle.std.specs.Prelude.{◌≡◌, ◌≤◌, ◌∷◌, [], IfOk, Some, codes, length, map, option_map, take};
 ghost use Rattle.serde_json.specs.Data.{array, member, no_members, number, object, string, unsigned};
@@ -25,8 +26,8 @@ const MOST: u64 = 100;
 /// What an editor asks of a site.
 #[derive(Clone, Copy, Debug)]
 pub enum Desk {
-    /// The posts with ids below this one as they are kept, whatever their status, the greatest id first; so many, and 100 at
-    /// most.
+    /// The posts with ids below this one as they are kept, whatever their status, the greatest id
+    /// first; so many, and 100 at most.
     Posts { before: u64, count: u64 },
     /// The post with that id as it is kept.
     Post(u64),
@@ -44,7 +45,8 @@ pub struct Applied<'a> {
     pub kit: &'a Kit,
 }
 
-/// The reply to an editor. The status is 404 for a post that doesn't exist; a limit that a page meets gives 500.
+/// The reply to an editor. The status is 404 for a post that doesn't exist; a limit that a page
+/// meets gives 500.
 pub fn show_desk(alloc: Global, applied: Applied<'_>, asked: Desk) -> Result<Reply, AllocError>
     ensures { IfOk result (λ r. r ≡ desk_of (kit_view applied.entry.kit.now)
         applied.entry.site.now applied.entry.count asked) }

@@ -9,7 +9,7 @@ use press_text::{Items, Text, Texts};
 use std::alloc::{AllocError, Global};
 
 /// One action, without arguments.
-pub fn one(alloc: Global, hook: &str) -> Result<Items<Fire>, AllocError>
+pub fn action_without_args(alloc: Global, hook: &str) -> Result<Items<Fire>, AllocError>
     requires { name_fault 64 hook.now ≡ None }
     ensures { IfOk result (λ fs. fs ≡ bare hook.now ∷ []) }
 {

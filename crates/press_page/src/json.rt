@@ -21,7 +21,8 @@ use press_text::Text;
 use serde_json::{Value, json};
 use std::alloc::{AllocError, Global};
 
-/// A post with its title and content by their filters, from a fresh boot; 404 where there is none, and 500 at a limit.
+/// A post with its title and content by their filters, from a fresh boot; 404 where there is none,
+/// and 500 at a limit.
 pub fn post_reply(
     alloc: Global,
     site: &Site,

@@ -20,8 +20,9 @@ use std::alloc::{AllocError, Global};
 // How many posts a front page lists.
 const MOST_LISTED: usize = 10;
 
-/// The reply to a request. Pages and posts in JSON come from a fresh boot each, and the site is only read.
-/// The status is 404 for a post that doesn't exist or isn't published, and for a token without an outcome; a limit gives 500.
+/// The reply to a request. Pages and posts in JSON come from a fresh boot each, and the site is
+/// only read. The status is 404 for a post that doesn't exist or isn't published, and for a token
+/// without an outcome; a limit gives 500.
 pub fn page(alloc: Global, site: &Site, kit: &Kit, target: &Target) -> Result<Reply, AllocError>
     ensures { IfOk result (λ r. r ≡ page_of (kit_view kit.now) site.now target.now) }
 {

@@ -132,7 +132,7 @@ impl<'a> Rendering<'a> {
         self.fires(kit, boot_actions(self.alloc)?)?;
         let title = template::title_part(self.alloc, name)?;
         self.puts(title.as_str())?;
-        self.fires(kit, hooks::one(self.alloc, "wp_head")?)?;
+        self.fires(kit, hooks::action_without_args(self.alloc, "wp_head")?)?;
         let heading = template::heading_part(self.alloc, name)?;
         self.puts(heading.as_str())
     }
@@ -192,7 +192,7 @@ impl<'a> Rendering<'a> {
             (state_in self.new) result }
         ensures limits { TellsLimits result self.old self.new }
     {
-        self.fires(kit, hooks::one(self.alloc, "wp_footer")?)?;
+        self.fires(kit, hooks::action_without_args(self.alloc, "wp_footer")?)?;
         self.puts("</body>\n</html>\n")
     }
 

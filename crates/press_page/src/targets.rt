@@ -67,8 +67,8 @@ fn target_by(alloc: Global, kind: &str, rest: &str) -> Result<Option<Target>, Al
 }
 
 impl Target {
-    /// What a text asks: `front`, `post:ID`, `json:ID` or `result:EDITOR/SEQ`, with 1 to 20 decimal digits for a number. None for any other
-    /// text, and then without memory.
+    /// What a text asks: `front`, `post:ID`, `json:ID` or `result:EDITOR/SEQ`, with 1 to 20 decimal
+    /// digits for a number. None for any other text, and then without memory.
     pub fn from_text(alloc: Global, text: &str) -> Result<Option<Target>, AllocError>
         ensures gives { IfOk result (λ t. t ≡ spec.target_in text.now) }
         ensures none { spec.target_in text.now ≡ None → result ≡ Ok None }

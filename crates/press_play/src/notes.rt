@@ -1,7 +1,7 @@
 //! Messages to the author of a file, beside its lines.
 
 use crate::journal::Journal;
-use press_kit::{Place, PlayFile, file};
+use press_kit::{Place, PlayFile, parse_file};
 use press_lint::{active_slips, bad_line, bad_play_line, mistake_in, no_json, slips};
 use std::alloc::{AllocError, Global};
 
@@ -25,7 +25,7 @@ fn is_of_play(at: Place) -> bool {
 
 // The message about a file that is bad at a place.
 fn bad(alloc: Global, bytes: &[u8], at: Place) -> Result<String, AllocError> {
-    let Ok(value) = file(alloc, bytes) else {
+    let Ok(value) = parse_file(alloc, bytes) else {
         return no_json(alloc, bytes);
     };
     match value.get("kit") {

@@ -25,7 +25,11 @@ use std::alloc::{AllocError, Global};
 use std::io::Read;
 
 #[tactic(auto, unfolding(press_kit::specs::PlayFile::play_file_in, press_kit::specs::KitFile::file_in))]
-fn file<R: Read>(alloc: Global, reader: &mut R, notes: &mut Notes) -> Result<PlayFile, PlayFault>
+fn read_file<R: Read>(
+    alloc: Global,
+    reader: &mut R,
+    notes: &mut Notes,
+) -> Result<PlayFile, PlayFault>
     ensures took { TakesAtMost (R.remaining reader.old) (R.remaining reader.new) (file_limit + 1) }
     ensures gives { IfSome (R.remaining reader.old)
         (λ input. Gives Refuses Ok result (file_where (play_file_in input))) }
@@ -134,6 +138,6 @@ pub fn read_and_play<R: Read>(
     ensures gives { IfSome (R.remaining reader.old)
         (λ input. Gives Refuses (λ t. Ok (string_bytes t)) result (played_in input)) }
 {
-    let file = file(alloc, reader, notes)?;
+    let file = read_file(alloc, reader, notes)?;
     lines_of_play(&notes.journal, file)
 }

@@ -57,7 +57,7 @@ impl Draft {
             id,
             title,
             content,
-            status: status.settled(date, now),
+            status: status.settle(date, now),
             date,
         }
     }

@@ -44,8 +44,8 @@ pub fn transition(
     ensures { IfOk result (λ fs. fs.items ≡ transition old new id) }
 {
     let general = general(alloc, old, new, id)?;
-    let turned = turned(alloc, old, new, id)?;
-    let reached = reached(alloc, new, id)?;
+    let turned = transition_fire(alloc, old, new, id)?;
+    let reached = status_fire(alloc, new, id)?;
     Ok(vec![in alloc; general, turned, reached]?)
 }
 
@@ -54,7 +54,7 @@ pub fn inserts(alloc: Global, new: Status, id: u64) -> Result<Items<Fire>, Alloc
     ensures { IfOk result (λ fs. fs ≡ inserts new id) }
 {
     let mut fires = transition(alloc, None, new, id)?;
-    fires.push(saved(alloc, id, "")?)?;
+    fires.push(save_fire(alloc, id, "")?)?;
     Ok(Items::from_vec(fires))
 }
 
@@ -63,7 +63,7 @@ pub fn updates(alloc: Global, old: Status, new: Status, id: u64) -> Result<Items
     ensures { IfOk result (λ fs. fs ≡ updates old new id) }
 {
     let mut fires = transition(alloc, Some(old), new, id)?;
-    fires.push(saved(alloc, id, "1")?)?;
+    fires.push(save_fire(alloc, id, "1")?)?;
     Ok(Items::from_vec(fires))
 }
 
@@ -80,33 +80,38 @@ fn general(alloc: Global, old: Option<Status>, new: Status, id: u64) -> Result<F
     })
 }
 
-fn turned(alloc: Global, old: Option<Status>, new: Status, id: u64) -> Result<Fire, AllocError>
+fn transition_fire(
+    alloc: Global,
+    old: Option<Status>,
+    new: Status,
+    id: u64,
+) -> Result<Fire, AllocError>
     ensures { IfOk result (λ f. f ≡ turned old new id) }
 {
-    let name = turned_name(alloc, old_word(old), new.word())?;
+    let name = transition_name(alloc, old_word(old), new.word())?;
     of_id(alloc, name.as_str(), id)
 }
 
-fn turned_name(alloc: Global, old: &str, new: &str) -> Result<String, AllocError>
+fn transition_name(alloc: Global, old: &str, new: &str) -> Result<String, AllocError>
     ensures { IfOk result (λ t. string_bytes t ≡ turned_name old.now new.now) }
 {
     format!(in alloc; "{old}_to_{new}")
 }
 
-fn reached(alloc: Global, new: Status, id: u64) -> Result<Fire, AllocError>
+fn status_fire(alloc: Global, new: Status, id: u64) -> Result<Fire, AllocError>
     ensures { IfOk result (λ f. f ≡ reached new id) }
 {
-    let name = reached_name(alloc, new.word())?;
+    let name = status_name(alloc, new.word())?;
     of_id(alloc, name.as_str(), id)
 }
 
-fn reached_name(alloc: Global, new: &str) -> Result<String, AllocError>
+fn status_name(alloc: Global, new: &str) -> Result<String, AllocError>
     ensures { IfOk result (λ t. string_bytes t ≡ reached_name new.now) }
 {
     format!(in alloc; "{new}_post")
 }
 
-fn saved(alloc: Global, id: u64, update: &str) -> Result<Fire, AllocError>
+fn save_fire(alloc: Global, id: u64, update: &str) -> Result<Fire, AllocError>
     ensures { IfOk result (λ f. f ≡ saved id update.now) }
 {
     let update = Text::from_str(alloc, update)?;

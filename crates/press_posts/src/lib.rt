@@ -1,4 +1,5 @@
-//! Posts: what a change of them gives, which actions each change of a status fires, and which posts are published.
+//! Posts: what a change of them gives, which actions each change of a status fires, and which posts
+//! are published.
 #![tactic(auto)]
 
 mod draft;

@@ -20,7 +20,8 @@ use std::marker::Model;
 
 const MOST_POSTS: usize = 10_000;
 
-/// Posts with ids 1, 2, .., each at the place of its id. The place of a deleted post stays empty, and its id is never given again.
+/// Posts with ids 1, 2, .., each at the place of its id. The place of a deleted post stays empty,
+/// and its id is never given again.
 #[derive(Debug)]
 pub struct Posts {
     alloc: Global,
@@ -107,7 +108,8 @@ impl Posts {
         Ok(fires)
     }
 
-    /// Gives a post another status. PublishDue changes nothing, and fires nothing, where the post isn't future and due.
+    /// Gives a post another status. PublishDue changes nothing, and fires nothing, where the post
+    /// isn't future and due.
     pub fn set_status(&mut self, id: u64, to: Move) -> Result<Items<Fire>, PostFault>
         ensures { (now : ℕ) → Changes (λ c. c.fires) result
             (post_change self.old (Moves id to) now) self.old self.new }
@@ -150,8 +152,9 @@ impl Posts {
         }
     }
 
-    /// Undoes a change: puts back what was at the place of an id. Without a post, the id has to be the last one given,
-    /// and is given again. An insert is undone without a post, any other with the post as it was. Takes no memory.
+    /// Undoes a change: puts back what was at the place of an id. Without a post, the id has to be
+    /// the last one given, and is given again. An insert is undone without a post, any other with
+    /// the post as it was. Takes no memory.
     pub fn restore(&mut self, id: u64, post: Option<Post>)
         requires { IsRestorable id post self.old }
         ensures { self.new ≡ restored id post self.old }
@@ -165,7 +168,8 @@ impl Posts {
         }
     }
 
-    /// The published posts, newest date first, then greatest id. Where there is none, this takes no memory.
+    /// The published posts, newest date first, then greatest id. Where there is none, this takes no
+    /// memory.
     pub fn published(&self) -> Result<Items<u64>, AllocError>
         ensures ids { IfOk result (λ ids. ids ≡ published self.now) }
         ensures memory { OnErr result (0 < length (published self.now)) }
@@ -173,7 +177,8 @@ impl Posts {
         self.newest(self.places.len())
     }
 
-    /// The first `most` published posts. It looks at no others. Where there is none, this takes no memory.
+    /// The first `most` published posts. It looks at no others. Where there is none, this takes no
+    /// memory.
     pub fn newest(&self, most: usize) -> Result<Items<u64>, AllocError>
         ensures ids { IfOk result (λ ids. ids ≡ take most (published self.now)) }
         ensures memory { OnErr result (0 < length (take most (published self.now))) }

@@ -52,7 +52,7 @@ impl Status {
     }
 
     /// The status that a post of that date gets when this one is asked for.
-    pub fn settled(self, date: Moment, now: Moment) -> Status
+    pub fn settle(self, date: Moment, now: Moment) -> Status
         ensures { result ≡ settled self date now }
     {
         match self {

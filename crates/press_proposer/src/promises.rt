@@ -96,7 +96,7 @@ pub fn value_with(
         ≡ model.choice (model.best_of slot (promises.now ++ last.now ∷ [])) queue.now) }
 {
     let best = better(best_of(promises, slot), last.votes.get(slot));
-    chosen(alloc, best, queue)
+    value_to_propose(alloc, best, queue)
 }
 
 /// What to propose for the slot.
@@ -109,11 +109,11 @@ pub fn value_of(
     ensures { IfOk result
         (λ value. value ≡ model.choice (model.best_of slot promises.now) queue.now) }
 {
-    chosen(alloc, best_of(promises.as_slice(), slot), queue)
+    value_to_propose(alloc, best_of(promises.as_slice(), slot), queue)
 }
 
 // The value of the best vote, or the first that waits.
-fn chosen(alloc: Global, best: Option<&Vote>, queue: &Queue) -> Result<Value, AllocError>
+fn value_to_propose(alloc: Global, best: Option<&Vote>, queue: &Queue) -> Result<Value, AllocError>
     ensures { IfOk result (λ value. value ≡ model.choice (option_copied best.entry) queue.now) }
 {
     match best {

@@ -26,8 +26,8 @@ use press_wire::{Ballot, Body, MemberId, Message, Round, Slot, Votes};
 use std::alloc::{AllocError, Global};
 use std::marker::Model;
 
-/// The proposer of Paxos Made Simple (2.2 to 2.5): it prepares a ballot for the block of the next slot, and with a majority of promises it leads
-/// the block, and asks for votes slot by slot.
+/// The proposer of Paxos Made Simple (2.2 to 2.5): it prepares a ballot for the block of the next
+/// slot, and with a majority of promises it leads the block, and asks for votes slot by slot.
 #[derive(Debug)]
 pub struct Proposer {
     id: MemberId,
@@ -71,7 +71,8 @@ impl Model for Proposer {
 impl Proposer {
     /// A new, idle proposer of the node `id` of `members`.
     ///
-    /// `last_round` is the last round of the store: no round up to it is used again, whatever the store answers later.
+    /// `last_round` is the last round of the store: no round up to it is used again, whatever the
+    /// store answers later.
     pub fn new(alloc: Global, id: MemberId, members: u8, last_round: u64) -> Proposer
         requires { members ≤ 7 }
         ensures { result ≡ started id members last_round }
@@ -107,7 +108,8 @@ impl Proposer {
         self.queue.len()
     }
 
-    /// Whether a wake would want a round, and none is left, where this is the last round of the store and so many slots have values.
+    /// Whether a wake would want a round, and none is left, where this is the last round of the
+    /// store and so many slots have values.
     pub fn is_used_up(&self, last_round: u64, applied: u32, gap: bool) -> bool
         ensures { (store : StoreMap) → store.last_round ≡ last_round →
             result ≡ is_used_up store self.now applied gap }
@@ -117,7 +119,8 @@ impl Proposer {
             && round_after(last_round.max(self.nacked)).is_none()
     }
 
-    /// Puts a command at the end of the queue. Full where 256 wait, which is checked before any memory is taken.
+    /// Puts a command at the end of the queue. Full where 256 wait, which is checked before any
+    /// memory is taken.
     pub fn submit(&mut self, command: Stamped) -> Result<(), ProposerFault>
         ensures queued { OnOk result (self.new ≡ queued_by self.old command) }
         ensures room { IfOk result (λ _. is_full self.old.queue ≡ false) }
@@ -133,11 +136,13 @@ impl Proposer {
         Ok(())
     }
 
-    /// With a queue or a gap it asks for votes for the next slot, where it leads the block and hasn't yet; else it begins a round: the round is saved, and
-    /// Prepare for the block goes to all members. With neither it asks them for their votes. `applied` slots have values; a gap is a vote for a slot beyond the
-    /// next one.
+    /// With a queue or a gap it asks for votes for the next slot, where it leads the block and
+    /// hasn't yet; else it begins a round: the round is saved, and Prepare for the block goes to
+    /// all members. With neither it asks them for their votes. `applied` slots have values; a gap
+    /// is a vote for a slot beyond the next one.
     ///
-    /// RoundsUsedUp where the round would pass 2^40. A fault leaves the store as it was before or after the save.
+    /// RoundsUsedUp where the round would pass 2^40. A fault leaves the store as it was before or
+    /// after the save.
     pub fn wake<S: PromiseStore>(
         &mut self,
         store: &mut S,
@@ -182,7 +187,8 @@ impl Proposer {
         Ok(out)
     }
 
-    /// Takes a member's promise for the block with this first slot. At a majority it leads the block, and Accept for the next slot goes to all members.
+    /// Takes a member's promise for the block with this first slot. At a majority it leads the
+    /// block, and Accept for the next slot goes to all members.
     pub fn on_promise(
         &mut self,
         from: MemberId,
@@ -209,7 +215,7 @@ impl Proposer {
             let slot = slot_after(applied);
             let promises = self.phase.promises();
             let value = value_with(self.alloc, promises, &promise, slot, &self.queue)?;
-            let out = self.ask(slot, &ballot, value)?;
+            let out = self.accept_messages(slot, &ballot, value)?;
             self.phase.push(promise)?;
             self.phase.lead(slot);
             return Ok(out);
@@ -228,7 +234,8 @@ impl Proposer {
         self.nacked = self.nacked.max(promised.round.number());
     }
 
-    /// The slot's value was applied: with the last of a block the proposer is idle, and the first command that is the value leaves the queue.
+    /// The slot's value was applied: with the last of a block the proposer is idle, and the first
+    /// command that is the value leaves the queue.
     pub fn on_applied(&mut self, slot: Slot, value: &Value)
         ensures { self.new ≡ applied_by self.old slot value.now }
     {
@@ -280,14 +287,19 @@ impl Proposer {
                 ..
             } => {
                 let value = value_of(self.alloc, promises, slot, &self.queue)?;
-                self.ask(slot, ballot, value)
+                self.accept_messages(slot, ballot, value)
             }
             Phase::Idle | Phase::Preparing { .. } => Ok(Vec::new(self.alloc)),
         }
     }
 
     // Asks each member for a vote.
-    fn ask(&self, slot: Slot, ballot: &Ballot, value: Value) -> Result<Vec<Message>, AllocError>
+    fn accept_messages(
+        &self,
+        slot: Slot,
+        ballot: &Ballot,
+        value: Value,
+    ) -> Result<Vec<Message>, AllocError>
         ensures { IfOk result
             (λ out. out.items ≡ messages.to_all self.now.members self.now.id slot
             (Accept ballot.now.round value)) }

@@ -70,7 +70,8 @@ impl Queue {
         Ok(())
     }
 
-    /// What is to be proposed where nobody voted yet: the first command, or a value that does nothing.
+    /// What is to be proposed where nobody voted yet: the first command, or a value that does
+    /// nothing.
     pub fn first_value(&self, alloc: Global) -> Result<Value, AllocError>
         ensures { IfOk result (λ value. value ≡ first_of self.now) }
     {

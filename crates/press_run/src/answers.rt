@@ -52,11 +52,11 @@ pub fn decimal_or_empty(alloc: Global, priority: Option<i64>) -> Result<Text, Al
 {
     match priority {
         None => Ok(Text::new(alloc)),
-        Some(p) => signed(alloc, p),
+        Some(p) => priority_text(alloc, p),
     }
 }
 
-fn signed(alloc: Global, p: i64) -> Result<Text, AllocError>
+fn priority_text(alloc: Global, p: i64) -> Result<Text, AllocError>
     ensures { IfOk result (λ t. t ≡ signed_decimal p) }
 {
     let text = format!(in alloc; "{p}")?;

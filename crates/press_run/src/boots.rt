@@ -12,8 +12,9 @@ use press_site::Site;
 use press_text::{HookName, Items, Name};
 use std::alloc::{AllocError, Global};
 
-/// Fresh tables with the built-in callbacks on `the_content` and `publish_future_post` and the loads of the site's active plugins, in
-/// the order of their names. A plugin that the kit lacks loads nothing.
+/// Fresh tables with the built-in callbacks on `the_content` and `publish_future_post` and the
+/// loads of the site's active plugins, in the order of their names. A plugin that the kit lacks
+/// loads nothing.
 pub fn boot(alloc: Global, kit: &Kit, site: &Site) -> Result<Tables, AllocError>
     ensures { IfOk result (λ t. BootsWith (booted_with (plugins_in kit.now) site.now.active) t) }
 {

@@ -18,7 +18,8 @@ pub trait Callbacks {
     fn place(&self, id: CallbackId) -> Option<usize>
         ensures { script_at result (scripts self.now) ≡ script_of id (scripts self.now) };
 
-    /// Whether the texts of the turn that is due at a place are within the bytes. It is asked before they are made.
+    /// Whether the texts of the turn that is due at a place are within the bytes. It is asked
+    /// before they are made.
     fn fits(&self, place: Option<usize>, input: &CallIn) -> bool
         ensures { result ≡ fits (turn_of (or_empty (script_at place (scripts self.now))) input.now) };
 
@@ -52,18 +53,18 @@ impl Callbacks for Kit {
         input: &CallIn,
     ) -> Result<Turn, AllocError> {
         let Some(place) = place else {
-            return returned(alloc, input);
+            return return_input(alloc, input);
         };
         match self.at(place) {
             Some(stored) => stored.turn(input),
-            None => returned(alloc, input),
+            None => return_input(alloc, input),
         }
     }
 }
 
 // The turn of a callback that the kit lacks.
 #[inline(never)]
-fn returned(alloc: Global, input: &CallIn) -> Result<Turn, AllocError>
+fn return_input(alloc: Global, input: &CallIn) -> Result<Turn, AllocError>
     ensures { IfOk result (λ t. t ≡ Return input.now.value) }
 {
     Ok(Turn::Return(input.value.copy(alloc)?))

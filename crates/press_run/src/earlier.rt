@@ -10,7 +10,8 @@ ghost use Rattle.press_run.specs.Outcome.{job_meaning};
 ghost use Rattle.press_run.specs.Run.{State};
 ghost use Rattle.press_run.specs.declared.job.Job.{Job};
 
-/// In profile 1 a job comes to what it came to before sites had a profile, and leaves the profile as it is.
+/// In profile 1 a job comes to what it came to before sites had a profile, and leaves the profile
+/// as it is.
 pub fn runs_as_before()
     ensures same { (changes : Changes) (scripts : Scripts) (job : Job) (s : State)
         → KeepsProfile changes → s.site.profile ≡ 1
@@ -20,7 +21,8 @@ pub fn runs_as_before()
         → IfSome (job_meaning changes scripts job s) (λ a. a.state.site.profile ≡ 1) }
 {}
 
-/// Changes of a site, and of one that is only read, leave its profile as it is, but for a switch of it.
+/// Changes of a site, and of one that is only read, leave its profile as it is, but for a switch of
+/// it.
 pub fn changes_keep_profile()
     ensures effects { KeepsProfile effect_on }
     ensures reads { KeepsProfile read_only }

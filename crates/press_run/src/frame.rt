@@ -142,8 +142,8 @@ impl OpenCallback {
         Ok(())
     }
 
-    /// Lets its arguments go, so that who else holds their list may change it in place. Its value and its last answer
-    /// stay until the next callback begins.
+    /// Lets its arguments go, so that who else holds their list may change it in place. Its value
+    /// and its last answer stay until the next callback begins.
     pub fn end(&mut self, alloc: Global)
         requires { IsOfHook self.old }
         ensures hook { IsOfHook self.new }

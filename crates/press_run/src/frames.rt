@@ -44,7 +44,8 @@ impl Frames {
         Ok(())
     }
 
-    /// The innermost frame, where one waits. Takes memory for a callback with many attributes alone.
+    /// The innermost frame, where one waits. Takes memory for a callback with many attributes
+    /// alone.
     pub fn pop(&mut self) -> Result<Option<Frame>, AllocError>
         ensures frame { IfOk result (λ o. MatchOption o ((self.old ≡ []) × (self.new ≡ []))
             (λ f. self.old ≡ f ∷ self.new)) }

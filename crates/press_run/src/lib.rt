@@ -1,5 +1,5 @@
-//! The machine that runs hooks and shortcodes over a kit and a site: callbacks edit the running tables and change the
-//! site, runs nest, and three limits hold.
+//! The machine that runs hooks and shortcodes over a kit and a site: callbacks edit the running
+//! tables and change the site, runs nest, and three limits hold.
 //!
 //! What it gives is a big-step meaning over scripts; what it calls are the kit's closures.
 #![tactic(auto)]

@@ -18,13 +18,15 @@ pub trait SiteLink {
 
     ghost view: { Self → SiteView };
 
-    /// What no change touches: of a site its moment and its outcomes, of an open one how it was begun, and all of one that is only read.
+    /// What no change touches: of a site its moment and its outcomes, of an open one how it was
+    /// begun, and all of one that is only read.
     ghost fixed: { Self → Option SiteView };
 
     fn site(&self) -> &Site
         ensures { result.now ≡ view self.now };
 
-    /// Makes a change; after a refusal the site is as it was. What is refused or changes nothing takes no memory.
+    /// Makes a change; after a refusal the site is as it was. What is refused or changes nothing
+    /// takes no memory.
     fn change(&mut self, alloc: Global, effect: Effect) -> Result<Changed, SiteFault>
         ensures changes { Becomes result (changes (view self.old) effect)
             (view self.old) (view self.new) }

@@ -32,7 +32,8 @@ pub fn change<L: SiteLink>(
     }
 }
 
-/// The change that publishes the post with that id in decimal, if it is future and due at that moment.
+/// The change that publishes the post with that id in decimal, if it is future and due at that
+/// moment.
 pub fn publishes(id: &Text, now: Moment) -> Option<Effect>
     ensures { result ≡ publishes id.now now }
 {

@@ -32,7 +32,8 @@ pub struct StepAt {
     pub step: usize,
 }
 
-/// What one boot has and counts: its tables, its counts, the site as runs have it, and what was written.
+/// What one boot has and counts: its tables, its counts, the site as runs have it, and what was
+/// written.
 #[derive(Debug)]
 pub struct Machine<L> {
     pub tables: Tables,
@@ -41,7 +42,8 @@ pub struct Machine<L> {
     pub out: Out,
     /// Whether the last run, or what was written since, met a limit.
     pub met_limit: bool,
-    /// The step whose text would have passed the bytes, where the last run met that limit: a note, on which nothing depends.
+    /// The step whose text would have passed the bytes, where the last run met that limit: a note,
+    /// on which nothing depends.
     pub long_step: Option<StepAt>,
 }
 
@@ -88,13 +90,14 @@ impl<L: SiteLink + Drop> Machine<L> {
         }
     }
 
-    /// Runs a job: actions one after the other, which answer the empty text, or one filter, which answers what its last
-    /// callback gave.
+    /// Runs a job: actions one after the other, which answer the empty text, or one filter, which
+    /// answers what its last callback gave.
     ///
-    /// Callbacks may edit the tables, change the site, and write to the output. What a change of the site fires is done
-    /// within the run. Limit is returned where a 33rd callback would be open at once, a 10,001st turn would be played,
-    /// or a text would pass 1,048,576 bytes. After a fault the machine is in no stated state, but for what no change of
-    /// the site touches, and that it shows whether a limit was met.
+    /// Callbacks may edit the tables, change the site, and write to the output. What a change of
+    /// the site fires is done within the run. Limit is returned where a 33rd callback would be open
+    /// at once, a 10,001st turn would be played, or a text would pass 1,048,576 bytes. After a
+    /// fault the machine is in no stated state, but for what no change of the site touches, and
+    /// that it shows whether a limit was met.
     pub fn run(&mut self, kit: &Kit, job: Job) -> Result<String, RunFault>
         ensures gives { GivesJob
             (job_meaning L.changes (scripts_in kit.now) job
@@ -105,10 +108,10 @@ impl<L: SiteLink + Drop> Machine<L> {
     {
         self.met_limit = false;
         self.long_step = None;
-        self.given(kit, job)
+        self.answer_string(kit, job)
     }
 
-    fn given(&mut self, kit: &Kit, job: Job) -> Result<String, RunFault>
+    fn answer_string(&mut self, kit: &Kit, job: Job) -> Result<String, RunFault>
         ensures gives { GivesJob
             (job_meaning L.changes (scripts_in kit.now) job
             (state_of (standing L.view L.fixed self.old)))
@@ -120,7 +123,8 @@ impl<L: SiteLink + Drop> Machine<L> {
         Ok(text.into_string()?)
     }
 
-    /// Writes to the output. Limit where that would pass 1,048,576 bytes, and then nothing is written.
+    /// Writes to the output. Limit where that would pass 1,048,576 bytes, and then nothing is
+    /// written.
     pub fn write(&mut self, text: &str) -> Result<(), RunFault>
         ensures pushes { Pushes self.old.out text.now self.new.out result }
         ensures kept { self.new ≡ record self.old {

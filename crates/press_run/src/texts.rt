@@ -20,7 +20,7 @@ pub fn first_text(alloc: Global, texts: &Texts) -> Result<Text, AllocError>
 }
 
 /// What a hook returns with these arguments: an action the empty text.
-pub fn shown(alloc: Global, kind: Kind, args: &Texts) -> Result<Text, AllocError>
+pub fn hook_answer(alloc: Global, kind: Kind, args: &Texts) -> Result<Text, AllocError>
     ensures { IfOk result (λ t. t ≡ shown kind (first_text args.now)) }
 {
     match kind {

@@ -1,4 +1,5 @@
-//! A frame while it waits. A page may have dozens of callbacks open one in another, each with half a million attributes.
+//! A frame while it waits. A page may have dozens of callbacks open one in another, each with half
+//! a million attributes.
 
 ghost use Rattle.std.specs.Prelude.{◌≡◌, ◌<◌, IfOk, OnErr, length};
 ghost use Rattle.press_run.specs.Waiting.{HasManyAtts, with_atts};
@@ -10,8 +11,9 @@ use press_scan::FoldedAtts;
 use std::alloc::{AllocError, Global};
 use std::marker::Model;
 
-/// A frame that waits, which contracts see as that frame. A callback that waits holds many attributes as the text that they are
-/// of, so that only those which run have room for each attribute.
+/// A frame that waits, which contracts see as that frame. A callback that waits holds many
+/// attributes as the text that they are of, so that only those which run have room for each
+/// attribute.
 pub struct Waiting {
     stowed: Stowed,
 }

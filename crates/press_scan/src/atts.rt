@@ -20,7 +20,8 @@ const FEW_ATTS: usize = 64;
 #[derive(Debug, Drop)]
 pub struct Atts {
     kept: Kept,
-    // The text that they are of, where they are many. In a box, since few have it, and every call has room for it.
+    // The text that they are of, where they are many. In a box, since few have it, and every call
+    // has room for it.
     text: Option<Box<Text>>,
 }
 
@@ -49,7 +50,8 @@ impl Atts {
         }
     }
 
-    /// The attributes of a text. Many keep that text beside them, to be folded to it, and take memory for it.
+    /// The attributes of a text. Many keep that text beside them, to be folded to it, and take
+    /// memory for it.
     pub(crate) fn from_kept(alloc: Global, kept: Kept, text: &str) -> Result<Atts, AllocError>
         requires text { kept_atts kept ≡ attributes_of text.now }
         requires short { length text.now < 2 ^ 32 }
@@ -57,7 +59,7 @@ impl Atts {
         ensures memory { OnErr result (64 < length (kept_atts kept)) }
     {
         let text = if kept.len() > FEW_ATTS {
-            Some(boxed(alloc, text)?)
+            Some(box_text(alloc, text)?)
         } else {
             None
         };
@@ -92,15 +94,16 @@ impl Atts {
         }
     }
 
-    /// Whether folding makes a text of them, as of more than 64 attributes of a text, and of no others.
+    /// Whether folding makes a text of them, as of more than 64 attributes of a text, and of no
+    /// others.
     pub fn folds_to_text(&self) -> bool
         ensures { result ≡ true → 64 < length self.now }
     {
         self.text.is_some()
     }
 
-    /// Folds them while nobody reads them: many attributes of a text become that text, which may have two bytes for an
-    /// attribute, where it takes fifty to a hundred here. Takes no memory.
+    /// Folds them while nobody reads them: many attributes of a text become that text, which may
+    /// have two bytes for an attribute, where it takes fifty to a hundred here. Takes no memory.
     pub fn fold(self) -> FoldedAtts
         ensures { result ≡ self }
     {
@@ -112,7 +115,7 @@ impl Atts {
     }
 }
 
-fn boxed(alloc: Global, text: &str) -> Result<Box<Text>, AllocError>
+fn box_text(alloc: Global, text: &str) -> Result<Box<Text>, AllocError>
     ensures { IfOk result (λ b. b.value ≡ text.now) }
 {
     match Box::new(alloc, Text::from_str(alloc, text)?) {

@@ -1,4 +1,5 @@
-//! Attributes that nobody reads for a while. A callback that waits holds them so, since many may wait, one in another.
+//! Attributes that nobody reads for a while. A callback that waits holds them so, since many may
+//! wait, one in another.
 
 ghost use Rattle.std.specs.Prelude.{◌≡◌, ◌<◌, ◌^◌, IfOk, OnErr, length};
 ghost use Rattle.press_scan.specs.AttributesOf.{attributes_of};
@@ -10,7 +11,8 @@ use press_text::Text;
 use std::alloc::{AllocError, Global};
 use std::marker::Model;
 
-/// Attributes that are folded, which contracts see as those attributes: many as the text that they are of, others as they are.
+/// Attributes that are folded, which contracts see as those attributes: many as the text that they
+/// are of, others as they are.
 pub struct FoldedAtts {
     folded: Folded,
 }
@@ -58,8 +60,8 @@ impl FoldedAtts {
         }
     }
 
-    /// The attributes, to be read again. Takes memory for those alone that became a text, which are more than 64; the
-    /// text is split anew.
+    /// The attributes, to be read again. Takes memory for those alone that became a text, which are
+    /// more than 64; the text is split anew.
     pub fn unfold(self, alloc: Global) -> Result<Atts, AllocError>
         ensures value { IfOk result (λ atts. atts ≡ self) }
         ensures memory { OnErr result (64 < length self) }

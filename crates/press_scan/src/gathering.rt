@@ -1,8 +1,9 @@
 //! The attributes of an attribute text.
 //!
-//! Splitting reads each byte a bounded number of times: a quote is looked for from an opening quote to the next one of
-//! its kind, and an opening quote is tried at most twice, after a name and where a token begins. A name is looked up
-//! among those so far by its hash; in a text of up to 64 bytes it is compared with each, which are 32 at most.
+//! Splitting reads each byte a bounded number of times: a quote is looked for from an opening quote
+//! to the next one of its kind, and an opening quote is tried at most twice, after a name and where
+//! a token begins. A name is looked up among those so far by its hash; in a text of up to 64 bytes
+//! it is compared with each, which are 32 at most.
 
 ghost use Rattle.std.specs.Prelude.{◌≡◌, ◌-◌, ◌^◌, ◌+◌, ◌<◌, ◌≤◌, ◌++◌, ◌∷◌, [], IfOk, OnOk, OnErr, IsTrue, ◌↔◌, length, string_bytes, slice_range, None};
 ghost use Rattle.std.specs.Str.{str_to_ascii_lowercase};
@@ -163,7 +164,7 @@ fn cuts(text: &str, place: usize, token: Token)
 {}
 
 // Spaces are skipped between characters, without work.
-fn skipped(text: &str, from: usize, place: usize)
+fn check_skip(text: &str, from: usize, place: usize)
     requires there { IsCharBoundary text.now from }
     requires first { IsFirst (NoSpace text.now) from place }
     ensures { IsCharBoundary text.now place }
@@ -177,7 +178,7 @@ fn next_place(text: &str, from: usize) -> usize
     ensures edge { IsCharBoundary text.now result }
 {
     let place = skip_spaces(text.as_bytes(), from);
-    skipped(text, from, place);
+    check_skip(text, from, place);
     place
 }
 

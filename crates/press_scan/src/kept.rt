@@ -12,8 +12,8 @@ use indexmap::IndexMap;
 use press_text::Text;
 use std::alloc::{AllocError, Global};
 
-/// As they were listed, where a key may occur twice, or each value under its key. The map is in a box, since few texts have one,
-/// and every call has room for it.
+/// As they were listed, where a key may occur twice, or each value under its key. The map is in a
+/// box, since few texts have one, and every call has room for it.
 #[derive(Debug, Drop)]
 pub enum Kept {
     Listed(Vec<Att>),

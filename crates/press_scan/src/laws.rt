@@ -27,7 +27,8 @@ pub fn ends_within()
         → IsShortcode text tags place s → (place < s.end) × (s.end ≤ length text) }
 {}
 
-/// The first shortcode as it is computed is the first by the relation; none is computed exactly where no place has one.
+/// The first shortcode as it is computed is the first by the relation; none is computed exactly
+/// where no place has one.
 pub fn computes_first()
     ensures some { (text : List ℕ) (tags : List (List ℕ)) (from : ℕ) (s : Shortcode)
         → (shortcode_from text tags from ≡ Some s) ↔ IsNext text tags from s }
@@ -41,7 +42,8 @@ pub fn computes_attributes()
         ↔ (atts ≡ attributes_of text) }
 {}
 
-/// A shortcode, its name, its attribute text and its content are cut between characters, so each is a text.
+/// A shortcode, its name, its attribute text and its content are cut between characters, so each is
+/// a text.
 pub fn has_parts(text: &str, tags: &TagTable, shortcode: Shortcode)
     requires { IsShortcode text.now (names_of tags.now) shortcode.start shortcode }
     ensures { HasParts text.now shortcode }

@@ -1,4 +1,5 @@
-//! Shortcodes in a text: the tags, the next shortcode, its attributes, and the scan of a whole text (Shortcode API).
+//! Shortcodes in a text: the tags, the next shortcode, its attributes, and the scan of a whole text
+//! (Shortcode API).
 #![tactic(auto)]
 
 mod att;

@@ -1,8 +1,9 @@
 //! The first shortcode at or after a place.
 //!
-//! One call reads the text from that place on: up to the first registered name after a bracket, on to its `]`, and on
-//! to its closing tag or the end. Where that name has no `]` after it, no later place has a shortcode. Many calls on
-//! one text can search for the same missing closing tag again: `Scan` does not.
+//! One call reads the text from that place on: up to the first registered name after a bracket, on
+//! to its `]`, and on to its closing tag or the end. Where that name has no `]` after it, no later
+//! place has a shortcode. Many calls on one text can search for the same missing closing tag again:
+//! `Scan` does not.
 
 ghost use Rattle.std.specs.Prelude.{◌≡◌, ◌+◌, ◌<◌, ◌≤◌, ◌⊎◌, IsTrue, ◌↔◌, length, IfNone, IfSome, ◌-◌, MatchOption, Option, Some, None, true, false, if◌then◌else◌};
 ghost use Rattle.press_scan.specs.Places.{At, IsFirst, NoneFrom, NoneBetween};
@@ -57,7 +58,8 @@ pub fn closes_itself(text: &[u8], close: usize) -> bool
     byte_at(text, close - 1) == b'/'
 }
 
-// What stands behind an opening: its content, if it has one, and the place behind its own and its closing tag's `]`.
+// What stands behind an opening: its content, if it has one, and the place behind its own and its
+// closing tag's `]`.
 #[derive(Clone, Copy)]
 struct Rest {
     content: Option<Span>,

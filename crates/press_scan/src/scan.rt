@@ -1,10 +1,11 @@
 //! A text, taken step by step.
 //!
-//! With the same tags at each step a scan reads each byte a bounded number of times for each tag, also where brackets
-//! and closing tags are missing: where no `]` is ahead no later place has a shortcode, so the rest is taken at once; a
-//! name that has no closing tag is remembered with the place from which it has none, and looked for no more. A step
-//! that stops in front of a shortcode keeps it: it is the next one's, if its name is registered still. Where the tags
-//! change between steps, each name that is new can cost one more search to the end of the text.
+//! With the same tags at each step a scan reads each byte a bounded number of times for each tag,
+//! also where brackets and closing tags are missing: where no `]` is ahead no later place has a
+//! shortcode, so the rest is taken at once; a name that has no closing tag is remembered with the
+//! place from which it has none, and looked for no more. A step that stops in front of a shortcode
+//! keeps it: it is the next one's, if its name is registered still. Where the tags change between
+//! steps, each name that is new can cost one more search to the end of the text.
 
 ghost use Rattle.std.specs.Prelude.{IsSome, IfSome, IfNone, ◌≡◌, ◌+◌, ◌-◌, ◌<◌, ◌≤◌, ◌++◌, ◌∷◌, ◌⊎◌, [], IsTrue, length, IfOk, OnOk, OnErr, IfErr, MatchResult, string_bytes, slice_range, Some, None, true, false, Option};
 ghost use Rattle.std.specs.Str.{IsCharBoundary};
@@ -23,7 +24,8 @@ use press_text::make_room;
 use std::alloc::{AllocError, Global};
 use std::marker::Model;
 
-/// A scan of a text: the place up to which it is done, the output so far, and the shortcode whose answer is awaited.
+/// A scan of a text: the place up to which it is done, the output so far, and the shortcode whose
+/// answer is awaited.
 #[derive(Debug)]
 pub struct Scan {
     text: String,
@@ -109,7 +111,8 @@ fn in_brackets(alloc: Global, shortcode: Shortcode, answer: &str) -> Result<Stri
     format!(in alloc; "{front}{answer}{back}")
 }
 
-// Adds an answer. An empty one without brackets takes no memory. With brackets it is made first, so that after running out of memory nothing has changed.
+// Adds an answer. An empty one without brackets takes no memory. With brackets it is made first, so
+// that after running out of memory nothing has changed.
 fn push_answer(
     out: &mut String,
     alloc: Global,
@@ -271,9 +274,9 @@ impl Scan {
         self.output.len()
     }
 
-    /// Takes the front up to the next shortcode, an escape, or the shortcode itself, under the tags that are registered now.
-    /// A Text takes in at least one byte. If memory runs out, nothing has changed; at the end of the text none is taken. No answer may
-    /// be awaited: `put` comes first.
+    /// Takes the front up to the next shortcode, an escape, or the shortcode itself, under the tags
+    /// that are registered now. A Text takes in at least one byte. If memory runs out, nothing has
+    /// changed; at the end of the text none is taken. No answer may be awaited: `put` comes first.
     pub fn step(&mut self, tags: &TagTable) -> Result<ScanStep, AllocError>
         requires { self.old.waiting ≡ None }
         ensures steps { StepGives result (names_of tags.now) self.old self.new }
@@ -333,8 +336,8 @@ impl Scan {
         }
     }
 
-    /// Puts the answer to the call in its place, which is not scanned again. If memory runs out, nothing has changed.
-    /// An empty answer without brackets takes none.
+    /// Puts the answer to the call in its place, which is not scanned again. If memory runs out,
+    /// nothing has changed. An empty answer without brackets takes none.
     pub fn put(&mut self, answer: &str) -> Result<(), AllocError>
         requires { IsSome self.old.waiting }
         ensures puts { PutGives result answer.now self.old self.new }

@@ -12,8 +12,9 @@ use std::marker::Model;
 // How many tags a table holds at most.
 const MOST_TAGS: usize = 128;
 
-/// The registered tags in the order in which they were added, each with its callback (`$shortcode_tags`).
-/// A name is 1 to 32 bytes of `[A-Za-z0-9_-]` in either case; there are at most 128.
+/// The registered tags in the order in which they were added, each with its callback
+/// (`$shortcode_tags`). A name is 1 to 32 bytes of `[A-Za-z0-9_-]` in either case; there are at
+/// most 128.
 #[derive(Debug)]
 pub struct TagTable {
     alloc: Global,
@@ -61,8 +62,9 @@ impl TagTable {
         })
     }
 
-    /// Adds a tag; one that is registered gets the new callback and keeps its place, without memory (`add_shortcode`).
-    /// False, and no change, where a new tag would be the 129th or is no name of a tag; that takes no memory.
+    /// Adds a tag; one that is registered gets the new callback and keeps its place, without memory
+    /// (`add_shortcode`). False, and no change, where a new tag would be the 129th or is no name of
+    /// a tag; that takes no memory.
     pub fn add(&mut self, tag: &str, callback: CallbackId) -> Result<bool, AllocError>
         ensures answer { IfOk result (λ b. b ≡ adds_tag tag.now self.old) }
         ensures tags { IfOk result (λ b. self.new ≡ add_tag tag.now callback self.old) }

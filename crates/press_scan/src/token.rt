@@ -93,7 +93,7 @@ fn bare_end(text: &[u8], from: usize) -> usize
     text.len()
 }
 
-fn named(text: &[u8], place: usize) -> Option<NamePart>
+fn read_name(text: &[u8], place: usize) -> Option<NamePart>
     requires { place ≤ length text.now }
     ensures { MatchOption result ((p : NamePart) → IsNamed text.now place p.name p.next → ⊥)
         (λ p. IsNamed text.now place p.name p.next × (place < p.next)
@@ -114,7 +114,7 @@ fn named(text: &[u8], place: usize) -> Option<NamePart>
     })
 }
 
-fn quoted(text: &[u8], quote: u8, place: usize) -> Option<ValuePart>
+fn read_quoted(text: &[u8], quote: u8, place: usize) -> Option<ValuePart>
     requires quote { 0 < quote }
     requires place { place ≤ length text.now }
     ensures { MatchOption result ((p : ValuePart) → IsQuoted quote text.now place p.value p.end
@@ -175,14 +175,14 @@ fn named_token(text: &[u8], place: usize) -> Option<Token>
     ensures some { IfSome result (λ t. IsNamedToken text.now place t × (place < t.end)
         × (t.end ≤ length text.now)) }
 {
-    let part = match named(text, place) {
+    let part = match read_name(text, place) {
         Some(part) => part,
         None => return None,
     };
-    if let Some(double) = quoted(text, b'"', part.next) {
+    if let Some(double) = read_quoted(text, b'"', part.next) {
         return Some(with_value(Some(part.name), double));
     }
-    if let Some(single) = quoted(text, b'\'', part.next) {
+    if let Some(single) = read_quoted(text, b'\'', part.next) {
         return Some(with_value(Some(part.name), single));
     }
     match bare(text, part.next) {
@@ -198,10 +198,10 @@ fn nameless_token(text: &[u8], place: usize) -> Token
     ensures token { IsNamelessToken text.now place result }
     ensures end { (place < result.end) × (result.end ≤ length text.now) }
 {
-    if let Some(double) = quoted(text, b'"', place) {
+    if let Some(double) = read_quoted(text, b'"', place) {
         return with_value(None, double);
     }
-    if let Some(single) = quoted(text, b'\'', place) {
+    if let Some(single) = read_quoted(text, b'\'', place) {
         return with_value(None, single);
     }
     let end = run_end(text, place);

@@ -15,7 +15,9 @@ impl<A: Actor> World<A> {
         }
     }
 
-    // A member opens only once a majority has told it how far it is, and it has applied what a majority said is chosen. One whose store failed right behind it shows no longer what it had applied.
+    // A member opens only once a majority has told it how far it is, and it has applied what a
+    // majority said is chosen. One whose store failed right behind it shows no longer what it had
+    // applied.
     fn check_opening(&mut self, place: usize, standing: Standing) -> Result<(), AllocError> {
         if !self.heard.is_told(place) {
             self.complain(place, "opens, and no majority has told how far it is")?;

@@ -8,7 +8,8 @@ use std::alloc::AllocError;
 // How many looks at each other a member may take in a second.
 const MOST_LOOKS: u64 = 45;
 
-// How many questions a member may ask each other in a second, beside four for each slot that it applied.
+// How many questions a member may ask each other in a second, beside four for each slot that it
+// applied.
 const MOST_QUESTIONS: u64 = 330;
 
 impl<A: Actor> World<A> {

@@ -97,7 +97,8 @@ impl<A: Actor> World<A> {
         self.start(place)
     }
 
-    // A member starts over a disk with room for that many writes, and for none whenever it starts again.
+    // A member starts over a disk with room for that many writes, and for none whenever it starts
+    // again.
     fn fill(&mut self, place: usize, room: u64) -> Result<(), AllocError>
         requires always { Unit {0} }
     {
@@ -159,7 +160,8 @@ impl<A: Actor> World<A> {
         }
     }
 
-    // A fault of the network, of a clock, or of what is said happens, or there is room on a disk, if it is one of these.
+    // A fault of the network, of a clock, or of what is said happens, or there is room on a disk,
+    // if it is one of these.
     fn happen_between(&mut self, fault: Fault) {
         let members = self.count();
         match fault {

@@ -54,7 +54,8 @@ impl Word {
         }
     }
 
-    // How many slots are chosen, as it said lately, and before this millisecond, in which it may be heard behind what is looked at.
+    // How many slots are chosen, as it said lately, and before this millisecond, in which it may be
+    // heard behind what is looked at.
     fn claim(&self, now: u64) -> Option<u64> {
         match self.told {
             Some(told) if told.at < now && told.age(now) <= FRESH => Some(told.chosen),
@@ -243,7 +244,8 @@ impl Heard {
         }
     }
 
-    /// So many slots are chosen at least, by what a majority of members has told this one lately, which says itself that so many are.
+    /// So many slots are chosen at least, by what a majority of members has told this one lately,
+    /// which says itself that so many are.
     pub fn borne_out(&self, member: usize, own: u64, now: u64) -> u64 {
         let half = self.members / 2;
         match self.ears.get(member) {

@@ -1,4 +1,5 @@
-//! What has to hold of all members: of each slot at most one value is chosen, as its votes and the members' disks show, and pages are equal behind equal counts.
+//! What has to hold of all members: of each slot at most one value is chosen, as its votes and the
+//! members' disks show, and pages are equal behind equal counts.
 
 use crate::note::Note;
 use std::alloc::{AllocError, Global};
@@ -115,7 +116,8 @@ impl Slot {
         }
     }
 
-    // Whether a vote is for another value than the chosen one, and its ballot is no earlier than that by which this was chosen.
+    // Whether a vote is for another value than the chosen one, and its ballot is no earlier than
+    // that by which this was chosen.
     fn differs(&self, note: Note) -> bool {
         match self.chosen {
             Some(chosen) => chosen.is_up_to(note) && chosen.value != note.value,
@@ -285,7 +287,8 @@ impl Judge {
         Ok(())
     }
 
-    /// The disk of the member at a place has these votes, which have to be those that it saved last, and none behind the chosen ones for another value.
+    /// The disk of the member at a place has these votes, which have to be those that it saved
+    /// last, and none behind the chosen ones for another value.
     pub fn check_disk(&mut self, place: usize, notes: &[Note]) -> Result<(), AllocError> {
         for note in notes.iter() {
             self.check_kept(place, *note)?;

@@ -129,7 +129,8 @@ impl<L: Drop> Lanes<L> {
         }
     }
 
-    /// A letter waits to go out. It has to be this member's, to another, and another letter than the one before.
+    /// A letter waits to go out. It has to be this member's, to another, and another letter than
+    /// the one before.
     pub fn put(&mut self, envelope: Envelope, letter: L) -> Result<(), AllocError> {
         let is_own = envelope.from == self.own && envelope.to != self.own;
         if !is_own || self.has_just(envelope) {

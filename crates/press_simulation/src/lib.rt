@@ -1,4 +1,5 @@
-//! Members on one simulated clock: a network that delays, loses, repeats and parts, faults of members and of their disks, and what has to hold of a run.
+//! Members on one simulated clock: a network that delays, loses, repeats and parts, faults of
+//! members and of their disks, and what has to hold of a run.
 //!
 //! It knows no member: whatever meets `Actor` can be played.
 #![tactic(auto)]

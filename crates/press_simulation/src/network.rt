@@ -40,7 +40,8 @@ fn is_in(side: u64, place: usize) -> bool {
 }
 
 impl<L: Drop> Network<L> {
-    /// One that is so bad, in which nothing is on its way. Of the seed comes what is left to chance.
+    /// One that is so bad, in which nothing is on its way. Of the seed comes what is left to
+    /// chance.
     pub fn new(alloc: Global, seed: u64, wire: Wire) -> Result<Network<L>, AllocError> {
         Ok(Network {
             dice: Dice::new(seed.wrapping_add(0x5eed)),

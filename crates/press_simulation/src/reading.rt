@@ -1,4 +1,5 @@
-//! A file with a scenario, in lines of words: what it is named by, and numbers. Members are named from 1.
+//! A file with a scenario, in lines of words: what it is named by, and numbers. Members are named
+//! from 1.
 
 use crate::scenario::{Fault, Scenario, Step, Wire};
 use std::alloc::{AllocError, Global};
@@ -165,7 +166,8 @@ fn take_words(
     take_line(scenario, &words)
 }
 
-/// The scenario of a file, whose faults stand in the order of time. None where a line is none of a scenario.
+/// The scenario of a file, whose faults stand in the order of time. None where a line is none of a
+/// scenario.
 pub fn read(alloc: Global, text: &str) -> Result<Option<Scenario>, AllocError> {
     let mut scenario = blank(alloc);
     for line in text.lines() {

@@ -99,7 +99,8 @@ impl<'a, A: Actor> Run<'a, A> {
         Ok(())
     }
 
-    // What was played, and whether all holds. It says nothing of time, so that it stays as it is where members only take theirs.
+    // What was played, and whether all holds. It says nothing of time, so that it stays as it is
+    // where members only take theirs.
     fn tell_outcome(&mut self) -> Result<(), AllocError> {
         let one = self.scenario;
         let (seed, members, store, faults) = (one.seed, one.members, one.store(), one.steps.len());
@@ -271,13 +272,15 @@ impl<A: Actor> Run<'_, A> {
         Ok(u64::MAX)
     }
 
-    // Within so many milliseconds that many forms are applied everywhere: each has the time of a few letters, since one is chosen behind another.
+    // Within so many milliseconds that many forms are applied everywhere: each has the time of a
+    // few letters, since one is chosen behind another.
     fn time_for(&self, forms: u64) -> u64 {
         let letters = forms.saturating_mul(EACH).saturating_add(FIRST);
         WITHIN.saturating_add(letters.saturating_mul(self.scenario.rest.most))
     }
 
-    // All is done some time after the faults; whether it is. A last slot whose proposer ended before others knew that it is chosen may wait for the next form.
+    // All is done some time after the faults; whether it is. A last slot whose proposer ended
+    // before others knew that it is chosen may wait for the next form.
     fn settle_calm(&mut self) -> Result<bool, AllocError>
         requires always { Unit {0} }
     {
@@ -290,7 +293,8 @@ impl<A: Actor> Run<'_, A> {
         Ok(false)
     }
 
-    // So many forms come to each member; all must be applied in time. After how many milliseconds they are.
+    // So many forms come to each member; all must be applied in time. After how many milliseconds
+    // they are.
     fn settle_forms(&mut self, count: u64) -> Result<u64, AllocError>
         requires always { Unit {0} }
     {

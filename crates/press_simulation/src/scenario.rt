@@ -30,7 +30,8 @@ pub enum Fault {
     Kill(usize),
     /// It starts over what its disk kept, which stops behind so many writes.
     Start { place: usize, stops: Option<u64> },
-    /// It starts over what its disk kept, which has room for so many writes, and for none whenever it starts again.
+    /// It starts over what its disk kept, which has room for so many writes, and for none whenever
+    /// it starts again.
     Fill { place: usize, room: u64 },
     /// Its disk has room again.
     Room(usize),

@@ -85,7 +85,8 @@ impl<A: Actor> World<A> {
         self.complain(form.place, text.as_str())
     }
 
-    // A form is chosen at most once, and at least once if its member lived on; each member knows of it if it is chosen.
+    // A form is chosen at most once, and at least once if its member lived on; each member knows of
+    // it if it is chosen.
     fn check_form(&mut self, form: &Taken) -> Result<(), AllocError> {
         let count = self.judge.count_of(form.value);
         let is_lost = count == 0 && self.has_lived(form);

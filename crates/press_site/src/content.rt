@@ -120,13 +120,13 @@ impl Content {
         let id = self.posts.next_id();
         let beside = self.beside(
             id,
-            draft.status.settled(draft.date, now),
+            draft.status.settle(draft.date, now),
             draft.date,
             draft.date,
         )?;
         let (id, fires) = self.posts.insert(draft, now)?;
         changes_are_taken_back();
-        self.ended(id, fires, None, beside)
+        self.end(id, fires, None, beside)
     }
 
     pub fn edit(&mut self, id: u64, draft: Draft, now: Moment) -> Result<Done, SiteFault>
@@ -140,11 +140,11 @@ impl Content {
             return Err(SiteFault::from(fault));
         }
         let near = post.date;
-        let beside = self.beside(id, draft.status.settled(draft.date, now), draft.date, near)?;
+        let beside = self.beside(id, draft.status.settle(draft.date, now), draft.date, near)?;
         let stood = self.standing(id)?;
         let fires = self.posts.edit(id, draft, now)?;
         changes_are_taken_back();
-        self.ended(id, fires, stood, beside)
+        self.end(id, fires, stood, beside)
     }
 
     pub fn set_status(&mut self, id: u64, to: Move) -> Result<Done, SiteFault>
@@ -156,7 +156,7 @@ impl Content {
     {
         let wanted = to;
         let Some(beside) = self.beside_move(id, wanted)? else {
-            return Ok(untouched(self.alloc, id));
+            return Ok(no_change(self.alloc, id));
         };
         self.turn(id, to, beside)
     }
@@ -178,7 +178,7 @@ impl Content {
         self.posts.delete(id)?;
         changes_are_taken_back();
         let fires = Items::new(self.alloc);
-        self.ended(id, fires, stood, beside)
+        self.end(id, fires, stood, beside)
     }
 
     /// Schedules an event.
@@ -191,7 +191,8 @@ impl Content {
         Ok(done_alone(self.alloc, came.is_some(), came))
     }
 
-    /// Takes an event. Where it goes, the way back is told if it is wanted; nothing else takes memory.
+    /// Takes an event. Where it goes, the way back is told if it is wanted; nothing else takes
+    /// memory.
     pub fn take(&mut self, event: &Event, now: Moment, wants: bool) -> Result<Done, SiteFault>
         ensures does { Does result (Ok (taking self.old event.now now)) self.old self.new }
         ensures back { IfOk result (λ d. ContentGoesBack wants d.undone self.new self.old) }
@@ -254,11 +255,12 @@ impl Content {
         let stood = self.standing(id)?;
         let fires = self.posts.set_status(id, to)?;
         changes_are_taken_back();
-        self.ended(id, fires, stood, beside)
+        self.end(id, fires, stood, beside)
     }
 
-    // A change that is done to a post: the events come in beside it. Without memory for them it is taken back, by the post that stood.
-    fn ended(
+    // A change that is done to a post: the events come in beside it. Without memory for them it is
+    // taken back, by the post that stood.
+    fn end(
         &mut self,
         id: u64,
         fires: Items<Fire>,
@@ -332,7 +334,8 @@ impl Content {
         Ok(Some(self.beside(id, status, post.date, post.date)?))
     }
 
-    // The events beside a post that gets that status and date. Its own is sought near the date that it has.
+    // The events beside a post that gets that status and date. Its own is sought near the date that
+    // it has.
     fn beside(
         &self,
         id: u64,
@@ -351,7 +354,8 @@ impl Content {
         }
     }
 
-    // The events beside a post that none is for; they stay where none was, and its own goes where it is the only one.
+    // The events beside a post that none is for; they stay where none was, and its own goes where
+    // it is the only one.
     #[tactic(auto, using(crate::proofs::Beside::none_out))]
     fn beside_none(&self, id: u64, near: Moment) -> Result<Beside, AllocError>
         ensures does { IfOk result (λ b. events_beside b self.now.events
@@ -368,7 +372,8 @@ impl Content {
         }
     }
 
-    // The events beside a post whose own comes at that date: in its place, where it is the only one.
+    // The events beside a post whose own comes at that date: in its place, where it is the only
+    // one.
     #[tactic(auto, using(crate::proofs::Beside::own_moved, crate::proofs::Beside::may_move))]
     fn beside_own(&self, id: u64, date: Moment, near: Moment) -> Result<Beside, SiteFault>
         ensures does { Gives Refuses (λ b. Ok (events_beside b self.now.events)) result
@@ -477,7 +482,7 @@ fn done(id: u64, fires: Items<Fire>, post: Option<Post>, shift: Option<Shift>) -
 }
 
 // A post's change that changed nothing.
-fn untouched(alloc: Global, id: u64) -> Done
+fn no_change(alloc: Global, id: u64) -> Done
     ensures { result ≡ record {
       changed = record { id = id; did = false; fires = [] };
       undone = record { stood = None; shift = None; active = None; profile = None };

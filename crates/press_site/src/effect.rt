@@ -11,7 +11,8 @@ pub enum Effect {
     Delete { id: u64 },
     SetOption { name: OptName, value: Text },
     Schedule(Event),
-    /// Removes the event if it is scheduled once, and else moves it to its first time after the site's moment.
+    /// Removes the event if it is scheduled once, and else moves it to its first time after the
+    /// site's moment.
     Take(Event),
     Activate { plugin: Name },
     Deactivate { plugin: Name },

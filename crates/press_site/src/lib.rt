@@ -1,4 +1,5 @@
-//! A whole site as one value: posts, events, options, active plugins, the profile, and what became of each command.
+//! A whole site as one value: posts, events, options, active plugins, the profile, and what became
+//! of each command.
 //!
 //! It knows nothing of hooks: a change answers what is to be fired.
 #![tactic(auto)]

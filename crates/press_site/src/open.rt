@@ -60,8 +60,8 @@ impl OpenSite {
         &self.site
     }
 
-    /// Makes a change, as `Site::effect` does, and records how it is taken back; without memory for that nothing is changed. What changes
-    /// nothing takes no memory, nor does a switch of profile.
+    /// Makes a change, as `Site::effect` does, and records how it is taken back; without memory for
+    /// that nothing is changed. What changes nothing takes no memory, nor does a switch of profile.
     pub fn effect(&mut self, effect: Effect) -> Result<Changed, SiteFault>
         ensures does { Becomes result (effect_on self.old.site effect)
             self.old.site self.new.site }
@@ -71,7 +71,7 @@ impl OpenSite {
     {
         let wants = self.undo.wants_events();
         let done = self.site.change(effect, wants);
-        noted(&mut self.site, &mut self.undo, done)
+        note(&mut self.site, &mut self.undo, done)
     }
 
     /// Leaves the site as it stands. Takes no memory.
@@ -82,8 +82,8 @@ impl OpenSite {
         site
     }
 
-    /// Keeps what became of a command, in place of what is kept under its token, and leaves the site as it stands; without memory for
-    /// that it goes back.
+    /// Keeps what became of a command, in place of what is kept under its token, and leaves the
+    /// site as it stands; without memory for that it goes back.
     pub fn settle_with(self, token: Token, outcome: Outcome) -> Result<Site, Site>
         ensures ok { IfOk result (λ s. s ≡ record (self.site)
             { outcomes = with_outcome token outcome self.site.outcomes }) }
@@ -113,7 +113,7 @@ impl OpenSite {
 }
 
 // A change that is done, and noted; without memory for the note it is taken back.
-fn noted(
+fn note(
     site: &mut Site,
     undo: &mut Undo,
     done: Result<Done, SiteFault>,

@@ -103,8 +103,9 @@ impl Options {
         }
     }
 
-    /// Gives an option a value: what that fires and what stood, or None where it has that value already. Refused by TooLong, then
-    /// TooManyOptions. What it takes of memory doesn't grow with the other options.
+    /// Gives an option a value: what that fires and what stood, or None where it has that value
+    /// already. Refused by TooLong, then TooManyOptions. What it takes of memory doesn't grow with
+    /// the other options.
     pub fn set(&mut self, name: &OptName, value: Text) -> Result<Option<SetDone>, SiteFault>
         ensures does { Sets result (set_option name.now value self.old) self.old self.new }
         ensures back { IfOk result (λ s. set_back name.now s self.new ≡ self.old) }
@@ -178,7 +179,8 @@ impl Options {
     }
 }
 
-// Gives an option that is there a value; what that fires and what stood, or None where it is the same.
+// Gives an option that is there a value; what that fires and what stood, or None where it is the
+// same.
 fn change(
     alloc: Global,
     name: &OptName,

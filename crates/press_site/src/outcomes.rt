@@ -62,7 +62,8 @@ impl Outcomes {
         self.kept.get(token).copied()
     }
 
-    /// Keeps what became of a command, in place of what is kept under its token. Only a token that has no outcome takes memory.
+    /// Keeps what became of a command, in place of what is kept under its token. Only a token that
+    /// has no outcome takes memory.
     pub fn keep(&mut self, token: Token, outcome: Outcome) -> Result<(), AllocError>
         ensures ok { OnOk result (self.new ≡ with_outcome token outcome self.old) }
         ensures err { OnErr result (self.new ≡ self.old) }

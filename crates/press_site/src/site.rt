@@ -39,7 +39,8 @@ const FIRST_PROFILE: u8 = 1;
 // The one that it may be switched to.
 const NEXT_PROFILE: u8 = 2;
 
-/// Posts, events, options, active plugins, the profile, and what became of each command, at a moment.
+/// Posts, events, options, active plugins, the profile, and what became of each command, at a
+/// moment.
 #[derive(Debug)]
 pub struct Site {
     alloc: Global,
@@ -97,8 +98,9 @@ impl Site {
         }
     }
 
-    /// A copy of the site. What it takes grows with posts, events, options, plugins and outcomes, and hardly with their
-    /// texts, which are shared; of a site that holds nothing it takes no memory.
+    /// A copy of the site. What it takes grows with posts, events, options, plugins and outcomes,
+    /// and hardly with their texts, which are shared; of a site that holds nothing it takes no
+    /// memory.
     pub fn copy(&self) -> Result<Site, AllocError>
         ensures same { IfOk result (λ s. s ≡ self.now) }
         ensures memory { OnErr result (0 < size self.now) }
@@ -128,7 +130,8 @@ impl Site {
         self.moment
     }
 
-    /// Sets the site's moment as it is given: that time doesn't go back is up to who plays the commands.
+    /// Sets the site's moment as it is given: that time doesn't go back is up to who plays the
+    /// commands.
     pub fn set_now(&mut self, moment: Moment)
         ensures { self.new ≡ record self.old { moment = moment } }
     {
@@ -165,7 +168,8 @@ impl Site {
         self.content.newest(most)
     }
 
-    /// The events whose time has come, by time, then in the order in which they were scheduled. Where there is none, this takes no memory.
+    /// The events whose time has come, by time, then in the order in which they were scheduled.
+    /// Where there is none, this takes no memory.
     pub fn due(&self) -> Result<Items<Event>, AllocError>
         ensures events { IfOk result (λ es. es ≡ due self.now.moment self.now.events) }
         ensures memory { OnErr result (0 < length (due self.now.moment self.now.events)) }
@@ -215,7 +219,8 @@ impl Site {
         self.outcomes.result_of(token)
     }
 
-    /// Keeps what became of a command, in place of what is kept under its token. Only a token that has no outcome takes memory.
+    /// Keeps what became of a command, in place of what is kept under its token. Only a token that
+    /// has no outcome takes memory.
     pub fn keep(&mut self, token: Token, outcome: Outcome) -> Result<(), AllocError>
         ensures ok { OnOk result (self.new ≡ record self.old
             { outcomes = with_outcome token outcome self.old.outcomes }) }
@@ -233,8 +238,8 @@ impl Site {
         OpenSite::of(self.alloc, self)
     }
 
-    /// Makes a change: what it did and what is to be fired. After a refusal the site is as it was. What changes nothing takes no memory, nor
-    /// does a switch of profile.
+    /// Makes a change: what it did and what is to be fired. After a refusal the site is as it was.
+    /// What changes nothing takes no memory, nor does a switch of profile.
     pub fn effect(&mut self, effect: Effect) -> Result<Changed, SiteFault>
         ensures does { Becomes result (effect_on self.old effect) self.old self.new }
         ensures memory { result ≡ Err NoMemory → ChangesSome (effect_on self.old effect) }
@@ -245,7 +250,8 @@ impl Site {
         Ok(changed)
     }
 
-    /// The same, with what takes it back. That of the events is told beside a post's change, and else where it is wanted.
+    /// The same, with what takes it back. That of the events is told beside a post's change, and
+    /// else where it is wanted.
     pub(crate) fn change(&mut self, effect: Effect, wants: bool) -> Result<Done, SiteFault>
         ensures does { Does result (effect_on self.old effect) self.old self.new }
         ensures back { IfOk result (λ d. GoesBack wants d.undone self.new self.old) }

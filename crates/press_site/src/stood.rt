@@ -9,8 +9,8 @@ use press_events::Shift;
 use press_posts::Post;
 use press_text::{OptName, Text};
 
-/// What stood before one change: a post at its id's place, or None before it was inserted; an option's value, or None before it was
-/// added.
+/// What stood before one change: a post at its id's place, or None before it was inserted; an
+/// option's value, or None before it was added.
 #[derive(Debug, Drop)]
 pub enum Stood {
     OfPost { id: u64, post: Option<Post> },
@@ -32,8 +32,8 @@ impl Stood {
     }
 }
 
-/// What a change is taken back with: what stood at the place of one, the way back of the events, and the active plugins and
-/// the profile that stood.
+/// What a change is taken back with: what stood at the place of one, the way back of the events,
+/// and the active plugins and the profile that stood.
 #[derive(Debug, Drop)]
 pub struct Undone {
     pub stood: Option<Stood>,

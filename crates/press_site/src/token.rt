@@ -24,7 +24,8 @@ impl Drop for Token {
     }
 }
 
-/// What became of a command: the id of the post that it is about, or 0; or the number of the fault that refused it.
+/// What became of a command: the id of the post that it is about, or 0; or the number of the fault
+/// that refused it.
 #[derive(Clone, Copy, Debug, PartialEq, Eq)]
 pub enum Outcome {
     Done(u64),

@@ -69,7 +69,8 @@ impl Undo {
         self.events.is_none()
     }
 
-    /// Keeps what stood before a change, after which these events stand; without memory it comes back.
+    /// Keeps what stood before a change, after which these events stand; without memory it comes
+    /// back.
     pub fn note(&mut self, undone: Undone, events: &Events) -> Result<(), Undone>
         ensures ok { OnOk result (self.new ≡ noted undone events.now self.old) }
         ensures err { IfErr result (λ u. u ≡ undone) }

@@ -171,7 +171,8 @@ fn prepare_old<D: Alter>(alloc: Global, conn: &mut Connection<D>) -> Result<(), 
     migrate(alloc, conn).map_err(fault_of)
 }
 
-// Adopts a database with other tables, of which no clause speaks, and with all of a store's, of either version, or none.
+// Adopts a database with other tables, of which no clause speaks, and with all of a store's, of
+// either version, or none.
 fn prepare_other<D: Alter>(alloc: Global, conn: &mut Connection<D>) -> Result<(), StoreFault>
     requires quiet { conn.old.in_transaction ≡ false }
     requires unlimited { conn.old.step_limit ≡ None }
@@ -188,7 +189,8 @@ fn prepare_other<D: Alter>(alloc: Global, conn: &mut Connection<D>) -> Result<()
     make(conn).map_err(fault_of)
 }
 
-/// Makes the tables if there are none, and migrates those of version 1. Returns whether they are those that a store makes, with nothing else.
+/// Makes the tables if there are none, and migrates those of version 1. Returns whether they are
+/// those that a store makes, with nothing else.
 pub fn prepare<D: Alter>(alloc: Global, conn: &mut Connection<D>) -> Result<bool, StoreFault>
     ensures ours { IfOk result (λ is_ours. IsServed (state D.Store conn.old) → IsTrue is_ours) }
     ensures adopts { IfOk result (λ is_ours. IsTrue is_ours → IsAdopted D.Store conn.old conn.new) }

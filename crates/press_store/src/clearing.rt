@@ -6,7 +6,7 @@ ghost use Rattle.sqlite.specs.Held.{state};
 ghost use Rattle.press_store.specs.Moving.{Does, IsCleared, OthersKept, ShowsNone};
 ghost use Rattle.press_store.specs.Steps.{GoesOn, Keeps};
 
-use crate::slots::damage;
+use crate::version_1_rows::damage;
 use sqlite::{Alter, Error, Row as Shown, Transaction};
 
 // Nothing is said of what stays in the table itself: that is asked afterwards.

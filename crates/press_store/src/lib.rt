@@ -1,4 +1,5 @@
-//! The store of promises and votes on a SQL database: three tables, and one statement on them for each save, or one transaction.
+//! The store of promises and votes on a SQL database: three tables, and one statement on them for
+//! each save, or one transaction.
 #![tactic(auto)]
 
 mod adopt;
@@ -15,11 +16,11 @@ mod moving;
 mod ours;
 mod owner;
 mod rows;
-mod save;
-mod slots;
+mod save_vote;
 mod sql_store;
 mod statement;
 mod tying;
+mod version_1_rows;
 mod vote;
 
 pub use owner::{Owner, Tie};

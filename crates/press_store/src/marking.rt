@@ -11,7 +11,7 @@ ghost use Rattle.press_store.specs.Shown.{most_rounds, number_in};
 ghost use Rattle.press_store.specs.Steps.{GoesOn, Keeps};
 
 use crate::meta::number;
-use crate::slots::damage;
+use crate::version_1_rows::damage;
 use sqlite::types::ValueRef;
 use sqlite::{Alter, Error, Row as Shown, Transaction};
 

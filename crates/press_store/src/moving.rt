@@ -9,7 +9,7 @@ ghost use Rattle.press_store.specs.Slots.{shown_row};
 ghost use Rattle.press_store.specs.Steps.{GoesOn, Keeps};
 
 use crate::block::raise_promise;
-use crate::slots::{
+use crate::version_1_rows::{
     damage, find_slot, greater, last_slot, perhaps_ballot, rows_outside, spelled_vote,
 };
 use crate::vote::add_vote;
@@ -154,7 +154,8 @@ fn move_blocks<S: Alter>(
     Ok(())
 }
 
-// How many blocks there are up to the slot that the row shows. Nothing rests on it: whether all were moved is asked afterwards.
+// How many blocks there are up to the slot that the row shows. Nothing rests on it: whether all
+// were moved is asked afterwards.
 fn blocks_to(rows: &[Shown]) -> u32
     ensures { result ≤ 62500 }
 {

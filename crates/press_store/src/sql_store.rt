@@ -24,7 +24,7 @@ use crate::last::read_last;
 use crate::load::read_block;
 use crate::meta::{put_round, read_round};
 use crate::owner::{Owner, Tie};
-use crate::save::put_vote;
+use crate::save_vote::put_vote;
 use crate::tying::tie_file;
 use press_acceptor::{Block, PromiseStore, StoreFault};
 use press_wire::{Ballot, Round, Slot, Vote, WireFault, encode_cmd};
@@ -33,8 +33,8 @@ use std::alloc::Global;
 use std::marker::Model;
 use std::rt::HostRuntime;
 
-/// A store over the tables `block`, `vote` and `meta` of a database. Each save is one statement or one transaction, so it is kept whole or
-/// not at all.
+/// A store over the tables `block`, `vote` and `meta` of a database. Each save is one statement or
+/// one transaction, so it is kept whole or not at all.
 pub struct SqlStore<D: Alter> {
     conn: Connection<D>,
     faults: u64,
@@ -69,10 +69,11 @@ impl<D: Alter> Model for SqlStore<D> {
 }
 
 impl<D: Alter> SqlStore<D> {
-    /// A store over the connection, which has no limit on its steps from then on. Its tables are made where it has none, and those of
-    /// version 1 are migrated, in one transaction. A fault returns the connection: Damaged where it is in a transaction, where the tables
-    /// are not those of a store, or where a row of version 1 is damaged. Where some of the tables are there without the others, the
-    /// connection is the very one that was given.
+    /// A store over the connection, which has no limit on its steps from then on. Its tables are
+    /// made where it has none, and those of version 1 are migrated, in one transaction. A fault
+    /// returns the connection: Damaged where it is in a transaction, where the tables are not those
+    /// of a store, or where a row of version 1 is damaged. Where some of the tables are there
+    /// without the others, the connection is the very one that was given.
     pub fn adopt(
         alloc: Global,
         conn: Connection<D>,
@@ -99,8 +100,8 @@ impl<D: Alter> SqlStore<D> {
         }
     }
 
-    /// The last slot with a vote, by the store's order of slots and not by its search: one statement, however many slots
-    /// there are. None where no slot has a vote.
+    /// The last slot with a vote, by the store's order of slots and not by its search: one
+    /// statement, however many slots there are. None where no slot has a vote.
     pub fn last_vote(&mut self) -> Result<Option<Slot>, StoreFault>
         ensures honest { (seen_of D.Store self.new).is_honest →
             (seen_of D.Store self.old).is_honest }
@@ -118,8 +119,9 @@ impl<D: Alter> SqlStore<D> {
         }
     }
 
-    /// What the file is to the member that asks for it, or to a node by itself, which is None. Nobody's file is the member's from then
-    /// on. The first start of a member asks before anything is saved for it.
+    /// What the file is to the member that asks for it, or to a node by itself, which is None.
+    /// Nobody's file is the member's from then on. The first start of a member asks before anything
+    /// is saved for it.
     pub fn tie(&mut self, asked: Option<Owner>) -> Result<Tie, StoreFault>
         ensures honest { (seen_of D.Store self.new).is_honest →
             (seen_of D.Store self.old).is_honest }
@@ -195,8 +197,8 @@ impl<S: Start> SqlStore<FileStore<FileFrom<S>>> {
 }
 
 impl SqlStore<FileStore<File>> {
-    /// A store in the file at the path, which is created if it doesn't exist. What is said of its tables is said of a
-    /// file that was empty: nobody knows what another one held.
+    /// A store in the file at the path, which is created if it doesn't exist. What is said of its
+    /// tables is said of a file that was empty: nobody knows what another one held.
     pub fn open(rt: &HostRuntime, path: &str) -> Result<SqlStore<FileStore<File>>, StoreFault>
         ensures ours { IfOk result (λ store. HasCleanDisk (file_state store.conn) →
             IsTrue store.is_ours) }

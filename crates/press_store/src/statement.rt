@@ -1,4 +1,5 @@
-//! One statement on a connection. Its text is prepared first, so a connection that is shut runs nothing.
+//! One statement on a connection. Its text is prepared first, so a connection that is shut runs
+//! nothing.
 
 ghost use Rattle.std.specs.Prelude.{◌≡◌, false};
 ghost use Rattle.sqlite.specs.Values.{bound};

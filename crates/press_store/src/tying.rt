@@ -148,7 +148,8 @@ fn taker(found: Option<Tie>, asked: &Option<Owner>) -> Option<Owner>
     }
 }
 
-/// The answer to whoever asks for the file, whose rows are written where it is nobody's and a member asks; None where they are damaged.
+/// The answer to whoever asks for the file, whose rows are written where it is nobody's and a
+/// member asks; None where they are damaged.
 pub fn tie_file<S: Alter>(
     conn: &mut Connection<S>,
     asked: Option<Owner>,

@@ -9,7 +9,8 @@ use crate::name_fault::NameFault;
 use std::cmp::Ordering;
 use std::marker::Model;
 
-/// The name of a callback: 1 to 32 bytes of `[A-Za-z0-9_-]`, kept in place, so that it is Copy and takes no memory.
+/// The name of a callback: 1 to 32 bytes of `[A-Za-z0-9_-]`, kept in place, so that it is Copy and
+/// takes no memory.
 #[derive(Clone, Copy, Debug)]
 pub struct CallbackId {
     bytes: [u8; 32],
@@ -33,7 +34,8 @@ impl Model for CallbackId {
 }
 
 impl CallbackId {
-    /// Refuses by BadName (empty), then TooLong (over 32 bytes), then BadName (a byte outside the class).
+    /// Refuses by BadName (empty), then TooLong (over 32 bytes), then BadName (a byte outside the
+    /// class).
     pub fn new(text: &str) -> Result<CallbackId, NameFault>
         ensures { CallbackGives result text.now }
     {
@@ -54,7 +56,8 @@ impl CallbackId {
         &self.bytes[..self.len as usize]
     }
 
-    /// The number that eight bytes of the name spell, zeros behind it up to 32; so many words lie before them.
+    /// The number that eight bytes of the name spell, zeros behind it up to 32; so many words lie
+    /// before them.
     #[tactic(auto, using(crate::proofs::Words::kept_word))]
     pub fn word(&self, i: usize) -> u64
         requires { i < 4 }

@@ -9,7 +9,8 @@ fn all_digits(bytes: &[u8]) -> bool
     bytes.iter().all(|b| b.is_ascii_digit())
 }
 
-/// The number that 1 to 20 decimal digits spell, where it is below 2^64. Leading zeros count as digits; no sign, no space.
+/// The number that 1 to 20 decimal digits spell, where it is below 2^64. Leading zeros count as
+/// digits; no sign, no space.
 pub fn dec_u64(text: &str) -> Option<u64>
     ensures { result ≡ decimal_in text.now }
 {

@@ -17,7 +17,8 @@ fn push_escaped(out: &mut String, c: char) -> Result<(), AllocError>
     }
 }
 
-/// The text with `&`, `<`, `>`, `"` and `'` written as entities, always: `&amp;` becomes `&amp;amp;` (Plugin Handbook, Escaping Data).
+/// The text with `&`, `<`, `>`, `"` and `'` written as entities, always: `&amp;` becomes
+/// `&amp;amp;` (Plugin Handbook, Escaping Data).
 pub fn esc_html(alloc: Global, text: &str) -> Result<String, AllocError>
     ensures { IfOk result (λ t. string_bytes t ≡ escaped text.now) }
 {

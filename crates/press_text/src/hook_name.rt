@@ -31,7 +31,8 @@ impl Model for HookName {
 }
 
 impl HookName {
-    /// Refuses by BadName (empty), then TooLong (over 64 bytes), then BadName (a byte outside the class).
+    /// Refuses by BadName (empty), then TooLong (over 64 bytes), then BadName (a byte outside the
+    /// class).
     pub fn new(alloc: Global, text: &str) -> Result<HookName, NameFault>
         ensures { NameGives 64 result text.now }
     {

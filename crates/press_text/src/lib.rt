@@ -1,6 +1,8 @@
-//! Texts, lists and names that contracts see as plain lists, escaping, decimal numbers, moments, and reading and writing bytes.
+//! Texts, lists and names that contracts see as plain lists, escaping, decimal numbers, moments,
+//! and reading and writing bytes.
 //!
-//! Every other crate uses these types: a contract compares them by what they hold and never by capacity.
+//! Every other crate uses these types: a contract compares them by what they hold and never by
+//! capacity.
 #![tactic(auto)]
 
 mod callback_id;

@@ -39,7 +39,8 @@ impl Clone for Name {
 }
 
 impl Name {
-    /// Refuses by BadName (empty), then TooLong (over 32 bytes), then BadName (a byte outside the class).
+    /// Refuses by BadName (empty), then TooLong (over 32 bytes), then BadName (a byte outside the
+    /// class).
     pub fn new(alloc: Global, text: &str) -> Result<Name, NameFault>
         ensures { NameGives 32 result text.now }
     {

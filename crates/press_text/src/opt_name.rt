@@ -30,7 +30,8 @@ impl Model for OptName {
 }
 
 impl OptName {
-    /// Refuses by BadName (empty), then TooLong (over 32 bytes), then BadName (a byte outside the class).
+    /// Refuses by BadName (empty), then TooLong (over 32 bytes), then BadName (a byte outside the
+    /// class).
     pub fn new(alloc: Global, text: &str) -> Result<OptName, NameFault>
         ensures { NameGives 32 result text.now }
     {

@@ -1,4 +1,5 @@
-//! Reading bytes up to a limit and writing them once. No read or write that failed is tried again; a read of nothing is the end.
+//! Reading bytes up to a limit and writing them once. No read or write that failed is tried again;
+//! a read of nothing is the end.
 
 ghost use Rattle.std.specs.Prelude.{◌≡◌, ◌≢◌, ℕ, ◌+◌, ◌<◌, ◌≤◌, ◌^◌, List, ◌++◌, length, IfOk, IfErr, IfSome, OnOk, OnErr, IsErrOf};
 ghost use Rattle.std.specs.Io.KnownBytes.{Appends, Consumes, IsAtEnd};
@@ -69,7 +70,8 @@ fn read_some<R: Read>(
 
 /// All that a reader has left, if that is at most `limit` bytes, and else `TooLong`.
 ///
-/// One byte past the limit is read to see that there is more. The first read that fails ends it, with `ReadFault`.
+/// One byte past the limit is read to see that there is more. The first read that fails ends it,
+/// with `ReadFault`.
 pub fn read_limited<R: Read>(
     alloc: Global,
     reader: &mut R,

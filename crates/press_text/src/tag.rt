@@ -30,7 +30,8 @@ impl Model for Tag {
 }
 
 impl Tag {
-    /// Refuses by BadName (empty), then TooLong (over 32 bytes), then BadName (a byte outside the class).
+    /// Refuses by BadName (empty), then TooLong (over 32 bytes), then BadName (a byte outside the
+    /// class).
     pub fn new(alloc: Global, text: &str) -> Result<Tag, NameFault>
         ensures { NameGives 32 result text.now }
     {

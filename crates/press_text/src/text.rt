@@ -76,16 +76,17 @@ fn push_short<const N: usize>(short: &mut Short<N>, more: &str) -> bool
 
 /// A text, which contracts see as its bytes.
 ///
-/// Up to 22 bytes lie in the value itself; a longer text is shared by its copies, so that a copy takes no memory at any length.
-/// A longer text takes one block, in which up to 111 bytes lie beside the count of their holders.
-/// It takes a second one past that, and where it was made of a String.
-/// An append to a text that is shared makes a text of its own.
+/// Up to 22 bytes lie in the value itself; a longer text is shared by its copies, so that a copy
+/// takes no memory at any length. A longer text takes one block, in which up to 111 bytes lie
+/// beside the count of their holders. It takes a second one past that, and where it was made of a
+/// String. An append to a text that is shared makes a text of its own.
 pub struct Text {
     inside: Held,
     alloc: Global,
 }
 
-// Written out, so that a function that lets a text go calls this, and doesn't take the text apart itself.
+// Written out, so that a function that lets a text go calls this, and doesn't take the text apart
+// itself.
 impl Drop for Text {
     fn drop(self) {
         let Text {
@@ -232,7 +233,8 @@ impl Text {
         Ok(())
     }
 
-    /// Appends; an empty text then shares what the other holds. If memory runs out the text stays as it was. To append nothing takes none.
+    /// Appends; an empty text then shares what the other holds. If memory runs out the text stays
+    /// as it was. To append nothing takes none.
     pub fn push(&mut self, more: &Text) -> Result<(), AllocError>
         ensures ok { OnOk result (self.new ≡ self.old ++ more.now) }
         ensures err { OnErr result (self.new ≡ self.old) }

@@ -17,7 +17,8 @@ enum Inside {
 
 /// A list of texts, which contracts see as that list.
 ///
-/// One text lies in the value itself; a longer list is shared by its copies, so that a copy takes no memory at any length.
+/// One text lies in the value itself; a longer list is shared by its copies, so that a copy takes
+/// no memory at any length.
 #[derive(Debug)]
 pub struct Texts {
     inside: Inside,
@@ -103,7 +104,8 @@ impl Texts {
         })
     }
 
-    /// Puts another text first. A list that nobody else holds is written in place; other holders keep theirs.
+    /// Puts another text first. A list that nobody else holds is written in place; other holders
+    /// keep theirs.
     pub fn set_first(&mut self, first: Text) -> Result<(), AllocError>
         ensures { OnOk result (self.new ≡ with_first first self.old) }
     {

@@ -14,8 +14,9 @@ use crate::read_value::short_value;
 use press_apply::Value;
 use std::alloc::Global;
 
-/// The value that all of the bytes spell; else TooLong for more than 16,384 bytes, and then the fault of the first field that fails.
-/// Memory is taken for names and for texts past 22 bytes alone.
+/// The value that all of the bytes spell; else TooLong for more than 16,384 bytes, and then the
+/// fault of the first field that fails. Memory is taken for names and for texts past 22 bytes
+/// alone.
 pub fn decode_cmd(alloc: Global, bytes: &[u8]) -> Result<Value, WireFault>
     ensures read { Gives Refuses Ok result (read_command bytes.now) }
     ensures long { longest < length bytes.now → IsErrOf result WireFault.TooLong }
@@ -27,11 +28,13 @@ pub fn decode_cmd(alloc: Global, bytes: &[u8]) -> Result<Value, WireFault>
     short_value(alloc, bytes)
 }
 
-/// The message that all of the bytes spell; else the fault of the first field that fails. A fault inside a value is one of the field.
-/// Memory is taken for names, for texts past 22 bytes and for a list of votes alone.
+/// The message that all of the bytes spell; else the fault of the first field that fails. A fault
+/// inside a value is one of the field. Memory is taken for names, for texts past 22 bytes and for a
+/// list of votes alone.
 pub fn decode_msg(alloc: Global, bytes: &[u8]) -> Result<Message, WireFault>
     ensures read { Gives Refuses Ok result (read_message bytes.now) }
-    // Out of memory comes only behind the name of a value's editor, or behind the number of a promise's votes, if it has any.
+    // Out of memory comes only behind the name of a value's editor, or behind the number of a
+    // promise's votes, if it has any.
     ensures memory { result ≡ Err WireFault.NoMemory → IsOk (editor_of_message bytes.now) }
     // No other bytes are read as this message.
     ensures spelled { IfOk result (λ m. bytes.now ≡ spelled_message m) }

@@ -19,14 +19,16 @@ use std::alloc::{AllocError, Global};
 // The most bytes of a message beside those of the value or the votes in it.
 const BESIDE: usize = 30;
 
-/// Whether more than 16,384 bytes spell the command as a value, which `encode_cmd` refuses. It takes no memory.
+/// Whether more than 16,384 bytes spell the command as a value, which `encode_cmd` refuses. It
+/// takes no memory.
 pub fn is_command_too_long(command: &Stamped) -> bool
     ensures { result ≡ spell.is_too_long (Cmd command.now) }
 {
     stamped_len(command).is_none()
 }
 
-/// The bytes that spell the value. TooLong where they are more than 16,384, which is checked before any memory is taken.
+/// The bytes that spell the value. TooLong where they are more than 16,384, which is checked before
+/// any memory is taken.
 #[tactic(auto, using(crate::proofs::Lengths::is_short))]
 pub fn encode_cmd(alloc: Global, value: &Value) -> Result<Vec<u8>, WireFault>
     ensures spelled { IfOk result (λ bytes. bytes.items ≡ spelled_command value.now) }
@@ -44,8 +46,8 @@ pub fn encode_cmd(alloc: Global, value: &Value) -> Result<Vec<u8>, WireFault>
     Ok(bytes)
 }
 
-/// The bytes that spell the message. TooLong where a value in it is spelled by more than 16,384, or where it has more
-/// than 16 votes, which is checked before any memory is taken.
+/// The bytes that spell the message. TooLong where a value in it is spelled by more than 16,384, or
+/// where it has more than 16 votes, which is checked before any memory is taken.
 pub fn encode_msg(alloc: Global, message: &Message) -> Result<Vec<u8>, WireFault>
     ensures spelled { IfOk result (λ bytes. bytes.items ≡ spelled_message message.now) }
     ensures short { IfOk result (λ _. is_too_long_message message.now ≡ false) }

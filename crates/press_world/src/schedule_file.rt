@@ -12,7 +12,7 @@ ghost use Rattle.press_world.specs.ScheduleFile as spec;
 use crate::step::{Cut, Step};
 use crate::step_kind::StepKind;
 use press_apply::Stamped;
-use press_kit::{Fields, KitFileFault, Listed, Place, each, file, number32};
+use press_kit::{Fields, KitFileFault, Listed, Place, each, number32, parse_file};
 use press_page::Target;
 use press_text::Items;
 use serde_json::Value;
@@ -193,6 +193,6 @@ pub fn read_schedule_file(
     ensures long { file_limit < length bytes.now
         → IsErrOf result (KitFileFault.BadKitFile place.File) }
 {
-    let value = file(alloc, bytes)?;
+    let value = parse_file(alloc, bytes)?;
     schedule(alloc, &value, kits)
 }

@@ -23,8 +23,9 @@ use press_callbacks::{CallIn, Turn, is_built_in, is_do_shortcode};
 use press_text::{CallbackId, Text};
 
 impl<L: SiteLink + Drop> Machine<L> {
-    /// A callback on its call, where a number may be open from it on. One of the kit gets its room, its turns and its place here.
-    pub(super) fn open<K: Callbacks>(
+    /// A callback on its call, where a number may be open from it on. One of the kit gets its room,
+    /// its turns and its place here.
+    pub(super) fn call_callback<K: Callbacks>(
         &mut self,
         kit: &K,
         room: u32,
@@ -143,15 +144,16 @@ impl<L: SiteLink + Drop> Machine<L> {
         }
         callback.left -= 1;
         match kit.turn(self.counts.allocator(), callback.place, &callback.call) {
-            Ok(Turn::Go(value)) => self.goes(callback, value),
-            Ok(Turn::Return(text)) => self.gives(callback, text),
-            Ok(turn) => self.counted(callback, turn),
+            Ok(Turn::Go(value)) => self.set_value(callback, value),
+            Ok(Turn::Return(text)) => self.return_text(callback, text),
+            Ok(turn) => self.count_turn(callback, turn),
             Err(_) => Err(RunFault::NoMemory),
         }
     }
 
-    // The turn Go, within the turns and the bytes, is counted. It and Return are the commonest, so that what is moved is their text alone.
-    fn goes(&mut self, callback: &mut OpenCallback, value: Text) -> Result<Step, RunFault>
+    // The turn Go, within the turns and the bytes, is counted. It and Return are the commonest, so
+    // that what is moved is their text alone.
+    fn set_value(&mut self, callback: &mut OpenCallback, value: Text) -> Result<Step, RunFault>
         requires few { IsFew 1 callback.old }
         requires turns { ltb self.old.counts.turns most_turns ≡ true }
         requires short { fits (turn.Go value) ≡ true }
@@ -163,11 +165,11 @@ impl<L: SiteLink + Drop> Machine<L> {
         ensures limits { ShowsLimits result self.old self.new }
     {
         self.counts.add_turn();
-        self.gone(callback, value)
+        self.end_set_value(callback, value)
     }
 
     // The same, which is counted already.
-    fn gone(&self, callback: &mut OpenCallback, value: Text) -> Result<Step, RunFault>
+    fn end_set_value(&self, callback: &mut OpenCallback, value: Text) -> Result<Step, RunFault>
         requires { IsFew 1 callback.old }
         ensures steps { (scripts : Scripts) → Turns L.changes scripts
             callback.old (turn.Go value) callback.new
@@ -179,7 +181,7 @@ impl<L: SiteLink + Drop> Machine<L> {
     }
 
     // The turn Return, within the turns and the bytes, is counted.
-    fn gives(&mut self, callback: &OpenCallback, text: Text) -> Result<Step, RunFault>
+    fn return_text(&mut self, callback: &OpenCallback, text: Text) -> Result<Step, RunFault>
         requires few { IsFew 1 callback.now }
         requires turns { ltb self.old.counts.turns most_turns ≡ true }
         requires short { fits (turn.Return text) ≡ true }
@@ -195,7 +197,7 @@ impl<L: SiteLink + Drop> Machine<L> {
 
     // A turn, within the turns and with texts that are within the bytes, is counted.
     #[inline(never)]
-    fn counted(&mut self, callback: &mut OpenCallback, turn: Turn) -> Result<Step, RunFault>
+    fn count_turn(&mut self, callback: &mut OpenCallback, turn: Turn) -> Result<Step, RunFault>
         requires few { IsFew 1 callback.old }
         requires turns { ltb self.old.counts.turns most_turns ≡ true }
         requires short { fits turn ≡ true }
@@ -209,7 +211,7 @@ impl<L: SiteLink + Drop> Machine<L> {
         ensures limits { ShowsLimits result self.old self.new }
     {
         self.counts.add_turn();
-        self.asked(callback, turn)
+        self.do_turn(callback, turn)
     }
 }
 

@@ -39,7 +39,7 @@ impl<L: SiteLink + Drop> Machine<L> {
         ensures limits { ShowsLimits result self.old self.new }
     {
         let Some(place) = self.tables.hooks.place_of(hook) else {
-            let text = texts::shown(self.counts.allocator(), kind, &args)?;
+            let text = texts::hook_answer(self.counts.allocator(), kind, &args)?;
             return Ok(Begun::Gives(text));
         };
         self.counts.enter(hook)?;
@@ -137,7 +137,7 @@ impl<L: SiteLink + Drop> Machine<L> {
         };
         let args = texts::accepted_args(alloc, &run.args, entry.accepted)?;
         callback.begin(alloc, args)?;
-        let opened = self.open(kit, run.room, entry.callback, callback)?;
+        let opened = self.call_callback(kit, run.room, entry.callback, callback)?;
         Ok(Some(opened))
     }
 
@@ -150,7 +150,7 @@ impl<L: SiteLink + Drop> Machine<L> {
         ensures fixed { L.fixed self.new.site ≡ L.fixed self.old.site }
         ensures limits { self.new.met_limit ≡ self.old.met_limit }
     {
-        let text = texts::shown(self.counts.allocator(), run.kind, &run.args)?;
+        let text = texts::hook_answer(self.counts.allocator(), run.kind, &run.args)?;
         self.tables.hooks.end(run.run);
         self.counts.leave();
         Ok(text)

@@ -91,7 +91,8 @@ impl<L: SiteLink + Drop> Machine<L> {
         }
     }
 
-    // The innermost frame goes on by one turn, action or piece, or by entries up to one that it waits for.
+    // The innermost frame goes on by one turn, action or piece, or by entries up to one that it
+    // waits for.
     fn step<K: Callbacks>(&mut self, kit: &K, top: &mut Frame) -> Result<Moved, RunFault>
         requires { Ready top.old (around (standing L.view L.fixed self.old)) }
         ensures steps { MovesTo L.changes (K.scripts kit.now) top.old top.new

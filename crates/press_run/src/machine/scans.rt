@@ -55,8 +55,9 @@ impl<L: SiteLink + Drop> Machine<L> {
         Ok(Begun::Opens(Frame::Scan(held)))
     }
 
-    /// One step: the text before a shortcode, an escape, or a shortcode, whose callback is opened by the tags that then
-    /// stand. Where an answer came that is filtered, the step is its filter, and no text is taken.
+    /// One step: the text before a shortcode, an escape, or a shortcode, whose callback is opened
+    /// by the tags that then stand. Where an answer came that is filtered, the step is its filter,
+    /// and no text is taken.
     pub(crate) fn piece<K: Callbacks>(
         &mut self,
         kit: &K,
@@ -132,8 +133,8 @@ impl<L: SiteLink + Drop> Machine<L> {
         Ok(Moved::By(begun.awaited()))
     }
 
-    // The filter: its callbacks see the answer as their value and the tag as their second argument; where the hook has
-    // none, the answer stays as it is.
+    // The filter: its callbacks see the answer as their value and the tag as their second argument;
+    // where the hook has none, the answer stays as it is.
     fn begin_filter(&mut self, room: u32, answer: Text, tag: Text) -> Result<Begun, RunFault>
         ensures begins { (scripts : Scripts) → BeginsAs L.changes scripts
             (filtered (at_depth L.changes room scripts) tag answer
@@ -185,7 +186,7 @@ impl<L: SiteLink + Drop> Machine<L> {
     {
         match self.tables.tags.get(callback.call.tag.as_str()) {
             None => Ok(Opened::Gives(Text::new(self.counts.allocator()))),
-            Some(id) => self.open(kit, room, id, callback),
+            Some(id) => self.call_callback(kit, room, id, callback),
         }
     }
 }

@@ -21,7 +21,7 @@ use press_text::Text;
 
 impl<L: SiteLink + Drop> Machine<L> {
     /// What a turn asks for, which is counted already.
-    pub(super) fn asked(
+    pub(super) fn do_turn(
         &mut self,
         callback: &mut OpenCallback,
         turn: Turn,
@@ -48,13 +48,17 @@ impl<L: SiteLink + Drop> Machine<L> {
                 Ok(callback.further(0))
             }
             Turn::Return(text) => Ok(Step::Gives(text)),
-            _ => self.begun(callback, turn),
+            _ => self.do_starting_turn(callback, turn),
         }
     }
 
     // A turn that begins something, for which the callback waits.
     #[inline(never)]
-    fn begun(&mut self, callback: &mut OpenCallback, turn: Turn) -> Result<Step, RunFault>
+    fn do_starting_turn(
+        &mut self,
+        callback: &mut OpenCallback,
+        turn: Turn,
+    ) -> Result<Step, RunFault>
         requires few { IsFew 1 callback.old }
         requires begins { 1 ≤ group turn }
         ensures steps { (scripts : Scripts) → Turns L.changes scripts callback.old turn callback.new
@@ -100,13 +104,13 @@ impl<L: SiteLink + Drop> Machine<L> {
                 drop(id);
                 Ok(self.begin_change(room, effect)?.awaited())
             }
-            _ => self.edited(callback, turn),
+            _ => self.do_hook_edit(callback, turn),
         }
     }
 
     // A turn that edits the hooks.
     #[inline(never)]
-    fn edited(&mut self, callback: &mut OpenCallback, turn: Turn) -> Result<Step, RunFault>
+    fn do_hook_edit(&mut self, callback: &mut OpenCallback, turn: Turn) -> Result<Step, RunFault>
         requires few { IsFew 1 callback.old }
         requires edits { 2 ≤ group turn }
         ensures steps { (scripts : Scripts) → Turns L.changes scripts callback.old turn callback.new
@@ -141,13 +145,17 @@ impl<L: SiteLink + Drop> Machine<L> {
                 drop(hook);
                 Ok(callback.with_last(Text::from_str(alloc, "1")?))
             }
-            _ => self.told(callback, turn),
+            _ => self.do_tag_edit_or_question(callback, turn),
         }
     }
 
     // A turn that edits the tags or asks a question.
     #[inline(never)]
-    fn told(&mut self, callback: &mut OpenCallback, turn: Turn) -> Result<Step, RunFault>
+    fn do_tag_edit_or_question(
+        &mut self,
+        callback: &mut OpenCallback,
+        turn: Turn,
+    ) -> Result<Step, RunFault>
         requires few { IsFew 1 callback.old }
         requires tells { 3 ≤ group turn }
         ensures steps { (scripts : Scripts) → Turns L.changes scripts callback.old turn callback.new

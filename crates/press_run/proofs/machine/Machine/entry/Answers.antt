@@ -30,4 +30,4 @@ returns-clause-steps g c =
     let some : Some c.in-Some.entry ≡ entry_next c.args.self.now.tables.hooks.rows c.args.self.now.tables.hooks.open_runs = sym c.in-Some.is ∙ c.in_ok-entry.ensures.given in
     let asked : c.begin.new.self.call ≡ hook_call (take c.in-Some.entry.accepted c.args.run.now.args) = c.in_ok-begin.ensures.call ∙ ap hook_call c.in_ok-args.ensures in
     entry_calls g.L.SiteLink.changes (g.K.Callbacks.scripts c.args.kit.now) c.args.run.now (standing g.L.SiteLink.view g.L.SiteLink.fixed c.args.self.now) c.next.new.self more c.requires.innermost c.in_ok-entry.ensures.advanced
-    c.in-Some.entry c.begin.new.self.call some asked (standing g.L.SiteLink.view g.L.SiteLink.fixed c.open.new.self) c.open.new.callback c.in_ok-opened.opened c.in_ok-opened.ensures.begins
+    c.in-Some.entry c.begin.new.self.call some asked (standing g.L.SiteLink.view g.L.SiteLink.fixed c.call_callback.new.self) c.call_callback.new.callback c.in_ok-opened.opened c.in_ok-opened.ensures.begins

@@ -29,19 +29,19 @@ pub returns-in-Ok-Go-clause-steps : goal.returns-in-Ok-Go-clause-steps
 returns-in-Ok-Go-clause-steps g c =
     let k = g.K.Callbacks.scripts c.args.kit.now in
     let more : 0 < c.args.callback.now.left = omega arith in
-    turn_steps g.L.SiteLink.changes k c.args.callback.now c.goes.new.callback (turns.Go c.in-Ok-Go.value) (standing g.L.SiteLink.view g.L.SiteLink.fixed c.args.self.now) (standing g.L.SiteLink.view g.L.SiteLink.fixed c.goes.new.self) c.goes.result
-    more (sym c.in-Ok-Go.field-0-is ∙ c.in-Ok-Go.ensures) (c.goes.ensures.steps k)
+    turn_steps g.L.SiteLink.changes k c.args.callback.now c.set_value.new.callback (turns.Go c.in-Ok-Go.value) (standing g.L.SiteLink.view g.L.SiteLink.fixed c.args.self.now) (standing g.L.SiteLink.view g.L.SiteLink.fixed c.set_value.new.self) c.set_value.result
+    more (sym c.in-Ok-Go.field-0-is ∙ c.in-Ok-Go.ensures) (c.set_value.ensures.steps k)
 
 pub returns-in-Ok-Return-clause-steps : goal.returns-in-Ok-Return-clause-steps
 returns-in-Ok-Return-clause-steps g c =
     let k = g.K.Callbacks.scripts c.args.kit.now in
     let more : 0 < c.args.callback.now.left = omega arith in
-    turn_steps g.L.SiteLink.changes k c.args.callback.now (record (c.args.callback.now) { left = c.args.callback.now.left - 1 }) (turns.Return c.in-Ok-Return.text) (standing g.L.SiteLink.view g.L.SiteLink.fixed c.args.self.now) (standing g.L.SiteLink.view g.L.SiteLink.fixed c.gives.new.self) c.gives.result
-    more (sym c.in-Ok-Return.field-0-is ∙ c.in-Ok-Return.ensures) (c.gives.ensures.steps k)
+    turn_steps g.L.SiteLink.changes k c.args.callback.now (record (c.args.callback.now) { left = c.args.callback.now.left - 1 }) (turns.Return c.in-Ok-Return.text) (standing g.L.SiteLink.view g.L.SiteLink.fixed c.args.self.now) (standing g.L.SiteLink.view g.L.SiteLink.fixed c.return_text.new.self) c.return_text.result
+    more (sym c.in-Ok-Return.field-0-is ∙ c.in-Ok-Return.ensures) (c.return_text.ensures.steps k)
 
 pub returns-in-Ok-clause-steps : goal.returns-in-Ok-clause-steps
 returns-in-Ok-clause-steps g c =
     let k = g.K.Callbacks.scripts c.args.kit.now in
     let more : 0 < c.args.callback.now.left = omega arith in
-    turn_steps g.L.SiteLink.changes k c.args.callback.now c.counted.new.callback c.in-Ok.turn (standing g.L.SiteLink.view g.L.SiteLink.fixed c.args.self.now) (standing g.L.SiteLink.view g.L.SiteLink.fixed c.counted.new.self) c.counted.result
-    more c.in-Ok.ensures (c.counted.ensures.steps k)
+    turn_steps g.L.SiteLink.changes k c.args.callback.now c.count_turn.new.callback c.in-Ok.turn (standing g.L.SiteLink.view g.L.SiteLink.fixed c.args.self.now) (standing g.L.SiteLink.view g.L.SiteLink.fixed c.count_turn.new.self) c.count_turn.result
+    more c.in-Ok.ensures (c.count_turn.ensures.steps k)

@@ -26,8 +26,8 @@ returns-in_err-delete-clause-does c = λ now.
       ap (λ ps. record { posts = ps; events = c.self.inside.events }) h.1,
     ))
 
-pub ended-requires-clause-back : goal.ended-requires-clause-back
-ended-requires-clause-back c =
+pub end-requires-clause-back : goal.end-requires-clause-back
+end-requires-clause-back c =
     let change = Delete c.args.id in
     let posts = c.self.inside.posts in
     let st : c.in_ok-stood.stood ≡ post_at posts c.args.id = subst (λ (v : ContentView). c.in_ok-stood.stood ≡ post_at v.posts c.args.id) (sym c.self.view_is) c.in_ok-stood.ensures in
@@ -49,8 +49,8 @@ returns-clause-does c = λ now.
     joined (post_change posts (Delete c.args.id) now) (deleted c.args.id posts) c.self.inside.events es m
     (subst (λ (v : ContentView). events_of None c.args.id v.events ≡ Ok (events_beside c.in_ok-beside.beside v.events)) (sym c.self.view_is) (ap (λ es. Ok es) (sym c.in_ok-beside.ensures.does)))
     ∙ told _ _ es c.args.id c.args.id true true [] c.new-fires.result d.1 refl refl c.new-fires.ensures in
-    subst (λ (v : ContentView). Does c.ended.result (post_effect v (Delete c.args.id) now) v c.ended.new.self) c.self.view_is
-    (ended_does c.ended.result c.args.id c.in_ok-stood.stood c.delete.new.self es c.new-fires.result c.ended.new.self s back (post_effect s (Delete c.args.id) now) e c.ended.ensures.new c.ended.ensures.changed c.ended.ensures.err)
+    subst (λ (v : ContentView). Does c.end.result (post_effect v (Delete c.args.id) now) v c.end.new.self) c.self.view_is
+    (ended_does c.end.result c.args.id c.in_ok-stood.stood c.delete.new.self es c.new-fires.result c.end.new.self s back (post_effect s (Delete c.args.id) now) e c.end.ensures.new c.end.ensures.changed c.end.ensures.err)
 
 pub returns-clause-back : goal.returns-clause-back
 returns-clause-back c =
@@ -60,5 +60,5 @@ returns-clause-back c =
     let t = taken (λ x. tt) c.in_ok-delete.field-0 c.delete.new.self posts change (post_change posts change 0) (c.changes_are_taken_back.ensures posts change 0) (c.in_ok-delete.ensures 0) in
     let back = subst (λ (p : Option Post). TakesBack c.args.id p c.delete.new.self posts) (sym st) t in
     let s : ContentView = record { posts = posts; events = c.self.inside.events } in
-    subst (λ (v : ContentView). IfOk c.ended.result (λ d. ContentGoesBack true d.undone c.ended.new.self v)) c.self.view_is
-    (ended_back c.ended.result c.args.id c.in_ok-stood.stood c.delete.new.self (events_beside c.in_ok-beside.beside c.self.inside.events) c.new-fires.result c.ended.new.self s back c.ended.ensures.new c.ended.ensures.stood c.ended.ensures.active c.ended.ensures.profile c.ended.ensures.events)
+    subst (λ (v : ContentView). IfOk c.end.result (λ d. ContentGoesBack true d.undone c.end.new.self v)) c.self.view_is
+    (ended_back c.end.result c.args.id c.in_ok-stood.stood c.delete.new.self (events_beside c.in_ok-beside.beside c.self.inside.events) c.new-fires.result c.end.new.self s back c.end.ensures.new c.end.ensures.stood c.end.ensures.active c.end.ensures.profile c.end.ensures.events)

@@ -16,24 +16,24 @@ noted-requires c = may_of c.change-done.result c.wants_events-wants.result c.cha
 pub invariant_of-self : goal.invariant_of-self
 invariant_of-self c =
     let back = subst (λ (w : Bool). IfOk c.change-done.result (λ d. GoesBack w d.undone c.change-done.new.self c.self.inside.site)) c.wants_events-wants.ensures c.change-done.ensures.back in
-    (c.noted.ensures.notes (effect_on c.self.inside.site c.args.effect) c.self.inside.site c.change-done.ensures.does back (done_stays c.self.inside.site c.args.effect c.change-done.result c.change-done.new.self c.change-done.ensures.does)).1.may c.self.invariant
+    (c.note.ensures.notes (effect_on c.self.inside.site c.args.effect) c.self.inside.site c.change-done.ensures.does back (done_stays c.self.inside.site c.args.effect c.change-done.result c.change-done.new.self c.change-done.ensures.does)).1.may c.self.invariant
 
 pub returns-clause-does : goal.returns-clause-does
 returns-clause-does c =
     let back = subst (λ (w : Bool). IfOk c.change-done.result (λ d. GoesBack w d.undone c.change-done.new.self c.self.inside.site)) c.wants_events-wants.ensures c.change-done.ensures.back in
-    subst (λ (o : Open). Becomes c.noted.result (effect_on o.site c.args.effect) o.site c.noted.new.site) c.self.view_is
-    (c.noted.ensures.notes (effect_on c.self.inside.site c.args.effect) c.self.inside.site c.change-done.ensures.does back (done_stays c.self.inside.site c.args.effect c.change-done.result c.change-done.new.self c.change-done.ensures.does)).0
+    subst (λ (o : Open). Becomes c.note.result (effect_on o.site c.args.effect) o.site c.note.new.site) c.self.view_is
+    (c.note.ensures.notes (effect_on c.self.inside.site c.args.effect) c.self.inside.site c.change-done.ensures.does back (done_stays c.self.inside.site c.args.effect c.change-done.result c.change-done.new.self c.change-done.ensures.does)).0
 
 pub returns-clause-begun : goal.returns-clause-begun
 returns-clause-begun c =
     let back = subst (λ (w : Bool). IfOk c.change-done.result (λ d. GoesBack w d.undone c.change-done.new.self c.self.inside.site)) c.wants_events-wants.ensures c.change-done.ensures.back in
-    subst (λ (o : Open). log_back c.noted.new.undo c.noted.new.site ≡ begun_of o) c.self.view_is
-    (c.noted.ensures.notes (effect_on c.self.inside.site c.args.effect) c.self.inside.site c.change-done.ensures.does back (done_stays c.self.inside.site c.args.effect c.change-done.result c.change-done.new.self c.change-done.ensures.does)).1.same
+    subst (λ (o : Open). log_back c.note.new.undo c.note.new.site ≡ begun_of o) c.self.view_is
+    (c.note.ensures.notes (effect_on c.self.inside.site c.args.effect) c.self.inside.site c.change-done.ensures.does back (done_stays c.self.inside.site c.args.effect c.change-done.result c.change-done.new.self c.change-done.ensures.does)).1.same
 
 pub returns-clause-memory : goal.returns-clause-memory
 returns-clause-memory c =
-    subst (λ (o : Open). c.noted.result ≡ Err NoMemory → ChangesSome (effect_on o.site c.args.effect)) c.self.view_is
-    (c.noted.ensures.memory (effect_on c.self.inside.site c.args.effect) c.self.inside.site c.change-done.ensures.does c.change-done.ensures.memory)
+    subst (λ (o : Open). c.note.result ≡ Err NoMemory → ChangesSome (effect_on o.site c.args.effect)) c.self.view_is
+    (c.note.ensures.memory (effect_on c.self.inside.site c.args.effect) c.self.inside.site c.change-done.ensures.does c.change-done.ensures.memory)
 
 pub returns-clause-profile : goal.returns-clause-profile
-returns-clause-profile c = λ to e. c.noted.ensures.none (c.change-done.ensures.profile to e)
+returns-clause-profile c = λ to e. c.note.ensures.none (c.change-done.ensures.profile to e)

@@ -1,6 +1,0 @@
-use Rattle.std.proofs.Common.{◌≡◌, ◌+◌, length, take}
-use Rattle.press_text.specs.Escapes.{escaped}
-use Rattle.press_callbacks.proofs.sizes.escaped_left.Given as goal
-
-abbrev pub invariant-loop-byte : goal.invariant-loop-byte
-invariant-loop-byte l = l.left + length (escaped (take l.byte-index l.text)) ≡ l.room

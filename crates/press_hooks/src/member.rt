@@ -1,8 +1,0 @@
-use press_text::CallbackId;
-
-/// One of a group: a callback, and how many arguments it accepts.
-#[derive(Clone, Copy, Debug)]
-pub struct Member {
-    pub callback: CallbackId,
-    pub accepted: u32,
-}

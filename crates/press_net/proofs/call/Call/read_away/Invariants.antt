@@ -1,5 +1,0 @@
-use Rattle.press_net.specs.Lanes.{HasSameAim}
-use Rattle.press_net.proofs.call.Call.read_away.Given as goal
-
-abbrev pub invariant-loop : goal.invariant-loop
-invariant-loop l = HasSameAim l.self l.initial.self

@@ -1,8 +1,0 @@
-use Rattle.press_run.specs.Standing.{standing}
-use Rattle.press_run.proofs.Begins.{turn_counts}
-use Rattle.press_run.proofs.machine.Machine.counted.Goals as goal
-
-pub returns-clause-steps : goal.returns-clause-steps
-returns-clause-steps g c = λ scripts.
-    turn_counts g.L.SiteLink.changes scripts c.args.callback.now c.asked.new.callback c.args.turn (standing g.L.SiteLink.view g.L.SiteLink.fixed c.args.self.now) (standing g.L.SiteLink.view g.L.SiteLink.fixed c.asked.new.self) c.add_turn.new.self c.asked.result
-    c.add_turn.ensures c.requires.short (c.asked.ensures.steps scripts)
