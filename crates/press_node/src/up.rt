@@ -27,11 +27,10 @@ use press_callbacks::Kit;
 use press_learner::{Learner, none_is_chosen_after_64};
 use press_proposer::Proposer;
 use press_site::Site;
-use press_wire::{Ballot, Body, MemberId, Message, Slot, Vote, Votes, is_command_too_long};
+use press_wire::{
+    Ballot, Body, LAST_SLOT, MemberId, Message, Slot, Vote, Votes, is_command_too_long,
+};
 use std::alloc::Global;
-
-// How many slots there are.
-const SLOTS: u64 = 1_000_000;
 
 // For how many slots votes are kept.
 const WINDOW: u8 = 64;
@@ -246,7 +245,7 @@ impl Up {
         ensures value { result ≡ is_at_end (running_of self.now) }
         ensures more { result ≡ false → self.now.learner.applied < 1000000 }
     {
-        self.learner.applied() >= SLOTS
+        self.learner.applied() >= LAST_SLOT as u64
     }
 
     /// Why a wake is refused, if it is, where this is the last round of the store.

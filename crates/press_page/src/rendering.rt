@@ -16,14 +16,11 @@ use crate::filtered::Filtered;
 use crate::{hooks, template};
 use press_callbacks::Kit;
 use press_posts::{Fire, Post};
-use press_run::{Job, Machine, Out, Read, RunFault, boot_actions};
+use press_run::{Job, MOST_BYTES, Machine, Out, Read, RunFault, boot_actions};
 use press_site::Site;
 use press_text::{HookName, Items, Text, Texts};
 use std::alloc::{AllocError, Global};
 use std::mem;
-
-// How many bytes a body may have.
-const MOST_BYTES: usize = 1_048_576;
 
 /// A page that is being built, from one boot of a site that is only read.
 pub struct Rendering<'a> {

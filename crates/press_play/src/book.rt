@@ -1,12 +1,10 @@
 //! What the callbacks of a play asked, one turn after the other, and the lines about it.
 
 use press_callbacks::{CallIn, Turn};
+use press_run::MOST_BYTES;
 use press_text::{CallbackId, Text};
 use std::alloc::{AllocError, Global};
 use std::str;
-
-// How many bytes a text may have.
-const MOST_BYTES: usize = 1_048_576;
 
 // Where 32 callbacks are open, more than this many are callbacks of scripts: few built-in ones are
 // nested.

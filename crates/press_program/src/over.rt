@@ -21,6 +21,7 @@ use press_callbacks::{BoxedTurns, CallIn, Kit, Stored, script_turn};
 use press_demonstration::{grow, grow_turn, parts};
 use press_lint::{Joint, NamedFile, read_files};
 use press_text::Copied;
+use press_wire::MOST_MEMBERS;
 use press_world::ReplayFault;
 use std::io::{Read, Write};
 use std::net::Net;
@@ -33,7 +34,7 @@ fn kits_for(task: &Task) -> usize
 {
     match task {
         Task::Page(_) => 1,
-        Task::Replay | Task::Loop => 7,
+        Task::Replay | Task::Loop => MOST_MEMBERS as usize,
     }
 }
 

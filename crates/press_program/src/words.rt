@@ -13,6 +13,7 @@ use clap::{Arg, ArgAction, ArgMatches, Command, Error};
 use press_page::Target;
 use press_server::{Role, Setup};
 use press_text::dec_u64;
+use press_wire::MOST_MEMBERS;
 use std::alloc::{AllocError, Global};
 
 // The first file of an export, where no name is given.
@@ -276,7 +277,7 @@ fn tick_in(text: Option<&str>) -> Option<u32>
 fn id_in(text: &str) -> Option<u8>
     ensures { result ≡ spec.number_in 1 7 text.now }
 {
-    match number_in(text, 1, 7) {
+    match number_in(text, 1, MOST_MEMBERS as u32) {
         Some(n) => Some(n as u8),
         None => None,
     }

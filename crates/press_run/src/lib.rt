@@ -30,5 +30,5 @@ pub use earlier::{changes_keep_profile, runs_as_before};
 pub use job::Job;
 pub use link::{Read, SiteLink};
 pub use machine::{Machine, StepAt};
-pub use out::Out;
+pub use out::{MOST_BYTES, Out};
 pub use run_fault::RunFault;

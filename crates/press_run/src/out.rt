@@ -5,8 +5,8 @@ use crate::run_fault::RunFault;
 use std::alloc::{AllocError, Global};
 use std::marker::Model;
 
-/// How many bytes a text may have.
-pub(crate) const MOST_BYTES: usize = 1_048_576;
+/// How many bytes a text, an output or a body of a page may have.
+pub const MOST_BYTES: usize = 1_048_576;
 
 /// What a page or a command has written so far: at most 1,048,576 bytes.
 #[derive(Debug)]

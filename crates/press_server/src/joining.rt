@@ -25,6 +25,7 @@ use press_member::{Beginning, Member};
 use press_node::{Node, StartFault};
 use press_store::{Owner, SqlStore, Tie};
 use press_text::write_once;
+use press_wire::MOST_MEMBERS;
 use sqlite::Alter;
 use std::alloc::{AllocError, Global};
 use std::io::Write;
@@ -173,7 +174,7 @@ fn begin_member<S: PromiseStore + Drop>(
     let Ok(count) = u8::try_from(peers.count()) else {
         return Err(ServeFault::BadPeers);
     };
-    if count > 7 || member.number() > count {
+    if count > MOST_MEMBERS || member.number() > count {
         return Err(ServeFault::BadPeers);
     }
     match Node::start(alloc, member, count, kit, store) {
@@ -214,7 +215,7 @@ fn start_member<S: PromiseStore + Drop>(
     ensures starts { IfOk result (λ member. IsItsStart S.seen (λ node. store_of node)
         (λ node. state_of node) store (view_of member)) }
 {
-    if beginning.members > 7 || beginning.id.number() > beginning.members {
+    if beginning.members > MOST_MEMBERS || beginning.id.number() > beginning.members {
         return Err(ServeFault::BadPeers);
     }
     match Member::start(alloc, kit, store, beginning) {

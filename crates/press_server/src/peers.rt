@@ -8,13 +8,10 @@ ghost use Rattle.press_server.specs.declared.peers.PeersFault.TheVariants.{NoMem
 
 use crate::digest::digest_of;
 use press_net::{AddressBook, Listed};
-use press_wire::MemberId;
+use press_wire::{MOST_MEMBERS, MemberId};
 use std::alloc::{AllocError, Global};
 use std::net::{IpAddr, Net, SocketAddr};
 use thiserror::Error;
-
-// The members of a cluster are few.
-const MOST: usize = 7;
 
 /// The members, of which one is this node.
 pub struct Peers {
@@ -65,7 +62,10 @@ impl Peers {
     {
         let mut book = AddressBook::new(alloc);
         for part in text.split(',') {
-            if book.len() >= MOST || book.add(net, part)? == Listed::Never || book.is_doubled() {
+            if book.len() >= MOST_MEMBERS as usize
+                || book.add(net, part)? == Listed::Never
+                || book.is_doubled()
+            {
                 return Err(PeersFault::Unknown);
             }
         }

@@ -9,7 +9,7 @@ ghost use Rattle.press_store.specs.Voted.{most_slots, IsLastVote};
 
 use crate::rows::slot;
 use crate::statement::read;
-use press_wire::Slot;
+use press_wire::{LAST_SLOT, Slot};
 use sqlite::{Alter, Connection, Error, Row as Shown};
 
 fn find_last<S: Alter>(conn: &mut Connection<S>) -> Result<Vec<Shown>, Error>
@@ -30,7 +30,7 @@ fn slot_of(row: &Shown) -> Option<Slot>
     ensures { result ≡ number_in 1 most_slots (column row.now 0) }
 {
     match row.get_ref(0) {
-        Ok(value) => slot(value, 1, 1_000_000),
+        Ok(value) => slot(value, 1, LAST_SLOT),
         Err(_) => None,
     }
 }

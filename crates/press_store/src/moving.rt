@@ -13,7 +13,7 @@ use crate::version_1_rows::{
     damage, find_slot, greater, last_slot, perhaps_ballot, rows_outside, spelled_vote,
 };
 use crate::vote::add_vote;
-use press_wire::{Ballot, Slot};
+use press_wire::{Ballot, LAST_SLOT, Slot};
 use sqlite::types::ValueRef;
 use sqlite::{Alter, Error, Row as Shown, Transaction};
 use std::alloc::Global;
@@ -163,7 +163,7 @@ fn blocks_to(rows: &[Shown]) -> u32
         return 0;
     };
     match row.get_ref(0) {
-        Ok(ValueRef::Int(n)) if 1 <= n && n <= 1_000_000 => (n as u32 + 15) / 16,
+        Ok(ValueRef::Int(n)) if 1 <= n && n <= LAST_SLOT as i64 => (n as u32 + 15) / 16,
         _ => 62_500,
     }
 }

@@ -6,7 +6,7 @@ ghost use Rattle.sqlite.specs.declared.types.Value.TheVariants.{Int, Blob};
 ghost use Rattle.press_store.specs.Owned as spec;
 ghost use Rattle.press_store.specs.Shown.{ballot_in, most_rounds, number_in};
 
-use press_wire::{Ballot, MemberId, Round, Slot};
+use press_wire::{Ballot, MOST_MEMBERS, MemberId, Round, Slot};
 use sqlite::types::ValueRef;
 
 fn int_of(n: u64) -> i64
@@ -124,7 +124,7 @@ fn node(value: ValueRef<'_>) -> Option<MemberId>
     let ValueRef::Int(n) = value else {
         return None;
     };
-    if n < 0 || n > 7 {
+    if n < 0 || n > MOST_MEMBERS as i64 {
         None
     } else {
         MemberId::new(n as u8)

@@ -31,9 +31,9 @@ pub use fault::WireFault;
 pub use laws::{
     messages_have_one_spelling, messages_read_back, values_have_one_spelling, values_read_back,
 };
-pub use member_id::MemberId;
+pub use member_id::{MOST_MEMBERS, MemberId};
 pub use message::{Body, Message};
 pub use round::Round;
-pub use slot::{Slot, is_first};
+pub use slot::{LAST_SLOT, Slot, is_first};
 pub use vote::Vote;
 pub use votes::{SlotVote, Votes};

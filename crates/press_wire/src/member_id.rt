@@ -3,7 +3,8 @@ ghost use Rattle.press_wire.specs.Ranges.{member_id_of};
 
 use std::marker::Model;
 
-const MOST: u8 = 7;
+/// The most members that a cluster has.
+pub const MOST_MEMBERS: u8 = 7;
 
 /// A node of a cluster: 1 to 7.
 #[derive(Clone, Copy, Debug, PartialEq, Eq, PartialOrd, Ord)]
@@ -28,7 +29,7 @@ impl MemberId {
     pub fn new(number: u8) -> Option<MemberId>
         ensures { result ≡ member_id_of number }
     {
-        if 1 <= number && number <= MOST {
+        if 1 <= number && number <= MOST_MEMBERS {
             Some(MemberId { number })
         } else {
             None

@@ -4,7 +4,8 @@ ghost use Rattle.press_wire.specs.Ranges.{slot_of};
 
 use std::marker::Model;
 
-const MOST: u32 = 1_000_000;
+/// The last slot: a cluster chooses no more values.
+pub const LAST_SLOT: u32 = 1_000_000;
 
 /// The place of a value among those chosen: 1 to 1,000,000.
 #[derive(Clone, Copy, Debug, PartialEq, Eq, PartialOrd, Ord)]
@@ -29,7 +30,7 @@ impl Slot {
     pub fn new(number: u32) -> Option<Slot>
         ensures { result ≡ slot_of number }
     {
-        if 1 <= number && number <= MOST {
+        if 1 <= number && number <= LAST_SLOT {
             Some(Slot { number })
         } else {
             None

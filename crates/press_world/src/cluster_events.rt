@@ -19,7 +19,7 @@ use crate::seat::Seat;
 use crate::seen::{Seen, look, proposal_entry, send, write_down};
 use crate::step::Cut;
 use press_node::{Event, NodeFault};
-use press_wire::{MemberId, Message, Slot};
+use press_wire::{MOST_MEMBERS, MemberId, Message, Slot};
 
 /// What comes to a node, and the slot that it is about.
 #[derive(Drop)]
@@ -111,7 +111,7 @@ impl Cluster {
                 return Err(NodeFault::NoMemory);
             }
         }
-        match self.sent.reserve(7) {
+        match self.sent.reserve(MOST_MEMBERS as usize) {
             Ok(()) => {}
             Err(_) => {
                 drop(event);

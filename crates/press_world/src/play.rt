@@ -34,9 +34,9 @@ use press_apply::Stamped;
 use press_learner::{chosen_by_majority, only_votes_that_came_are_kept};
 use press_node::{Event, NodeFault};
 use press_page::Target;
-use press_wire::{Message, Slot};
+use press_wire::{LAST_SLOT, Message, Slot};
 
-const SLOTS: u64 = 1_000_000;
+const SLOTS: u64 = LAST_SLOT as u64;
 
 // The index of the item with this number, of `count` that are numbered from 1.
 fn index_of(number: u64, count: usize) -> Option<usize>
