@@ -1,7 +1,7 @@
 pub mod Hooked
 pub mod Keys
 pub mod HookRows
-pub mod Members
+pub mod GroupEntries
 pub mod NextEntry
 pub mod Numbered
 pub mod Placed
