@@ -27,7 +27,7 @@ pub(crate) struct EventAtSlot {
     pub event: Event,
     pub slot: Slot,
     /// Which message brought it, if one did, counted from 0.
-    pub which: usize,
+    pub message_index: usize,
 }
 
 /// The member at this index.
@@ -94,15 +94,19 @@ impl Cluster {
         ensures count { IfOk result (λ count.
             length self.new.sent.items ≡ length self.old.sent.items + count) }
         ensures ok { OnOk result (kept_in self.new ≡
-            stored_does (length self.old.seats.items) (kept_in self.old) coming.which index
+            stored_does (length self.old.seats.items) (kept_in self.old) coming.message_index index
             (slice_get (places_of self.old.seats.items) index) coming.event cut) }
         ensures err { IfErr result (λ fault. FailsBy (kept_in self.old)
-            (λ stop. stored_does (length self.old.seats.items) (kept_in self.old) coming.which index
+            (λ stop. stored_does (length self.old.seats.items) (kept_in self.old) coming.message_index index
             (slice_get (places_of self.old.seats.items) index) coming.event stop)
             (refused_at (slice_get (places_of self.old.seats.items) index) coming.event cut) fault
             (stops fault) (kept_in self.new)) }
     {
-        let EventAtSlot { event, slot, which } = coming;
+        let EventAtSlot {
+            event,
+            slot,
+            message_index,
+        } = coming;
         let member = member_at(index);
         match self.trace.reserve(2) {
             Ok(()) => {}
@@ -123,7 +127,7 @@ impl Cluster {
         let after = look_at(&self.seats, index, slot);
         write_down(
             &mut self.trace,
-            before.entry_between(after, member, which, slot),
+            before.entry_between(after, member, message_index, slot),
         );
         match result {
             Err(fault) => Err(fault),

@@ -123,16 +123,16 @@ impl World {
         requires passes { refused_at (slice_get (model self.old).places index) coming.event cut
             ≡ None }
         requires step { (stop : _) → (x : Step) × (stored_step (size self.old) (model self.old) x ≡
-            stored_does (size self.old) (model self.old) coming.which index
+            stored_does (size self.old) (model self.old) coming.message_index index
             (slice_get (model self.old).places index) coming.event stop) }
         ensures statics { statics self.new ≡ statics self.old }
         ensures count { IfOk result (λ count.
             length (model self.new).sent ≡ length (model self.old).sent + count) }
         ensures ok { OnOk result (model self.new ≡
-            stored_does (size self.old) (model self.old) coming.which index
+            stored_does (size self.old) (model self.old) coming.message_index index
             (slice_get (model self.old).places index) coming.event cut) }
         ensures err { IfErr result (λ fault. FailsBy (model self.old)
-            (λ stop. stored_does (size self.old) (model self.old) coming.which index
+            (λ stop. stored_does (size self.old) (model self.old) coming.message_index index
             (slice_get (model self.old).places index) coming.event stop)
             (refused_at (slice_get (model self.old).places index) coming.event cut) fault
             (stops fault) (model self.new)) }
@@ -179,10 +179,10 @@ impl World {
         requires passes { refused_at (slice_get (model self.old).places index) coming.event cut
             ≡ None }
         requires step { (stop : _) → (x : Step) × (stored_step (size self.old) (model self.old) x ≡
-            stored_does (size self.old) (model self.old) coming.which index
+            stored_does (size self.old) (model self.old) coming.message_index index
             (slice_get (model self.old).places index) coming.event stop) }
         ensures statics { statics self.new ≡ statics self.old }
-        ensures happens { Happens (size self.old) (model self.old) coming.which index coming.event
+        ensures happens { Happens (size self.old) (model self.old) coming.message_index index coming.event
             cut (model self.new) result }
     {
         let before = self.cluster.sent.len();
@@ -223,7 +223,7 @@ impl World {
         let coming = EventAtSlot {
             event: Event::Submit(command),
             slot: first_slot(),
-            which: 0,
+            message_index: 0,
         };
         self.happen(index, coming, cut)
     }
@@ -253,7 +253,7 @@ impl World {
         let coming = EventAtSlot {
             event: Event::Wake,
             slot: self.next_slot(index),
-            which: 0,
+            message_index: 0,
         };
         self.happen(index, coming, cut)
     }
@@ -266,10 +266,10 @@ impl World {
         ensures steps { (kit : KitView) → Steps kit (size self.old) (model self.old)
             (Deliver number cut) (model self.new) result }
     {
-        let Some(which) = index_of(number, self.cluster.sent.len()) else {
+        let Some(message_index) = index_of(number, self.cluster.sent.len()) else {
             return Err(WorldFault::NoSuchMessage);
         };
-        let sent = &self.cluster.sent[which];
+        let sent = &self.cluster.sent[message_index];
         let Some(index) = self.index(sent.to.number() as u64) else {
             return Err(WorldFault::NoSuchNode);
         };
@@ -282,7 +282,7 @@ impl World {
         let coming = EventAtSlot {
             slot: message.slot,
             event: Event::Deliver(message),
-            which,
+            message_index,
         };
         self.happen(index, coming, cut)
     }

@@ -11,6 +11,10 @@ const READY: &[u8] = b"GET /ready HTTP/1.1\r\nHost: a\r\n\r\n";
 
 const METRICS: &[u8] = b"GET /metrics HTTP/1.1\r\nHost: a\r\n\r\n";
 
+// A command that does what is due.
+const TICK: &[u8] =
+    b"POST /command HTTP/1.1\r\nHost: a\r\nContent-Length: 33\r\n\r\neditor=ann&seq=1&at=100&kind=tick";
+
 // What a server without a kit file says.
 const KIT: &str = "press: it plays the demonstration kit (no --kit)\n";
 
@@ -170,6 +174,37 @@ fn a_server_tells_how_it_stands_where_it_is_to(rt: HostRuntime) -> Result<(), Fa
             assert!(rt; reply.starts_with(status.as_bytes()), "at {}", words.len());
         }
     }
+    Ok(())
+}
+
+// Whether these bytes hold those.
+fn holds(bytes: &[u8], part: &[u8]) -> bool {
+    for at in 0..bytes.len() {
+        if bytes[at..].starts_with(part) {
+            return true;
+        }
+    }
+    false
+}
+
+// A command, and how many slots are chosen where its store is opened again.
+#[test]
+fn metrics_of_a_node_by_itself_count_what_is_chosen(rt: HostRuntime) -> Result<(), Fail> {
+    for (request, part) in [
+        (METRICS, "\npress_chosen_slots 0\n"),
+        (TICK, "{\"queued\":true}"),
+        (METRICS, "\npress_chosen_slots 1\n"),
+    ] {
+        let addr = free_addr(&rt, "127.0.0.1")?;
+        let port = format!(in rt.alloc(); "{}", addr.port())?;
+        let words = [
+            "serve", "--port", &port, "--turns", "1", "--status", "--store", "kept",
+        ];
+        let reply = reply_to(&rt, &words, addr, request)?;
+        assert!(rt; holds(&reply, part.as_bytes()), "no {part}");
+    }
+    fs::remove_file(&rt, "kept")?;
+    fs::remove_file(&rt, "kept-wal")?;
     Ok(())
 }
 

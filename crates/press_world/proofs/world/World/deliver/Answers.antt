@@ -17,7 +17,7 @@ pub returns-in-Some-refusal_of_message-clause-steps : goal.returns-in-Some-refus
 returns-in-Some-refusal_of_message-clause-steps g c kit =
     let w = c.args.self.now in
     let sent = (model w).sent in
-    let which = c.in-Some.which in
+    let which = c.in-Some.message_index in
     let index = c.in-Some-index.index in
     let message = c.index-sent.result.now in
     let n : c.len.result ≡ length sent = omega (arith, c.len.ensures) in
@@ -32,7 +32,7 @@ pub returns-in_default-copy-clause-memory : goal.returns-in_default-copy-clause-
 returns-in_default-copy-clause-memory g c =
     let w = c.args.self.now in
     let sent = (model w).sent in
-    let which = c.in-Some.which in
+    let which = c.in-Some.message_index in
     let index = c.in-Some-index.index in
     let message = c.index-sent.result.now in
     let n : c.len.result ≡ length sent = omega (arith, c.len.ensures) in
@@ -46,7 +46,7 @@ pub returns-in_default-copy-clause-steps : goal.returns-in_default-copy-clause-s
 returns-in_default-copy-clause-steps g c kit =
     let w = c.args.self.now in
     let sent = (model w).sent in
-    let which = c.in-Some.which in
+    let which = c.in-Some.message_index in
     let index = c.in-Some-index.index in
     let message = c.index-sent.result.now in
     let n : c.len.result ≡ length sent = omega (arith, c.len.ensures) in
@@ -61,7 +61,7 @@ pub happen-requires-clause-step : goal.happen-requires-clause-step
 happen-requires-clause-step g c =
     let w = c.args.self.now in
     let sent = (model w).sent in
-    let which = c.in-Some.which in
+    let which = c.in-Some.message_index in
     let index = c.in-Some-index.index in
     let message = c.index-sent.result.now in
     let n : c.len.result ≡ length sent = omega (arith, c.len.ensures) in
@@ -77,7 +77,7 @@ pub returns-clause-memory : goal.returns-clause-memory
 returns-clause-memory g c =
     let w = c.args.self.now in
     let sent = (model w).sent in
-    let which = c.in-Some.which in
+    let which = c.in-Some.message_index in
     let index = c.in-Some-index.index in
     let message = c.index-sent.result.now in
     let n : c.len.result ≡ length sent = omega (arith, c.len.ensures) in
@@ -91,7 +91,7 @@ pub returns-clause-steps : goal.returns-clause-steps
 returns-clause-steps g c kit =
     let w = c.args.self.now in
     let sent = (model w).sent in
-    let which = c.in-Some.which in
+    let which = c.in-Some.message_index in
     let index = c.in-Some-index.index in
     let message = c.index-sent.result.now in
     let n : c.len.result ≡ length sent = omega (arith, c.len.ensures) in

@@ -18,7 +18,7 @@ invariant_of-self g c =
     let law = learns c.chosen_by_majority.ensures c.only_votes_that_came_are_kept.ensures.vote c.only_votes_that_came_are_kept.ensures.advance in
     record {
       sound = ∥∥₁_map w.sound (λ s. turn_sound law c.play_event.result (size w) (model w) (kept_in c.play_event.new.self) c.args.cut
-          (λ stop. stored_does (size w) (model w) c.args.coming.which c.args.index (slice_get (model w).places c.args.index) c.args.coming.event stop)
+          (λ stop. stored_does (size w) (model w) c.args.coming.message_index c.args.index (slice_get (model w).places c.args.index) c.args.coming.event stop)
           (refused_at (slice_get (model w).places c.args.index) c.args.coming.event c.args.cut)
           c.requires.step c.play_event.ensures.ok c.play_event.ensures.err (sym (length-map w.cluster.seats.items place_of)) s);
       members = subst (λ x. ∥ ((kit : KitView) × AreMembers kit x) ∥₁) (sym c.play_event.ensures.statics) w.members;
