@@ -1,3 +1,4 @@
+pub mod Kits
 pub mod Texts
 pub mod Keys
 pub mod Loop

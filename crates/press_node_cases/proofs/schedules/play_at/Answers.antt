@@ -1,5 +1,5 @@
 use Rattle.press_kit.specs.KitFile.{kit_in}
-use Rattle.press_node_cases.proofs.Kits.{view_where}
+use Rattle.press_kit.proofs.Kits.{view_where}
 use Rattle.press_node_cases.proofs.schedules.play_at.Goals as goal
 
 pub restart-requires-clause-alike : goal.restart-requires-clause-alike

@@ -3,7 +3,7 @@ use Rattle.std.specs.Vec.Iter.{into_iter_items}
 use Rattle.press_callbacks.specs.Kits.{scripts_given}
 use Rattle.press_kit.specs.KitFile.{kit_in}
 use Rattle.press_world.specs.Starts.{AreKit, views_of}
-use Rattle.press_node_cases.proofs.Kits.{view_where}
+use Rattle.press_kit.proofs.Kits.{view_where}
 use Rattle.press_node_cases.proofs.schedules.play_at.Given as goal
 
 abbrev pub invariant-loop-i : goal.invariant-loop-i

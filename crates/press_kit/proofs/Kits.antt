@@ -1,4 +1,4 @@
--- The kit of a file, where it is one.
+-- The kit of a file, where it is one: nothing where it is not.
 use Rattle.std.proofs.Common.{[], map}
 use Rattle.std.specs.Prelude.{Result, Ok, Err}
 use Rattle.press_callbacks.specs.Kits.{KitView, view_of}
