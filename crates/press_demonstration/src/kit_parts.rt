@@ -4,7 +4,7 @@ ghost use Rattle.press_demonstration.specs.Demonstration as spec;
 use crate::growing::growing;
 use crate::plugins::plugins;
 use crate::scripted::Scripted;
-use crate::scripts::played;
+use crate::scripts::played_scripts;
 use press_callbacks::{Plugin, Script};
 use std::alloc::{AllocError, Global};
 
@@ -24,7 +24,7 @@ pub fn parts(alloc: Global) -> Result<DemonstrationParts, AllocError>
 {
     Ok(DemonstrationParts {
         growing: growing(alloc)?,
-        played: played(alloc)?,
+        played: played_scripts(alloc)?,
         plugins: plugins(alloc)?,
     })
 }

@@ -12,7 +12,7 @@ use press_text::{HookName, Items, Text};
 use std::alloc::{AllocError, Global};
 
 /// The callbacks whose closures play their scripts.
-pub fn played(alloc: Global) -> Result<Vec<Scripted>, AllocError>
+pub fn played_scripts(alloc: Global) -> Result<Vec<Scripted>, AllocError>
     ensures { IfOk result (λ v. spec.scripts_of v.items ≡ spec.play_scripts) }
 {
     let mut scripts = Vec::new(alloc);

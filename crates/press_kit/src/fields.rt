@@ -174,7 +174,7 @@ impl<'v> Fields<'v> {
     }
 
     /// How many arguments are accepted; 1, as in WordPress, where none is given.
-    pub fn accepted(&self) -> Result<u32, KitFileFault>
+    pub fn accepted_count(&self) -> Result<u32, KitFileFault>
         ensures gives { Gives Refuses Ok result
             (spec.accepted_at self.now.at (view self.now.value.now)) }
         ensures memory { result ≢ Err KitFileFault.NoMemory }

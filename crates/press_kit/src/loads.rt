@@ -30,7 +30,7 @@ impl<'v> Fields<'v> {
             hook,
             priority: self.priority()?,
             callback,
-            accepted: self.accepted()?,
+            accepted: self.accepted_count()?,
         })
     }
 

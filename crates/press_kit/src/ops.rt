@@ -121,7 +121,7 @@ impl<'v> Fields<'v> {
             hook: self.hook("hook")?,
             callback: self.callback("callback")?,
             priority: self.priority()?,
-            accepted: self.accepted()?,
+            accepted: self.accepted_count()?,
         })
     }
 

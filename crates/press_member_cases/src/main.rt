@@ -34,7 +34,7 @@ mod watched;
 use crate::memory_shelf::MemoryShelf;
 use crate::place::Place;
 use crate::sql_shelf::OnFiles;
-use press_simulation::{Outcome, Scenario, Telling, drawn, play, read, text_of};
+use press_simulation::{Outcome, Scenario, Telling, draw, play, read, text_of};
 use std::alloc::{AllocError, Global};
 use std::process::ExitCode;
 use std::str::from_utf8;
@@ -122,7 +122,7 @@ fn do_with_range(rt: &HostRuntime, first: u64, end: u64, how: Work) -> anyhow::R
 {
     let mut holds = true;
     for seed in first..end {
-        holds &= do_with(rt, &drawn(rt.alloc(), seed)?, how)?;
+        holds &= do_with(rt, &draw(rt.alloc(), seed)?, how)?;
     }
     Ok(holds)
 }

@@ -430,7 +430,7 @@ fn found_in<'a>(
 }
 
 // None for wrong arguments; out of memory stays an error.
-fn untold<'a>(e: Error) -> Result<Option<Arguments<'a>>, AllocError>
+fn no_arguments<'a>(e: Error) -> Result<Option<Arguments<'a>>, AllocError>
     ensures { IfOk result (λ a. (a ≡ None) × (kind_of e ≢ ErrorKind.OutOfMemory)) }
 {
     if e.kind() == ErrorKind::OutOfMemory {
@@ -459,6 +459,6 @@ pub fn read_words<'a>(
     }
     match parse(alloc, words) {
         Ok(matches) => found_in(alloc, &matches),
-        Err(e) => untold(e),
+        Err(e) => no_arguments(e),
     }
 }

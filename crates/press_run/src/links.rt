@@ -56,7 +56,7 @@ pub struct FromNow {
 
 impl FromNow {
     /// The change that schedules it, if it comes at a moment.
-    pub fn scheduled(self, now: Moment) -> Option<Effect>
+    pub fn effect(self, now: Moment) -> Option<Effect>
         ensures { result ≡ schedules self.after self.every self.hook self.arg now }
     {
         let FromNow {

@@ -56,7 +56,7 @@ pub enum Moved {
 
 impl Begun {
     /// The step of the frame that waits for it.
-    pub fn awaited(self) -> Step
+    pub fn into_step(self) -> Step
         ensures { result ≡ awaited self }
     {
         match self {
@@ -66,7 +66,7 @@ impl Begun {
     }
 
     /// What a built-in callback comes to that begins with it.
-    pub fn opened(self) -> Opened
+    pub fn into_opened(self) -> Opened
         ensures { result ≡ opened self }
     {
         match self {
@@ -78,7 +78,7 @@ impl Begun {
 
 impl Opened {
     /// What the frame comes to that waits for the callback. Takes memory where the callback waits.
-    pub fn awaited(self, alloc: Global, callback: OpenCallback) -> Result<Moved, AllocError>
+    pub fn into_moved(self, alloc: Global, callback: OpenCallback) -> Result<Moved, AllocError>
         ensures { IfOk result (λ m. m ≡ moved callback self) }
     {
         match self {

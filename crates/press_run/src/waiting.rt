@@ -57,7 +57,7 @@ impl Waiting {
         ensures { result ≡ frame.Callback callback }
     {
         if callback.has_many_atts() {
-            return Waiting::folded(alloc, callback);
+            return Waiting::fold(alloc, callback);
         }
         Waiting {
             stowed: Stowed::Whole(Frame::Callback(callback)),
@@ -66,7 +66,7 @@ impl Waiting {
 
     // Few callbacks come here, so the others have no room for it.
     #[inline(never)]
-    fn folded(alloc: Global, mut callback: Held<OpenCallback>) -> Waiting
+    fn fold(alloc: Global, mut callback: Held<OpenCallback>) -> Waiting
         ensures { result ≡ frame.Callback callback }
     {
         let atts = callback.fold_atts(alloc);
@@ -83,14 +83,14 @@ impl Waiting {
         let Waiting { stowed } = self;
         match stowed {
             Stowed::Whole(frame) => Ok(frame),
-            Stowed::Folded(callback, atts) => unfolded(alloc, callback, atts),
+            Stowed::Folded(callback, atts) => unfold(alloc, callback, atts),
         }
     }
 }
 
 // The callback with these attributes.
 #[inline(never)]
-fn unfolded(
+fn unfold(
     alloc: Global,
     mut callback: Held<OpenCallback>,
     atts: FoldedAtts,

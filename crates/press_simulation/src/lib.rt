@@ -35,6 +35,6 @@ pub use lanes::{Envelope, Lanes};
 pub use note::{Note, digest_of};
 pub use outcome::{Outcome, play};
 pub use reading::read;
-pub use scenario::{Scenario, drawn};
+pub use scenario::{Scenario, draw};
 pub use telling::Telling;
 pub use writing::text_of;

@@ -100,7 +100,7 @@ fn members(dice: &mut Dice) -> u8 {
     }
 }
 
-fn drawn_wire(dice: &mut Dice) -> Wire {
+fn draw_wire(dice: &mut Dice) -> Wire {
     match dice.below(4) {
         0 => Wire::good(),
         1 => Wire {
@@ -125,7 +125,7 @@ fn drawn_wire(dice: &mut Dice) -> Wire {
 }
 
 // Mostly a good one.
-fn drawn_rest(dice: &mut Dice) -> Wire {
+fn draw_rest(dice: &mut Dice) -> Wire {
     if dice.below(4) != 0 {
         return Wire::good();
     }
@@ -193,7 +193,7 @@ fn lie(dice: &mut Dice, place: usize) -> Fault {
     Fault::Lie { place, more }
 }
 
-fn drawn_fault(dice: &mut Dice, members: u64) -> Fault {
+fn draw_fault(dice: &mut Dice, members: u64) -> Fault {
     let place = dice.below(members) as usize;
     match dice.below(27) {
         0..=4 => Fault::Kill(place),
@@ -232,18 +232,18 @@ fn ease(scenario: &mut Scenario) {
 }
 
 /// The scenario of that number.
-pub fn drawn(alloc: Global, seed: u64) -> Result<Scenario, AllocError> {
+pub fn draw(alloc: Global, seed: u64) -> Result<Scenario, AllocError> {
     let mut dice = Dice::new(seed);
     let members = members(&mut dice);
-    let wire = drawn_wire(&mut dice);
-    let rest = drawn_rest(&mut dice);
+    let wire = draw_wire(&mut dice);
+    let rest = draw_rest(&mut dice);
     let mut steps = Vec::new(alloc);
     let count = dice.below(30);
     let longest = dice.between(30, 900);
     let mut at = dice.between(1, 2_000);
     for _ in 0..count {
         at = at.saturating_add(dice.between(1, longest));
-        let fault = drawn_fault(&mut dice, u64::from(members));
+        let fault = draw_fault(&mut dice, u64::from(members));
         steps.push(Step { at, fault })?;
     }
     let tick = u32::try_from(dice.between(50, 1_000)).unwrap_or(1_000);

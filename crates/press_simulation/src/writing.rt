@@ -11,7 +11,7 @@ struct Parts {
     second: Option<u64>,
 }
 
-fn spelled(word: &'static str, first: Option<u64>, second: Option<u64>) -> Parts {
+fn spell(word: &'static str, first: Option<u64>, second: Option<u64>) -> Parts {
     Parts {
         word,
         first,
@@ -25,21 +25,21 @@ fn member(place: usize) -> Option<u64> {
 
 fn parts_of(fault: Fault) -> Parts {
     match fault {
-        Fault::Kill(place) => spelled("kill", member(place), None),
-        Fault::Start { place, stops } => spelled("start", member(place), stops),
-        Fault::Fill { place, room } => spelled("fill", member(place), Some(room)),
-        Fault::Room(place) => spelled("room", member(place), None),
-        Fault::Foreign(place) => spelled("foreign", member(place), None),
-        Fault::Cut { from, to } => spelled("cut", member(from), member(to)),
-        Fault::Give { place, to } => spelled("give", member(place), member(to)),
-        Fault::Part(side) => spelled("part", Some(side), None),
-        Fault::Heal => spelled("heal", None, None),
-        Fault::Pause { place, millis } => spelled("pause", member(place), Some(millis)),
-        Fault::Jump { place, millis } => spelled("jump", member(place), Some(millis)),
-        Fault::Lie { place, more } => spelled("lie", member(place), Some(more)),
-        Fault::Burst { place, count } => spelled("burst", member(place), Some(count)),
-        Fault::Outage => spelled("outage", None, None),
-        Fault::Everywhere => spelled("all", None, None),
+        Fault::Kill(place) => spell("kill", member(place), None),
+        Fault::Start { place, stops } => spell("start", member(place), stops),
+        Fault::Fill { place, room } => spell("fill", member(place), Some(room)),
+        Fault::Room(place) => spell("room", member(place), None),
+        Fault::Foreign(place) => spell("foreign", member(place), None),
+        Fault::Cut { from, to } => spell("cut", member(from), member(to)),
+        Fault::Give { place, to } => spell("give", member(place), member(to)),
+        Fault::Part(side) => spell("part", Some(side), None),
+        Fault::Heal => spell("heal", None, None),
+        Fault::Pause { place, millis } => spell("pause", member(place), Some(millis)),
+        Fault::Jump { place, millis } => spell("jump", member(place), Some(millis)),
+        Fault::Lie { place, more } => spell("lie", member(place), Some(more)),
+        Fault::Burst { place, count } => spell("burst", member(place), Some(count)),
+        Fault::Outage => spell("outage", None, None),
+        Fault::Everywhere => spell("all", None, None),
     }
 }
 

@@ -49,7 +49,7 @@ impl<L: SiteLink + Drop> Machine<L> {
         }
         if is_built_in(id.as_bytes()) {
             let begun = self.open_built_in(room - 1, id, &callback.call)?;
-            return Ok(begun.opened());
+            return Ok(begun.into_opened());
         }
         callback.room = room - 1;
         callback.left = FUEL;

@@ -93,6 +93,6 @@ impl<L: SiteLink + Drop> Machine<L> {
         let args = fire.args.copy()?;
         let begun = self.begin_action(fires.room, &fire.hook, args)?;
         fires.done += 1;
-        Ok(begun.awaited())
+        Ok(begun.into_step())
     }
 }

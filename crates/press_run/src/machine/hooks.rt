@@ -103,7 +103,7 @@ impl<L: SiteLink + Drop> Machine<L> {
                     run.take(text)?;
                 }
                 Some(opened) => {
-                    let moved = opened.awaited(alloc, callback)?;
+                    let moved = opened.into_moved(alloc, callback)?;
                     return Ok(moved);
                 }
             }

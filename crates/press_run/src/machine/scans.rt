@@ -105,7 +105,7 @@ impl<L: SiteLink + Drop> Machine<L> {
                 let mut callback = OpenCallback::on(call);
                 let opened = self.begin_shortcode(kit, scan.room, &mut callback)?;
                 scan.filtering = filtering;
-                Ok(opened.awaited(alloc, callback)?)
+                Ok(opened.into_moved(alloc, callback)?)
             }
             ScanStep::End => {
                 let text = scan.finish(self.counts.allocator())?;
@@ -130,7 +130,7 @@ impl<L: SiteLink + Drop> Machine<L> {
             unreachable!()
         };
         let begun = self.begin_filter(scan.room, answer, tag)?;
-        Ok(Moved::By(begun.awaited()))
+        Ok(Moved::By(begun.into_step()))
     }
 
     // The filter: its callbacks see the answer as their value and the tag as their second argument;

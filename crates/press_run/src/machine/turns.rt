@@ -72,17 +72,17 @@ impl<L: SiteLink + Drop> Machine<L> {
             Turn::Apply { hook, texts } => {
                 let begun = self.begin(room, Kind::Filter, &hook, texts);
                 drop(hook);
-                Ok(begun?.awaited())
+                Ok(begun?.into_step())
             }
             Turn::Do { hook, texts } => {
                 let begun = self.begin_action(room, &hook, texts);
                 drop(hook);
-                Ok(begun?.awaited())
+                Ok(begun?.into_step())
             }
-            Turn::Shortcodes(text) => Ok(self.begin_scan(room, text)?.awaited()),
+            Turn::Shortcodes(text) => Ok(self.begin_scan(room, text)?.into_step()),
             Turn::SetOption { name, value } => {
                 let effect = Some(Effect::SetOption { name, value });
-                Ok(self.begin_change(room, effect)?.awaited())
+                Ok(self.begin_change(room, effect)?.into_step())
             }
             Turn::Schedule {
                 after,
@@ -96,13 +96,13 @@ impl<L: SiteLink + Drop> Machine<L> {
                     hook,
                     arg,
                 };
-                let effect = event.scheduled(self.site.site().now());
-                Ok(self.begin_change(room, effect)?.awaited())
+                let effect = event.effect(self.site.site().now());
+                Ok(self.begin_change(room, effect)?.into_step())
             }
             Turn::Publish(id) => {
                 let effect = links::publishes(&id, self.site.site().now());
                 drop(id);
-                Ok(self.begin_change(room, effect)?.awaited())
+                Ok(self.begin_change(room, effect)?.into_step())
             }
             _ => self.do_hook_edit(callback, turn),
         }

@@ -9,4 +9,4 @@ pub returns-in-Err : goal.returns-in-Err
 returns-in-Err c =
     let words = c.args.words.now in
     let some : (length (map string_bytes words) == 0) ≡ false = ap (λ k. k == 0) (length-map words string_bytes) ∙ sym c.is_empty.ensures ∙ c.if-is_empty.false in
-    IfOk-weaker c.untold.result _ _ (λ a h. ap (option_map (λ a. asked_of a)) h.0 ∙ sym (asked_nothing (map string_bytes words) c.in-Err.e some c.in-Err.ensures.kinds h.1)) c.untold.ensures
+    IfOk-weaker c.no_arguments.result _ _ (λ a h. ap (option_map (λ a. asked_of a)) h.0 ∙ sym (asked_nothing (map string_bytes words) c.in-Err.e some c.in-Err.ensures.kinds h.1)) c.no_arguments.ensures

@@ -28,7 +28,7 @@ returns-then-is_built_in-clause-begins g c =
     let new = standing g.L.SiteLink.view g.L.SiteLink.fixed c.open_built_in.new.self in
     let own : is_built_in c.args.id ≡ true = ap is_built_in (sym c.as_bytes.ensures.value) ∙ sym c.is_built_in.ensures ∙ c.if-is_built_in.true in
     let room : 0 < c.args.room = omega arith in
-    rw c.opened.ensures (opens_built_in g.L.SiteLink.changes k c.args.room c.args.id c.args.callback.now.call old new room own c.args.callback.now c.in_ok-begun.begun (c.in_ok-begun.ensures.begins k))
+    rw c.into_opened.ensures (opens_built_in g.L.SiteLink.changes k c.args.room c.args.id c.args.callback.now.call old new room own c.args.callback.now c.in_ok-begun.begun (c.in_ok-begun.ensures.begins k))
 
 pub turns-requires : goal.turns-requires
 turns-requires g c = omega (arith, c.requires)

@@ -15,5 +15,5 @@ returns-in_err-begun-clause-steps g c = λ scripts.
 
 pub returns-clause-steps : goal.returns-clause-steps
 returns-clause-steps g c = λ scripts.
-    rw c.awaited.ensures (fire_starts g.L.SiteLink.changes scripts c.args.fires.now (standing g.L.SiteLink.view g.L.SiteLink.fixed c.args.self.now)
+    rw c.into_step.ensures (fire_starts g.L.SiteLink.changes scripts c.args.fires.now (standing g.L.SiteLink.view g.L.SiteLink.fixed c.args.self.now)
     c.in-Some.fire.now c.in_ok-args.args (rw c.in-Some.is at c.next.ensures.fire) c.in_ok-args.ensures (standing g.L.SiteLink.view g.L.SiteLink.fixed c.begin_action.new.self) c.in_ok-begun.begun (c.in_ok-begun.ensures.begins scripts))

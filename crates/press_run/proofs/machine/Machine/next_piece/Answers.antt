@@ -20,7 +20,7 @@ returns-in_err-opened-in-Call-clause-steps g c =
     rw (p.1, p.2) (call_stops c.computes_first.ensures.some c.computes_first.ensures.none c.ends_within.ensures g.L.SiteLink.changes (g.K.Callbacks.scripts c.args.kit.now) c.args.scan.now (standing g.L.SiteLink.view g.L.SiteLink.fixed c.args.self.now) (sym c.is_short.ensures ∙ c.if-not-is_short.false) c.requires.goes_on c.requires.off c.step.new.self c.in-Call.shortcode (rw c.in-Call.is at c.in_ok-step.ensures.steps)
     c.text-text.result.now c.text-text.ensures c.in_ok-filtering-in-Call.filtering c.in_ok-filtering-in-Call.ensures.filtering c.on-callback.result.call c.in_err-opened-in-Call.field-0.0 (c.on-callback.ensures ∙ c.in_ok-call-in-Call.ensures) c.in_err-opened-in-Call.ensures.begins)
 
-pub returns-in_ok-awaited-in-Call-clause-steps : goal.returns-in_ok-awaited-in-Call-clause-steps
-returns-in_ok-awaited-in-Call-clause-steps g c =
-    rw c.in_ok-awaited-in-Call.ensures (call_begins c.computes_first.ensures.some c.computes_first.ensures.none c.ends_within.ensures g.L.SiteLink.changes (g.K.Callbacks.scripts c.args.kit.now) c.args.scan.now (standing g.L.SiteLink.view g.L.SiteLink.fixed c.args.self.now) (sym c.is_short.ensures ∙ c.if-not-is_short.false) c.requires.goes_on c.requires.off c.step.new.self c.in-Call.shortcode (rw c.in-Call.is at c.in_ok-step.ensures.steps)
+pub returns-in_ok-into_moved-in-Call-clause-steps : goal.returns-in_ok-into_moved-in-Call-clause-steps
+returns-in_ok-into_moved-in-Call-clause-steps g c =
+    rw c.in_ok-into_moved-in-Call.ensures (call_begins c.computes_first.ensures.some c.computes_first.ensures.none c.ends_within.ensures g.L.SiteLink.changes (g.K.Callbacks.scripts c.args.kit.now) c.args.scan.now (standing g.L.SiteLink.view g.L.SiteLink.fixed c.args.self.now) (sym c.is_short.ensures ∙ c.if-not-is_short.false) c.requires.goes_on c.requires.off c.step.new.self c.in-Call.shortcode (rw c.in-Call.is at c.in_ok-step.ensures.steps)
     c.text-text.result.now c.text-text.ensures c.in_ok-filtering-in-Call.filtering c.in_ok-filtering-in-Call.ensures.filtering c.on-callback.result.call (standing g.L.SiteLink.view g.L.SiteLink.fixed c.begin_shortcode.new.self) c.begin_shortcode.new.callback c.in_ok-opened-in-Call.opened (c.on-callback.ensures ∙ c.in_ok-call-in-Call.ensures) c.in_ok-opened-in-Call.ensures.begins)
