@@ -58,6 +58,10 @@ is_empty (x ∷ xs) = false
 abbrev pub length_for : ℕ → List ℕ → List (List ℕ × List ℕ) → Result ℕ HttpFault
 length_for most method fields = if bytes_eq method (codes "POST") then length_by most (values_of (codes "Content-Length") fields) else Ok 0
 
+-- of a request that has to have a body, whatever its target
+abbrev pub posted_length : ℕ → List (List ℕ × List ℕ) → Result ℕ HttpFault
+posted_length most fields = if is_empty (values_of (codes "Transfer-Encoding") fields) then length_by most (values_of (codes "Content-Length") fields) else Err NotDone
+
 unfoldable pub body_length : List ℕ → List ℕ → List (List ℕ × List ℕ) → Result ℕ HttpFault
 body_length method target fields =
     if starts_with_slash target

@@ -5,7 +5,7 @@ ghost use Rattle.std.specs.List.{list_all, before_first};
 ghost use Rattle.std.specs.Char.{is_ascii_digit};
 ghost use Rattle.std.specs.Str.Parse.{digits_value};
 ghost use Rattle.httparse.specs.Spans.{IsHeaderWithin, header_bytes};
-ghost use Rattle.press_http.specs.Bodies.{AreValues, are_digits, body_length, is_empty, is_named, length_by, length_in, most_body, starts_with_slash, values_of};
+ghost use Rattle.press_http.specs.Bodies.{AreValues, are_digits, body_length, is_empty, is_named, length_by, length_in, most_body, posted_length, starts_with_slash, values_of};
 
 use crate::fault::HttpFault;
 use httparse::spans::HeaderSpan;
@@ -150,6 +150,17 @@ fn told_length(buf: &[u8], fields: &[HeaderSpan], most: u64) -> Result<usize, Ht
         (map (header_bytes buf.now) fields.now)) }
 {
     length_by(values_of(buf, fields, "Content-Length"), most)
+}
+
+/// How many bytes of body a request has that has to have one, where so many are taken at most.
+pub fn posted_length(buf: &[u8], fields: &[HeaderSpan], most: u64) -> Result<usize, HttpFault>
+    requires { All (IsHeaderWithin (length buf.now)) fields.now }
+    ensures { result ≡ posted_length most (map (header_bytes buf.now) fields.now) }
+{
+    if has_coding(buf, fields) {
+        return Err(HttpFault::NotDone);
+    }
+    told_length(buf, fields, most)
 }
 
 fn starts_with_slash(target: &[u8]) -> bool

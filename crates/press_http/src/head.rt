@@ -16,8 +16,8 @@ use std::alloc::Global;
 /// How many fields a head may have.
 pub const MOST_FIELDS: usize = 32;
 
-// How long a head may be.
-const LONGEST_HEAD: usize = 8192;
+/// How long a head may be.
+pub const LONGEST_HEAD: usize = 8192;
 
 // One look at the bytes that came so far.
 fn look(buf: &[u8], headers: &mut [HeaderSpan]) -> Result<Option<RequestSpans>, HttpFault>

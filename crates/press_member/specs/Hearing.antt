@@ -8,9 +8,9 @@ use Rattle.press_member.specs.declared.peers.Peer.{Peer}
 abbrev pub after_hearing : ℕ → Peer → Peer
 after_hearing now peer = if peer.is_foreign then peer else record { heard = Some now; told = peer.told; asked = peer.asked; is_foreign = peer.is_foreign }
 
--- behind its report that so many slots are chosen; what a foreign one says is passed over
+-- behind its report that so many slots are chosen; a foreign one is unheard, whatever it said before
 abbrev pub after_report : Bool → ℕ → ℕ → Peer → Peer
-after_report true chosen now peer = record { heard = peer.heard; told = peer.told; asked = peer.asked; is_foreign = true }
+after_report true chosen now peer = record { heard = None; told = None; asked = peer.asked; is_foreign = true }
 after_report false chosen now peer = record { heard = Some now; told = Some (record { chosen = chosen; at = now }); asked = peer.asked; is_foreign = false }
 
 -- so many fewer looks and questions are on their way to it

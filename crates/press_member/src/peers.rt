@@ -70,12 +70,15 @@ impl Peer {
         }
     }
 
-    // It says how far it is, or is foreign.
+    // It says how far it is, or is foreign, and so unheard.
     fn note(&mut self, is_foreign: bool, chosen: u64, now: u64)
         ensures { self.new ≡ after_report is_foreign chosen now self.old }
     {
         self.is_foreign = is_foreign;
-        if !is_foreign {
+        if is_foreign {
+            self.heard = None;
+            self.told = None;
+        } else {
             self.heard = Some(now);
             self.told = Some(Told { chosen, at: now });
         }

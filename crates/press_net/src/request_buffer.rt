@@ -100,10 +100,19 @@ fn word(bytes: &[u8]) -> (&str, &[u8]) {
     }
 }
 
+// What is behind the empty lines that may come before a request (RFC 9112, 2.2).
+fn behind_empty_lines(bytes: &[u8]) -> &[u8] {
+    let count = bytes
+        .iter()
+        .position(|b| *b != b'\r' && *b != b'\n')
+        .unwrap_or(bytes.len());
+    &bytes[count..]
+}
+
 /// The method and the target of a request, as far as its first line has such words, and `-` for one
 /// that it lacks.
 pub fn words_of(bytes: &[u8]) -> (&str, &str) {
-    let (method, rest) = word(bytes);
+    let (method, rest) = word(behind_empty_lines(bytes));
     let (target, _) = match rest {
         [_, rest @ ..] => word(rest),
         [] => ("-", rest),

@@ -180,8 +180,11 @@ impl<S: PromiseStore> Alone<'_, S> {
         ensures { self.new.node ≡ self.old.node }
     {
         self.counts.note(replied);
-        if matches!(replied, Ok(REFUSED)) {
-            self.line = line_about(self.alloc, self.options, self.time.seconds, request);
+        if !matches!(replied, Ok(REFUSED)) {
+            return;
+        }
+        if let Some(line) = line_about(self.alloc, self.options, self.time.seconds, request) {
+            self.line = Some(line);
         }
     }
 

@@ -165,8 +165,11 @@ impl<S: PromiseStore> Clustered<'_, S> {
         ensures { self.new.member ≡ self.old.member }
     {
         self.counts.note(replied);
-        if matches!(replied, Ok(REFUSED)) {
-            self.line = line_about(self.alloc, self.options, self.time.seconds, request);
+        if !matches!(replied, Ok(REFUSED)) {
+            return;
+        }
+        if let Some(line) = line_about(self.alloc, self.options, self.time.seconds, request) {
+            self.line = Some(line);
         }
     }
 

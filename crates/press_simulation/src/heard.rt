@@ -130,6 +130,12 @@ impl Ear {
         }
     }
 
+    fn lose(&mut self, other: usize) {
+        if let Some(word) = self.words.get_mut(other) {
+            *word = Word::none();
+        }
+    }
+
     fn count_near(&self, now: u64) -> usize {
         let mut count: usize = 0;
         for word in self.words.iter() {
@@ -198,6 +204,13 @@ impl Heard {
             ear.hear(other, now);
             ear.note(other, chosen, now);
             ear.is_known |= ear.count_told(now) >= most;
+        }
+    }
+
+    /// Another turns out to be of another cluster: what a member heard of it before counts no more.
+    pub fn lose(&mut self, member: usize, other: usize) {
+        if let Some(ear) = self.ears.get_mut(member) {
+            ear.lose(other);
         }
     }
 

@@ -71,6 +71,8 @@ impl<A: Actor> World<A> {
         if is_ours {
             self.heard
                 .be_told(label.from, label.to, report.chosen, self.now);
+        } else {
+            self.heard.lose(label.from, label.to);
         }
         let right = if is_ours {
             Answer::Taken
