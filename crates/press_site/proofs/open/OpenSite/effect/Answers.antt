@@ -10,8 +10,8 @@ use Rattle.press_site.proofs.Noted.{may_of}
 use Rattle.press_site.proofs.Unchanged.{done_stays}
 use Rattle.press_site.proofs.open.OpenSite.effect.Goals as goal
 
-pub noted-requires : goal.noted-requires
-noted-requires c = may_of c.change-done.result c.wants_events-wants.result c.change-done.new.self c.self.inside.site c.change-done.ensures.back
+pub note-requires : goal.note-requires
+note-requires c = may_of c.change-done.result c.wants_events-wants.result c.change-done.new.self c.self.inside.site c.change-done.ensures.back
 
 pub invariant_of-self : goal.invariant_of-self
 invariant_of-self c =
