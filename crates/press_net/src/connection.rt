@@ -362,7 +362,8 @@ impl Connection {
         ensures { A.becomes answers.old answers.new }
     {
         match self.gather() {
-            Ok(true) if self.is_resting() => {
+            // Whoever leaves now, or is lost, has no request that could fail.
+            Ok(true) | Err(_) if self.is_resting() => {
                 self.phase = Phase::Over;
                 false
             }
