@@ -42,9 +42,9 @@ pub returns-in_ok-begin_change-in-Schedule-clause-steps : goal.returns-in_ok-beg
 returns-in_ok-begin_change-in-Schedule-clause-steps g c = λ scripts.
     let m = at_depth g.L.SiteLink.changes c.args.callback.now.room scripts in
     let old = standing g.L.SiteLink.view g.L.SiteLink.fixed c.args.self.now in
-    let e = c.scheduled-effect.ensures ∙ ap (schedules c.in-Schedule.after c.in-Schedule.every c.in-Schedule.hook c.in-Schedule.arg) (c.now.ensures ∙ ap (λ (s : SiteView). s.moment) c.site.ensures) in
-    rw c.into_step-in-Schedule.ensures (asks g.L.SiteLink.changes scripts c.args.callback.now old c.args.turn (change_site g.L.SiteLink.changes m (state_of old) c.scheduled-effect.result) (2 ^ 66) (standing g.L.SiteLink.view g.L.SiteLink.fixed c.begin_change-in-Schedule.new.self) c.in_ok-begin_change-in-Schedule.field-0
-    (schedule_comes g.L.SiteLink.changes scripts c.args.callback.now old c.args.turn c.in-Schedule.after c.in-Schedule.every c.in-Schedule.hook c.in-Schedule.arg c.scheduled-effect.result c.in-Schedule.is e) (omega arith) c.requires.few (c.in_ok-begin_change-in-Schedule.ensures.begins scripts))
+    let e = c.effect-effect.ensures ∙ ap (schedules c.in-Schedule.after c.in-Schedule.every c.in-Schedule.hook c.in-Schedule.arg) (c.now.ensures ∙ ap (λ (s : SiteView). s.moment) c.site.ensures) in
+    rw c.into_step-in-Schedule.ensures (asks g.L.SiteLink.changes scripts c.args.callback.now old c.args.turn (change_site g.L.SiteLink.changes m (state_of old) c.effect-effect.result) (2 ^ 66) (standing g.L.SiteLink.view g.L.SiteLink.fixed c.begin_change-in-Schedule.new.self) c.in_ok-begin_change-in-Schedule.field-0
+    (schedule_comes g.L.SiteLink.changes scripts c.args.callback.now old c.args.turn c.in-Schedule.after c.in-Schedule.every c.in-Schedule.hook c.in-Schedule.arg c.effect-effect.result c.in-Schedule.is e) (omega arith) c.requires.few (c.in_ok-begin_change-in-Schedule.ensures.begins scripts))
 
 pub returns-in_ok-begin_change-in-Publish-clause-steps : goal.returns-in_ok-begin_change-in-Publish-clause-steps
 returns-in_ok-begin_change-in-Publish-clause-steps g c = λ scripts.
