@@ -1,5 +1,5 @@
 -- Deeds of a member, one after the other.
-use Rattle.std.proofs.Common.{ℕ, suc, ◌+◌, ◌≡◌, ◌==◌, not, List, [], ◌∷◌, ◌++◌, Option, Some, inl, inr, IsTrue, true, false, drop, length, slice_get, refl, sym, subst, ap, ◌∙◌, append-nil, append_assoc, arith}
+use Rattle.std.proofs.Common.{ℕ, suc, ◌+◌, ◌<◌, ◌≤◌, ◌≡◌, ◌==◌, not, List, [], ◌∷◌, ◌++◌, Option, Some, inl, inr, IsTrue, true, false, drop, length, slice_get, refl, sym, subst, ap, ◌∙◌, append-nil, append_assoc, arith}
 use Rattle.std.proofs.lemmas.List.{length-append}
 use Rattle.std.proofs.lemmas.List.Elements.{filter-append}
 use Rattle.press_wire.specs.declared.message.Message.{Message}
@@ -47,24 +47,30 @@ pub hears_none : {N : Type 0} → HearsMany {N = N} 0 []
 hears_none = record { are = tt; many = refl }
 
 -- where memory was wanting for what the last one sends, nothing more is said
-pub hears_to : {N : Type 0} (id : ℕ) (own : List Message) (count : ℕ) (ds es : List (Deed N)) → HearsMany count ds → HearsMany 1 es → HearsAll id (IsTrue false) own (ds ++ es)
-hears_to id own count ds es h k = record { are = deeds_for (Some Heard) ds es h.are k.are; all = λ w. absurd (let f = w in cc) }
+pub hears_to : {N : Type 0} (id : ℕ) (own : List Message) (count : ℕ) → count < 1000 → (ds es : List (Deed N)) → HearsMany count ds → HearsMany 1 es → HearsAll id (IsTrue false) own (ds ++ es)
+unfolding Rattle.press_member.specs.Turns.most_own
+hears_to id own count within ds es h k = record {
+  are = deeds_for (Some Heard) ds es h.are k.are;
+  few = omega (arith, within, length-append ds es, h.many, k.many);
+  all = λ w. absurd (let f = w in cc);
+}
 
 none_left : (xs : List Message) → xs ≡ drop 1 xs → xs ≡ []
 none_left [] e = refl
 none_left (x ∷ xs) e = let f : suc (length xs) ≡ length xs = ap length e in absurd (omega (arith, f))
 
 -- nothing waits any more
-pub hears_out : {N : Type 0} (id : ℕ) (own : List Message) (count : ℕ) (ds : List (Deed N)) → own_after_all id own ds ≡ [] → HearsMany count ds → HearsAll id (IsTrue true) own ds
-hears_out id own count ds none h = record { are = h.are; all = λ w. inl none }
+pub hears_out : {N : Type 0} (id : ℕ) (own : List Message) (count : ℕ) → count ≤ 1000 → (ds : List (Deed N)) → own_after_all id own ds ≡ [] → HearsMany count ds → HearsAll id (IsTrue true) own ds
+unfolding Rattle.press_member.specs.Turns.most_own
+hears_out id own count within ds none h = record { are = h.are; few = omega (arith, within, h.many); all = λ w. inl none }
 
 -- as many were heard as may be
 pub hears_most : {N : Type 0} (id : ℕ) (own : List Message) (count : ℕ) (ds : List (Deed N)) → count ≡ 1000 → HearsMany count ds → HearsAll id (IsTrue true) own ds
 unfolding Rattle.press_member.specs.Turns.most_own
-hears_most id own count ds most h = record { are = h.are; all = λ w. inr (h.many ∙ most) }
+hears_most id own count ds most h = record { are = h.are; few = omega (arith, most, h.many); all = λ w. inr (h.many ∙ most) }
 
 pub hears_first : {N : Type 0} (id : ℕ) (V X : Type 0) (own : List Message) → (X → V) → (ds es : List (Deed N)) → HearsAll id V own ds → MayWake es → HearsFirst id X own (ds ++ es)
-hears_first id V X own v ds es h k = record { heard = ds; more = es; are = refl; hears = record { are = h.are; all = λ x. h.all (v x) }; wakes = k }
+hears_first id V X own v ds es h k = record { heard = ds; more = es; are = refl; hears = record { are = h.are; few = h.few; all = λ x. h.all (v x) }; wakes = k }
 
 pub hears_only : {N : Type 0} (id : ℕ) (W : Type 0) (own : List Message) (ds : List (Deed N)) → HearsAll id W own ds → HearsFirst id W own ds
 hears_only id W own ds h = record { heard = ds; more = []; are = sym (append-nil ds); hears = h; wakes = no_wake }
@@ -174,15 +180,15 @@ module _ {N : Type 0} (moved : N → N → NodeMove) (n id : ℕ) where
   }
 
   -- nothing waits any more
-  pub heard_out : (count : ℕ) (a b c : Moment N) (out out' : List Message) → Turned moved n id (HearsMany count) (IsTrue true) a b out out' → c.node ≡ b.node → c.stop ≡ b.stop → b.own ≡ c.own → b.own ≡ drop 1 b.own →
+  pub heard_out : (count : ℕ) → count ≤ 1000 → (a b c : Moment N) (out out' : List Message) → Turned moved n id (HearsMany count) (IsTrue true) a b out out' → c.node ≡ b.node → c.stop ≡ b.stop → b.own ≡ c.own → b.own ≡ drop 1 b.own →
       Turned moved n id (HearsAll id (IsTrue true) a.own) (IsTrue true) a c out out'
-  heard_out count a b c out out' t node stop own none = record {
+  heard_out count within a b c out out' t node stop own none = record {
     deeds = t.deeds;
     does = subst (λ x. Does moved n id a.own a.node t.deeds x) (sym node) t.does;
     own_is = sym own ∙ t.own_is;
     stop_is = stop ∙ t.stop_is;
     out_is = t.out_is;
-    kind = hears_out id a.own count t.deeds (sym t.own_is ∙ none_left b.own none) t.kind;
+    kind = hears_out id a.own count within t.deeds (sym t.own_is ∙ none_left b.own none) t.kind;
     whole = t.whole;
   }
 

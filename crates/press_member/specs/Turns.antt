@@ -38,6 +38,7 @@ most_own = 1000
 -- the most.
 pub record HearsAll {N : Type 0} (id : ℕ) (Whole : Type 0) (own : List Message) (deeds : List (Deed N)) : Type 0 where
   pub are : AreFor (Some Heard) deeds
+  pub few : length deeds ≤ most_own
   pub all : Whole → (own_after_all id own deeds ≡ []) ⊎ (length deeds ≡ most_own)
 
 -- and then a wake may be due

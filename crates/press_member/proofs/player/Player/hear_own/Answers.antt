@@ -26,7 +26,7 @@ loop-count-preserved g c = record {
 
 pub returns-in-None-clause-turned : goal.returns-in-None-clause-turned
 returns-in-None-clause-turned g c = λ n.
-    heard_out (λ a b. node_moved g.S.PromiseStore.seen a b) n c.args.self.now.id c.loop-count.count (moment_of c.args.self.now) (moment_of c.loop-count.self) _ c.args.out.now.items c.loop-count.out.items (c.loop-count.invariant.turned n) refl refl c.in-None.ensures.items (c.in-None.ensures.items ∙ c.in-None.ensures.rest)
+    heard_out (λ a b. node_moved g.S.PromiseStore.seen a b) n c.args.self.now.id c.loop-count.count (omega (arith, c.loop-count-test.true)) (moment_of c.args.self.now) (moment_of c.loop-count.self) _ c.args.out.now.items c.loop-count.out.items (c.loop-count.invariant.turned n) refl refl c.in-None.ensures.items (c.in-None.ensures.items ∙ c.in-None.ensures.rest)
 
 pub returns-clause-turned : goal.returns-clause-turned
 returns-clause-turned g c = λ n.
@@ -39,4 +39,4 @@ returns-in_err-play-in-Some-clause-turned g c =
     turns_on (λ a b. node_moved g.S.PromiseStore.seen a b) n c.args.self.now.id (HearsMany c.loop-count.count) (HearsMany 1) (HearsAll c.args.self.now.id (IsTrue false) c.args.self.now.own.items) (IsTrue true) (IsTrue false) (IsTrue false) (moment_of c.args.self.now) (moment_of c.loop-count.self) (moment_of c.play.new.self) c.args.out.now.items c.loop-count.out.items c.play.new.out.items
     (c.loop-count.invariant.turned n) c.loop-count.self.id c.loop-count.invariant.id
     (heard (λ a b. node_moved g.S.PromiseStore.seen a b) n c.loop-count.self.id c.in-Some.message _ (IsTrue false) (moment_of c.loop-count.self) _ (moment_of c.play.new.self) c.loop-count.out.items c.play.new.out.items c.in-Some.ensures.items refl refl c.in_err-play-in-Some.ensures.deed)
-    (hears_to c.args.self.now.id c.args.self.now.own.items c.loop-count.count) (λ w. refl) (λ w. w))
+    (hears_to c.args.self.now.id c.args.self.now.own.items c.loop-count.count (omega (arith, c.loop-count-test.true))) (λ w. refl) (λ w. w))
