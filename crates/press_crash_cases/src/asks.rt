@@ -1,6 +1,6 @@
 //! What is asked of a store, and the lines of the answers.
 
-use crate::lines::{block_line, fault_line};
+use crate::kept::block_in;
 use crate::numbered::{promise_of, vote_of};
 use crate::words::number_behind;
 use press_acceptor::{PromiseStore, StoreFault};
@@ -8,7 +8,6 @@ use press_store::{Owner, SqlStore, Tie};
 use press_wire::{MemberId, Round, Slot};
 use sqlite::Alter;
 use std::alloc::{AllocError, Global};
-use std::io::Write;
 
 #[derive(Clone, Copy)]
 enum Ask {
@@ -27,7 +26,7 @@ enum Ask {
 }
 
 // The member of that number, count and digest; `none` is a node by itself.
-fn asking_in(word: &str) -> Option<Option<Owner>> {
+fn owner_in(word: &str) -> Option<Option<Owner>> {
     if word == "none" {
         return Some(None);
     }
@@ -61,7 +60,7 @@ impl Ask {
             return Some(Ask::Load(number));
         }
         if let Some(rest) = word.strip_prefix("own=") {
-            return Some(Ask::Tie(asking_in(rest)?));
+            return Some(Ask::Tie(owner_in(rest)?));
         }
         if let Some(rest) = word.strip_prefix("promise=") {
             let (slot, round) = numbers_in(rest)?;
@@ -70,6 +69,16 @@ impl Ask {
         let (slot, round) = numbers_in(word.strip_prefix("save=")?)?;
         Some(Ask::Save(slot, round))
     }
+}
+
+/// The member that the first of these words asks the file for.
+pub fn owner_among(words: &[&str]) -> Option<Owner> {
+    for word in words.iter() {
+        if let Some(rest) = word.strip_prefix("own=") {
+            return owner_in(rest)?;
+        }
+    }
+    None
 }
 
 fn save<S: PromiseStore>(store: &mut S, slot: u32, round: u64) -> Result<(), StoreFault> {
@@ -93,90 +102,64 @@ fn save_round<S: PromiseStore>(store: &mut S, round: u64) -> Result<(), StoreFau
     }
 }
 
-// The line of what is kept of the block of a slot.
-fn load_line<S: PromiseStore>(
-    alloc: Global,
-    store: &mut S,
-    slot: u32,
-) -> Result<String, AllocError> {
-    let Some(slot) = Slot::new(slot) else {
-        return format!(in alloc; "no slot {slot}\n");
-    };
-    let first = slot.first();
-    match store.load(first) {
-        Ok(block) => block_line(alloc, first, &block),
-        Err(fault) => fault_line(alloc, fault),
-    }
-}
-
 fn vote_line(alloc: Global, last: Option<Slot>) -> Result<String, AllocError> {
     match last {
         Some(slot) => {
             let slot = slot.number();
-            format!(in alloc; "last vote in slot {slot}\n")
+            format!(in alloc; "last vote in slot {slot}")
         }
-        None => format!(in alloc; "no slot has a vote\n"),
+        None => String::from_str(alloc, "no slot has a vote"),
     }
 }
 
-fn tie_line(alloc: Global, tie: Tie) -> Result<String, AllocError> {
+fn tie_line(tie: Tie) -> &'static str {
     match tie {
-        Tie::Own => format!(in alloc; "the file is its own\n"),
-        Tie::Taken => format!(in alloc; "the file is taken\n"),
-        Tie::Foreign => format!(in alloc; "the file is another's\n"),
+        Tie::Own => "the file is its own",
+        Tie::Taken => "the file is taken",
+        Tie::Foreign => "the file is another's",
     }
 }
 
-// The line of the answer.
-fn answer_line<D: Alter>(
+// The answer; what is saved is said to be.
+fn answer<D: Alter>(
     alloc: Global,
     store: &mut SqlStore<D>,
     ask: Ask,
-) -> Result<String, AllocError> {
-    match ask {
-        Ask::LastVote => match store.last_vote() {
-            Ok(last) => vote_line(alloc, last),
-            Err(fault) => fault_line(alloc, fault),
-        },
-        Ask::LastRound => match store.last_round() {
-            Ok(round) => format!(in alloc; "last round {round}\n"),
-            Err(fault) => fault_line(alloc, fault),
-        },
-        Ask::SaveRound(round) => match save_round(store, round) {
-            Ok(()) => format!(in alloc; "round {round} is saved\n"),
-            Err(fault) => fault_line(alloc, fault),
-        },
-        Ask::Load(slot) => load_line(alloc, store, slot),
-        Ask::Promise(slot, round) => match promise(store, slot, round) {
-            Ok(()) => format!(in alloc; "the block of slot {slot} is promised\n"),
-            Err(fault) => fault_line(alloc, fault),
-        },
-        Ask::Tie(asking) => match store.tie(asking) {
-            Ok(tie) => tie_line(alloc, tie),
-            Err(fault) => fault_line(alloc, fault),
-        },
-        Ask::Save(slot, round) => match save(store, slot, round) {
-            Ok(()) => format!(in alloc; "slot {slot} is saved\n"),
-            Err(fault) => fault_line(alloc, fault),
-        },
-    }
+) -> Result<String, StoreFault> {
+    let text = match ask {
+        Ask::LastVote => vote_line(alloc, store.last_vote()?),
+        Ask::LastRound => {
+            let round = store.last_round()?;
+            format!(in alloc; "last round {round}")
+        }
+        Ask::SaveRound(round) => {
+            save_round(store, round)?;
+            format!(in alloc; "round {round} is saved")
+        }
+        Ask::Load(slot) => return block_in(alloc, store, slot),
+        Ask::Promise(slot, round) => {
+            promise(store, slot, round)?;
+            format!(in alloc; "the block of slot {slot} is promised")
+        }
+        Ask::Tie(asking) => String::from_str(alloc, tie_line(store.tie(asking)?)),
+        Ask::Save(slot, round) => {
+            save(store, slot, round)?;
+            format!(in alloc; "slot {slot} is saved")
+        }
+    };
+    Ok(text?)
 }
 
-/// Asks by each word in turn: `last`, `vote`, `round=N`, `load=SLOT`, `promise=SLOT:ROUND`,
-/// `save=SLOT:ROUND`, `own=NUMBER:MEMBERS:PEERS`, `own=none`.
-pub fn ask_all<D: Alter>(
-    rt: &HostRuntime,
+/// Asks by a word, and returns the answer: `last`, `vote`, `round=N`, `load=SLOT`,
+/// `promise=SLOT:ROUND`, `save=SLOT:ROUND`, `own=NUMBER:MEMBERS:PEERS`, `own=none`. None for any
+/// other word.
+pub fn answer_to<D: Alter>(
+    alloc: Global,
     store: &mut SqlStore<D>,
-    words: &[&str],
-) -> anyhow::Result<()> {
-    for word in words.iter() {
-        let Some(ask) = Ask::from_word(word) else {
-            return Err(anyhow::anyhow!("no word of a store: {word}"));
-        };
-        let said = answer_line(rt.alloc(), store, ask)?;
-        rt.stdout().write_all(said.as_bytes())?;
-    }
-    Ok(())
+    word: &str,
+) -> Option<Result<String, StoreFault>> {
+    let ask = Ask::from_word(word)?;
+    Some(answer(alloc, store, ask))
 }
 
 /// Saves this many times a round, and a vote for one of a thousand slots.

@@ -40,29 +40,28 @@ fn play<S: PromiseStore>(
 }
 
 // Submits the command of that number, wakes the node, and delivers what it sends until nothing
-// waits; `told` counts the events that were done.
-fn run_command<S: PromiseStore>(
-    alloc: Global,
-    node: &mut Node<S>,
-    seq: u32,
-    told: &mut u32,
-) -> anyhow::Result<()>
+// waits, or so many events are done; returns how many were.
+fn run_command<S: PromiseStore>(alloc: Global, node: &mut Node<S>, seq: u32, most: u32) -> u32
     requires always { Unit {0} }
 {
     let mut waiting = VecDeque::new(alloc);
-    let command = post(alloc, seq)?;
-    play(node, Event::Submit(command), &mut waiting)?;
-    *told = 1;
-    play(node, Event::Wake, &mut waiting)?;
-    *told = 2;
-    for count in 3..MOST {
-        let Some(message) = waiting.pop_front() else {
-            return Ok(());
+    for count in 0..most {
+        let event = match count {
+            0 => match post(alloc, seq) {
+                Ok(command) => Event::Submit(command),
+                Err(_) => return count,
+            },
+            1 => Event::Wake,
+            _ => match waiting.pop_front() {
+                Some(message) => Event::Deliver(message),
+                None => return count,
+            },
         };
-        play(node, Event::Deliver(message), &mut waiting)?;
-        *told = count;
+        if play(node, event, &mut waiting).is_err() {
+            return count;
+        }
     }
-    Ok(())
+    most
 }
 
 // Whether it applies what it voted for before, where it did, and else a new command.
@@ -73,25 +72,24 @@ fn goes_on<S: PromiseStore>(
 ) -> anyhow::Result<bool>
     requires always { Unit {0} }
 {
-    let mut told = 0;
-    run_command(alloc, node, 2, &mut told)?;
+    run_command(alloc, node, 2, MOST);
     let first = node.get(&Target::Result(token(alloc, 1)?))?.status;
     let second = node.get(&Target::Result(token(alloc, 2)?))?.status;
     let wanted = if has_voted { (200, 404) } else { (404, 200) };
     Ok(node.applied() == 1 && (first, second) == wanted)
 }
 
-/// Starts a node over the store, which takes a command; returns how many of its events were done.
-pub fn command_over<S: PromiseStore>(alloc: Global, store: S) -> (S, u32) {
+/// Starts a node over the store, which takes a command by as many events at most; returns how many
+/// of them were done.
+pub fn command_over<S: PromiseStore>(alloc: Global, store: S, most: u32) -> (S, u32) {
     let Ok(kit) = Kit::build(alloc, Vec::new(alloc), Vec::new(alloc)) else {
         return (store, 0);
     };
     match Node::start(alloc, member(), 1, kit, store) {
         Ok(mut node) => {
-            let mut told = 0;
-            let _ = run_command(alloc, &mut node, 1, &mut told);
+            let done = run_command(alloc, &mut node, 1, most);
             let (_kit, store) = node.down();
-            (store, told)
+            (store, done)
         }
         Err(refused) => (refused.store, 0),
     }

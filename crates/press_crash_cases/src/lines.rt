@@ -1,5 +1,6 @@
 use press_acceptor::{Block, StoreFault};
-use press_wire::{Ballot, Slot, SlotVote};
+use press_apply::Value;
+use press_wire::{Ballot, Slot, SlotVote, Vote};
 use std::alloc::{AllocError, Global};
 
 fn ballot_text(alloc: Global, ballot: Ballot) -> Result<String, AllocError> {
@@ -14,6 +15,15 @@ fn promise_text(alloc: Global, promised: Option<Ballot>) -> Result<String, Alloc
     }
 }
 
+// What the vote is for, unless it is nothing but the moment of its round's number.
+fn value_text(vote: &Vote) -> &'static str {
+    match &vote.value {
+        Value::Noop { at } if at.seconds() == vote.ballot.round.number() => "",
+        Value::Noop { at: _ } => " for another moment",
+        Value::Cmd(_) => " for a command",
+    }
+}
+
 fn votes_text(alloc: Global, votes: &[SlotVote]) -> Result<String, AllocError> {
     let mut text = String::new(alloc);
     for SlotVote { slot, vote } in votes {
@@ -21,7 +31,8 @@ fn votes_text(alloc: Global, votes: &[SlotVote]) -> Result<String, AllocError> {
             text.push_str(", ")?;
         }
         let (slot, ballot) = (slot.number(), ballot_text(alloc, vote.ballot)?);
-        let one = format!(in alloc; "{slot} in {ballot}")?;
+        let value = value_text(vote);
+        let one = format!(in alloc; "{slot} in {ballot}{value}")?;
         text.push_str(one.as_str())?;
     }
     if text.is_empty() {
@@ -31,15 +42,15 @@ fn votes_text(alloc: Global, votes: &[SlotVote]) -> Result<String, AllocError> {
 }
 
 /// What a store keeps of the block with this first slot.
-pub fn block_line(alloc: Global, first: Slot, block: &Block) -> Result<String, AllocError> {
+pub fn block_text(alloc: Global, first: Slot, block: &Block) -> Result<String, AllocError> {
     let first = first.number();
     let promised = promise_text(alloc, block.promised)?;
     let voted = votes_text(alloc, block.votes.as_slice())?;
-    format!(in alloc; "block {first} promised {promised}, voted {voted}\n")
+    format!(in alloc; "block {first} promised {promised}, voted {voted}")
 }
 
 /// A fault of a store.
-pub fn fault_line(alloc: Global, fault: StoreFault) -> Result<String, AllocError> {
+pub fn fault_text(alloc: Global, fault: StoreFault) -> Result<String, AllocError> {
     let number = fault.number();
-    format!(in alloc; "fault {number} {fault}\n")
+    format!(in alloc; "fault {number} {fault}")
 }

@@ -1,10 +1,9 @@
-//! Plays stores on a SQL database: `press_crash_cases WORD ..`. `store`, `store-over-files` and
-//! `store-loose` begin with a new one, `store-earlier` and `store-exchanged` with one of version 1,
-//! and the arguments after them ask it; `store-damaged`, `store-left-over`, `store-later`,
-//! `store-half`, `store-half-file` and `store-beside-file` say whether one is made, or why none;
-//! `stops-of-log`, `stops-of-file`, and with `command-` or `migration-` before them, stop one on
-//! two files in memory at each call of one of them; `saves=N` and `wary-saves=N` save in a file,
-//! for whoever measures it.
+//! Plays stores on a SQL database: `press_crash_cases WORD ..`. A word that begins with `store` begins a
+//! scene: the words after it ask a new store over two files in memory, `sql=TEXT` before a store
+//! is made. One that ends with `-file` too names a file, in which such texts are run, and which a
+//! store then opens. A word that begins with `stops` has what the words after it do stopped at
+//! each call of one of the two files, and prints what is kept after each of them. `saves=N` saves
+//! in a file, for whoever measures it.
 //!
 //! Functions here that play an event on a node carry `requires always { Unit {0} }`, which always
 //! holds: `docs/DECISIONS.md` says why the checker wants it.
@@ -12,6 +11,7 @@
 
 mod asks;
 mod command;
+mod kept;
 mod lines;
 mod numbered;
 mod posts;
@@ -20,7 +20,7 @@ mod stores;
 mod words;
 
 use crate::stops::play_stops;
-use crate::stores::{Base, play_store, save_in_file};
+use crate::stores::{play_file, play_store, save_in_file};
 use crate::words::{Scene, Start};
 use std::{env, io};
 
@@ -34,22 +34,23 @@ fn words_of(rt: &HostRuntime) -> io::Result<Vec<String>> {
 
 fn play(rt: &HostRuntime, scene: &Scene<'_>) -> anyhow::Result<()> {
     match scene.start {
-        Start::Store(base) => play_store(rt, base, &scene.sessions),
-        Start::Stop(work, stops) => play_stops(rt, work, stops),
-        Start::Saves(count, syncs) => save_in_file(rt, "saves.db", count, syncs),
+        Start::Store => play_store(rt, &scene.sessions),
+        Start::File => play_file(rt, scene.name, &scene.sessions),
+        Start::Stops => play_stops(rt, &scene.sessions),
+        Start::Saves(count) => save_in_file(rt, "saves.db", count),
     }
 }
 
 fn main(rt: HostRuntime) -> anyhow::Result<()> {
     let words = words_of(&rt)?;
-    let mut scene = Scene::new(rt.alloc(), Start::Store(Base::Memory))?;
+    let mut scene = Scene::new(rt.alloc(), "", Start::Store)?;
     for word in words.iter() {
         match Start::from_word(word.as_str()) {
             None => scene.push(rt.alloc(), word.as_str())?,
             Some(start) => {
                 play(&rt, &scene)?;
                 println!(rt; "{word}")?;
-                scene = Scene::new(rt.alloc(), start)?;
+                scene = Scene::new(rt.alloc(), word.as_str(), start)?;
             }
         }
     }

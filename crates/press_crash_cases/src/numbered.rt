@@ -1,9 +1,8 @@
 //! Promises and votes whose numbers are all one.
 
-use press_acceptor::Block;
 use press_apply::Value;
 use press_text::Moment;
-use press_wire::{Ballot, MemberId, Round, Slot, Vote};
+use press_wire::{Ballot, MemberId, Round, Vote};
 
 fn ballot_of(number: u64, node: u8) -> Option<Ballot> {
     Some(Ballot {
@@ -25,26 +24,4 @@ pub fn vote_of(number: u64) -> Option<Vote> {
             at: Moment::new(number)?,
         },
     })
-}
-
-/// The number that a vote has, whole; 0 for no vote.
-pub fn number_of(vote: Option<&Vote>) -> Option<u64> {
-    let Some(Vote { ballot, value }) = vote else {
-        return Some(0);
-    };
-    let number = ballot.round.number();
-    match value {
-        Value::Noop { at } if at.seconds() == number && ballot.node.number() == 1 => Some(number),
-        _ => None,
-    }
-}
-
-/// The round and the node of what the block promised, 0 and 0 for nothing, and the number of the
-/// slot's vote.
-pub fn numbers_in(block: &Block, slot: Slot) -> Option<(u64, u8, u64)> {
-    let voted = number_of(block.votes.get(slot))?;
-    match block.promised {
-        Some(Ballot { round, node }) => Some((round.number(), node.number(), voted)),
-        None => Some((0, 0, voted)),
-    }
 }

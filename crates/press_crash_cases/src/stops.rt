@@ -1,14 +1,15 @@
 //! Stops of a store on two files in memory, at each call that one of them gets; after each the
-//! files crash, and the store is opened again.
+//! files crash, and a store is opened over them again. It keeps what is kept after the steps that
+//! were done, or after one more.
 
+use crate::asks::{answer_to, owner_among};
 use crate::command::{command_over, goes_on_over};
-use crate::numbered::{numbers_in, promise_of, vote_of};
-use crate::stores::EARLIER;
-use press_acceptor::{Block, PromiseStore, StoreFault};
-use press_store::SqlStore;
-use press_wire::{Round, Slot};
+use crate::kept::{has_voted, kept_text};
+use crate::stores::fuse_files;
+use crate::words::Session;
+use press_store::{Owner, SqlStore};
 use sqlite::{Alter, Connection, Files, Options};
-use sqlite_disk::{Crash, Disk, Fuse, Memory};
+use sqlite_disk::{Crash, Disk};
 use std::alloc::Global;
 
 // More calls than any run below makes, and fewer.
@@ -16,187 +17,178 @@ const MOST: u64 = 1_000;
 
 const FEWEST: u64 = 10;
 
-type Stopped = Fuse<Memory>;
+// More steps than any work below has.
+const MOST_STEPS: u32 = 100;
 
-/// Which of the two files is stopped.
-#[derive(Clone, Copy, PartialEq, Eq)]
-pub enum Stops {
-    Log,
-    Database,
+// What is done, a step at a time: SQL is run, and then a store is asked, or a node over it takes a
+// command.
+#[derive(Drop)]
+struct Work<'w> {
+    tables: &'w [&'w str],
+    words: &'w [&'w str],
+    is_command: bool,
+    // The member whose the file becomes, if any asks.
+    member: Option<Owner>,
 }
 
-/// What is stopped.
-#[derive(Clone, Copy, PartialEq, Eq)]
-pub enum Work {
-    /// A round, a vote, a promise for its block, and another vote for its slot are saved.
-    Saves,
-    /// A node by itself takes a command, and applies it.
-    Command,
-    /// Tables of version 1 are made, which a store migrates, and a round is saved.
-    Migration,
+// How many steps were done, and what the store then kept that did them or was stopped, if it
+// tells.
+#[derive(Drop)]
+struct Done {
+    steps: u32,
+    still: Option<String>,
+    // An event that failed may have made its save before, as a call of a store may not.
+    of_event: bool,
 }
 
-impl Work {
-    // How many saves there are.
-    fn saves(self) -> u32 {
-        match self {
-            Work::Saves => 4,
-            Work::Command => 3,
-            Work::Migration => 2,
+fn done_without_store(steps: u32) -> Done {
+    Done {
+        steps,
+        still: None,
+        of_event: false,
+    }
+}
+
+// Runs the first texts; returns how many were run.
+fn run_first<D: Alter>(conn: &mut Connection<D>, tables: &[&str], most: u32) -> u32 {
+    let mut steps = 0;
+    for text in tables.iter() {
+        if steps >= most || conn.execute_batch(text).is_err() {
+            return steps;
         }
+        steps += 1;
     }
+    steps
 }
 
-fn fuse_files(alloc: Global, stops: Stops, calls: u64) -> Files<Stopped> {
-    let (log, db) = match stops {
-        Stops::Log => (calls, u64::MAX),
-        Stops::Database => (u64::MAX, calls),
-    };
-    Files {
-        log: Fuse::new(Memory::new(alloc), log),
-        db: Fuse::new(Memory::new(alloc), db),
+// Asks by the first words; returns how many were answered.
+fn ask_first<D: Alter>(alloc: Global, store: &mut SqlStore<D>, words: &[&str], most: u32) -> u32 {
+    let mut steps = 0;
+    for word in words.iter() {
+        if steps >= most || !matches!(answer_to(alloc, store, word), Some(Ok(_))) {
+            return steps;
+        }
+        steps += 1;
     }
+    steps
 }
 
-fn save_all<S: PromiseStore>(store: &mut S, told: &mut u32) -> Result<(), StoreFault> {
-    if let (Some(slot), Some(round), Some(first), Some(ballot), Some(second)) = (
-        Slot::new(1),
-        Round::new(7),
-        vote_of(9),
-        promise_of(10),
-        vote_of(11),
-    ) {
-        store.save_round(round)?;
-        *told = 1;
-        store.save_vote(slot, &first)?;
-        *told = 2;
-        store.save_promise(slot.first(), ballot)?;
-        *told = 3;
-        store.save_vote(slot, &second)?;
-        *told = 4;
-    }
-    Ok(())
-}
-
-// How many of these saves are kept, where it is the first ones that are. A vote is a promise in its
-// ballot too.
-fn saves_in(round: u64, block: &Block, slot: Slot) -> Option<u32> {
-    match (round, numbers_in(block, slot)?) {
-        (0, (0, 0, 0)) => Some(0),
-        (7, (0, 0, 0)) => Some(1),
-        (7, (9, 1, 9)) => Some(2),
-        (7, (10, 3, 9)) => Some(3),
-        (7, (11, 1, 11)) => Some(4),
-        _ => None,
-    }
-}
-
-// How many of these saves are kept: the tables, which stand for the same before their migration and
-// after it, and the round.
-fn saves_of_migration_in(round: u64, block: &Block, behind: &Block) -> Option<u32> {
-    let first = numbers_in(block, Slot::new(1)?)?;
-    let second = numbers_in(behind, Slot::new(17)?)?;
-    match (round, first, second) {
-        (0, (0, 0, 0), (0, 0, 0)) => Some(0),
-        (4, (4, 1, 2), (1, 3, 0)) => Some(1),
-        (7, (4, 1, 2), (1, 3, 0)) => Some(2),
-        _ => None,
-    }
-}
-
-// How many saves come before this many events are done: a round with the wake, a promise with the
-// first delivery, a vote with the third.
-fn saves_before(events: u32) -> u32 {
-    match events {
-        0 | 1 => 0,
-        2 => 1,
-        3 | 4 => 2,
-        _ => 3,
-    }
-}
-
-// How many of these saves are kept, where it is the first ones that are.
-fn saves_of_command_in(round: u64, block: &Block, slot: Slot) -> Option<u32> {
-    match (
-        round,
-        block.promised.is_some(),
-        block.votes.get(slot).is_some(),
-    ) {
-        (0, false, false) => Some(0),
-        (1, false, false) => Some(1),
-        (1, true, false) => Some(2),
-        (1, true, true) => Some(3),
-        _ => None,
-    }
-}
-
-// Makes tables of version 1, and a store of them, which saves a round; returns how many of these
-// saves were reported as done.
-fn migrate<D: Alter>(alloc: Global, conn: Connection<D>) -> (Connection<D>, u32) {
+// Does this many steps over the connection, or as many as it can.
+fn work_over<D: Alter>(
+    alloc: Global,
+    work: &Work<'_>,
+    most: u32,
+    conn: Connection<D>,
+) -> (Connection<D>, Done) {
     let mut conn = conn;
-    if conn.execute_batch(EARLIER).is_err() {
-        return (conn, 0);
+    let run = run_first(&mut conn, work.tables, most);
+    if u64::from(run) < work.tables.len() as u64 {
+        return (conn, done_without_store(run));
     }
     let mut store = match SqlStore::adopt(alloc, conn) {
         Ok(store) => store,
-        Err((_, conn)) => return (conn, 1),
+        Err((_, conn)) => return (conn, done_without_store(run)),
     };
-    let told = match Round::new(7) {
-        Some(round) if store.save_round(round).is_ok() => 2,
-        _ => 1,
+    let left = most.saturating_sub(run);
+    let steps = if work.is_command {
+        let (back, events) = command_over(alloc, store, left);
+        store = back;
+        events
+    } else {
+        ask_first(alloc, &mut store, work.words, left)
     };
-    (store.into_connection(), told)
+    let still = kept_text(alloc, &mut store, work.member).ok();
+    let steps = run.saturating_add(steps);
+    let of_event = work.is_command;
+    (
+        store.into_connection(),
+        Done {
+            steps,
+            still,
+            of_event,
+        },
+    )
 }
 
-// Does the work over a store on the connection; returns how many saves were reported as done.
-fn do_work<D: Alter>(alloc: Global, work: Work, conn: Connection<D>) -> (Connection<D>, u32) {
-    if work == Work::Migration {
-        return migrate(alloc, conn);
-    }
-    let mut store = match SqlStore::adopt(alloc, conn) {
-        Ok(store) => store,
-        Err((_, conn)) => return (conn, 0),
-    };
-    match work {
-        Work::Saves => {
-            let mut told = 0;
-            let _ = save_all(&mut store, &mut told);
-            (store.into_connection(), told)
-        }
-        Work::Command => {
-            let (store, events) = command_over(alloc, store);
-            (store.into_connection(), saves_before(events))
-        }
-        Work::Migration => (store.into_connection(), 0),
-    }
-}
-
-// The same over files of which one stops.
-fn do_work_on_files<D: Disk + Drop>(alloc: Global, work: Work, files: Files<D>) -> (Files<D>, u32) {
+// The same over files of which one may stop.
+fn work_on<D: Disk + Drop>(
+    alloc: Global,
+    work: &Work<'_>,
+    most: u32,
+    files: Files<D>,
+) -> (Files<D>, Done) {
     if !files.may_be_used() {
-        return (files, 0);
+        return (files, done_without_store(0));
     }
     match Connection::open_files(alloc, files, Options::new(1)) {
         Ok(conn) => {
-            let (conn, told) = do_work(alloc, work, conn);
-            (conn.into_store().close(), told)
+            let (conn, done) = work_over(alloc, work, most, conn);
+            (conn.into_store().close(), done)
         }
-        Err((_, left)) => (left.into_files(), 0),
+        Err((_, left)) => (left.into_files(), done_without_store(0)),
     }
 }
 
-// What a store keeps that was opened after a stop, as a number of saves.
-fn kept_of<S: PromiseStore>(work: Work, store: &mut S) -> Option<u32> {
-    let slot = Slot::new(1)?;
-    let round = store.last_round().ok()?;
-    let block = store.load(slot.first()).ok()?;
-    match work {
-        Work::Saves => saves_in(round, &block, slot),
-        Work::Command => saves_of_command_in(round, &block, slot),
-        Work::Migration => {
-            let behind = store.load(Slot::new(17)?.first()).ok()?;
-            saves_of_migration_in(round, &block, &behind)
+// What a store over the connection keeps, if it tells, and a node over it goes on.
+fn kept_over<D: Alter>(
+    alloc: Global,
+    work: &Work<'_>,
+    conn: Connection<D>,
+) -> (Connection<D>, Option<String>) {
+    let mut store = match SqlStore::adopt(alloc, conn) {
+        Ok(store) => store,
+        Err((_, conn)) => return (conn, None),
+    };
+    let kept = kept_text(alloc, &mut store, work.member).ok();
+    if !work.is_command {
+        return (store.into_connection(), kept);
+    }
+    let voted = has_voted(&mut store);
+    let (store, goes_on) = goes_on_over(alloc, store, voted);
+    (store.into_connection(), if goes_on { kept } else { None })
+}
+
+// What a store keeps that is opened over the files again, after a crash.
+fn kept_on<D: Crash + Drop>(alloc: Global, work: &Work<'_>, files: Files<D>) -> Option<String> {
+    let mut files = files;
+    files.log.crash();
+    files.db.crash();
+    if !files.may_be_used() {
+        return None;
+    }
+    match Connection::open_files(alloc, files, Options::new(1)) {
+        Ok(conn) => {
+            let (conn, kept) = kept_over(alloc, work, conn);
+            drop(conn.into_store().close());
+            kept
         }
+        Err((_, left)) => {
+            drop(left.into_files());
+            None
+        }
+    }
+}
+
+// What is kept after each number of steps.
+fn kept_after_each(alloc: Global, work: &Work<'_>) -> anyhow::Result<Vec<String>> {
+    let mut all = Vec::new(alloc);
+    for most in 0..MOST_STEPS {
+        let (files, done) = work_on(alloc, work, most, fuse_files(alloc, u64::MAX, u64::MAX));
+        if done.steps < most {
+            return Ok(all);
+        }
+        match kept_on(alloc, work, files) {
+            Some(kept) => all.push(kept)?,
+            None => return Err(anyhow::anyhow!("nothing is kept after {most} steps")),
+        }
+    }
+    Err(anyhow::anyhow!("more than {MOST_STEPS} steps"))
+}
+
+fn is_at(rows: &[String], steps: u32, kept: &str) -> bool {
+    match rows.get(steps as usize) {
+        Some(row) => row.as_str() == kept,
+        None => false,
     }
 }
 
@@ -204,85 +196,103 @@ fn kept_of<S: PromiseStore>(work: Work, store: &mut S) -> Option<u32> {
 enum Came {
     // The run ended before the stop.
     Whole,
-    // It was stopped, and what was reported as done is kept, with at most one save more.
+    // It was stopped, and what was done is kept, with at most one step more; and the store that
+    // was stopped told nothing else before.
     Kept,
-    // Something that was reported as done is lost, or what is kept is no prefix of what was saved.
     Lost,
 }
 
-fn came_of(work: Work, told: u32, kept: Option<u32>, goes_on: bool) -> Came {
-    match kept {
-        Some(kept) if goes_on && told <= kept && kept <= told.saturating_add(1) => {
-            if told == work.saves() {
-                Came::Whole
-            } else {
-                Came::Kept
-            }
-        }
-        _ => Came::Lost,
-    }
-}
-
-// What became of the work of which that many saves were reported as done, by a store on the
-// connection.
-fn seen_in<D: Alter>(
-    alloc: Global,
-    work: Work,
-    told: u32,
-    conn: Connection<D>,
-) -> (Connection<D>, Came) {
-    let mut store = match SqlStore::adopt(alloc, conn) {
-        Ok(store) => store,
-        Err((_, conn)) => return (conn, Came::Lost),
-    };
-    let kept = kept_of(work, &mut store);
-    let (store, goes_on) = match work {
-        Work::Saves | Work::Migration => (store, true),
-        Work::Command => goes_on_over(alloc, store, kept == Some(3)),
-    };
-    (store.into_connection(), came_of(work, told, kept, goes_on))
-}
-
-// What comes of the work over files of which one stops, which then crash and are opened again.
-fn came_after<D: Crash + Drop>(alloc: Global, work: Work, files: Files<D>) -> Came {
-    let (mut files, told) = do_work_on_files(alloc, work, files);
-    files.log.crash();
-    files.db.crash();
-    if !files.may_be_used() {
+fn came_of(rows: &[String], done: &Done, kept: Option<&str>) -> Came {
+    let Some(kept) = kept else {
         return Came::Lost;
-    }
-    match Connection::open_files(alloc, files, Options::new(1)) {
-        Ok(conn) => {
-            let (conn, came) = seen_in(alloc, work, told, conn);
-            drop(conn.into_store().close());
-            came
-        }
-        Err((_, left)) => {
-            drop(left.into_files());
-            Came::Lost
+    };
+    let more = done.steps.saturating_add(1);
+    if let Some(still) = &done.still {
+        let is_more = done.of_event && is_at(rows, more, still.as_str());
+        if !is_more && !is_at(rows, done.steps, still.as_str()) {
+            return Came::Lost;
         }
     }
+    if more as usize >= rows.len() && is_at(rows, done.steps, kept) {
+        return Came::Whole;
+    }
+    if is_at(rows, done.steps, kept) || is_at(rows, more, kept) {
+        return Came::Kept;
+    }
+    Came::Lost
 }
 
-/// Stops the work at each call in turn, until it ends before the stop.
-pub fn play_stops(rt: &HostRuntime, work: Work, stops: Stops) -> anyhow::Result<()> {
+fn came_after<D: Crash + Drop>(
+    alloc: Global,
+    work: &Work<'_>,
+    rows: &[String],
+    files: Files<D>,
+) -> Came {
+    let (files, done) = work_on(alloc, work, MOST_STEPS, files);
+    let kept = kept_on(alloc, work, files);
+    came_of(rows, &done, kept.as_ref().map(|it| it.as_str()))
+}
+
+// Stops the work at each call of one file in turn, until it ends before the stop; returns what
+// there is to say.
+fn count_stops(alloc: Global, work: &Work<'_>, rows: &[String], of_log: bool) -> Option<u64> {
     for calls in 0..MOST {
-        match came_after(rt.alloc(), work, fuse_files(rt.alloc(), stops, calls)) {
+        let files = if of_log {
+            fuse_files(alloc, calls, u64::MAX)
+        } else {
+            fuse_files(alloc, u64::MAX, calls)
+        };
+        match came_after(alloc, work, rows, files) {
             Came::Kept => {}
-            Came::Whole if calls < FEWEST => {
-                println!(rt; "only {calls} stops")?;
-                return Ok(());
-            }
-            Came::Whole => {
-                println!(rt; "stopped at each call, and nothing that was told is lost")?;
-                return Ok(());
-            }
-            Came::Lost => {
-                println!(rt; "a stop after {calls} calls loses what was told")?;
-                return Ok(());
-            }
+            Came::Whole => return Some(calls),
+            Came::Lost => return None,
         }
     }
-    println!(rt; "no run ends before its stop")?;
+    None
+}
+
+fn show_stops(
+    rt: &HostRuntime,
+    work: &Work<'_>,
+    rows: &[String],
+    of_log: bool,
+) -> anyhow::Result<()> {
+    let file = if of_log { "log" } else { "file" };
+    match count_stops(rt.alloc(), work, rows, of_log) {
+        Some(calls) if calls < FEWEST => println!(rt; "{file}: only {calls} stops")?,
+        Some(_) => println!(rt; "{file}: stopped at each call, and nothing that was told is lost")?,
+        None => println!(rt; "{file}: a stop loses what was told")?,
+    }
+    Ok(())
+}
+
+// Shows what is kept at first, and after each step that changes it.
+fn show_rows(rt: &HostRuntime, rows: &[String]) -> anyhow::Result<()> {
+    let mut last = "";
+    for row in rows.iter() {
+        if row.as_str() != last {
+            println!(rt; "{row}")?;
+        }
+        last = row.as_str();
+    }
+    Ok(())
+}
+
+/// Prints what is kept after each step of a work, and stops it at each call of the log, and of the
+/// database's file.
+pub fn play_stops(rt: &HostRuntime, all: &[Session<'_>]) -> anyhow::Result<()> {
+    for session in all.iter() {
+        let words = session.words.as_slice();
+        let work = Work {
+            tables: session.tables.as_slice(),
+            words,
+            is_command: matches!(words, ["command"]),
+            member: owner_among(words),
+        };
+        let rows = kept_after_each(rt.alloc(), &work)?;
+        show_rows(rt, &rows)?;
+        show_stops(rt, &work, &rows, true)?;
+        show_stops(rt, &work, &rows, false)?;
+    }
     Ok(())
 }

@@ -1,156 +1,84 @@
-//! A store on a SQL database, in memory or over two files in memory: it uses the connection for the
-//! words of a session, and gives it back. What is opened is closed on each way out, since a caller
-//! that drops a database has to prove how each of its parts is dropped.
+//! A store on a SQL database, over two files in memory or in a file: it uses the connection for
+//! the words of a session, and gives it back. What is opened is closed on each way out, since a
+//! caller that drops a database has to prove how each of its parts is dropped; and the whole
+//! database is compiled anew for each type of file, of which there are two: what is opened by
+//! `SqlStore::open`, which is `open_from` by `Unknown`, would count as a third.
 
-use crate::asks::{ask_all, save_often};
+use crate::asks::{answer_to, save_often};
+use crate::lines::fault_text;
+use crate::words::Session;
 use press_acceptor::StoreFault;
 use press_store::SqlStore;
-use sqlite::{Alter, Connection, FileStore, Files, MemStore, Options, Start, Unknown, Wary};
+use sqlite::{Alter, Connection, FileStore, Files, Options, Unknown};
 use sqlite_disk::{Disk, Fuse, Memory};
 use std::alloc::Global;
 
-/// What the database is kept in.
-#[derive(Clone, Copy, PartialEq, Eq)]
-pub enum Base {
-    Memory,
-    Files,
-    /// In memory, over tables that another has made, which take any value, with a text for the
-    /// round of the first block.
-    Loose,
-    /// In memory, over the tables of a store of another version.
-    Later,
-    /// In memory, over the tables of a store of version 1, with a few rows.
-    Earlier,
-    /// The same with the first two rows exchanged.
-    Exchanged,
-    /// The same with a vote whose value is damaged.
-    Damaged,
-    /// In memory, over the tables of a store of this version, with a row of version 1 beside them.
-    LeftOver,
-    /// In memory, over one table of the three.
-    Half,
-    /// The same in a file, which a store opens by its name.
-    HalfFile,
-    /// In such a file, beside a table of another.
-    BesideFile,
+/// Files in memory of which either is stopped after so many calls.
+pub fn fuse_files(alloc: Global, log: u64, db: u64) -> Files<Fuse<Memory>> {
+    Files {
+        log: Fuse::new(Memory::new(alloc), log),
+        db: Fuse::new(Memory::new(alloc), db),
+    }
 }
 
-const LOOSE: &str = "CREATE TABLE block (first INTEGER PRIMARY KEY, round INTEGER, node INTEGER);
-    CREATE TABLE vote (slot INTEGER PRIMARY KEY, round INTEGER, node INTEGER, value BLOB);
-    CREATE TABLE meta (name TEXT PRIMARY KEY, n INTEGER NOT NULL) STRICT;
-    INSERT INTO meta VALUES ('version', 2), ('last_round', 4);
-    INSERT INTO block (first, round, node) VALUES (1, 'x', 1)";
-
-const LATER: &str = "CREATE TABLE block (first INTEGER PRIMARY KEY, round INTEGER, node INTEGER);
-    CREATE TABLE vote (slot INTEGER PRIMARY KEY, round INTEGER, node INTEGER, value BLOB);
-    CREATE TABLE meta (name TEXT PRIMARY KEY, n INTEGER NOT NULL) STRICT;
-    INSERT INTO meta VALUES ('version', 3), ('last_round', 4)";
-
-/// The tables of a store of version 1: of slots 1, 5 and 20 the first has a vote.
-pub const EARLIER: &str = "BEGIN;
-    CREATE TABLE promise (slot INTEGER PRIMARY KEY, round INTEGER, node INTEGER, vround INTEGER, vnode INTEGER, value BLOB) STRICT;
-    CREATE TABLE meta (name TEXT PRIMARY KEY, n INTEGER NOT NULL) STRICT;
-    INSERT INTO meta VALUES ('version', 1), ('last_round', 4);
-    INSERT INTO promise VALUES (1, 3, 2, 2, 1, x'000000000000000002'), (5, 4, 1, NULL, NULL, NULL), (20, 1, 3, NULL, NULL, NULL);
-    COMMIT";
-
-const EXCHANGE: &str =
-    "UPDATE promise SET slot = 6 WHERE slot = 1; UPDATE promise SET slot = 1 WHERE slot = 5; UPDATE promise SET slot = 5 WHERE slot = 6";
-
-const DAMAGE: &str = "UPDATE promise SET value = x'00' WHERE slot = 1";
-
-const LEFT_OVER: &str =
-    "CREATE TABLE promise (slot INTEGER PRIMARY KEY, round INTEGER, node INTEGER, vround INTEGER, vnode INTEGER, value BLOB) STRICT;
-    CREATE TABLE meta (name TEXT PRIMARY KEY, n INTEGER NOT NULL) STRICT;
-    CREATE TABLE block (first INTEGER PRIMARY KEY, round INTEGER NOT NULL, node INTEGER NOT NULL) STRICT;
-    CREATE TABLE vote (slot INTEGER PRIMARY KEY, round INTEGER NOT NULL, node INTEGER NOT NULL, value BLOB NOT NULL) STRICT;
-    INSERT INTO meta VALUES ('version', 2), ('last_round', 4);
-    INSERT INTO promise VALUES (20, 1, 3, NULL, NULL, NULL)";
-
-const HALF: &str = "CREATE TABLE meta (name TEXT PRIMARY KEY, n INTEGER NOT NULL) STRICT;
-    INSERT INTO meta VALUES ('version', 2), ('last_round', 4)";
-
-const BESIDE: &str = "CREATE TABLE notes (text TEXT)";
-
-/// The words of a store from one adoption to the next.
-pub type Session<'w> = Vec<&'w str>;
-
-fn store_error(fault: StoreFault) -> anyhow::Error {
-    anyhow::anyhow!("no store: {fault}")
-}
-
-// Makes a store over the connection, and asks it.
-fn session<D: Alter>(
+fn ask_all<D: Alter>(
     rt: &HostRuntime,
-    conn: Connection<D>,
+    store: &mut SqlStore<D>,
     words: &[&str],
-) -> (Connection<D>, anyhow::Result<()>) {
-    match SqlStore::adopt(rt.alloc(), conn) {
-        Ok(mut store) => {
-            let done = ask_all(rt, &mut store, words);
-            (store.into_connection(), done)
-        }
-        Err((fault, conn)) => (conn, Err(store_error(fault))),
-    }
-}
-
-fn sessions<D: Alter>(
-    rt: &HostRuntime,
-    conn: Connection<D>,
-    all: &[Session<'_>],
-) -> (Connection<D>, anyhow::Result<()>) {
-    let mut conn = conn;
-    for words in all.iter() {
-        let (left, done) = session(rt, conn, words);
-        conn = left;
-        if done.is_err() {
-            return (conn, done);
-        }
-    }
-    (conn, Ok(()))
-}
-
-// The tables that stand before a store is made.
-fn prepare(conn: &mut Connection<MemStore>, base: Base) -> anyhow::Result<()> {
-    match base {
-        Base::Memory | Base::Files | Base::HalfFile | Base::BesideFile => {}
-        Base::Loose => conn.execute_batch(LOOSE)?,
-        Base::Later => conn.execute_batch(LATER)?,
-        Base::Earlier => conn.execute_batch(EARLIER)?,
-        Base::Exchanged => {
-            conn.execute_batch(EARLIER)?;
-            conn.execute_batch(EXCHANGE)?;
-        }
-        Base::Damaged => {
-            conn.execute_batch(EARLIER)?;
-            conn.execute_batch(DAMAGE)?;
-        }
-        Base::LeftOver => conn.execute_batch(LEFT_OVER)?,
-        Base::Half => conn.execute_batch(HALF)?,
+) -> anyhow::Result<()> {
+    for word in words.iter() {
+        let said = match answer_to(rt.alloc(), store, word) {
+            None => return Err(anyhow::anyhow!("no word of a store: {word}")),
+            Some(Ok(said)) => said,
+            Some(Err(fault)) => fault_text(rt.alloc(), fault)?,
+        };
+        println!(rt; "{said}")?;
     }
     Ok(())
 }
 
-// How many rows of version 1 there are, where some were.
-fn show_left(rt: &HostRuntime, conn: &mut Connection<MemStore>, base: Base) -> anyhow::Result<()> {
-    if !matches!(base, Base::Earlier | Base::Damaged | Base::LeftOver) {
-        return Ok(());
-    }
+// How many rows of version 1 there are.
+fn show_old<D: Alter>(rt: &HostRuntime, conn: &mut Connection<D>) -> anyhow::Result<()> {
     let row = conn.query_row("SELECT count(*) FROM promise", &[])?;
     let count: i64 = row.get(0)?;
     println!(rt; "rows of version 1: {count}")?;
     Ok(())
 }
 
-fn play_in_memory(rt: &HostRuntime, base: Base, all: &[Session<'_>]) -> anyhow::Result<()> {
-    let mut conn = Connection::open_in_memory(rt.alloc())?;
-    let made = prepare(&mut conn, base);
-    let (mut conn, done) = sessions(rt, conn, all);
-    let shown = show_left(rt, &mut conn, base);
-    drop(conn.into_store());
-    made?;
-    shown?;
-    done
+fn run_all<D: Alter>(conn: &mut Connection<D>, tables: &[&str]) -> anyhow::Result<()> {
+    for text in tables.iter() {
+        conn.execute_batch(text)?;
+    }
+    Ok(())
+}
+
+// Runs the SQL, makes a store over the connection, and asks it, or says why there is none.
+fn session<D: Alter>(
+    rt: &HostRuntime,
+    conn: Connection<D>,
+    session: &Session<'_>,
+) -> (Connection<D>, anyhow::Result<()>) {
+    let mut conn = conn;
+    if let Err(error) = run_all(&mut conn, &session.tables) {
+        return (conn, Err(error));
+    }
+    if let ["old-rows"] = session.words.as_slice() {
+        let shown = show_old(rt, &mut conn);
+        return (conn, shown);
+    }
+    match SqlStore::adopt(rt.alloc(), conn) {
+        Ok(mut store) => {
+            let done = ask_all(rt, &mut store, &session.words);
+            (store.into_connection(), done)
+        }
+        Err((fault, conn)) => (conn, show_refusal(rt, fault)),
+    }
+}
+
+// Why no store was made.
+fn show_refusal(rt: &HostRuntime, fault: StoreFault) -> anyhow::Result<()> {
+    println!(rt; "no store: {fault}")?;
+    Ok(())
 }
 
 fn close_files_of<D: Disk + Drop>(
@@ -166,7 +94,7 @@ fn close_files_of<D: Disk + Drop>(
 fn session_over_files<D: Disk + Drop>(
     rt: &HostRuntime,
     files: Files<D>,
-    words: &[&str],
+    words: &Session<'_>,
 ) -> (Files<D>, anyhow::Result<()>) {
     if !files.may_be_used() {
         return (files, Err(anyhow::anyhow!("a file is shut")));
@@ -181,89 +109,55 @@ fn session_over_files<D: Disk + Drop>(
     }
 }
 
-// The files are of the type that stops have, and never stop: each type of file has the whole
-// database compiled anew.
-fn play_over_files(rt: &HostRuntime, all: &[Session<'_>]) -> anyhow::Result<()> {
-    let mut files = Files {
-        log: Fuse::new(Memory::new(rt.alloc()), u64::MAX),
-        db: Fuse::new(Memory::new(rt.alloc()), u64::MAX),
-    };
-    for words in all.iter() {
-        let (left, done) = session_over_files(rt, files, words);
+/// Plays each session on the store, the first on a new one.
+pub fn play_store(rt: &HostRuntime, all: &[Session<'_>]) -> anyhow::Result<()> {
+    let mut files = fuse_files(rt.alloc(), u64::MAX, u64::MAX);
+    for session in all.iter() {
+        let (left, done) = session_over_files(rt, files, session);
         files = left;
         done?;
     }
     Ok(())
 }
 
-// Why no store was made, where none should be.
-fn show_refusal(rt: &HostRuntime, played: anyhow::Result<()>) -> anyhow::Result<()> {
-    match played {
-        Ok(()) => println!(rt; "a store was made")?,
-        Err(error) => println!(rt; "{error}")?,
+// Opens a store in the file of that name, and closes it.
+fn open_and_close(rt: &HostRuntime, name: &str) -> Result<(), StoreFault> {
+    let store = SqlStore::open_from(rt, name, Unknown)?;
+    drop(store.into_connection().into_store().close());
+    Ok(())
+}
+
+/// Runs the SQL of each session in the file of this name, which a store then opens.
+pub fn play_file(rt: &HostRuntime, name: &str, all: &[Session<'_>]) -> anyhow::Result<()> {
+    for session in all.iter() {
+        let mut conn = Connection::open(rt, name)?;
+        let made = run_all(&mut conn, &session.tables);
+        let (files, ended) = close_files_of(conn);
+        drop(files);
+        made?;
+        ended?;
+        match open_and_close(rt, name) {
+            Ok(()) => println!(rt; "a store was made")?,
+            Err(fault) => show_refusal(rt, fault)?,
+        }
     }
     Ok(())
 }
 
-// A file with these tables, which a store then opens by its name.
-fn play_in_file(rt: &HostRuntime, name: &str, tables: &str) -> anyhow::Result<()> {
-    let mut conn = Connection::open(rt, name)?;
-    let made = conn.execute_batch(tables);
-    let (files, ended) = close_files_of(conn);
-    drop(files);
-    made?;
-    ended?;
-    match SqlStore::open(rt, name) {
-        Ok(_) => Ok(()),
-        Err(fault) => Err(store_error(fault)),
-    }
-}
-
-/// Plays each session on the store, the first on a new one.
-pub fn play_store(rt: &HostRuntime, base: Base, all: &[Session<'_>]) -> anyhow::Result<()> {
-    match base {
-        Base::Memory | Base::Loose | Base::Earlier | Base::Exchanged => {
-            play_in_memory(rt, base, all)
-        }
-        Base::Files => play_over_files(rt, all),
-        Base::Later | Base::Damaged | Base::LeftOver | Base::Half => {
-            show_refusal(rt, play_in_memory(rt, base, all))
-        }
-        Base::HalfFile => show_refusal(rt, play_in_file(rt, "half.db", HALF)),
-        Base::BesideFile => show_refusal(rt, play_in_file(rt, "beside.db", BESIDE)),
-    }
-}
-
-/// How often a commit syncs.
-#[derive(Clone, Copy, PartialEq, Eq)]
-pub enum Syncs {
-    Once,
-    Twice,
-}
-
-fn saved_from<S: Start>(
-    rt: &HostRuntime,
-    name: &str,
-    start: S,
-    count: u32,
-) -> Result<(), StoreFault> {
-    save_often(&mut SqlStore::open_from(rt, name, start)?, count)
-}
-
-fn saved_in_file(rt: &HostRuntime, name: &str, count: u32, syncs: Syncs) -> Result<(), StoreFault> {
-    match syncs {
-        Syncs::Once => saved_from(rt, name, Unknown, count),
-        Syncs::Twice => saved_from(rt, name, Wary, count),
-    }
+fn save_and_close(rt: &HostRuntime, name: &str, count: u32) -> Result<(), StoreFault> {
+    let mut store = SqlStore::open_from(rt, name, Unknown)?;
+    let saved = save_often(&mut store, count);
+    drop(store.into_connection().into_store().close());
+    saved
 }
 
 /// Saves this many rounds and votes in the file of that name.
-pub fn save_in_file(rt: &HostRuntime, name: &str, count: u32, syncs: Syncs) -> anyhow::Result<()> {
-    match saved_in_file(rt, name, count, syncs) {
+pub fn save_in_file(rt: &HostRuntime, name: &str, count: u32) -> anyhow::Result<()> {
+    match save_and_close(rt, name, count) {
         Ok(()) => {
             println!(rt; "{count} rounds and {count} votes are saved")?;
             Ok(())
         }
-        Err(fault) => Err(store_error(fault)),
+        Err(fault) => Err(anyhow::anyhow!("no store: {fault}")),
     }
 }

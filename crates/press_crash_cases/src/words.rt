@@ -1,5 +1,3 @@
-use crate::stops::{Stops, Work};
-use crate::stores::{Base, Session, Syncs};
 use std::alloc::{AllocError, Global};
 
 /// The number after a name.
@@ -8,46 +6,54 @@ pub fn number_behind(name: &str, word: &str) -> Option<u32> {
 }
 
 /// What a scene is about.
-#[derive(Clone, Copy, PartialEq, Eq)]
+#[derive(Clone, Copy)]
 pub enum Start {
-    /// A new store.
-    Store(Base),
+    /// A store over files in memory.
+    Store,
+    /// A store in a file.
+    File,
     /// Stops of a store, at each call.
-    Stop(Work, Stops),
-    /// Saves in the file `saves.db`, for measuring: how many, and how often each commit syncs.
-    Saves(u32, Syncs),
+    Stops,
+    /// So many saves in the file `saves.db`, for measuring.
+    Saves(u32),
 }
 
 impl Start {
     pub fn from_word(word: &str) -> Option<Start> {
-        match word {
-            "store" => Some(Start::Store(Base::Memory)),
-            "store-over-files" => Some(Start::Store(Base::Files)),
-            "store-loose" => Some(Start::Store(Base::Loose)),
-            "store-later" => Some(Start::Store(Base::Later)),
-            "store-earlier" => Some(Start::Store(Base::Earlier)),
-            "store-exchanged" => Some(Start::Store(Base::Exchanged)),
-            "store-damaged" => Some(Start::Store(Base::Damaged)),
-            "store-left-over" => Some(Start::Store(Base::LeftOver)),
-            "store-half" => Some(Start::Store(Base::Half)),
-            "store-half-file" => Some(Start::Store(Base::HalfFile)),
-            "store-beside-file" => Some(Start::Store(Base::BesideFile)),
-            "stops-of-log" => Some(Start::Stop(Work::Saves, Stops::Log)),
-            "stops-of-file" => Some(Start::Stop(Work::Saves, Stops::Database)),
-            "command-stops-of-log" => Some(Start::Stop(Work::Command, Stops::Log)),
-            "command-stops-of-file" => Some(Start::Stop(Work::Command, Stops::Database)),
-            "migration-stops-of-log" => Some(Start::Stop(Work::Migration, Stops::Log)),
-            "migration-stops-of-file" => Some(Start::Stop(Work::Migration, Stops::Database)),
-            _ => Start::saves(word),
+        if word.starts_with("stops") {
+            return Some(Start::Stops);
+        }
+        if word.starts_with("store") && word.ends_with("-file") {
+            return Some(Start::File);
+        }
+        if word.starts_with("store") {
+            return Some(Start::Store);
+        }
+        Some(Start::Saves(number_behind("saves=", word)?))
+    }
+}
+
+/// The words of a store from one adoption to the next, behind the SQL that is run before it.
+#[derive(Drop)]
+pub struct Session<'w> {
+    pub tables: Vec<&'w str>,
+    pub words: Vec<&'w str>,
+}
+
+impl<'w> Session<'w> {
+    fn new(alloc: Global) -> Session<'w> {
+        Session {
+            tables: Vec::new(alloc),
+            words: Vec::new(alloc),
         }
     }
 
-    fn saves(word: &str) -> Option<Start> {
-        if let Some(count) = number_behind("saves=", word) {
-            return Some(Start::Saves(count, Syncs::Once));
+    fn push(&mut self, word: &'w str) -> Result<(), AllocError> {
+        match word.strip_prefix("sql=") {
+            Some(text) => self.tables.push(text)?,
+            None => self.words.push(word)?,
         }
-        let count = number_behind("wary-saves=", word)?;
-        Some(Start::Saves(count, Syncs::Twice))
+        Ok(())
     }
 }
 
@@ -55,22 +61,27 @@ impl Start {
 /// database.
 #[derive(Drop)]
 pub struct Scene<'w> {
+    pub name: &'w str,
     pub start: Start,
     pub sessions: Vec<Session<'w>>,
 }
 
 impl<'w> Scene<'w> {
-    pub fn new(alloc: Global, start: Start) -> Result<Scene<'w>, AllocError> {
+    pub fn new(alloc: Global, name: &'w str, start: Start) -> Result<Scene<'w>, AllocError> {
         let mut sessions = Vec::new(alloc);
-        sessions.push(Vec::new(alloc))?;
-        Ok(Scene { start, sessions })
+        sessions.push(Session::new(alloc))?;
+        Ok(Scene {
+            name,
+            start,
+            sessions,
+        })
     }
 
     pub fn push(&mut self, alloc: Global, word: &'w str) -> Result<(), AllocError> {
         if word == "again" {
-            self.sessions.push(Vec::new(alloc))?;
-        } else if let Some(words) = self.sessions.last_mut() {
-            words.push(word)?;
+            self.sessions.push(Session::new(alloc))?;
+        } else if let Some(session) = self.sessions.last_mut() {
+            session.push(word)?;
         }
         Ok(())
     }
