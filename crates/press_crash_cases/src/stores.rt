@@ -9,7 +9,7 @@ use crate::lines::fault_text;
 use crate::words::Session;
 use press_acceptor::StoreFault;
 use press_store::SqlStore;
-use sqlite::{Alter, Connection, FileStore, Files, Options, Unknown};
+use sqlite::{Alter, Connection, File, FileStore, Files, Options, Unknown};
 use sqlite_disk::{Disk, Fuse, Memory};
 use std::alloc::Global;
 
@@ -120,9 +120,22 @@ pub fn play_store(rt: &HostRuntime, all: &[Session<'_>]) -> anyhow::Result<()> {
     Ok(())
 }
 
+// A store in the file of that name; what was opened is closed where there is none.
+fn open_in(rt: &HostRuntime, name: &str) -> Result<SqlStore<FileStore<File>>, StoreFault> {
+    match SqlStore::open_from(rt, name, Unknown) {
+        Ok(store) => Ok(store),
+        Err((fault, conn)) => {
+            if let Some(conn) = conn {
+                drop(conn.into_store().close());
+            }
+            Err(fault)
+        }
+    }
+}
+
 // Opens a store in the file of that name, and closes it.
 fn open_and_close(rt: &HostRuntime, name: &str) -> Result<(), StoreFault> {
-    let store = SqlStore::open_from(rt, name, Unknown)?;
+    let store = open_in(rt, name)?;
     drop(store.into_connection().into_store().close());
     Ok(())
 }
@@ -145,7 +158,7 @@ pub fn play_file(rt: &HostRuntime, name: &str, all: &[Session<'_>]) -> anyhow::R
 }
 
 fn save_and_close(rt: &HostRuntime, name: &str, count: u32) -> Result<(), StoreFault> {
-    let mut store = SqlStore::open_from(rt, name, Unknown)?;
+    let mut store = open_in(rt, name)?;
     let saved = save_often(&mut store, count);
     drop(store.into_connection().into_store().close());
     saved

@@ -133,7 +133,7 @@ none_differs same = other_number no_schema old_schema (λ e. omega (arith, e)) s
 -- ---- what is adopted
 
 -- a database with nothing in it keeps what a new store keeps
-none_kept : (s : State) → IsLive s → IsSettled s → IsTrue s.is_open → s.now.schema ≡ no_schema → kept_by s ≡ new_store
+pub none_kept : (s : State) → IsLive s → IsSettled s → IsTrue s.is_open → s.now.schema ≡ no_schema → kept_by s ≡ new_store
 none_kept s live settled up has =
     ap (λ (d : Database). store_in d.trees) (sym (settled up)) ∙ nothing_stands s.now.trees (subst (λ (t : Schema). Lists (s.now.trees catalog_tree) t) has (live up).0.lists)
 
@@ -147,7 +147,7 @@ module _ {S : Type 0} (g : Ghosts S) (law : (s : S) (db : Trees) → IsTrue (g.v
   left_so : (Is : Trees → Type 0) (new : Held S) → IsTrue (state g new).is_open → (state g new).now ≡ (state g new).committed → Is (state g new).now.trees → (db : Trees) → (state g new).may_leave db → Is db
   left_so Is new up settled is db may = subst Is (ap (λ (d : Database). d.trees) settled ∙ sym (law new.store db up may)) is
 
-  only_kept : (new : Held S) → IsTrue (state g new).is_open → Only (kept_by (state g new)) (MayLeave (state g new))
+  pub only_kept : (new : Held S) → IsTrue (state g new).is_open → Only (kept_by (state g new)) (MayLeave (state g new))
   only_kept new up left may = may.2 ∙ ap store_in (law new.store may.0 up may.1)
 
   pub whole_seen : (old new : Held S) → (state g old).in_transaction ≡ false → (state g old).step_limit ≡ None → IsSettled (state g old) → IsLive (state g old) → IsOurs (state g old).now.schema → IsKept (state g old).now.trees

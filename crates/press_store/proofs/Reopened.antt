@@ -1,6 +1,5 @@
 -- What an open finds of an earlier run.
-use Rattle.std.proofs.Common.{◌≡◌, Result, Ok, Err, ap, subst, ◌∙◌, inl, inr}
-use Rattle.std.specs.Prelude.{IfOk}
+use Rattle.std.proofs.Common.{◌≡◌, ap, subst, ◌∙◌, inl, inr}
 use Rattle.sqlite.specs.Tree.{Trees}
 use Rattle.sqlite.specs.Recovery.{Image}
 use Rattle.sqlite.specs.Effect.{Database}
@@ -13,7 +12,10 @@ use Rattle.press_store.specs.Tables.{no_schema}
 use Rattle.press_store.specs.Stands.{store_in}
 use Rattle.press_store.specs.Shown.{IsEmptied, IsKept, IsOldVersion, IsOurVersion}
 use Rattle.press_store.specs.Adopted.{Adopts, AreSound, IsServed}
-use Rattle.press_store.specs.Opened.{Begins, Finds, IsStore, IsUp, HoldsServed, WereSound}
+use Rattle.press_store.specs.Opened.{Begins, Finds, IsStore, IsUp, HoldsServed, LeavesFound, WereSound}
+use Rattle.press_store.specs.Kept.{kept_by, MayLeave}
+use Rattle.press_acceptor.specs.StoreMap.{Only}
+use Rattle.press_store.proofs.Adopting.{none_kept}
 use Rattle.press_store.proofs.Schemas.{layout_alone, lists_nothing, old_alone}
 use Rattle.press_store.proofs.Blank.{finds_empty}
 
@@ -53,9 +55,11 @@ were_sound was now image opens live found adopts db holds =
           (subst IsOurVersion trees (adopts.version (l, has)), subst IsEmptied trees (adopts.emptied (l, has)), subst IsKept trees (adopts.had_round (l, has)))),
     )
 
+pub leaves_found : (was now : State) (image : Image) → Opens was → IsLive was → FindsIn image was → Only (kept_by was) (MayLeave now) → LeavesFound image now
+leaves_found was now image opens live found only = record {
+  found = λ db holds store may. only store may ∙ ap store_in (found.holds db holds);
+  begun = λ nothing store may. only store may ∙ none_kept was live (λ _. opens.clean) opens.is_open (finds_none was image opens live found nothing);
+}
+
 pub is_up : (was now : State) → Adopts was now → IsUp now
 is_up was now h = record { is_open = h.is_open; durable = h.durable; version_shown = h.version_shown; version_left = h.version_left; emptied_shown = h.emptied_shown; emptied_left = h.emptied_left }
-
-pub if_ok : {T E : Type 0} {P Q : T → Type 0} (result : Result T E) → ((t : T) → P t → Q t) → IfOk result P → IfOk result Q
-if_ok (Ok t) so h = so t h
-if_ok (Err e) so h = tt

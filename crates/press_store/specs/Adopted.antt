@@ -89,3 +89,7 @@ module _ {S : Type 0} (g : Ghosts S) (old new : Held S) where
 
   abbrev pub IsHandedBack : Type 0
   IsHandedBack = HasCleanDisk (state g new) → IsServed (state g old) → HandsBack (state g old) (state g new)
+
+  -- a disk that is clean now was so before, and a crash leaves the maps that an open connection kept, and nothing else
+  abbrev pub LeavesItsMaps : Type 0
+  LeavesItsMaps = HasCleanDisk (state g new) → HasCleanDisk (state g old) × (IsServed (state g old) → IsTrue (state g old).is_open → Only (kept_by (state g old)) (MayLeave (state g new)))

@@ -41,3 +41,8 @@ IsStore db = ((l : Layout) × IsSound (schema_of l) db) ⊎ IsSound old_schema d
 -- the files hold no database yet, or that of a store
 abbrev pub HoldsServed : Image → Type 0
 HoldsServed image = IsNothing image ⊎ ((db : Trees) × HoldsDatabase image db × IsStore db)
+
+-- Each map that a crash may leave is the one that the files held, or a new store's where they held no database yet.
+pub record LeavesFound (image : Image) (s : State) : Type 0 where
+  pub found : (db : Trees) → HoldsDatabase image db → Only (store_in db) (MayLeave s)
+  pub begun : IsNothing image → Only new_store (MayLeave s)

@@ -1,14 +1,14 @@
 //! The store over a connection.
 
-ghost use Rattle.std.specs.Prelude.{◌≡◌, ◌<◌, ◌≤◌, true, Some, Err, IsTrue, IfOk, IfErr, OnOk, OnErr};
+ghost use Rattle.std.specs.Prelude.{◌≡◌, ◌<◌, ◌≤◌, true, Some, Err, IsTrue, IfOk, IfErr, IfSome, OnOk, OnErr};
 ghost use Rattle.sqlite.specs.State.{HasCleanDisk};
 ghost use Rattle.sqlite.specs.Held.{state};
 ghost use Rattle.sqlite.specs.Files.{file_state};
 ghost use Rattle.sqlite.specs.WalFiles.{image_at};
-ghost use Rattle.press_store.specs.Adopted.{Adopts, IsServed, IsHandedBack, is_half};
+ghost use Rattle.press_store.specs.Adopted.{Adopts, IsServed, IsHandedBack, LeavesItsMaps, is_half};
 ghost use Rattle.press_acceptor.specs.declared.fault.StoreFault.TheVariants.{Damaged};
 ghost use Rattle.press_store.specs.Faults.{store_fault_of};
-ghost use Rattle.press_store.specs.Opened.{Begins, Finds, HoldsServed, IsUp, WereSound};
+ghost use Rattle.press_store.specs.Opened.{Begins, Finds, HoldsServed, IsUp, LeavesFound, WereSound};
 ghost use Rattle.press_store.specs.Attempt.{IsReady};
 ghost use Rattle.press_store.specs.Kept.{seen_of};
 ghost use Rattle.press_store.specs.Owned.{tie_of};
@@ -87,6 +87,7 @@ impl<D: Alter> SqlStore<D> {
             HasCleanDisk (state D.Store conn)) }
         ensures faults { IfOk result (λ store. store.faults ≡ 0) }
         ensures back { IfErr result (λ refused. IsHandedBack D.Store conn refused.1) }
+        ensures left { IfErr result (λ refused. LeavesItsMaps D.Store conn refused.1) }
     {
         let mut conn = conn;
         match prepare(alloc, &mut conn) {
@@ -168,11 +169,15 @@ impl<D: Alter> SqlStore<D> {
 
 impl<S: Start> SqlStore<FileStore<FileFrom<S>>> {
     /// A store in the file at the path, which is created if it doesn't exist; `S` is what it held.
+    /// A fault returns the connection, where there was one.
     pub fn open_from(
         rt: &HostRuntime,
         path: &str,
         start: S,
-    ) -> Result<SqlStore<FileStore<FileFrom<S>>>, StoreFault>
+    ) -> Result<
+        SqlStore<FileStore<FileFrom<S>>>,
+        (StoreFault, Option<Connection<FileStore<FileFrom<S>>>>),
+    >
         ensures ours { IfOk result (λ store. HasCleanDisk (file_state store.conn) →
             HoldsServed (image_at S.Start) → IsTrue store.is_ours) }
         ensures up { IfOk result (λ store. HasCleanDisk (file_state store.conn) →
@@ -184,14 +189,22 @@ impl<S: Start> SqlStore<FileStore<FileFrom<S>>> {
         ensures sound { IfOk result (λ store. HasCleanDisk (file_state store.conn) →
             IsTrue store.is_ours → WereSound (image_at S.Start)) }
         ensures faults { IfOk result (λ store. store.faults ≡ 0) }
+        ensures left { IfErr result (λ refused. IfSome refused.1 (λ conn.
+            HasCleanDisk (file_state conn) → HoldsServed (image_at S.Start) →
+            LeavesFound (image_at S.Start) (file_state conn))) }
     {
         let conn = match Connection::open_from(rt, path, false, start) {
             Ok(conn) => conn,
-            Err((error, _)) => return Err(fault_of(error)),
+            Err((error, left)) => {
+                if let Some(left) = left {
+                    drop(left.into_files());
+                }
+                return Err((fault_of(error), None));
+            }
         };
         match SqlStore::adopt(rt.alloc(), conn) {
             Ok(store) => Ok(store),
-            Err((fault, _)) => Err(fault),
+            Err((fault, conn)) => Err((fault, Some(conn))),
         }
     }
 }
@@ -206,7 +219,15 @@ impl SqlStore<FileStore<File>> {
             IsTrue store.is_ours → IsUp (file_state store.conn)) }
         ensures faults { IfOk result (λ store. store.faults ≡ 0) }
     {
-        SqlStore::open_from(rt, path, Unknown)
+        match SqlStore::open_from(rt, path, Unknown) {
+            Ok(opened) => Ok(opened),
+            Err((fault, conn)) => {
+                if let Some(conn) = conn {
+                    drop(conn.into_store().close());
+                }
+                Err(fault)
+            }
+        }
     }
 }
 
