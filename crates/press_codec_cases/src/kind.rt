@@ -5,6 +5,8 @@ pub enum Kind {
     Command,
     /// `msg-`: a message as bytes.
     Message,
+    /// `batch-`: what one member sends another in one request, as bytes.
+    Batch,
     /// Any other: a request.
     Request,
 }
@@ -15,6 +17,8 @@ impl Kind {
             Kind::Command
         } else if name.starts_with("msg-") {
             Kind::Message
+        } else if name.starts_with("batch-") {
+            Kind::Batch
         } else {
             Kind::Request
         }

@@ -1,5 +1,5 @@
-//! Reads files as requests, commands and messages: `press_codec_cases FILE ..` prints what each
-//! asks or spells, or which fault it has. `replies` in place of a file prints replies, `writes`
+//! Reads files as requests, commands, messages and batches: `press_codec_cases FILE ..` prints what
+//! each asks or spells, or which fault it has. `replies` in place of a file prints replies, `writes`
 //! replies whose writes fail; after a word `fails` it is shown what comes of requests whose reads
 //! fail, after a word `spoils` what comes of files that are cut, lengthened, or have a number at
 //! its greatest, after a word `lengths` what comes of requests whose `Content-Length` is at a limit
@@ -7,6 +7,7 @@
 //! for measuring.
 #![tactic(auto)]
 
+mod batches;
 mod failing;
 mod kind;
 mod pieces;
@@ -16,6 +17,7 @@ mod spoiled;
 mod times;
 mod wires;
 
+use crate::batches::show_batch;
 use crate::failing::{show_failing_reads, show_failing_writes};
 use crate::kind::Kind;
 use crate::replies::show_replies;
@@ -64,6 +66,7 @@ fn show(rt: &HostRuntime, name: &str, bytes: &[u8]) -> anyhow::Result<()> {
     match Kind::of(name) {
         Kind::Command => show_spelled::<Value>(rt, name, bytes),
         Kind::Message => show_spelled::<Message>(rt, name, bytes),
+        Kind::Batch => show_batch(rt, name, bytes),
         Kind::Request => show_request(rt, name, bytes),
     }
 }

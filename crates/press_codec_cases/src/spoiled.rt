@@ -3,6 +3,7 @@ use crate::pieces::{Failure, Pieces};
 use crate::requests::read_and_route;
 use crate::wires::Spelled;
 use press_apply::Value;
+use press_batch::{BatchFault, decode_batch};
 use press_wire::Message;
 use std::alloc::{AllocError, Global};
 
@@ -30,6 +31,7 @@ enum Outcome {
     Closed,
     /// The number of a fault on the wire, or the status of a reply.
     Fault(u16),
+    Batch(BatchFault),
 }
 
 // The same outcome of this many in turn.
@@ -46,6 +48,13 @@ fn outcome_of_spelling<T: Spelled>(alloc: Global, bytes: &[u8]) -> Outcome {
     }
 }
 
+fn outcome_of_batch(alloc: Global, bytes: &[u8]) -> Outcome {
+    match decode_batch(alloc, bytes) {
+        Ok(_) => Outcome::Read,
+        Err(fault) => Outcome::Batch(fault),
+    }
+}
+
 fn outcome_of_request(alloc: Global, bytes: &[u8]) -> Outcome {
     match read_and_route(alloc, &mut Pieces::new(bytes, 4096, Failure::Never)) {
         Ok(_) => Outcome::Read,
@@ -58,6 +67,7 @@ impl Outcome {
         match kind {
             Kind::Command => outcome_of_spelling::<Value>(alloc, bytes),
             Kind::Message => outcome_of_spelling::<Message>(alloc, bytes),
+            Kind::Batch => outcome_of_batch(alloc, bytes),
             Kind::Request => outcome_of_request(alloc, bytes),
         }
     }
@@ -78,6 +88,7 @@ fn show_runs(rt: &HostRuntime, name: &str, what: &str, runs: Vec<Run>) -> anyhow
             Outcome::Read => print!(rt; " {count}xread")?,
             Outcome::Closed => print!(rt; " {count}xclosed")?,
             Outcome::Fault(number) => print!(rt; " {count}x{number}")?,
+            Outcome::Batch(fault) => print!(rt; " {count}x({fault})")?,
         }
     }
     println!(rt; "")?;

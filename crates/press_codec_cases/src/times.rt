@@ -1,3 +1,4 @@
+use crate::batches::spell_batch_again;
 use crate::kind::Kind;
 use crate::pieces::{Failure, Pieces};
 use crate::requests::read_and_route;
@@ -18,6 +19,7 @@ fn once(alloc: Global, kind: Kind, bytes: &[u8]) {
     match kind {
         Kind::Command => spell_again::<Value>(alloc, bytes),
         Kind::Message => spell_again::<Message>(alloc, bytes),
+        Kind::Batch => spell_batch_again(alloc, bytes),
         Kind::Request => {
             let _ = read_and_route(alloc, &mut Pieces::new(bytes, 4096, Failure::Never));
         }
