@@ -3,6 +3,7 @@ mod clusters;
 mod demonstration;
 mod desk;
 mod downs;
+mod forms;
 mod fuse;
 mod hooks;
 mod learner;

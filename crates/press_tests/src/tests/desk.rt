@@ -43,15 +43,19 @@ fn full(alloc: Global) -> Result<Site, Fail> {
 }
 
 // What is shown of a site behind seven commands, over a kit of nothing.
-fn see(alloc: Global, asked: Desk) -> Result<Reply, Fail> {
-    let site = full(alloc)?;
+fn see_of(alloc: Global, site: &Site, asked: Desk) -> Result<Reply, Fail> {
     let kit = Kit::build(alloc, Vec::new(alloc), Vec::new(alloc))?;
     let applied = Applied {
         count: 7,
-        site: &site,
+        site,
         kit: &kit,
     };
     Ok(show_desk(alloc, applied, asked)?)
+}
+
+fn see(alloc: Global, asked: Desk) -> Result<Reply, Fail> {
+    let site = full(alloc)?;
+    see_of(alloc, &site, asked)
 }
 
 #[test]
@@ -82,6 +86,32 @@ fn the_site_is_seen(rt: HostRuntime) -> Result<(), Fail> {
     let meant =
         r#"{"active":["p"],"applied":7,"counts":{"draft":1,"future":0,"pending":0,"private":0,"publish":1,"trash":1},"events":[{"arg":"x","every":"hourly","hook":"h","time":0}],"moment":0,"options":[{"name":"o","value":"v"}],"plugins":[],"profile":1}"#;
     assert_eq!(rt; reply.body.as_str(), meant);
+    Ok(())
+}
+
+// As many options as a site may have are seen, each of them.
+#[test]
+fn all_options_of_a_site_are_seen(rt: HostRuntime) -> Result<(), Fail> {
+    let alloc = rt.alloc();
+    let mut site = Site::new(alloc);
+    let mut meant = Text::from_str(
+        alloc,
+        r#"{"active":[],"applied":7,"counts":{"draft":0,"future":0,"pending":0,"private":0,"publish":0,"trash":0},"events":[],"moment":0,"options":["#,
+    )?;
+    for n in 1000u32..2024 {
+        let name = format!(in alloc; "o{n}")?;
+        let value = Text::from_str(alloc, "v")?;
+        if n > 1000 {
+            meant.push_str(",")?;
+        }
+        let option = format!(in alloc; "{{\"name\":\"{name}\",\"value\":\"v\"}}")?;
+        meant.push_str(option.as_str())?;
+        let name = OptName::new(alloc, name.as_str())?;
+        site.effect(Effect::SetOption { name, value })?;
+    }
+    meant.push_str(r#"],"plugins":[],"profile":1}"#)?;
+    let reply = see_of(alloc, &site, Desk::Site)?;
+    assert_eq!(rt; reply.body.as_str(), meant.as_str());
     Ok(())
 }
 
