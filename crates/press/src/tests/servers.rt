@@ -209,13 +209,17 @@ fn metrics_of_a_node_by_itself_count_what_is_chosen(rt: HostRuntime) -> Result<(
 }
 
 // What editors may ask of an empty site, and what is replied.
-const DESK: [(&[u8], &[u8]); 3] = [
+const DESK: [(&[u8], &[u8]); 4] = [
     (
         b"GET /desk/posts HTTP/1.1\r\nHost: a\r\n\r\n",
         b"HTTP/1.1 200 OK\r\nContent-Type: application/json; charset=UTF-8\r\nContent-Length: 12\r\nConnection: close\r\n\r\n{\"posts\":[]}",
     ),
     (
         b"GET /desk/log?from=0 HTTP/1.1\r\nHost: a\r\n\r\n",
+        b"HTTP/1.1 200 OK\r\nContent-Type: application/json; charset=UTF-8\r\nContent-Length: 27\r\nConnection: close\r\n\r\n{\"applied\":0,\"commands\":[]}",
+    ),
+    (
+        b"GET /desk/log?from=18446744073709551615 HTTP/1.1\r\nHost: a\r\n\r\n",
         b"HTTP/1.1 200 OK\r\nContent-Type: application/json; charset=UTF-8\r\nContent-Length: 27\r\nConnection: close\r\n\r\n{\"applied\":0,\"commands\":[]}",
     ),
     (
