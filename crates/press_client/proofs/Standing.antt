@@ -1,10 +1,11 @@
 -- What is said to members and by them keeps the order, and the endings.
-use Rattle.std.proofs.Common.{ℕ, zero, suc, ◌≡◌, ◌+◌, ◌<◌, ◌≤◌, ◌⊎◌, inl, inr, List, [], ◌∷◌, ◌++◌, length, length-append, max, Option, Some, None, slice_get, refl, sym, ap, subst, ◌∙◌, append_assoc, append-nil, arith}
+use Rattle.std.proofs.Common.{ℕ, zero, suc, ◌≡◌, ◌+◌, ◌<◌, ◌≤◌, ◌⊎◌, inl, inr, Bool, true, false, if◌then◌else◌, nat_le, List, [], ◌∷◌, ◌++◌, length, length-append, max, Option, Some, None, slice_get, refl, sym, ap, subst, ◌∙◌, append_assoc, append-nil, arith}
+use Rattle.std.proofs.lemmas.Bool.{leb-true}
 use Rattle.std.proofs.lemmas.Option.{slice_get_within}
 use Rattle.press_apply.specs.declared.command.Stamped.{Stamped}
 use Rattle.press_site.specs.declared.token.Outcome.{Outcome}
 use Rattle.press_site.specs.declared.token.Outcome.TheVariants as outcome
-use Rattle.press_client.specs.Course.{Course, GoesOn, Hears, IsTurned, Stands, Takes, first_course, ended_by}
+use Rattle.press_client.specs.Course.{Course, GoesOn, Stands, after_taken, after_told, ended_by, first_course, held, is_drained, next_place, turned}
 use Rattle.press_client.specs.Delivering.{AreEndings, AreInOrder, Delivers, Ends, IsSettled, ending_of}
 use Rattle.press_client.specs.Saying.{Adds, Has, Said, Says, SaysNothing, asks, sends}
 use Rattle.press_client.specs.declared.ending.Ending.{Ending}
@@ -73,17 +74,19 @@ got_within [] i less = absurd (omega (arith, less))
 got_within (x ∷ xs) zero less = (x, refl)
 got_within (x ∷ xs) (suc i) less = got_within xs i (omega (arith, less))
 
-turned : (said : List Said) (before after : Course) → Stands said before → IsTurned before after → Stands said after
-turned said before after stands is =
-    let it : Course = record { commands = before.commands; place = after.place; endings = before.endings; sent = length before.endings } in
-    let done : Stands said it = record {
-      in_order = stands.in_order;
-      ended = stands.ended;
-      ahead = omega arith;
-      within = omega (arith, stands.ahead, stands.within);
-      settled = λ i command less at. let found = got_within before.endings i less in settled_by_end said before stands i command less at found.0 found.1 after.place;
-    } in
-    subst (λ (c : Course). Stands said c) (sym is) done
+turned_stands : (said : List Said) (c : Course) → Stands said c → Stands said (turned c)
+turned_stands said c stands = record {
+  in_order = stands.in_order;
+  ended = stands.ended;
+  ahead = omega arith;
+  within = omega (arith, stands.ahead, stands.within);
+  settled = λ i command less at. let found = got_within c.endings i less in settled_by_end said c stands i command less at found.0 found.1 (next_place c);
+}
+
+-- whether no more goes to the member, and how often it was asked, is nothing that was said
+held_stands : (said : List Said) (c : Course) (is_held : Bool) (waited : ℕ) → Stands said c → Stands said (record c { is_held = is_held; waited = waited })
+held_stands said c is_held waited stands =
+    record { in_order = stands.in_order; ended = stands.ended; ahead = stands.ahead; within = stands.within; settled = stands.settled }
 
 -- something that is asked
 asked : (place : ℕ) (token : _) (told : Told) (said : List Said) (c : Course) → Stands said c → Stands (asks place token told ∷ said) c
@@ -124,17 +127,14 @@ less_or_same (suc i) (suc n) less = raised (less_or_same i n (omega (arith, less
     raised (inl h) = inl (omega (arith, h))
     raised (inr h) = inr (ap suc h)
 
-queued : (command : Stamped) (said : List Said) (before after : Course) → slice_get before.commands before.sent ≡ Some command → Has said (sends before.place command taken.Queued) → Stands said before → Takes taken.Queued before after → Stands said after
-queued command said before after is has stands takes =
-    let it : Course = record { commands = before.commands; place = before.place; endings = before.endings; sent = before.sent + 1 } in
-    let done : Stands said it = record {
-      in_order = stands.in_order;
-      ended = stands.ended;
-      ahead = omega (arith, stands.ahead);
-      within = omega (arith, slice_get_within before.commands before.sent command is);
-      settled = λ i earlier less at. settled_up_to said before command stands is (inr has) i earlier at (less_or_same i before.sent less);
-    } in
-    subst (λ (c : Course). Stands said c) (sym takes) done
+queued : (command : Stamped) (said : List Said) (c : Course) → slice_get c.commands c.sent ≡ Some command → Has said (sends c.place command taken.Queued) → Stands said c → Stands said (after_taken taken.Queued c)
+queued command said c is has stands = record {
+  in_order = stands.in_order;
+  ended = stands.ended;
+  ahead = omega (arith, stands.ahead);
+  within = omega (arith, slice_get_within c.commands c.sent command is);
+  settled = λ i earlier less at. settled_up_to said c command stands is (inr has) i earlier at (less_or_same i c.sent less);
+}
 
 -- one below the greater of two
 below_max : (i m n : ℕ) → i < max m (n + 1) → (i < m) ⊎ ((i < n) ⊎ (i ≡ n))
@@ -151,19 +151,17 @@ settled_behind said c next last stands is ends i command at (inr (inr same)) =
     let one : next ≡ command = cc in
     inl (last, subst (λ (it : Stamped). Ends said it last) one ends)
 
-ended : (command : Stamped) (last : Ending) (said : List Said) (before after : Course) → slice_get before.commands (length before.endings) ≡ Some command → Ends said command last → Stands said before →
-    after ≡ ended_by last before → Stands said after
-ended command last said before after is ends stands by =
-    let longer : length (before.endings ++ last ∷ []) ≡ length before.endings + 1 = length-append before.endings (last ∷ []) in
-    let room : length before.endings < length before.commands = slice_get_within before.commands (length before.endings) command is in
-    let done : Stands said (ended_by last before) = record {
+ended : (command : Stamped) (last : Ending) (said : List Said) (c : Course) → slice_get c.commands (length c.endings) ≡ Some command → Ends said command last → Stands said c → Stands said (ended_by last c)
+ended command last said c is ends stands =
+    let longer : length (c.endings ++ last ∷ []) ≡ length c.endings + 1 = length-append c.endings (last ∷ []) in
+    let room : length c.endings < length c.commands = slice_get_within c.commands (length c.endings) command is in
+    record {
       in_order = stands.in_order;
-      ended = endings_more before.commands said before.endings command last is ends stands.ended;
+      ended = endings_more c.commands said c.endings command last is ends stands.ended;
       ahead = omega (arith, longer);
       within = omega (arith, room, stands.within);
-      settled = λ i earlier less at. settled_behind said before command last stands is ends i earlier at (below_max i before.sent (length before.endings) less);
-    } in
-    subst (λ (c : Course). Stands said c) (sym by) done
+      settled = λ i earlier less at. settled_behind said c command last stands is ends i earlier at (below_max i c.sent (length c.endings) less);
+    }
 
 -- ---- a step
 
@@ -171,52 +169,64 @@ ends_by : (place : ℕ) (command : Stamped) (o : Outcome) (said : List Said) →
 ends_by place command (outcome.Done id) said = (place, inl refl)
 ends_by place command (outcome.Refused fault) said = (place, inl refl)
 
-same_or_turned : (said : List Said) (before after : Course) → Stands said before → (after ≡ before) ⊎ IsTurned before after → Stands said after
-same_or_turned said before after stands (inl same) = subst (λ (c : Course). Stands said c) (sym same) stands
-same_or_turned said before after stands (inr is) = turned said before after stands is
+-- of two courses each stands
+either : (said : List Said) (b : Bool) (one other : Course) → Stands said one → Stands said other → Stands said (if b then one else other)
+either said true one other stands also = stands
+either said false one other stands also = also
 
-heard : (t : Told) (command : Stamped) (said : List Said) (before after : Course) → slice_get before.commands (length before.endings) ≡ Some command → Stands said before → Hears t before after → Stands (asks before.place command.token t ∷ said) after
-heard (told.Outcome o) command said before after is stands hears =
-    ended command (ending_of o) (asks before.place command.token (told.Outcome o) ∷ said) before after is (ends_by before.place command o said) (asked before.place command.token (told.Outcome o) said before stands) hears
-heard told.NotYet command said before after is stands hears = same_or_turned _ before after (asked before.place command.token told.NotYet said before stands) hears
-heard told.Lost command said before after is stands hears = turned _ before after (asked before.place command.token told.Lost said before stands) hears
+heard : (t : Told) (command : Stamped) (said : List Said) (c : Course) → slice_get c.commands (length c.endings) ≡ Some command → Stands said c → Stands (asks c.place command.token t ∷ said) (after_told t c)
+heard (told.Outcome o) command said c is stands =
+    ended command (ending_of o) (asks c.place command.token (told.Outcome o) ∷ said) c is (ends_by c.place command o said) (asked c.place command.token (told.Outcome o) said c stands)
+heard told.NotYet command said c is stands =
+    let now = asked c.place command.token told.NotYet said c stands in
+    either _ (nat_le 1000 c.waited) (turned c) (record c { waited = c.waited + 1 }) (turned_stands _ c now) (held_stands _ c c.is_held (c.waited + 1) now)
+heard told.Lost command said c is stands = turned_stands _ c (asked c.place command.token told.Lost said c stands)
 
-refused : (status : ℕ) (command : Stamped) (said : List Said) (before after : Course) → slice_get before.commands before.sent ≡ Some command → Stands (sends before.place command (taken.Refused status) ∷ said) before →
-    (after ≡ before) ⊎ ((before.sent ≤ length before.endings) × (after ≡ ended_by (NotTaken status) before)) → Stands (sends before.place command (taken.Refused status) ∷ said) after
-refused status command said before after is stands (inl same) = subst (λ (c : Course). Stands (sends before.place command (taken.Refused status) ∷ said) c) (sym same) stands
-refused status command said before after is stands (inr h) =
-    let drained : before.sent ≡ length before.endings = omega (arith, h.0, stands.ahead) in
-    ended command (NotTaken status) _ before after (subst (λ (k : ℕ). slice_get before.commands k ≡ Some command) drained is) (before.place, inl refl) stands h.1
+-- a refusal holds where the member has none of the commands that hasn't ended
+refused : (status : ℕ) (command : Stamped) (said : List Said) (c : Course) → slice_get c.commands c.sent ≡ Some command → Stands (sends c.place command (taken.Refused status) ∷ said) c →
+    (b : Bool) → is_drained c ≡ b → Stands (sends c.place command (taken.Refused status) ∷ said) (if b then ended_by (NotTaken status) c else held c)
+refused status command said c is stands true is_true =
+    let within : c.sent ≤ length c.endings = leb-true c.sent (length c.endings) is_true in
+    let drained : c.sent ≡ length c.endings = omega (arith, within, stands.ahead) in
+    ended command (NotTaken status) _ c (subst (λ (k : ℕ). slice_get c.commands k ≡ Some command) drained is) (c.place, inl refl) stands
+refused status command said c is stands false is_false = held_stands _ c true c.waited stands
 
-went : (t : Taken) (command : Stamped) (said : List Said) (before after : Course) → slice_get before.commands before.sent ≡ Some command → Stands said before → Takes t before after → Stands (sends before.place command t ∷ said) after
-went taken.Queued command said before after is stands takes = queued command _ before after is (inl refl) (sent taken.Queued command said before is stands) takes
-went taken.Busy command said before after is stands takes = same_or_turned _ before after (sent taken.Busy command said before is stands) takes
-went (taken.Refused status) command said before after is stands takes = refused status command said before after is (sent (taken.Refused status) command said before is stands) takes
-went taken.Lost command said before after is stands takes = turned _ before after (sent taken.Lost command said before is stands) takes
+went : (t : Taken) (command : Stamped) (said : List Said) (c : Course) → slice_get c.commands c.sent ≡ Some command → Stands said c → Stands (sends c.place command t ∷ said) (after_taken t c)
+went taken.Queued command said c is stands = queued command _ c is (inl refl) (sent taken.Queued command said c is stands)
+went taken.Busy command said c is stands =
+    let now = sent taken.Busy command said c is stands in
+    either _ (is_drained c) (turned c) (held c) (turned_stands _ c now) (held_stands _ c true c.waited now)
+went (taken.Refused status) command said c is stands = refused status command said c is (sent (taken.Refused status) command said c is stands) (is_drained c) refl
+went taken.Lost command said c is stands = turned_stands _ c (sent taken.Lost command said c is stands)
 
-same_takes : (t : Taken) (before after : Course) → Takes t before after → after.commands ≡ before.commands
-same_takes taken.Queued before after takes = ap (λ (c : Course). c.commands) takes
-same_takes taken.Busy before after (inl same) = ap (λ (c : Course). c.commands) same
-same_takes taken.Busy before after (inr is) = ap (λ (c : Course). c.commands) is
-same_takes (taken.Refused status) before after (inl same) = ap (λ (c : Course). c.commands) same
-same_takes (taken.Refused status) before after (inr h) = ap (λ (c : Course). c.commands) h.1
-same_takes taken.Lost before after is = ap (λ (c : Course). c.commands) is
+same_either : (b : Bool) (one other : Course) (commands : List Stamped) → one.commands ≡ commands → other.commands ≡ commands → (if b then one else other).commands ≡ commands
+same_either true one other commands same also = same
+same_either false one other commands same also = also
 
-same_hears : (t : Told) (before after : Course) → Hears t before after → after.commands ≡ before.commands
-same_hears (told.Outcome o) before after hears = ap (λ (c : Course). c.commands) hears
-same_hears told.NotYet before after (inl same) = ap (λ (c : Course). c.commands) same
-same_hears told.NotYet before after (inr is) = ap (λ (c : Course). c.commands) is
-same_hears told.Lost before after is = ap (λ (c : Course). c.commands) is
+same_taken : (t : Taken) (c : Course) → (after_taken t c).commands ≡ c.commands
+same_taken taken.Queued c = refl
+same_taken taken.Busy c = same_either (is_drained c) (turned c) (held c) c.commands refl refl
+same_taken (taken.Refused status) c = same_either (is_drained c) (ended_by (NotTaken status) c) (held c) c.commands refl refl
+same_taken taken.Lost c = refl
 
-pub sending : (t : Taken) (command : Stamped) (x y z : Option (List Said)) (before after : Course) → slice_get before.commands before.sent ≡ Some command → Adds x y (sends before.place command t) → Takes t before after →
+same_told : (t : Told) (c : Course) → (after_told t c).commands ≡ c.commands
+same_told (told.Outcome o) c = refl
+same_told told.NotYet c = same_either (nat_le 1000 c.waited) (turned c) (record c { waited = c.waited + 1 }) c.commands refl refl
+same_told told.Lost c = refl
+
+pub sending : (t : Taken) (command : Stamped) (x y z : Option (List Said)) (before after : Course) → slice_get before.commands before.sent ≡ Some command → Adds x y (sends before.place command t) → after ≡ after_taken t before →
     SaysNothing y z → GoesOn x z before after
-sending t command x y z before after is adds takes nothing =
-    (same_takes t before after takes, λ said stands. (sends before.place command t ∷ [], says_then x y z (sends before.place command t ∷ []) [] adds nothing, went t command said before after is stands takes))
+sending t command x y z before after is adds takes nothing = (
+  ap (λ (c : Course). c.commands) takes ∙ same_taken t before,
+  λ said stands. (sends before.place command t ∷ [], says_then x y z (sends before.place command t ∷ []) [] adds nothing, subst (λ (c : Course). Stands (sends before.place command t ∷ said) c) (sym takes) (went t command said before is stands)),
+)
 
 pub asking : (t : Told) (command : Stamped) (x y z : Option (List Said)) (before after : Course) → slice_get before.commands (length before.endings) ≡ Some command → Adds x y (asks before.place command.token t) →
-    Hears t before after → SaysNothing y z → GoesOn x z before after
-asking t command x y z before after is adds hears nothing =
-    (same_hears t before after hears, λ said stands. (asks before.place command.token t ∷ [], says_then x y z (asks before.place command.token t ∷ []) [] adds nothing, heard t command said before after is stands hears))
+    after ≡ after_told t before → SaysNothing y z → GoesOn x z before after
+asking t command x y z before after is adds hears nothing = (
+  ap (λ (c : Course). c.commands) hears ∙ same_told t before,
+  λ said stands. (asks before.place command.token t ∷ [], says_then x y z (asks before.place command.token t ∷ []) [] adds nothing, subst (λ (c : Course). Stands (asks before.place command.token t ∷ said) c) (sym hears) (heard t command said before is stands)),
+)
 
 pub resting : (x y : Option (List Said)) (c : Course) → SaysNothing x y → GoesOn x y c c
 resting x y c nothing = (refl, λ said stands. ([], nothing, stands))
@@ -236,8 +246,8 @@ going_on x y z first mid last one two = (
 
 -- ---- the whole
 
-new_stands : (commands : List Stamped) → Stands [] (first_course commands)
-new_stands commands = record {
+new_stands : (commands : List Stamped) (members : ℕ) → Stands [] (first_course commands members)
+new_stands commands members = record {
   in_order = tt;
   ended = λ i command ending at got. cc;
   ahead = omega arith;
@@ -245,15 +255,15 @@ new_stands commands = record {
   settled = λ i command less at. absurd (omega (arith, less));
 }
 
-few_of : (x y : Option (List Said)) (commands : List Stamped) (last : Course) → GoesOn x y (first_course commands) last → length last.endings ≤ length commands
-few_of x y commands last goes =
-    let a = goes.1 [] (new_stands commands) in
+few_of : (x y : Option (List Said)) (commands : List Stamped) (members : ℕ) (last : Course) → GoesOn x y (first_course commands members) last → length last.endings ≤ length commands
+few_of x y commands members last goes =
+    let a = goes.1 [] (new_stands commands members) in
     let same : length last.commands ≡ length commands = ap length goes.0 in
     omega (arith, a.2.ahead, a.2.within, same)
 
-delivered_of : (x y : Option (List Said)) (commands : List Stamped) (last : Course) → GoesOn x y (first_course commands) last → Delivers commands last.endings x y
-delivered_of x y commands last goes =
-    let a = goes.1 [] (new_stands commands) in
+delivered_of : (x y : Option (List Said)) (commands : List Stamped) (members : ℕ) (last : Course) → GoesOn x y (first_course commands members) last → Delivers commands last.endings x y
+delivered_of x y commands members last goes =
+    let a = goes.1 [] (new_stands commands members) in
     let stands : Stands a.0 last = subst (λ (l : List Said). Stands l last) (append-nil a.0) a.2 in
     record {
       said = a.0;
@@ -262,14 +272,14 @@ delivered_of x y commands last goes =
       ended = subst (λ (cs : List Stamped). AreEndings cs a.0 last.endings) goes.0 stands.ended;
     }
 
-pub few : (x y : Option (List Said)) (commands : List Stamped) (first last : Course) → first ≡ first_course commands → GoesOn x y first last → (endings : List Ending) → endings ≡ last.endings → length endings ≤ length commands
-few x y commands first last is goes endings same =
-    let begins : GoesOn x y (first_course commands) last = subst (λ (c : Course). GoesOn x y c last) is goes in
-    let short = few_of x y commands last begins in
+pub few : (x y : Option (List Said)) (commands : List Stamped) (members : ℕ) (first last : Course) → first ≡ first_course commands members → GoesOn x y first last → (endings : List Ending) → endings ≡ last.endings → length endings ≤ length commands
+few x y commands members first last is goes endings same =
+    let begins : GoesOn x y (first_course commands members) last = subst (λ (c : Course). GoesOn x y c last) is goes in
+    let short = few_of x y commands members last begins in
     let long : length endings ≡ length last.endings = ap length same in
     omega (arith, short, long)
 
-pub delivered : (x y : Option (List Said)) (commands : List Stamped) (first last : Course) → first ≡ first_course commands → GoesOn x y first last → (endings : List Ending) → endings ≡ last.endings → Delivers commands endings x y
-delivered x y commands first last is goes endings same =
-    let begins : GoesOn x y (first_course commands) last = subst (λ (c : Course). GoesOn x y c last) is goes in
-    subst (λ (es : List Ending). Delivers commands es x y) (sym same) (delivered_of x y commands last begins)
+pub delivered : (x y : Option (List Said)) (commands : List Stamped) (members : ℕ) (first last : Course) → first ≡ first_course commands members → GoesOn x y first last → (endings : List Ending) → endings ≡ last.endings → Delivers commands endings x y
+delivered x y commands members first last is goes endings same =
+    let begins : GoesOn x y (first_course commands members) last = subst (λ (c : Course). GoesOn x y c last) is goes in
+    subst (λ (es : List Ending). Delivers commands es x y) (sym same) (delivered_of x y commands members last begins)

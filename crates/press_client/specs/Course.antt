@@ -1,7 +1,9 @@
 -- How far a delivery is, and that each of its steps keeps the order (own).
-use Rattle.std.specs.Prelude.{ℕ, ◌≡◌, ◌<◌, ◌≤◌, ◌+◌, ◌⊎◌, List, [], ◌∷◌, ◌++◌, length, max, Option, Some, slice_get}
+use Rattle.std.specs.Prelude.{ℕ, ◌≡◌, ◌<◌, ◌≤◌, ◌+◌, Bool, true, false, if◌then◌else◌, List, [], ◌∷◌, ◌++◌, length, max, nat_le, nat_lt, Option, Some, slice_get}
 use Rattle.press_apply.specs.declared.command.Stamped.{Stamped}
 use Rattle.press_client.specs.declared.delivery.Delivery.{Delivery}
+use Rattle.press_client.specs.declared.delivery.Next.{Next}
+use Rattle.press_client.specs.declared.delivery.Next.TheVariants as next
 use Rattle.press_client.specs.declared.ending.Ending.{Ending}
 use Rattle.press_client.specs.declared.ending.Ending.TheVariants.{NotTaken}
 use Rattle.press_client.specs.declared.newsroom.Taken.{Taken}
@@ -11,39 +13,83 @@ use Rattle.press_client.specs.declared.newsroom.Told.TheVariants as told
 use Rattle.press_client.specs.Delivering.{AreEndings, AreInOrder, IsSettled, ending_of}
 use Rattle.press_client.specs.Saying.{Said, Says}
 
--- what became of the first commands, and how many have ended, or are with the member at a place
+-- what became of the first commands, and how many have ended, or are with the member at a place, of
+-- so many; whether no more goes to that one before all that it has have ended, and how often it has
+-- said that there is no outcome yet
 pub record Course : Type 0 where
   pub commands : List Stamped
+  pub members : ℕ
   pub place : ℕ
   pub endings : List Ending
   pub sent : ℕ
+  pub is_held : Bool
+  pub waited : ℕ
 
 abbrev pub course_of : Delivery → Course
-course_of d = record { commands = d.commands.now; place = d.place; endings = d.endings.items; sent = d.sent }
+course_of d = record {
+  commands = d.commands.now;
+  members = d.members;
+  place = d.place;
+  endings = d.endings.items;
+  sent = d.sent;
+  is_held = d.is_held;
+  waited = d.waited;
+}
 
-abbrev pub first_course : List Stamped → Course
-first_course commands = record { commands = commands; place = 0; endings = []; sent = 0 }
+abbrev pub first_course : List Stamped → ℕ → Course
+first_course commands members = record { commands = commands; members = members; place = 0; endings = []; sent = 0; is_held = false; waited = 0 }
 
 -- ---- what an answer does to it
 
--- another member gets what hasn't ended anew
-abbrev pub IsTurned : Course → Course → Type 0
-IsTurned before after = after ≡ record { commands = before.commands; place = after.place; endings = before.endings; sent = length before.endings }
+-- the member has none of them that hasn't ended
+abbrev pub is_drained : Course → Bool
+is_drained c = nat_le c.sent (length c.endings)
+
+-- the next member, behind the last one the first
+abbrev pub next_place : Course → ℕ
+next_place c = if nat_lt (c.place + 1) c.members then c.place + 1 else 0
+
+-- the next member gets what hasn't ended anew
+abbrev pub turned : Course → Course
+turned c = record c { place = next_place c; sent = length c.endings; is_held = false; waited = 0 }
+
+-- no more goes to the member for now
+abbrev pub held : Course → Course
+held c = record c { is_held = true }
 
 -- the oldest command has ended
 abbrev pub ended_by : Ending → Course → Course
-ended_by ending c = record { commands = c.commands; place = c.place; endings = c.endings ++ ending ∷ []; sent = max c.sent (length c.endings + 1) }
+ended_by ending c = record c { endings = c.endings ++ ending ∷ []; sent = max c.sent (length c.endings + 1); is_held = false; waited = 0 }
 
-abbrev pub Takes : Taken → Course → Course → Type 0
-Takes taken.Queued before after = after ≡ record { commands = before.commands; place = before.place; endings = before.endings; sent = before.sent + 1 }
-Takes taken.Busy before after = (after ≡ before) ⊎ IsTurned before after
-Takes (taken.Refused status) before after = (after ≡ before) ⊎ ((before.sent ≤ length before.endings) × (after ≡ ended_by (NotTaken status) before))
-Takes taken.Lost before after = IsTurned before after
+-- the member is asked again, a thousand times at most
+abbrev pub waited_on : Course → Course
+waited_on c = if nat_le 1000 c.waited then turned c else record c { waited = c.waited + 1 }
 
-abbrev pub Hears : Told → Course → Course → Type 0
-Hears (told.Outcome outcome) before after = after ≡ ended_by (ending_of outcome) before
-Hears told.NotYet before after = (after ≡ before) ⊎ IsTurned before after
-Hears told.Lost before after = IsTurned before after
+-- A member that takes no more, or refuses a command, is asked again once all that it has have
+-- ended; one that has none is left for the next, and its refusal holds.
+abbrev pub after_taken : Taken → Course → Course
+after_taken taken.Queued c = record c { sent = c.sent + 1 }
+after_taken taken.Busy c = if is_drained c then turned c else held c
+after_taken (taken.Refused status) c = if is_drained c then ended_by (NotTaken status) c else held c
+after_taken taken.Lost c = turned c
+
+abbrev pub after_told : Told → Course → Course
+after_told (told.Outcome outcome) c = ended_by (ending_of outcome) c
+after_told told.NotYet c = waited_on c
+after_told told.Lost c = turned c
+
+-- ---- what comes next
+
+abbrev pub next_by_taken : Taken → Course → Next
+next_by_taken taken.Queued c = next.On
+next_by_taken taken.Busy c = if is_drained c then next.Later else next.On
+next_by_taken (taken.Refused status) c = if is_drained c then next.Note else next.On
+next_by_taken taken.Lost c = next.Later
+
+abbrev pub next_by_told : Told → Next
+next_by_told (told.Outcome outcome) = next.Note
+next_by_told told.NotYet = next.Again
+next_by_told told.Lost = next.Later
 
 -- ---- what holds of it
 

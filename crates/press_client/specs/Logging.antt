@@ -1,11 +1,12 @@
 -- What a text says of the log of a node: an object (RFC 8259) with how many values were applied,
 -- and entries (own).
-use Rattle.std.specs.Prelude.{ℕ, ◌≡◌, ◌≤◌, List, [], ◌∷◌, ◌++◌, Option, Some, None, option_and_then, codes}
+use Rattle.std.specs.Prelude.{ℕ, ◌≡◌, ◌≤◌, List, [], ◌∷◌, ◌++◌, Option, Some, None, IsSome, IsSomeAnd, option_and_then, codes}
 use Rattle.serde_json.specs.Data.{Data, depth}
 use Rattle.serde_json.specs.Find.{as_array, as_number, as_str, as_u64, get}
 use Rattle.serde_json.specs.Read.{max_depth, read}
 use Rattle.serde_json.specs.View.{items_of}
 use Rattle.press_site.specs.declared.token.Token.{Token}
+use Rattle.press_text.specs.Names.{name_fault}
 use Rattle.press_client.specs.Exporting.{command_text}
 use Rattle.press_client.specs.declared.entry.Entry.{Entry}
 use Rattle.press_client.specs.declared.entry.Entry.TheVariants.{Command, Filler}
@@ -16,6 +17,12 @@ number_at key d = option_and_then as_u64 (option_and_then as_number (get key d))
 
 abbrev pub IsToken : Token → Data → Type 0
 IsToken token d = (option_and_then as_str (get (codes "editor") d) ≡ Some token.editor) × (number_at (codes "seq") d ≡ Some token.seq)
+
+-- an editor's name and a number stand there
+abbrev pub HasToken : Data → Type 0
+HasToken d =
+    IsSomeAnd (option_and_then as_str (get (codes "editor") d)) (λ name. name_fault 32 name ≡ None)
+    × IsSome (number_at (codes "seq") d)
 
 -- behind the moment stand fields with which the whole is read as this again; one that nests too
 -- deep isn't read

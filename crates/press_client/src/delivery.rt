@@ -1,8 +1,8 @@
 //! Commands that go to a member in their order, ahead of their outcomes, and to another where that
 //! one is away.
 
-ghost use Rattle.std.specs.Prelude.{◌≡◌, ◌<◌, ◌≤◌, IfOk, IfSome, Some, length, nat_le, slice_get};
-ghost use Rattle.press_client.specs.Course.{GoesOn, Hears, IsTurned, Takes, first_course, course_of, ended_by};
+ghost use Rattle.std.specs.Prelude.{◌≡◌, ◌<◌, ◌≤◌, IfOk, IfSome, Some, length, slice_get};
+ghost use Rattle.press_client.specs.Course.{GoesOn, after_taken, after_told, course_of, ended_by, first_course, is_drained, next_by_taken, next_by_told, turned};
 ghost use Rattle.press_client.specs.Delivering.{Delivers};
 ghost use Rattle.press_client.specs.Saying.{SaysNothing};
 
@@ -62,7 +62,7 @@ impl Drop for Delivery<'_> {
 
 impl<'a> Delivery<'a> {
     fn new(alloc: Global, commands: &'a [Stamped], members: usize) -> Delivery<'a>
-        ensures { course_of result ≡ first_course commands.now }
+        ensures { course_of result ≡ first_course commands.now members }
     {
         Delivery {
             commands,
@@ -97,7 +97,7 @@ impl<'a> Delivery<'a> {
 
     // Whether the member has none of them that hasn't ended.
     fn is_drained(&self) -> bool
-        ensures { result ≡ nat_le self.now.sent (length self.now.endings.items) }
+        ensures { result ≡ is_drained (course_of self.now) }
     {
         self.sent <= self.endings.len()
     }
@@ -124,7 +124,7 @@ impl<'a> Delivery<'a> {
 
     // The next member gets all that hasn't ended anew.
     fn turn(&mut self)
-        ensures { IsTurned (course_of self.old) (course_of self.new) }
+        ensures { course_of self.new ≡ turned (course_of self.old) }
     {
         let next = self.place.saturating_add(1);
         self.place = if next < self.members { next } else { 0 };
@@ -147,7 +147,8 @@ impl<'a> Delivery<'a> {
     // The member takes no more now: it is asked again once all that it has have ended, and if it
     // has none the next one is.
     fn hold(&mut self) -> Next
-        ensures { Takes Taken.Busy (course_of self.old) (course_of self.new) }
+        ensures course { course_of self.new ≡ after_taken Taken.Busy (course_of self.old) }
+        ensures next { result ≡ next_by_taken Taken.Busy (course_of self.old) }
     {
         if self.is_drained() {
             self.turn();
@@ -160,8 +161,10 @@ impl<'a> Delivery<'a> {
     // The member doesn't take the command, which has ended so only once those before it have ended;
     // then it is asked again.
     fn refuse(&mut self, status: u16) -> Result<Next, AllocError>
-        ensures { IfOk result
-            (λ _. Takes (Taken.Refused status) (course_of self.old) (course_of self.new)) }
+        ensures course { IfOk result (λ _.
+            course_of self.new ≡ after_taken (Taken.Refused status) (course_of self.old)) }
+        ensures next { IfOk result (λ next.
+            next ≡ next_by_taken (Taken.Refused status) (course_of self.old)) }
     {
         if self.is_drained() {
             self.end(Ending::NotTaken(status))?;
@@ -174,7 +177,9 @@ impl<'a> Delivery<'a> {
     // What a member made of the next command.
     fn take(&mut self, taken: Taken) -> Result<Next, AllocError>
         requires { self.old.sent < length self.old.commands.now }
-        ensures { IfOk result (λ _. Takes taken (course_of self.old) (course_of self.new)) }
+        ensures course { IfOk result (λ _.
+            course_of self.new ≡ after_taken taken (course_of self.old)) }
+        ensures next { IfOk result (λ next. next ≡ next_by_taken taken (course_of self.old)) }
     {
         match taken {
             Taken::Queued => {
@@ -194,7 +199,8 @@ impl<'a> Delivery<'a> {
 
     // There is no outcome of the oldest command yet.
     fn wait(&mut self) -> Next
-        ensures { Hears Told.NotYet (course_of self.old) (course_of self.new) }
+        ensures course { course_of self.new ≡ after_told Told.NotYet (course_of self.old) }
+        ensures next { result ≡ next_by_told Told.NotYet }
     {
         self.waited = self.waited.saturating_add(1);
         if self.waited > PATIENCE {
@@ -205,7 +211,9 @@ impl<'a> Delivery<'a> {
 
     // What a member says of the oldest command.
     fn hear(&mut self, told: Told) -> Result<Next, AllocError>
-        ensures { IfOk result (λ _. Hears told (course_of self.old) (course_of self.new)) }
+        ensures course { IfOk result (λ _.
+            course_of self.new ≡ after_told told (course_of self.old)) }
+        ensures next { IfOk result (λ next. next ≡ next_by_told told) }
     {
         match told {
             Told::Outcome(outcome) => {

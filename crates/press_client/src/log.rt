@@ -1,10 +1,10 @@
 //! Pieces of the log of a node.
 
-ghost use Rattle.std.specs.Prelude.{◌≡◌, IfOk, Some, map};
+ghost use Rattle.std.specs.Prelude.{◌≡◌, Err, IfErr, IfOk, None, Some, map};
 ghost use Rattle.serde_json.specs.Read.{read};
 ghost use Rattle.serde_json.specs.View.{view};
-ghost use Rattle.press_client.specs.Logging.{AreEntries, AreFields, IsEntry, IsPiece, IsToken, number_at};
-ghost use Rattle.press_client.specs.declared.log.LogFault.TheVariants.{NoMemory};
+ghost use Rattle.press_client.specs.Logging.{AreEntries, AreFields, HasToken, IsEntry, IsPiece, IsToken, number_at};
+ghost use Rattle.press_client.specs.declared.log.LogFault.TheVariants.{NoLog, NoMemory};
 
 use crate::entry::Entry;
 use crate::site_files::moment_front;
@@ -43,7 +43,9 @@ pub struct Piece {
 }
 
 fn number(value: &Value, key: &str) -> Result<u64, LogFault>
-    ensures { IfOk result (λ n. number_at key.now (view value.now) ≡ Some n) }
+    ensures number { IfOk result (λ n. number_at key.now (view value.now) ≡ Some n) }
+    ensures none { IfErr result (λ fault. (fault ≡ NoLog)
+        × (number_at key.now (view value.now) ≡ None)) }
 {
     match value.get(key).and_then(Value::as_u64) {
         Some(n) => Ok(n),
@@ -52,7 +54,8 @@ fn number(value: &Value, key: &str) -> Result<u64, LogFault>
 }
 
 fn token_in(alloc: Global, value: &Value) -> Result<Token, LogFault>
-    ensures { IfOk result (λ token. IsToken token (view value.now)) }
+    ensures token { IfOk result (λ token. IsToken token (view value.now)) }
+    ensures memory { result ≡ Err LogFault.NoMemory → HasToken (view value.now) }
 {
     let Some(editor) = value.get("editor").and_then(Value::as_str) else {
         return Err(LogFault::NoLog);

@@ -19,6 +19,10 @@ changes calls place lane other change is by =
 pub stays : (lanes : List Lane) (place : ℕ) (lane other : Lane) → slice_index_or lanes place lane ≡ lane → queue_of other ≡ queue_of lane → map queue_of (slice_set lanes place other) ≡ map queue_of lanes
 stays lanes place lane other item same = map-set_same queue_of lanes place other lane (same ∙ ap queue_of (sym item))
 
+-- another lane with the same connection in its place keeps the same connections
+pub keeps : (lanes : List Lane) (place : ℕ) (lane other : Lane) → slice_index_or lanes place lane ≡ lane → other.kept ≡ lane.kept → map (λ (l : Lane). l.kept) (slice_set lanes place other) ≡ map (λ (l : Lane). l.kept) lanes
+keeps lanes place lane other item same = map-set_same (λ (l : Lane). l.kept) lanes place other lane (same ∙ ap (λ (l : Lane). l.kept) (sym item))
+
 -- the first that is ready is ready
 pub first_is_ready : (calls : OutgoingConnections) (place : ℕ) (lane : Lane) → ready calls ≡ Some place → slice_get calls.lanes.items place ≡ Some lane → is_ready (queue_of lane) ≡ true
 first_is_ready calls place lane first is =

@@ -1,5 +1,5 @@
 -- The requests that go out, by the member that they are for (own).
-use Rattle.std.specs.Prelude.{ℕ, ◌-◌, ◌+◌, ◌&&◌, ◌||◌, Bool, List, map, Option, option_and_then, option_map, unwrap_or, slice_get, slice_set, nat_le, nat_lt, length, position, drop, replicate, ◌≡◌, ◌++◌, ◌∷◌, [], ◌⊎◌, Some, None, MatchOption, is_none, true}
+use Rattle.std.specs.Prelude.{ℕ, ◌-◌, ◌+◌, ◌&&◌, ◌||◌, Bool, List, map, Option, option_and_then, option_map, unwrap_or, if◌then◌else◌, slice_get, slice_set, nat_le, nat_lt, length, position, drop, replicate, ◌≡◌, ◌++◌, ◌∷◌, [], ◌⊎◌, Some, None, MatchOption, is_none, true}
 use Rattle.std.specs.List.{list_all}
 use Rattle.press_net.specs.declared.answers.Outgoing.{Outgoing}
 use Rattle.std.specs.Time.{instant_nanos}
@@ -27,6 +27,19 @@ queues calls = map queue_of calls.lanes.items
 -- the connection to the member at a place that stays open
 abbrev pub kept_at : OutgoingConnections → ℕ → Option TcpStream
 kept_at calls place = option_and_then (λ lane. lane.kept) (slice_get calls.lanes.items place)
+
+-- those that stay open, by member
+abbrev pub kepts : OutgoingConnections → List (Option TcpStream)
+kepts calls = map (λ lane. lane.kept) calls.lanes.items
+
+-- the one to the member at a place is kept instead of that before, if it stays open
+abbrev pub with_kept : ℕ → Option TcpStream → List (Option TcpStream) → List (Option TcpStream)
+with_kept place None all = all
+with_kept place (Some stream) all = slice_set all place (Some stream)
+
+-- the connection of a request, if another may go over it
+abbrev pub stream_left : OutgoingConnection → Option TcpStream
+stream_left call = if call.is_kept then Some call.stream else None
 
 -- the queues with the one at a place changed
 abbrev pub changed_at : (Queue → Queue) → ℕ → List Queue → List Queue

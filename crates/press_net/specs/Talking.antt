@@ -54,6 +54,10 @@ may_stay ended status group = not ended && (status == 200) && is_member group
 abbrev pub is_resting : Connection → Bool
 is_resting connection = connection.is_kept && (length connection.came.bytes.items == 0)
 
+-- it is the one of that number, and its reply is held
+abbrev pub is_held_as : ℕ → Connection → Bool
+is_held_as number connection = (connection.arrival.number == number) && connection.is_held
+
 -- behind a reply another request may come, or nothing is heard any more
 abbrev pub phase_behind : Bool → Phase
 phase_behind kept = if kept then Reading else Ending

@@ -2,7 +2,7 @@
 
 ghost use Rattle.std.specs.Prelude.{◌≡◌, ◌≢◌, ◌≤◌, ◌⊎◌, ◌||◌, [], IfOk, IsFalse, IsTrue, if◌then◌else◌, length, nat_le, nat_lt};
 ghost use Rattle.press_net.specs.declared.connection.Phase.TheVariants.{Ending, Reading, Writing};
-ghost use Rattle.press_net.specs.Talking.{IsAnswered, is_due, is_late, is_member, is_resting, is_stalled, may_stay, phase_behind};
+ghost use Rattle.press_net.specs.Talking.{IsAnswered, is_due, is_held_as, is_late, is_member, is_resting, is_stalled, may_stay, phase_behind};
 
 use crate::answers::Answers;
 use crate::request_buffer::RequestBuffer;
@@ -199,6 +199,13 @@ impl Connection {
         ensures { result ≡ self.now.is_held }
     {
         self.is_held
+    }
+
+    /// Whether it is the one of that number, and its reply is held.
+    pub fn is_held_as(&self, number: u64) -> bool
+        ensures { result ≡ is_held_as number self.now }
+    {
+        self.number() == number && self.is_held()
     }
 
     /// Its socket, for the poll.

@@ -1,7 +1,7 @@
 //! One request that goes out to a member, from its begin to its end.
 
-ghost use Rattle.std.specs.Prelude.{◌≡◌, ◌++◌, ◌-◌, ◌<◌, ◌≤◌, IfOk, IsFalse, IsTrue, None, Some, false, if◌then◌else◌, length, option_map, take};
-ghost use Rattle.press_net.specs.Lanes.{HasSameAim, asked_by, is_call_late, is_out, reply_in, request_of};
+ghost use Rattle.std.specs.Prelude.{◌≡◌, ◌++◌, ◌-◌, ◌<◌, ◌≤◌, IfOk, IsFalse, IsTrue, false, length, option_map, take};
+ghost use Rattle.press_net.specs.Lanes.{HasSameAim, asked_by, is_call_late, is_out, reply_in, request_of, stream_left};
 
 use crate::answers::{Errand, Outgoing};
 use crate::reply::is_whole;
@@ -97,7 +97,7 @@ impl OutgoingConnection {
 
     /// Ends it, and returns its connection, if another request may go over that.
     pub fn into_stream(self) -> Option<TcpStream>
-        ensures { result ≡ (if self.is_kept then Some self.stream else None) }
+        ensures { result ≡ stream_left self }
     {
         let OutgoingConnection {
             stream,

@@ -2,7 +2,7 @@
 
 ghost use Rattle.std.specs.Prelude.{◌≡◌, [], if◌then◌else◌, ◌+◌, ◌<◌, ◌≤◌, ◌⊎◌, IfErr, IfOk, IfSome, IsFalse, IsTrue, MatchOption, None, Some, false, is_none, length, option_and_then, option_map, position, slice_get, slice_set, unwrap_or};
 ghost use Rattle.std.specs.VecDeque.{deque_capacity, deque_len};
-ghost use Rattle.press_net.specs.Lanes.{IsGrown, MakesRoom, are_out, call_at, changed_at, after_end, front_at, is_call_late, is_out_at, is_ready, kept_at, queue_of, queues, ready, after_send, with_lanes, with_last};
+ghost use Rattle.press_net.specs.Lanes.{IsGrown, MakesRoom, are_out, call_at, changed_at, after_end, front_at, is_call_late, is_out_at, is_ready, kept_at, kepts, queue_of, queues, ready, after_send, stream_left, with_kept, with_lanes, with_last};
 
 use crate::answers::Outgoing;
 use crate::outgoing_connection::OutgoingConnection;
@@ -165,6 +165,7 @@ impl OutgoingConnections {
     /// One that was to go out has ended.
     pub fn close_lane(&mut self, place: usize)
         ensures closes { queues self.new ≡ changed_at after_end place (queues self.old) }
+        ensures kept { kepts self.new ≡ kepts self.old }
         ensures same { self.new.places ≡ self.old.places }
     {
         if let Some(lane) = self.lanes.get_mut(place) {
@@ -234,6 +235,8 @@ impl OutgoingConnections {
         ensures free { self.new.places.items ≡ slice_set self.old.places.items place None }
         ensures lane { MatchOption (call_at self.old place) (self.new.lanes ≡ self.old.lanes)
             (λ call. queues self.new ≡ changed_at after_end call.place (queues self.old)) }
+        ensures kept { MatchOption (call_at self.old place) (self.new.lanes ≡ self.old.lanes)
+            (λ call. kepts self.new ≡ with_kept call.place (stream_left call) (kepts self.old)) }
     {
         let Some(slot) = self.places.get_mut(place) else {
             return;
@@ -248,9 +251,7 @@ impl OutgoingConnections {
 
     // A connection to the member at a place stays open.
     fn keep_stream(&mut self, place: usize, stream: Option<TcpStream>)
-        ensures keeps { MatchOption stream (kept_at self.new place ≡ kept_at self.old place)
-            (λ stream. place < length self.old.lanes.items →
-            kept_at self.new place ≡ Some stream) }
+        ensures keeps { kepts self.new ≡ with_kept place stream (kepts self.old) }
         ensures lanes { queues self.new ≡ queues self.old }
         ensures same { self.new.places ≡ self.old.places }
     {

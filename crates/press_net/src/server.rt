@@ -1,12 +1,12 @@
 //! A server over readiness: no connection is waited for, so one that says nothing, or reads
 //! nothing, holds up nobody.
 
-ghost use Rattle.std.specs.Prelude.{◌≡◌, ◌-◌, ◌/◌, ◌<◌, [], MatchOption, MatchResult, if◌then◌else◌, not, option_map};
+ghost use Rattle.std.specs.Prelude.{◌≡◌, ◌-◌, ◌/◌, ◌<◌, [], IsErr, MatchOption, MatchResult, None, if◌then◌else◌, not, option_map};
 ghost use Rattle.std.specs.Duration.{as_nanos};
 ghost use Rattle.std.specs.IoError.{raw_os_error};
 ghost use Rattle.press_net.specs.Accepting.{is_wanting, miss_of};
 ghost use Rattle.press_net.specs.Answering.{credit};
-ghost use Rattle.press_net.specs.Lanes.{IsCredited, call_at};
+ghost use Rattle.press_net.specs.Lanes.{IsCredited, after_end, call_at, changed_at, queues};
 ghost use Rattle.press_net.specs.Talking.{free_where, group_of, is_crowded, is_reading};
 ghost use Rattle.press_net.specs.Turning.{KeepsAllButCalls, call_of, ends_at, holder_named, connection_of};
 
@@ -439,7 +439,7 @@ impl Server {
         let Some(connection) = self.connections.get_mut(place) else {
             return;
         };
-        if connection.number() != number || !connection.is_held() {
+        if !connection.is_held_as(number) {
             return;
         }
         connection.let_out(now);
@@ -511,7 +511,9 @@ impl Server {
     }
 
     // A request goes out, at the time when it does. One that can't is lost, as a message may be.
-    fn call<R: Net + Clock>(&mut self, rt: &R, outgoing: Outgoing) -> io::Result<()> {
+    fn call<R: Net + Clock>(&mut self, rt: &R, outgoing: Outgoing) -> io::Result<()>
+        ensures unnamed { outgoing.errand.addr ≡ None → IsErr result × (self.new ≡ self.old) }
+    {
         let Some(addr) = outgoing.errand.addr else {
             return Err(io::ErrorKind::AddrNotAvailable.into());
         };
@@ -587,11 +589,27 @@ impl Server {
             let Some(outgoing) = self.calls.next() else {
                 return;
             };
-            let (place, errand) = (outgoing.place, outgoing.errand);
-            if self.call(rt, outgoing).is_err() {
-                self.calls.close_lane(place);
-                answers.end_call(place, errand, &[]);
-            }
+            self.call_or_lose(rt, outgoing, answers);
+        }
+    }
+
+    // A request goes out, or is lost: then its lane has one less that is open.
+    fn call_or_lose<R: Net + Clock, A: Answers>(
+        &mut self,
+        rt: &R,
+        outgoing: Outgoing,
+        answers: &mut A,
+    )
+        ensures closes { outgoing.errand.addr ≡ None → queues self.new.calls ≡
+            changed_at after_end outgoing.place (queues self.old.calls) }
+        ensures loses { outgoing.errand.addr ≡ None →
+            A.hears answers.old (credit outgoing.place outgoing.errand []) answers.new }
+        ensures becomes { A.becomes answers.old answers.new }
+    {
+        let (place, errand) = (outgoing.place, outgoing.errand);
+        if self.call(rt, outgoing).is_err() {
+            self.calls.close_lane(place);
+            answers.end_call(place, errand, &[]);
         }
     }
 

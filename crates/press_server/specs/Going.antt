@@ -1,8 +1,9 @@
 -- What waits to go out to a member (own).
-use Rattle.std.specs.Prelude.{ℕ, ◌≡◌, ◌-◌, ◌==◌, ◌&&◌, ◌||◌, Bool, true, false, List, [], ◌∷◌, drop, length, nat_le, nat_lt, if◌then◌else◌}
+use Rattle.std.specs.Prelude.{ℕ, ◌≡◌, ◌+◌, ◌-◌, ◌==◌, ◌&&◌, ◌||◌, Bool, true, false, List, [], ◌∷◌, drop, length, min, nat_le, nat_lt, option_map, slice_get, unwrap_or, if◌then◌else◌}
 use Rattle.press_wire.specs.declared.message.Body.{Body}
 use Rattle.press_wire.specs.declared.message.Body.TheVariants.{Prepare, Promise, Nack, Accept, Accepted, Query}
 use Rattle.press_server.specs.declared.lanes.Lane.{Lane}
+use Rattle.press_server.specs.declared.lanes.Lanes.{Lanes}
 use Rattle.press_server.specs.declared.lanes.Waiting.{Waiting}
 
 -- a question for a vote
@@ -25,6 +26,31 @@ is_ready now lane = is_free now lane && (nat_lt 0 lane.looks || nat_lt 0 (length
 -- as many requests are on their way, since the same time, and as many looks wait
 abbrev pub HasSameWay : Lane → Lane → Type 0
 HasSameWay new old = (new.«open» ≡ old.«open») × (new.since ≡ old.since) × (new.looks ≡ old.looks)
+
+-- how many of these are questions
+abbrev pub question_count : List Waiting → ℕ
+question_count [] = 0
+question_count (first ∷ rest) = (if is_question first.message.body then 1 else 0) + question_count rest
+
+-- looks and questions whose ends are to be told: those that wait, and those that were lost before
+-- they went out
+abbrev pub owed : Lane → ℕ
+owed lane = question_count lane.waiting.items + lane.looks + lane.lost
+
+abbrev pub owed_at : Lanes → ℕ → ℕ
+owed_at lanes place = unwrap_or (option_map owed (slice_get lanes.all.items place)) 0
+
+-- a number, as far as 32 bits count
+abbrev pub counted : ℕ → ℕ
+counted n = min n 4294967295
+
+-- so many of those that were owed went out, and the others are owed still
+abbrev pub GoOut : ℕ → ℕ → ℕ → Type 0
+GoOut asked before after = (count : ℕ) × (before ≡ count + after) × (asked ≡ counted count)
+
+-- none is forgotten, as far as they are counted
+abbrev pub AreKept : ℕ → ℕ → Type 0
+AreKept before after = counted after ≡ counted before
 
 -- the oldest makes room where 3,333 wait
 abbrev pub with_room : List Waiting → List Waiting

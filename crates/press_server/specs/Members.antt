@@ -1,10 +1,12 @@
 -- The members of a cluster (own).
-use Rattle.std.specs.Prelude.{ℕ, ◌-◌, ◌==◌, ◌&&◌, Bool, not, Option, None, Some}
+use Rattle.std.specs.Prelude.{ℕ, ◌≡◌, ◌-◌, ◌==◌, ◌&&◌, Bool, not, Option, None, Some, option_map, unwrap_or}
 use Rattle.std.specs.declared.net.ip_addr.IpAddr.{IpAddr}
+use Rattle.press_acceptor.specs.StoreMap.{StoreMap}
 use Rattle.press_net.specs.Addresses.{has_ip, sockets_at}
 use Rattle.press_server.specs.declared.peers.Peers.{Peers}
 use Rattle.press_server.specs.declared.setup.Role.{Role}
 use Rattle.press_server.specs.declared.setup.Role.TheVariants.{Alone, Member}
+use Rattle.press_store.specs.Voted.{IsLastVote}
 
 -- the number of a member in its cluster, if the place is in one
 abbrev pub number_of : Role → Option ℕ
@@ -14,3 +16,8 @@ number_of (Member id peers tick) = Some id
 -- it is another member, which has that address
 abbrev pub is_other_at : Peers → ℕ → IpAddr → Bool
 is_other_at peers member ip = not (member == peers.own) && has_ip ip (sockets_at peers.book (member - 1))
+
+-- so many slots stand before the last one with a vote; none where no slot has one
+abbrev pub IsBeforeLast : StoreMap → ℕ → Type 0
+IsBeforeLast store chosen =
+    (last : Option ℕ) × IsLastVote store last × (chosen ≡ unwrap_or (option_map (λ slot. slot - 1) last) 0)

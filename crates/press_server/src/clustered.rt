@@ -1,8 +1,9 @@
 //! A member of a cluster behind a server: what comes over sockets is given to it, and what it sends
 //! goes out.
 
-ghost use Rattle.std.specs.Prelude.{◌≡◌, ◌≢◌, ℕ, ◌&&◌, IfOk, MatchBool, None, false, if◌then◌else◌};
+ghost use Rattle.std.specs.Prelude.{◌≡◌, ◌≢◌, ℕ, ◌&&◌, IfOk, MatchBool, MatchOption, None, false, if◌then◌else◌};
 ghost use Rattle.press_member.specs.Acts.{is_open, stop_in, view_of};
+ghost use Rattle.press_server.specs.Going.{AreKept, GoOut, owed_at};
 ghost use Rattle.press_server.specs.Living.{MemberLives, Compares};
 ghost use Rattle.press_server.specs.Members.{is_other_at};
 ghost use Rattle.press_server.specs.Screening.{is_ahead};
@@ -414,7 +415,11 @@ impl<S: PromiseStore> Clustered<'_, S> {
 
     // A batch for the member at a place. None without memory.
     fn outgoing(&mut self, place: usize) -> Option<Outgoing>
-        ensures { self.new.member ≡ self.old.member }
+        ensures member { self.new.member ≡ self.old.member }
+        ensures asks { MatchOption result
+            (AreKept (owed_at self.old.lanes place) (owed_at self.new.lanes place))
+            (λ outgoing. GoOut outgoing.errand.asked (owed_at self.old.lanes place)
+            (owed_at self.new.lanes place)) }
     {
         let sender = self.sender();
         let addr = self.peers.addr(place);

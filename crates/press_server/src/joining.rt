@@ -8,8 +8,9 @@ ghost use Rattle.press_member.specs.Starting.{IsItsStart};
 ghost use Rattle.press_net.specs.Addresses.{listed};
 ghost use Rattle.press_node.specs.Nodes.{kit_of, node_moved, state_of, store_of};
 ghost use Rattle.press_node.specs.States.{applied_count, started_at};
-ghost use Rattle.press_server.specs.Members.{number_of};
+ghost use Rattle.press_server.specs.Members.{IsBeforeLast, number_of};
 ghost use Rattle.press_server.specs.Turns.{HasCaughtUp};
+ghost use Rattle.press_store.specs.Kept.{seen_of};
 
 use crate::clustered::{Clustered, Party};
 use crate::operator_options::OperatorOptions;
@@ -152,7 +153,10 @@ pub fn tie<D: Alter>(store: &mut SqlStore<D>, seat: &Option<Membership>) -> Resu
 
 // How many slots are chosen, by what the store keeps: who proposes for a slot has applied those
 // before it, so these are all before the last one with a vote.
-fn chosen_by<D: Alter>(store: &mut SqlStore<D>) -> Result<u64, StoreFault> {
+fn chosen_by<D: Alter>(store: &mut SqlStore<D>) -> Result<u64, StoreFault>
+    ensures { IfOk result (λ chosen. (seen_of D.Store store.new).is_honest →
+        IsBeforeLast (seen_of D.Store store.old).kept chosen) }
+{
     match store.last_vote()? {
         Some(slot) => Ok(u64::from(slot.number()).saturating_sub(1)),
         None => Ok(0),

@@ -1,7 +1,7 @@
 //! What waits to go out to each member.
 
-ghost use Rattle.std.specs.Prelude.{◌≡◌, ◌≤◌, ◌⊎◌, [], ◌∷◌, ◌+◌, ◌++◌, IfOk, IfSome, IsTrue, None, drop, length, slice_get};
-ghost use Rattle.press_server.specs.Going.{HasSameWay, asks_first, is_free, is_question, is_ready, is_stale, with_room};
+ghost use Rattle.std.specs.Prelude.{◌≡◌, ◌<◌, ◌≤◌, ◌⊎◌, [], ◌∷◌, ◌+◌, ◌++◌, IfErr, IfOk, IfSome, IsTrue, MatchOption, None, drop, if◌then◌else◌, length, slice_get};
+ghost use Rattle.press_server.specs.Going.{AreKept, GoOut, HasSameWay, asks_first, is_free, is_question, is_ready, is_stale, owed, owed_at, question_count, with_room};
 
 use crate::peers::place_of;
 use press_batch::{BatchFault, BatchWriter, Report};
@@ -83,6 +83,7 @@ impl Lane {
     fn lose(&mut self)
         ensures lost { self.new.waiting.items ≡ drop 1 self.old.waiting.items }
         ensures same { HasSameWay self.new self.old }
+        ensures kept { AreKept (owed self.old) (owed self.new) }
     {
         if let Some(waiting) = self.waiting.pop_front() {
             let count = u32::from(is_question(&waiting.message));
@@ -97,6 +98,8 @@ impl Lane {
             ⊎ (self.new.waiting.items ≡ with_room self.old.waiting.items) }
         ensures most { length self.old.waiting.items ≤ 3333 →
             length self.new.waiting.items ≤ 3333 }
+        ensures kept { AreKept (owed self.old + (if is_question message.body then 1 else 0))
+            (owed self.new) }
     {
         if self.waiting.len() >= MOST_WAITING {
             self.lose();
@@ -141,6 +144,9 @@ impl Lane {
             self.new.waiting.items ≡ drop 1 self.old.waiting.items) }
         ensures fits { IfSome result (λ _. (batch.new.count ≡ batch.old.count + 1)
             ⊎ (batch.old.count ≡ 0)) }
+        ensures asks { IfSome result (λ count. question_count self.old.waiting.items ≡
+            count + question_count self.new.waiting.items) }
+        ensures lost { self.new.lost ≡ self.old.lost }
     {
         let waiting = self.waiting.front()?;
         let count = u32::from(is_question(&waiting.message));
@@ -157,7 +163,9 @@ impl Lane {
     }
 
     // A request has ended that never went out.
-    fn give_up(&mut self, asked: u32) {
+    fn give_up(&mut self, asked: u32)
+        ensures { AreKept (owed self.old + asked) (owed self.new) }
+    {
         self.open = self.open.saturating_sub(1);
         self.lost = self.lost.saturating_add(asked);
     }
@@ -165,7 +173,10 @@ impl Lane {
     // Puts what waits into a batch, the oldest first, as much as it takes; how many questions that
     // is.
     fn move_all(&mut self, batch: &mut BatchWriter) -> u32
-        ensures { HasSameWay self.new self.old }
+        ensures way { HasSameWay self.new self.old }
+        ensures asks { GoOut result (question_count self.old.waiting.items)
+            (question_count self.new.waiting.items) }
+        ensures lost { self.new.lost ≡ self.old.lost }
     {
         let mut asked: u32 = 0;
         for _ in 0..self.waiting.len() {
@@ -181,6 +192,8 @@ impl Lane {
     fn pack(&mut self, sender: Sender) -> Result<Parcel, BatchFault>
         ensures since { IfOk result (λ _. self.new.since ≡ sender.now) }
         ensures looks { IfOk result (λ _. self.new.looks ≡ 0) }
+        ensures asks { IfOk result (λ parcel. GoOut parcel.asked (owed self.old) (owed self.new)) }
+        ensures stays { IfErr result (λ _. self.new ≡ self.old) }
     {
         let mut batch = BatchWriter::new(sender.alloc, sender.from, &sender.report)?;
         let asked = self.move_all(&mut batch);
@@ -283,7 +296,11 @@ impl Lanes {
     }
 
     /// What goes out to the member at a place. None without memory.
-    pub fn pack(&mut self, place: usize, sender: Sender) -> Option<Parcel> {
+    pub fn pack(&mut self, place: usize, sender: Sender) -> Option<Parcel>
+        ensures asks { MatchOption result (owed_at self.new place ≡ owed_at self.old place)
+            (λ parcel. GoOut parcel.asked (owed_at self.old place) (owed_at self.new place)) }
+        ensures there { IfSome result (λ _. place < length self.new.all.items) }
+    {
         self.all.get_mut(place)?.pack(sender).ok()
     }
 
@@ -293,7 +310,10 @@ impl Lanes {
     }
 
     /// What was to go out to the member at a place is lost.
-    pub fn give_up(&mut self, place: usize, asked: u32) {
+    pub fn give_up(&mut self, place: usize, asked: u32)
+        ensures { place < length self.old.all.items →
+            AreKept (owed_at self.old place + asked) (owed_at self.new place) }
+    {
         if let Some(lane) = self.all.get_mut(place) {
             lane.give_up(asked);
         }

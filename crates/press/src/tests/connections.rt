@@ -10,16 +10,21 @@ use std::io::{Read, Write};
 use std::net::{Net, OpenListener, OpenStream, SocketAddr, TcpListener, TcpStream};
 use std::os::fd::{AsRawFd, RawFd};
 use std::test::Fail;
+use std::time::Duration;
 
 const NODES: usize = 7;
 
-// How many connections were made, how many ended for their client, and how many of those without a
-// byte.
+// A request of somebody else.
+const FRONT: &[u8] = b"GET / HTTP/1.1\r\nHost: a\r\n\r\n";
+
+// How many connections were made, how many ended for their client, how many of those without a
+// byte, and how many writes there were.
 #[derive(Drop)]
 struct Seen {
     made: Cell<u32>,
     ended: Cell<u32>,
     silent: Cell<u32>,
+    writes: Cell<u32>,
 }
 
 impl Seen {
@@ -28,6 +33,7 @@ impl Seen {
             made: Cell::new(0),
             ended: Cell::new(0),
             silent: Cell::new(0),
+            writes: Cell::new(0),
         }
     }
 
@@ -65,6 +71,7 @@ impl Read for Watched<'_> {
 
 impl Write for Watched<'_> {
     fn write(&mut self, buf: &[u8]) -> io::Result<usize> {
+        count(&self.seen.writes);
         self.stream.write(buf)
     }
 
@@ -120,6 +127,16 @@ impl AsRawFd for Listener<'_> {
 struct Watch<'s> {
     rt: &'s HostRuntime,
     seen: &'s Seen,
+    // Whether somebody else comes before each connection.
+    is_preceded: bool,
+}
+
+impl Watch<'_> {
+    // Somebody else asks for a page, over a connection of the same address.
+    fn precede(&self, addr: SocketAddr) -> io::Result<()> {
+        let mut stranger = TcpStream::connect(self.rt, addr)?;
+        stranger.write_all(FRONT)
+    }
 }
 
 impl Alloc for Watch<'_> {
@@ -142,7 +159,12 @@ impl<'s> Net for Watch<'s> {
     }
 
     fn connect(&self, addr: SocketAddr) -> io::Result<Watched<'s>> {
+        if self.is_preceded {
+            self.precede(addr)?;
+        }
         let stream = TcpStream::connect(self.rt, addr)?;
+        // What never comes ends the run.
+        stream.set_read_timeout(Some(Duration::from_secs(5)))?;
         count(&self.seen.made);
         Ok(Watched {
             stream,
@@ -152,20 +174,45 @@ impl<'s> Net for Watch<'s> {
     }
 }
 
-// What is seen of the connections of a schedule over nodes without plugins.
-fn seen_of(rt: &HostRuntime, schedule: &str) -> Result<(u32, u32, u32), Fail> {
-    let alloc = rt.alloc();
+// Plays a schedule over nodes without plugins; whether it came to its end.
+fn plays(watch: &Watch<'_>, schedule: &str) -> Result<bool, Fail> {
+    let alloc = watch.alloc();
     let mut kits = Vec::new(alloc);
     for _ in 0..NODES {
         let kit = Kit::build(alloc, Vec::new(alloc), Vec::new(alloc))?;
         kits.push(kit)?;
     }
-    let seen = Seen::none();
-    let watch = Watch { rt, seen: &seen };
     let mut input = schedule.as_bytes();
     let mut out: Vec<u8> = Vec::new(alloc);
-    loop_over(&watch, kits, &mut input, &mut out)?;
+    Ok(loop_over(watch, kits, &mut input, &mut out).is_ok())
+}
+
+// What is seen of the connections of a schedule.
+fn seen_of(rt: &HostRuntime, schedule: &str) -> Result<(u32, u32, u32), Fail> {
+    let seen = Seen::none();
+    let watch = Watch {
+        rt,
+        seen: &seen,
+        is_preceded: false,
+    };
+    if !plays(&watch, schedule)? {
+        return Err(Fail::from("it ended early"));
+    }
     Ok(seen.counts())
+}
+
+// Where somebody else has come first the run ends before a byte is sent.
+#[test]
+fn somebody_elses_connection_is_not_taken(rt: HostRuntime) -> Result<(), Fail> {
+    let seen = Seen::none();
+    let watch = Watch {
+        rt: &rt,
+        seen: &seen,
+        is_preceded: true,
+    };
+    assert!(rt; !plays(&watch, THREE_NODES)?);
+    assert_eq!(rt; (seen.made.get(), seen.writes.get()), (1, 0));
+    Ok(())
 }
 
 // Each submit, message and request for a page has a connection, whose client sees it close; that of

@@ -42,6 +42,8 @@ impl Read for Failing {
 pub struct Client<'a> {
     rt: &'a HostRuntime,
     addr: SocketAddr,
+    // Whether another one comes before it, and leaves without a word.
+    is_second: bool,
     request: &'a [u8],
     stream: Option<TcpStream>,
 }
@@ -51,12 +53,24 @@ impl<'a> Client<'a> {
         Client {
             rt,
             addr,
+            is_second: false,
             request,
             stream: None,
         }
     }
 
+    /// One behind another that leaves without a word.
+    pub fn second(rt: &'a HostRuntime, addr: SocketAddr, request: &'a [u8]) -> Client<'a> {
+        Client {
+            is_second: true,
+            ..Client::new(rt, addr, request)
+        }
+    }
+
     fn ask(&mut self) -> io::Result<()> {
+        if self.is_second {
+            drop(TcpStream::connect(self.rt, self.addr)?);
+        }
         let mut stream = TcpStream::connect(self.rt, self.addr)?;
         stream.write_all(self.request)?;
         self.stream = Some(stream);

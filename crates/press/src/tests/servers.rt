@@ -129,6 +129,25 @@ fn a_long_request_is_read_to_its_end(rt: HostRuntime) -> Result<(), Fail> {
     Ok(())
 }
 
+// Who leaves without a word has had a turn: of one turn none is left for who comes next.
+#[test]
+fn who_is_closed_without_a_reply_has_had_a_turn(rt: HostRuntime) -> Result<(), Fail> {
+    let addr = free_addr(&rt, "127.0.0.1")?;
+    let port = format!(in rt.alloc(); "{}", addr.port())?;
+    let words = words_of(&rt, &["serve", "--port", &port, "--turns", "1"])?;
+    let client = Client::second(&rt, addr, FRONT);
+    let mut input: &[u8] = b"";
+    let mut out = Narrow::with_flush(rt.alloc(), Flush::Asks(client));
+    let mut told: Vec<u8> = Vec::new(rt.alloc());
+    assert_eq!(rt; run(&rt, &words, &mut input, &mut out, &mut told), 0);
+    assert!(rt; holds(&told, b"127.0.0.1 closed: "));
+    let mut reply = Vec::new(rt.alloc());
+    // Its connection is closed, or reset.
+    let _ = out.reply(&mut reply);
+    assert!(rt; reply.is_empty());
+    Ok(())
+}
+
 // A client of this machine has the address 127.0.0.1. The other member, in whose name it asks, is
 // at that of the server.
 #[test]

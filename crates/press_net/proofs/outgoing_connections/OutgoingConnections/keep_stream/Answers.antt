@@ -1,4 +1,7 @@
-use Rattle.std.proofs.Common.{rules, ◌≡◌, refl, slice_index_or}
+use Rattle.std.proofs.Common.{rules, ◌≡◌, ◌∙◌, Some, ap, refl, slice_index_or, sym}
+use Rattle.std.proofs.lemmas.List.{map-set}
+use Rattle.press_net.specs.Lanes.{kepts, with_kept}
+use Rattle.press_net.specs.declared.outgoing_connections.Lane.{Lane}
 use Rattle.press_net.proofs.Lanes.{stays}
 use Rattle.press_net.proofs.outgoing_connections.OutgoingConnections.keep_stream.Goals as goal
 
@@ -6,3 +9,9 @@ pub returns-in-Some-Some-clause-lanes : goal.returns-in-Some-Some-clause-lanes
 returns-in-Some-Some-clause-lanes c =
     let item : slice_index_or c.args.self.now.lanes.items c.args.place c.in-Some-Some.lane.now ≡ c.in-Some-Some.lane.now = search rules in
     stays c.args.self.now.lanes.items c.args.place c.in-Some-Some.lane.now _ item refl
+
+pub returns-in-Some-Some-clause-keeps : goal.returns-in-Some-Some-clause-keeps
+returns-in-Some-Some-clause-keeps c =
+    let is : c.args.stream ≡ Some c.in-Some-Some.stream = search rules in
+    map-set (λ (lane : Lane). lane.kept) c.args.self.now.lanes.items c.args.place _
+    ∙ ap (λ stream. with_kept c.args.place stream (kepts c.args.self.now)) (sym is)

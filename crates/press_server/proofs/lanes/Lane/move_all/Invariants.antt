@@ -1,5 +1,9 @@
-use Rattle.press_server.specs.Going.{HasSameWay}
+use Rattle.std.specs.Prelude.{◌≡◌}
+use Rattle.press_server.specs.Going.{GoOut, HasSameWay, question_count}
 use Rattle.press_server.proofs.lanes.Lane.move_all.Given as goal
 
 abbrev pub invariant-loop : goal.invariant-loop
-invariant-loop l = HasSameWay l.self l.initial.self
+invariant-loop l =
+    HasSameWay l.self l.initial.self
+    × GoOut l.asked (question_count l.initial.self.waiting.items) (question_count l.self.waiting.items)
+    × (l.self.lost ≡ l.initial.self.lost)
