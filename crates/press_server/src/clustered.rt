@@ -414,6 +414,7 @@ impl<S: PromiseStore> Clustered<'_, S> {
     }
 
     // A batch for the member at a place. None without memory.
+    #[tactic(auto, using(crate::proofs::Owing::given_up))]
     fn outgoing(&mut self, place: usize) -> Option<Outgoing>
         ensures member { self.new.member ≡ self.old.member }
         ensures asks { MatchOption result
