@@ -1,7 +1,7 @@
 use Rattle.std.proofs.Common.{◌≤◌, [], length}
 use Rattle.press_callbacks.specs.Kits.{view_of}
 use Rattle.press_world.specs.Starts.{AreKit, views_of}
-use Rattle.press.proofs.tests.connections.seen_of.Given as goal
+use Rattle.press.proofs.tests.connections.plays.Given as goal
 
 abbrev pub invariant-loop : goal.invariant-loop
 invariant-loop l = record {
