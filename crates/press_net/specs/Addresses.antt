@@ -1,5 +1,5 @@
 -- Where requests go: the addresses of those who are listed, by place (own).
-use Rattle.std.specs.Prelude.{ℕ, ◌==◌, ◌&&◌, ◌++◌, ◌*◌, Bool, false, not, min, max, List, [], ◌∷◌, drop, take, filter, length, nat_eq, Option, Some, None, option_map, unwrap_or, slice_get, bytes_eq, if◌then◌else◌}
+use Rattle.std.specs.Prelude.{ℕ, ◌≡◌, ◌≤◌, ◌<◌, ◌⊎◌, ◌+◌, ◌==◌, ◌&&◌, ◌++◌, ◌*◌, Bool, true, false, not, min, max, List, [], ◌∷◌, drop, take, filter, length, nat_eq, Option, Some, None, is_some, option_map, unwrap_or, slice_get, bytes_eq, if◌then◌else◌}
 use Rattle.std.specs.List.{list_any}
 use Rattle.std.specs.Net.Socket.{socket_ip}
 use Rattle.std.specs.declared.net.ip_addr.IpAddr.{IpAddr}
@@ -7,6 +7,7 @@ use Rattle.std.specs.declared.net.socket_addr.SocketAddr.{SocketAddr}
 use Rattle.std.specs.declared.net.socket_addr.SocketAddr.TheVariants.{V4, V6}
 use Rattle.press_net.specs.Talking.{is_same}
 use Rattle.press_net.specs.declared.addresses.AddressBook.{AddressBook}
+use Rattle.press_net.specs.declared.addresses.Entry.{Entry}
 
 -- how many are listed
 abbrev pub listed : AddressBook → ℕ
@@ -61,3 +62,26 @@ with_found known found =
 -- milliseconds behind a lookup that took so long
 abbrev pub pause : ℕ → ℕ
 pause took = max 1000 (min (took * 30) 18446744073709551615)
+
+-- its name is to be looked up
+abbrev pub wants : Entry → Bool
+wants entry = entry.is_wanted && is_some entry.name
+
+abbrev pub wants_at : AddressBook → ℕ → Bool
+wants_at book place = unwrap_or (option_map wants (slice_get book.all.items place)) false
+
+-- none of the places from one on, before another, has a name that is to be looked up
+abbrev pub NoneWants : AddressBook → ℕ → (ℕ → Type 0) → Type 0
+NoneWants book first before = (place : ℕ) → first ≤ place → before place → wants_at book place ≡ false
+
+-- the first place from one on whose name is to be looked up
+abbrev pub IsFirstWanted : AddressBook → ℕ → Option ℕ → Type 0
+IsFirstWanted book first None = NoneWants book first (λ _. Unit {0})
+IsFirstWanted book first (Some found) = (first ≤ found) × (wants_at book found ≡ true) × NoneWants book first (λ place. place < found)
+
+-- the names that are to be looked up have their turns by place: it is the next one behind the last,
+-- or the first of all where none is behind it
+abbrev pub HasTurn : AddressBook → ℕ → Type 0
+HasTurn book place =
+    let next = min (book.last + 1) 18446744073709551615 in
+    IsFirstWanted book next (Some place) ⊎ (IsFirstWanted book next None × IsFirstWanted book 0 (Some place))

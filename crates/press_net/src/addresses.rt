@@ -5,7 +5,7 @@ ghost use Rattle.std.specs.List.{list_any};
 ghost use Rattle.std.specs.Net.Socket.{socket_ip};
 ghost use Rattle.press_net.specs.Talking.{is_same};
 ghost use Rattle.press_net.specs.declared.addresses.Entry.{Entry};
-ghost use Rattle.press_net.specs.Addresses.{behind_loss, first_at, fresh, has_ip, has_socket, is_same_socket, listed, pause, sockets_at, still, went_first, with_found};
+ghost use Rattle.press_net.specs.Addresses.{HasTurn, IsFirstWanted, behind_loss, first_at, fresh, has_ip, has_socket, is_same_socket, listed, pause, sockets_at, still, wants, went_first, with_found};
 
 use std::alloc::{AllocError, Global};
 use std::net::{IpAddr, Net, SocketAddr, ToSocketAddrs};
@@ -172,7 +172,9 @@ impl Entry {
         }
     }
 
-    fn wants(&self) -> bool {
+    fn wants(&self) -> bool
+        ensures { result ≡ wants self.now }
+    {
         self.is_wanted && self.name.is_some()
     }
 
@@ -327,7 +329,9 @@ impl AddressBook {
     }
 
     // The first place from one on whose name is to be looked up.
-    fn wanted_from(&self, first: usize) -> Option<usize> {
+    fn wanted_from(&self, first: usize) -> Option<usize>
+        ensures { IsFirstWanted self.now first result }
+    {
         for place in first..self.all.len() {
             if let Some(entry) = self.all.get(place) {
                 if entry.wants() {
@@ -341,6 +345,7 @@ impl AddressBook {
     // The last lookup is over, if it wasn't known yet.
     fn note_end(&mut self, now: u64)
         ensures same { self.new.all ≡ self.old.all }
+        ensures last { self.new.last ≡ self.old.last }
         ensures due { MatchOption self.old.begun (self.new.due ≡ self.old.due)
             (λ begun. self.new.due ≡ min (now + pause (now - begun)) 18446744073709551615) }
         ensures noted { self.new.begun ≡ None }
@@ -356,6 +361,9 @@ impl AddressBook {
     pub fn look_up<N: Net>(&mut self, net: &N, now: u64)
         ensures rests { self.old.begun ≡ None → now < self.old.due → self.new.all ≡ self.old.all }
         ensures begins { IfSome self.new.begun (λ begun. begun ≡ now) }
+        ensures turn { IfSome self.new.begun (λ _. HasTurn self.old self.new.last) }
+        ensures others { (other : ℕ) → other ≢ self.new.last →
+            sockets_at self.new other ≡ sockets_at self.old other }
     {
         self.note_end(now);
         if now < self.due {

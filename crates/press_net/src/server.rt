@@ -1,13 +1,13 @@
 //! A server over readiness: no connection is waited for, so one that says nothing, or reads
 //! nothing, holds up nobody.
 
-ghost use Rattle.std.specs.Prelude.{◌≡◌, ◌-◌, ◌/◌, ◌<◌, [], IsErr, MatchOption, MatchResult, None, if◌then◌else◌, not, option_map};
+ghost use Rattle.std.specs.Prelude.{◌≡◌, ◌-◌, ◌/◌, ◌<◌, [], IsErr, IsFalse, MatchOption, MatchResult, None, if◌then◌else◌, not, option_map};
 ghost use Rattle.std.specs.Duration.{as_nanos};
 ghost use Rattle.std.specs.IoError.{raw_os_error};
 ghost use Rattle.press_net.specs.Accepting.{is_wanting, miss_of};
 ghost use Rattle.press_net.specs.Answering.{credit};
 ghost use Rattle.press_net.specs.Lanes.{IsCredited, after_end, call_at, changed_at, queues};
-ghost use Rattle.press_net.specs.Talking.{free_where, group_of, is_crowded, is_reading};
+ghost use Rattle.press_net.specs.Talking.{free_where, group_of, holds, is_crowded, is_reading};
 ghost use Rattle.press_net.specs.Turning.{KeepsAllButCalls, call_of, ends_at, holder_named, connection_of};
 
 use crate::answers::{Answers, Outgoing, Time, Traffic};
@@ -433,15 +433,18 @@ impl Server {
     }
 
     // Lets a held reply out, if its connection is still there.
-    fn let_out(&mut self, held: Held) {
+    fn let_out(&mut self, held: Held)
+        ensures other { IsFalse (holds self.old.connections held.place held.number) →
+            self.new ≡ self.old }
+    {
         let Held { place, number } = held;
         let now = self.now;
+        if !self.connections.holds(place, number) {
+            return;
+        }
         let Some(connection) = self.connections.get_mut(place) else {
             return;
         };
-        if !connection.is_held_as(number) {
-            return;
-        }
         connection.let_out(now);
         let is_over = connection.phase() == Phase::Over;
         let has_more = connection.has_more();

@@ -27,6 +27,18 @@ is_ready now lane = is_free now lane && (nat_lt 0 lane.looks || nat_lt 0 (length
 abbrev pub HasSameWay : Lane → Lane → Type 0
 HasSameWay new old = (new.«open» ≡ old.«open») × (new.since ≡ old.since) × (new.looks ≡ old.looks)
 
+-- so many requests are on their way to the member at a place
+abbrev pub open_at : Lanes → ℕ → ℕ
+open_at lanes place = unwrap_or (option_map (λ lane. lane.«open») (slice_get lanes.all.items place)) 0
+
+-- as many are on their way to each member
+abbrev pub HasSameWays : Lanes → Lanes → Type 0
+HasSameWays new old = (place : ℕ) → open_at new place ≡ open_at old place
+
+-- one has ended that was on its way to the member at a place
+abbrev pub HasEnded : ℕ → Lanes → Lanes → Type 0
+HasEnded place new old = (other : ℕ) → open_at new other ≡ (if other == place then open_at old other - 1 else open_at old other)
+
 -- how many of these are questions
 abbrev pub question_count : List Waiting → ℕ
 question_count [] = 0

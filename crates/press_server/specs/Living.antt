@@ -1,9 +1,10 @@
 -- What becomes of a node, or of a member, that a server serves: a chain of turns (own).
-use Rattle.std.specs.Prelude.{ℕ, ◌≡◌, List, [], ◌∷◌, ◌++◌, Option, Some, Result, refl}
+use Rattle.std.specs.Prelude.{ℕ, ◌≡◌, ◌+◌, Bool, List, [], ◌∷◌, ◌++◌, MatchOption, Option, Some, Result, refl}
 use Rattle.std.proofs.Common.{subst}
 use Rattle.std.specs.declared.alloc.AllocError.{AllocError}
 use Rattle.press_acceptor.specs.Seen.{Seen}
 use Rattle.press_http.specs.declared.fault.HttpFault.{HttpFault}
+use Rattle.press_net.specs.Answering.{Credit}
 use Rattle.press_node.specs.Nodes.{NodeMove, node_moved, state_of, store_of}
 use Rattle.press_node.specs.States.{NodeState, Up}
 use Rattle.press_node.specs.declared.fault.NodeFault.{NodeFault}
@@ -18,6 +19,7 @@ use Rattle.press_member.specs.declared.member.Member.{Member}
 use Rattle.press_member.specs.declared.output.Answer.{Answer}
 use Rattle.press_member.specs.declared.output.Outputs.{Outputs}
 use Rattle.press_server.specs.Turns.{ServesTurn}
+use Rattle.press_wire.specs.Ranges.{member_id_of}
 
 -- any number of steps
 pub data Chain {T : Type 0} (Step : T → T → Type 0) : T → T → Type 0 where
@@ -83,6 +85,22 @@ more_come {seen = seen} {moved = moved} {store = store} {state = state} old next
 
 abbrev pub MemberLives : {S : Type 0} {t : _} {F : _} {g : _} → (S → Seen) → Member S t F g → Member S t F g → Type 0
 MemberLives seen old new = IsLife seen (λ a b. node_moved seen a b) (λ node. store_of node) (λ node. state_of node) (view_of old) (view_of new)
+
+-- a member takes that input, and no other
+pub record TakesInput {S N : Type 0} (seen : S → Seen) (moved : N → N → NodeMove) (store : N → S) (state : N → NodeState) (input : Input) (old new : View N) : Type 0 where
+  pub result : Result Outputs AllocError
+  pub acts : Acts moved input old new result
+  pub moves : AreItsMoves seen store state input old new result
+
+abbrev pub MemberTakes : {S : Type 0} {t : _} {F : _} {g : _} → (S → Seen) → Input → Member S t F g → Member S t F g → Type 0
+MemberTakes seen input old new = TakesInput seen (λ a b. node_moved seen a b) (λ node. store_of node) (λ node. state_of node) input (view_of old) (view_of new)
+
+-- a member is told last that a request to the member at that place has ended, with as many looks
+-- and questions as were in it
+abbrev pub IsToldOfEnd : {S : Type 0} {t : _} {F : _} {g : _} → (S → Seen) → Credit → Member S t F g → Member S t F g → Type 0
+IsToldOfEnd {S = S} {t = t} {F = F} {g = g} seen credit old new =
+    MatchOption (member_id_of (credit.place + 1)) (new ≡ old)
+    (λ to. (is_taken : Bool) × (between : Member S t F g) × MemberLives seen old between × MemberTakes seen (Ended to credit.errand.asked is_taken) between new)
 
 -- what is answered to a report: whether it is of the same members and the same kit
 abbrev pub Compares : {N : Type 0} → View N → Input → Answer → Type 0

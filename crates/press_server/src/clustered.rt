@@ -3,8 +3,9 @@
 
 ghost use Rattle.std.specs.Prelude.{◌≡◌, ◌≢◌, ℕ, ◌&&◌, IfOk, MatchBool, MatchOption, None, false, if◌then◌else◌};
 ghost use Rattle.press_member.specs.Acts.{is_open, stop_in, view_of};
-ghost use Rattle.press_server.specs.Going.{AreKept, GoOut, owed_at};
-ghost use Rattle.press_server.specs.Living.{MemberLives, Compares};
+ghost use Rattle.press_net.specs.Answering.{credit};
+ghost use Rattle.press_server.specs.Going.{AreKept, GoOut, HasEnded, HasSameWays, owed_at};
+ghost use Rattle.press_server.specs.Living.{Compares, IsToldOfEnd, MemberLives, MemberTakes};
 ghost use Rattle.press_server.specs.Members.{is_other_at};
 ghost use Rattle.press_server.specs.Screening.{is_ahead};
 
@@ -137,7 +138,9 @@ impl<S: PromiseStore> Clustered<'_, S> {
     fn play(&mut self, input: Input) -> Result<Answer, AllocError>
         requires always { Unit {0} }
         ensures lives { MemberLives S.seen self.old.member self.new.member }
+        ensures takes { MemberTakes S.seen input self.old.member self.new.member }
         ensures compares { IfOk result (λ answer. Compares (view_of self.old.member) input answer) }
+        ensures ways { HasSameWays self.new.lanes self.old.lanes }
     {
         let Outputs {
             answer,
@@ -156,7 +159,9 @@ impl<S: PromiseStore> Clustered<'_, S> {
     // What nobody waits for. Without memory it is lost, as a message may be.
     fn note(&mut self, input: Input)
         requires always { Unit {0} }
-        ensures { MemberLives S.seen self.old.member self.new.member }
+        ensures lives { MemberLives S.seen self.old.member self.new.member }
+        ensures takes { MemberTakes S.seen input self.old.member self.new.member }
+        ensures ways { HasSameWays self.new.lanes self.old.lanes }
     {
         let _ = self.play(input);
     }
@@ -231,6 +236,7 @@ impl<S: PromiseStore> Clustered<'_, S> {
         ensures same { IfOk result (λ is_same. MatchBool is_same
             (report.digests ≡ (view_of self.old.member).digests)
             (report.digests ≢ (view_of self.old.member).digests)) }
+        ensures ways { HasSameWays self.new.lanes self.old.lanes }
     {
         let answer = self.play(Input::Report { from, report })?;
         Ok(!matches!(answer, Answer::Foreign))
@@ -244,6 +250,7 @@ impl<S: PromiseStore> Clustered<'_, S> {
         ensures same { IfOk result (λ is_heard. MatchBool is_heard
             (batch.report.digests ≡ (view_of self.old.member).digests)
             (batch.report.digests ≢ (view_of self.old.member).digests)) }
+        ensures ways { HasSameWays self.new.lanes self.old.lanes }
     {
         let Batch {
             from,
@@ -443,7 +450,8 @@ impl<S: PromiseStore> Clustered<'_, S> {
     #[tactic(auto, using(crate::specs::Living::none_comes))]
     fn hear_back(&mut self, said: Option<Batch>) -> bool
         requires always { Unit {0} }
-        ensures { MemberLives S.seen self.old.member self.new.member }
+        ensures lives { MemberLives S.seen self.old.member self.new.member }
+        ensures ways { HasSameWays self.new.lanes self.old.lanes }
     {
         match said {
             Some(batch) => matches!(self.hear(batch), Ok(true)),
@@ -454,11 +462,13 @@ impl<S: PromiseStore> Clustered<'_, S> {
 
 impl<S: PromiseStore> Answers for Clustered<'_, S> {
     ghost use Rattle.press_member.specs.Acts.{view_of};
-    ghost use Rattle.press_server.specs.Living.{MemberLives, more_come, none_comes};
+    ghost use Rattle.press_server.specs.Going.{HasEnded};
+    ghost use Rattle.press_server.specs.Living.{IsToldOfEnd, MemberLives, more_come, none_comes};
 
     ghost answers = { λ _ _ _. Unit {0} };
 
-    ghost hears = { λ _ _ _. Unit {0} };
+    ghost hears = { λ old credit new. HasEnded credit.place new.lanes old.lanes
+        × IsToldOfEnd S.seen credit old.member new.member };
 
     ghost becomes = { λ old new. MemberLives S.seen old.member new.member };
 
@@ -509,7 +519,9 @@ impl<S: PromiseStore> Answers for Clustered<'_, S> {
     #[tactic(auto, using(crate::specs::Living::none_comes))]
     fn end_call(&mut self, place: usize, errand: Errand, reply: &[u8])
         requires always { Unit {0} }
-        ensures { MemberLives S.seen self.old.member self.new.member }
+        ensures hears { HasEnded place self.new.lanes self.old.lanes × IsToldOfEnd S.seen
+            (credit place errand reply.now) self.old.member self.new.member }
+        ensures becomes { MemberLives S.seen self.old.member self.new.member }
     {
         self.lanes.end(place);
         let Some(to) = member_at(place) else {

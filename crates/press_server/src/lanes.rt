@@ -1,7 +1,7 @@
 //! What waits to go out to each member.
 
-ghost use Rattle.std.specs.Prelude.{◌≡◌, ◌<◌, ◌≤◌, ◌⊎◌, [], ◌∷◌, ◌+◌, ◌++◌, IfErr, IfOk, IfSome, IsTrue, MatchOption, None, drop, if◌then◌else◌, length, slice_get};
-ghost use Rattle.press_server.specs.Going.{AreKept, GoOut, HasSameWay, asks_first, is_free, is_question, is_ready, is_stale, owed, owed_at, question_count, with_room};
+ghost use Rattle.std.specs.Prelude.{ℕ, ◌≡◌, ◌<◌, ◌≤◌, ◌⊎◌, [], ◌∷◌, ◌+◌, ◌-◌, ◌++◌, IfErr, IfOk, IfSome, IsTrue, MatchOption, None, drop, if◌then◌else◌, length, slice_get};
+ghost use Rattle.press_server.specs.Going.{AreKept, GoOut, HasEnded, HasSameWay, HasSameWays, asks_first, counted, is_free, is_question, is_ready, is_stale, owed, owed_at, question_count, with_room};
 
 use crate::peers::place_of;
 use press_batch::{BatchFault, BatchWriter, Report};
@@ -98,6 +98,7 @@ impl Lane {
             ⊎ (self.new.waiting.items ≡ with_room self.old.waiting.items) }
         ensures most { length self.old.waiting.items ≤ 3333 →
             length self.new.waiting.items ≤ 3333 }
+        ensures way { HasSameWay self.new self.old }
         ensures kept { AreKept (owed self.old + (if is_question message.body then 1 else 0))
             (owed self.new) }
     {
@@ -124,8 +125,10 @@ impl Lane {
         }
     }
 
+    // What is too old is lost.
     fn lose_stale(&mut self, now: u64)
-        ensures { HasSameWay self.new self.old }
+        ensures way { HasSameWay self.new self.old }
+        ensures kept { AreKept (owed self.old) (owed self.new) }
     {
         for _ in 0..self.waiting.len() {
             if !self.is_stale(now) {
@@ -164,7 +167,8 @@ impl Lane {
 
     // A request has ended that never went out.
     fn give_up(&mut self, asked: u32)
-        ensures { AreKept (owed self.old + asked) (owed self.new) }
+        ensures kept { AreKept (owed self.old + asked) (owed self.new) }
+        ensures way { self.new.«open» ≡ self.old.«open» - 1 }
     {
         self.open = self.open.saturating_sub(1);
         self.lost = self.lost.saturating_add(asked);
@@ -192,6 +196,7 @@ impl Lane {
     fn pack(&mut self, sender: Sender) -> Result<Parcel, BatchFault>
         ensures since { IfOk result (λ _. self.new.since ≡ sender.now) }
         ensures looks { IfOk result (λ _. self.new.looks ≡ 0) }
+        ensures way { IfOk result (λ _. self.new.«open» ≡ counted (self.old.«open» + 1)) }
         ensures asks { IfOk result (λ parcel. GoOut parcel.asked (owed self.old) (owed self.new)) }
         ensures stays { IfErr result (λ _. self.new ≡ self.old) }
     {
@@ -217,7 +222,8 @@ impl Lane {
 
     // Puts what waits before the first question into a batch, as much as it takes.
     fn move_said(&mut self, batch: &mut BatchWriter)
-        ensures { HasSameWay self.new self.old }
+        ensures way { HasSameWay self.new self.old }
+        ensures kept { owed self.new ≡ owed self.old }
     {
         for _ in 0..self.waiting.len() {
             if self.asks_first() || self.move_one(batch).is_none() {
@@ -229,7 +235,8 @@ impl Lane {
     // What waits before the first question goes out with a reply. Questions go with requests, whose
     // ends are told.
     fn pack_reply(&mut self, sender: Sender) -> Result<BatchWriter, BatchFault>
-        ensures { HasSameWay self.new self.old }
+        ensures way { HasSameWay self.new self.old }
+        ensures kept { AreKept (owed self.old) (owed self.new) }
     {
         let mut batch = BatchWriter::new(sender.alloc, sender.from, &sender.report)?;
         self.lose_stale(sender.now);
@@ -261,14 +268,23 @@ impl Lanes {
     }
 
     /// A message is to go out.
-    pub fn put(&mut self, message: Message, now: u64) {
+    pub fn put(&mut self, message: Message, now: u64)
+        ensures kept { message.to - 1 < length self.old.all.items →
+            AreKept (owed_at self.old (message.to - 1) + (if is_question message.body then 1 else 0))
+            (owed_at self.new (message.to - 1)) }
+        ensures ways { HasSameWays self.new self.old }
+    {
         if let Some(lane) = self.all.get_mut(place_of(message.to)) {
             lane.put(message, now);
         }
     }
 
     /// A member is to say how far it is.
-    pub fn look(&mut self, to: MemberId) {
+    pub fn look(&mut self, to: MemberId)
+        ensures kept { to - 1 < length self.old.all.items →
+            AreKept (owed_at self.old (to - 1) + 1) (owed_at self.new (to - 1)) }
+        ensures ways { HasSameWays self.new self.old }
+    {
         if let Some(lane) = self.all.get_mut(place_of(to)) {
             lane.looks = lane.looks.saturating_add(1);
         }
@@ -281,8 +297,10 @@ impl Lanes {
 
     /// The first member to whom something may go out, by its place. What is too old is lost.
     pub fn ready(&mut self, now: u64) -> Option<usize>
-        ensures { IfSome result (λ place. IfSome (slice_get self.new.all.items place)
+        ensures is { IfSome result (λ place. IfSome (slice_get self.new.all.items place)
             (λ lane. IsTrue (is_ready now lane))) }
+        ensures kept { (i : ℕ) → AreKept (owed_at self.old i) (owed_at self.new i) }
+        ensures ways { HasSameWays self.new self.old }
     {
         for place in 0..self.all.len() {
             if let Some(lane) = self.all.get_mut(place) {
@@ -305,14 +323,18 @@ impl Lanes {
     }
 
     /// What goes out with the reply to the member at a place. None without memory.
-    pub fn pack_reply(&mut self, place: usize, sender: Sender) -> Option<BatchWriter> {
+    pub fn pack_reply(&mut self, place: usize, sender: Sender) -> Option<BatchWriter>
+        ensures kept { AreKept (owed_at self.old place) (owed_at self.new place) }
+        ensures ways { HasSameWays self.new self.old }
+    {
         self.all.get_mut(place)?.pack_reply(sender).ok()
     }
 
     /// What was to go out to the member at a place is lost.
     pub fn give_up(&mut self, place: usize, asked: u32)
-        ensures { place < length self.old.all.items →
+        ensures kept { place < length self.old.all.items →
             AreKept (owed_at self.old place + asked) (owed_at self.new place) }
+        ensures ways { HasEnded place self.new self.old }
     {
         if let Some(lane) = self.all.get_mut(place) {
             lane.give_up(asked);
@@ -320,7 +342,10 @@ impl Lanes {
     }
 
     /// A request that was on its way to the member at a place has ended.
-    pub fn end(&mut self, place: usize) {
+    pub fn end(&mut self, place: usize)
+        ensures kept { owed_at self.new place ≡ owed_at self.old place }
+        ensures ways { HasEnded place self.new self.old }
+    {
         if let Some(lane) = self.all.get_mut(place) {
             lane.open = lane.open.saturating_sub(1);
         }

@@ -1,9 +1,10 @@
 //! The members of a cluster, by their addresses.
 
-ghost use Rattle.std.specs.Prelude.{◌≡◌, ◌-◌, ◌≤◌, IfOk};
+ghost use Rattle.std.specs.Prelude.{◌≡◌, ◌+◌, ◌-◌, ◌≤◌, IfOk};
 ghost use Rattle.press_net.specs.Addresses.{first_at, listed};
 ghost use Rattle.press_server.specs.Digests.{digest_of};
 ghost use Rattle.press_server.specs.Members.{is_other_at};
+ghost use Rattle.press_wire.specs.Ranges.{member_id_of};
 ghost use Rattle.press_server.specs.declared.peers.PeersFault.TheVariants.{NoMemory};
 
 use crate::digest::digest_of;
@@ -149,7 +150,9 @@ pub fn place_of(member: MemberId) -> usize
 }
 
 /// The member of that place.
-pub fn member_at(place: usize) -> Option<MemberId> {
+pub fn member_at(place: usize) -> Option<MemberId>
+    ensures { result ≡ member_id_of (place + 1) }
+{
     match u8::try_from(place.saturating_add(1)) {
         Ok(number) => MemberId::new(number),
         Err(_) => None,

@@ -115,3 +115,20 @@ fn the_demonstration_kit(rt: HostRuntime) -> Result<(), Fail> {
     assert!(rt; site.option(&saved) == Some("1"));
     Ok(())
 }
+
+// A list of a kit file has as many items as its file has room for.
+#[test]
+fn a_list_of_65537_parts_is_read(rt: HostRuntime) -> Result<(), Fail> {
+    let alloc = rt.alloc();
+    let mut file = Text::from_str(
+        alloc,
+        r#"{"plugins":[],"callbacks":[{"name":"a","script":[{"op":"set","text":[""#,
+    )?;
+    for _ in 0..65_536u32 {
+        file.push_str("b\",\"")?;
+    }
+    file.push_str("b\"]}]}]}")?;
+    let kit = read_kit_file(alloc, file.as_bytes())?;
+    assert_eq!(rt; kit.callbacks.as_slice().len(), 1);
+    Ok(())
+}

@@ -1,5 +1,6 @@
+use Rattle.press_server.specs.Going.{HasSameWays}
 use Rattle.press_server.specs.Living.{MemberLives}
 use Rattle.press_server.proofs.clustered.Clustered.hear.Given as goal
 
 abbrev pub invariant-loop-message : goal.invariant-loop-message
-invariant-loop-message g l = MemberLives g.S.PromiseStore.seen l.fn.self.member l.self.member
+invariant-loop-message g l = MemberLives g.S.PromiseStore.seen l.fn.self.member l.self.member × HasSameWays l.self.lanes l.fn.self.lanes

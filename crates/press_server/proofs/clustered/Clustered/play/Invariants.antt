@@ -1,8 +1,15 @@
-use Rattle.press_server.specs.Living.{MemberLives}
+use Rattle.press_server.specs.Going.{HasSameWays}
+use Rattle.press_server.specs.Living.{MemberLives, MemberTakes}
 use Rattle.press_server.proofs.clustered.Clustered.play.Given as goal
 
 abbrev pub invariant-loop-message : goal.invariant-loop-message
-invariant-loop-message g l = MemberLives g.S.PromiseStore.seen l.fn.self.member l.self.member
+invariant-loop-message g l =
+    MemberLives g.S.PromiseStore.seen l.fn.self.member l.self.member
+    × MemberTakes g.S.PromiseStore.seen l.fn.input l.fn.self.member l.self.member
+    × HasSameWays l.self.lanes l.fn.self.lanes
 
 abbrev pub invariant-loop-to : goal.invariant-loop-to
-invariant-loop-to g l = MemberLives g.S.PromiseStore.seen l.fn.self.member l.self.member
+invariant-loop-to g l =
+    MemberLives g.S.PromiseStore.seen l.fn.self.member l.self.member
+    × MemberTakes g.S.PromiseStore.seen l.fn.input l.fn.self.member l.self.member
+    × HasSameWays l.self.lanes l.fn.self.lanes

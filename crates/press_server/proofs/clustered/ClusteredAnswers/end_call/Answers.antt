@@ -1,12 +1,31 @@
-use Rattle.std.proofs.Common.{◌≡◌, rules, subst}
+use Rattle.std.proofs.Common.{◌≡◌, ◌∙◌, ◌+◌, Some, refl, rules, subst, sym}
 use Rattle.press_member.specs.Acts.{view_of}
+use Rattle.press_net.specs.Answering.{credit}
+use Rattle.press_server.proofs.Owing.{told_last}
+use Rattle.press_server.specs.Going.{open_at}
 use Rattle.press_server.specs.Living.{MemberLives, more_come}
 use Rattle.press_server.proofs.clustered.ClusteredAnswers.end_call.Goals as goal
 use Rattle.press_server.proofs.clustered.ClusteredAnswers.end_call.Goals.{then-is_none, else-is_none}
+use Rattle.press_wire.specs.Ranges.{member_id_of}
 
-pub returns : goal.returns
-returns g c =
+pub returns-clause-hears : goal.returns-clause-hears
+returns-clause-hears g c =
+    let same : c.if-is_none.self.member ≡ c.args.self.now.member =
+    elim c.if-is_none.branch [ then-is_none w ↦ search rules | else-is_none w ↦ search rules ]
+    in
+    let lanes : c.if-is_none.self.lanes ≡ c.end.new.self =
+    elim c.if-is_none.branch [ then-is_none w ↦ search rules | else-is_none w ↦ search rules ]
+    in
+    let to : member_id_of (c.args.place + 1) ≡ Some c.in-Some.to = sym c.member_at.ensures ∙ c.in-Some.is in (
+      λ other. c.note.ensures.ways other ∙ c.hear_back-is_taken.ensures.ways other
+          ∙ subst (λ it. open_at c.if-is_none.self.lanes other ≡ open_at it other) lanes refl ∙ c.end.ensures.ways other,
+      told_last g.S.PromiseStore.seen (credit c.args.place c.args.errand c.args.reply.now) c.args.self.now.member c.hear_back-is_taken.new.self.member c.note.new.self.member c.in-Some.to c.hear_back-is_taken.result to
+          (subst (λ m. MemberLives g.S.PromiseStore.seen m c.hear_back-is_taken.new.self.member) same c.hear_back-is_taken.ensures.lives) c.note.ensures.takes,
+    )
+
+pub returns-clause-becomes : goal.returns-clause-becomes
+returns-clause-becomes g c =
     let same : c.if-is_none.self.member ≡ c.args.self.now.member =
     elim c.if-is_none.branch [ then-is_none w ↦ search rules | else-is_none w ↦ search rules ]
     in more_come (view_of c.args.self.now.member) (view_of c.hear_back-is_taken.new.self.member) (view_of c.note.new.self.member)
-    (subst (λ m. MemberLives g.S.PromiseStore.seen m c.hear_back-is_taken.new.self.member) same c.hear_back-is_taken.ensures) c.note.ensures
+    (subst (λ m. MemberLives g.S.PromiseStore.seen m c.hear_back-is_taken.new.self.member) same c.hear_back-is_taken.ensures.lives) c.note.ensures.lives
