@@ -450,6 +450,7 @@ impl<S: PromiseStore> Member<S> {
     fn note_reports(&mut self)
         ensures same { IsSame (λ a b. node_moved S.seen a b) (view_of self.old) (view_of self.new) }
         ensures moment { moment_of self.new.player ≡ moment_of self.old.player }
+        ensures time { self.new.time ≡ self.old.time }
     {
         let borne_out = self.peers.borne_out(self.player.pace.chosen(), self.time);
         let claim = self.peers.claim(self.time);
@@ -484,6 +485,7 @@ impl<S: PromiseStore> Member<S> {
         ensures same { IsSame (λ a b. node_moved S.seen a b) (view_of self.old) (view_of self.new) }
         ensures turned { Turns (λ a b. node_moved S.seen a b) (view_of self.old) (view_of self.new)
             AreQuestions out.old.items out.new.items (IsTrue (is_ok result)) }
+        ensures time { self.new.time ≡ self.old.time }
     {
         let Some(to) = id_at(place) else {
             return Ok(());
@@ -501,6 +503,7 @@ impl<S: PromiseStore> Member<S> {
         ensures same { IsSame (λ a b. node_moved S.seen a b) (view_of self.old) (view_of self.new) }
         ensures turned { Turns (λ a b. node_moved S.seen a b) (view_of self.old) (view_of self.new)
             AreQuestions out.old.items out.new.items (IsTrue (is_ok result)) }
+        ensures time { self.new.time ≡ self.old.time }
     {
         let end = last.saturating_add(2);
         for place in 0..self.peers.count() {
@@ -519,6 +522,7 @@ impl<S: PromiseStore> Member<S> {
         ensures same { IsSame (λ a b. node_moved S.seen a b) (view_of self.old) (view_of self.new) }
         ensures turned { Turns (λ a b. node_moved S.seen a b) (view_of self.old) (view_of self.new)
             MayWake messages.old.items messages.new.items (IsTrue (is_ok result)) }
+        ensures time { self.new.time ≡ self.old.time }
     {
         self.peers.look(looks)?;
         self.note_reports();
@@ -539,6 +543,7 @@ impl<S: PromiseStore> Member<S> {
         ensures same { IsSame (λ a b. node_moved S.seen a b) (view_of self.old) (view_of self.new) }
         ensures turned { Turns (λ a b. node_moved S.seen a b) (view_of self.old) (view_of self.new)
             IsDue messages.old.items messages.new.items (IsTrue (is_ok result)) }
+        ensures time { self.new.time ≡ self.old.time }
     {
         match due {
             Due::Nothing => Ok(()),
@@ -556,6 +561,7 @@ impl<S: PromiseStore> Member<S> {
         requires always { Unit {0} }
         ensures acts { Acts (λ a b. node_moved S.seen a b) (input.Time now)
             (view_of self.old) (view_of self.new) result }
+        ensures time { self.new.time ≡ now }
     {
         self.time = now;
         if self.player.node.is_down() {

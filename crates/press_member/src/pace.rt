@@ -1,7 +1,7 @@
 //! When a member wakes, when it looks how far the others are, and when it asks what it has missed.
 //! It is a matter of time alone: what the cluster agrees on doesn't depend on it.
 
-ghost use Rattle.std.specs.Prelude.{◌≡◌, ◌≤◌, ◌+◌, true, false, max};
+ghost use Rattle.std.specs.Prelude.{◌≡◌, ◌≤◌, ◌+◌, ◌-◌, ◌&&◌, None, Some, if◌then◌else◌, true, false, max, nat_le, nat_lt, unwrap_or};
 
 use crate::signs::{Sign, sign_of};
 use press_wire::{MemberId, Message};
@@ -355,7 +355,12 @@ impl Pace {
     }
 
     // Others say that so many slots are chosen.
-    fn hear_claim(&mut self, claim: u64) {
+    fn hear_claim(&mut self, claim: u64)
+        ensures claim { self.new.claim ≡ claim }
+        // The time from which on it holds this member up is that of the first of them.
+        ensures since { self.new.claimed_at ≡ (if nat_le claim self.old.applied then None
+            else Some (unwrap_or self.old.claimed_at self.old.time)) }
+    {
         self.claim = claim;
         if claim <= self.applied {
             self.claimed_at = None;
@@ -408,7 +413,11 @@ impl Pace {
 
     /// Somebody proposed for this slot: those before it are chosen. Votes that are on their way
     /// close a small distance.
-    pub fn hear_of(&mut self, proposed: Option<u64>, is_taken: bool) {
+    pub fn hear_of(&mut self, proposed: Option<u64>, is_taken: bool)
+        ensures newest { self.new.newest
+            ≡ (if is_taken && nat_lt (self.old.applied + 32) (unwrap_or proposed 0)
+            then max self.old.newest (unwrap_or proposed 0 - 1) else self.old.newest) }
+    {
         let slot = proposed.unwrap_or(0);
         if is_taken && slot > self.applied.saturating_add(SLACK) {
             self.prove(slot.saturating_sub(1));

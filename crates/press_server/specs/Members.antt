@@ -1,12 +1,16 @@
 -- The members of a cluster (own).
-use Rattle.std.specs.Prelude.{ℕ, ◌≡◌, ◌-◌, ◌==◌, ◌&&◌, Bool, not, Option, None, Some, option_map, unwrap_or}
+use Rattle.std.specs.Prelude.{ℕ, ◌≡◌, ◌+◌, ◌-◌, ◌==◌, ◌&&◌, List, drop, Bool, not, Option, None, Some, option_map, unwrap_or}
 use Rattle.std.specs.declared.net.ip_addr.IpAddr.{IpAddr}
 use Rattle.press_acceptor.specs.StoreMap.{StoreMap}
-use Rattle.press_net.specs.Addresses.{has_ip, sockets_at}
+use Rattle.press_batch.specs.Carried.{Carried}
+use Rattle.press_batch.specs.Spelling.{spelled_batch}
+use Rattle.press_net.specs.Addresses.{behind_loss, has_ip, sockets_at}
+use Rattle.press_net.specs.Answering.{Credit}
 use Rattle.press_server.specs.declared.peers.Peers.{Peers}
 use Rattle.press_server.specs.declared.setup.Role.{Role}
 use Rattle.press_server.specs.declared.setup.Role.TheVariants.{Alone, Member}
 use Rattle.press_store.specs.Voted.{IsLastVote}
+use Rattle.press_wire.specs.Ranges.{member_id_of}
 
 -- the number of a member in its cluster, if the place is in one
 abbrev pub number_of : Role → Option ℕ
@@ -16,6 +20,17 @@ number_of (Member id peers tick) = Some id
 -- it is another member, which has that address
 abbrev pub is_other_at : Peers → ℕ → IpAddr → Bool
 is_other_at peers member ip = not (member == peers.own) && has_ip ip (sockets_at peers.book (member - 1))
+
+-- a reply is a batch of that member behind its head
+abbrev pub SaysBatch : ℕ → List ℕ → Type 0
+SaysBatch member reply = (head : ℕ) × (batch : Carried) × (batch.from ≡ member) × (drop head reply ≡ spelled_batch batch)
+
+-- where a request to the member at a place came to no batch of that member, and where it went is
+-- its first address, the next one goes to the next
+abbrev pub LosesAddress : Credit → Peers → Peers → Type 0
+LosesAddress credit old new =
+    (to : ℕ) → member_id_of (credit.place + 1) ≡ Some to → (SaysBatch to credit.reply → ⊥)
+    → sockets_at new.book credit.place ≡ behind_loss credit.errand.addr (sockets_at old.book credit.place)
 
 -- so many slots stand before the last one with a vote; none where no slot has one
 abbrev pub IsBeforeLast : StoreMap → ℕ → Type 0

@@ -1,7 +1,8 @@
 //! How a batch goes over a connection: in the request that brings it, and in the reply to that,
 //! which is a batch as well.
 
-ghost use Rattle.std.specs.Prelude.{◌≡◌, IfSome};
+ghost use Rattle.std.specs.Prelude.{ℕ, ◌≡◌, IfSome, drop};
+ghost use Rattle.press_server.specs.Members.{SaysBatch};
 
 use httparse::spans::{EMPTY_HEADER_SPAN, parse_request};
 use httparse::{Error, Status};
@@ -63,7 +64,9 @@ pub fn tell_batch(alloc: Global, batch: &[u8], told: &mut Vec<u8>) -> Result<u16
 }
 
 // The body of a reply that says that what was asked is done.
-fn body_of_done(reply: &[u8]) -> Option<&[u8]> {
+fn body_of_done(reply: &[u8]) -> Option<&[u8]>
+    ensures { IfSome result (λ body. (head : ℕ) × (body.now ≡ drop head reply.now)) }
+{
     if !reply.starts_with(DONE) {
         return None;
     }
@@ -73,7 +76,8 @@ fn body_of_done(reply: &[u8]) -> Option<&[u8]> {
 
 /// The batch of a member in its reply to another.
 pub fn batch_by(alloc: Global, member: MemberId, reply: &[u8]) -> Option<Batch>
-    ensures { IfSome result (λ batch. batch.from ≡ member) }
+    ensures from { IfSome result (λ batch. batch.from ≡ member) }
+    ensures said { IfSome result (λ _. SaysBatch member reply.now) }
 {
     match decode_batch(alloc, body_of_done(reply)?) {
         Ok(batch) if batch.from == member => Some(batch),

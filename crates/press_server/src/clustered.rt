@@ -6,7 +6,7 @@ ghost use Rattle.press_member.specs.Acts.{is_open, stop_in, view_of};
 ghost use Rattle.press_net.specs.Answering.{credit};
 ghost use Rattle.press_server.specs.Going.{AreKept, GoOut, HasEnded, HasSameWays, owed_at};
 ghost use Rattle.press_server.specs.Living.{Compares, IsToldOfEnd, MemberLives, MemberTakes};
-ghost use Rattle.press_server.specs.Members.{is_other_at};
+ghost use Rattle.press_server.specs.Members.{LosesAddress, is_other_at};
 ghost use Rattle.press_server.specs.Screening.{is_ahead};
 
 use crate::carrying::{batch_by, body_in, request_of, tell_batch};
@@ -141,6 +141,7 @@ impl<S: PromiseStore> Clustered<'_, S> {
         ensures takes { MemberTakes S.seen input self.old.member self.new.member }
         ensures compares { IfOk result (λ answer. Compares (view_of self.old.member) input answer) }
         ensures ways { HasSameWays self.new.lanes self.old.lanes }
+        ensures peers { self.new.peers ≡ self.old.peers }
     {
         let Outputs {
             answer,
@@ -162,6 +163,7 @@ impl<S: PromiseStore> Clustered<'_, S> {
         ensures lives { MemberLives S.seen self.old.member self.new.member }
         ensures takes { MemberTakes S.seen input self.old.member self.new.member }
         ensures ways { HasSameWays self.new.lanes self.old.lanes }
+        ensures peers { self.new.peers ≡ self.old.peers }
     {
         let _ = self.play(input);
     }
@@ -237,6 +239,7 @@ impl<S: PromiseStore> Clustered<'_, S> {
             (report.digests ≡ (view_of self.old.member).digests)
             (report.digests ≢ (view_of self.old.member).digests)) }
         ensures ways { HasSameWays self.new.lanes self.old.lanes }
+        ensures peers { self.new.peers ≡ self.old.peers }
     {
         let answer = self.play(Input::Report { from, report })?;
         Ok(!matches!(answer, Answer::Foreign))
@@ -251,6 +254,7 @@ impl<S: PromiseStore> Clustered<'_, S> {
             (batch.report.digests ≡ (view_of self.old.member).digests)
             (batch.report.digests ≢ (view_of self.old.member).digests)) }
         ensures ways { HasSameWays self.new.lanes self.old.lanes }
+        ensures peers { self.new.peers ≡ self.old.peers }
     {
         let Batch {
             from,
@@ -452,6 +456,7 @@ impl<S: PromiseStore> Clustered<'_, S> {
         requires always { Unit {0} }
         ensures lives { MemberLives S.seen self.old.member self.new.member }
         ensures ways { HasSameWays self.new.lanes self.old.lanes }
+        ensures peers { self.new.peers ≡ self.old.peers }
     {
         match said {
             Some(batch) => matches!(self.hear(batch), Ok(true)),
@@ -463,11 +468,13 @@ impl<S: PromiseStore> Clustered<'_, S> {
 impl<S: PromiseStore> Answers for Clustered<'_, S> {
     ghost use Rattle.press_member.specs.Acts.{view_of};
     ghost use Rattle.press_server.specs.Going.{HasEnded};
+    ghost use Rattle.press_server.specs.Members.{LosesAddress};
     ghost use Rattle.press_server.specs.Living.{IsToldOfEnd, MemberLives, more_come, none_comes};
 
     ghost answers = { λ _ _ _. Unit {0} };
 
     ghost hears = { λ old credit new. HasEnded credit.place new.lanes old.lanes
+        × LosesAddress credit old.peers new.peers
         × IsToldOfEnd S.seen credit old.member new.member };
 
     ghost becomes = { λ old new. MemberLives S.seen old.member new.member };
@@ -519,8 +526,9 @@ impl<S: PromiseStore> Answers for Clustered<'_, S> {
     #[tactic(auto, using(crate::specs::Living::none_comes))]
     fn end_call(&mut self, place: usize, errand: Errand, reply: &[u8])
         requires always { Unit {0} }
-        ensures hears { HasEnded place self.new.lanes self.old.lanes × IsToldOfEnd S.seen
-            (credit place errand reply.now) self.old.member self.new.member }
+        ensures hears { HasEnded place self.new.lanes self.old.lanes
+            × LosesAddress (credit place errand reply.now) self.old.peers self.new.peers
+            × IsToldOfEnd S.seen (credit place errand reply.now) self.old.member self.new.member }
         ensures becomes { MemberLives S.seen self.old.member self.new.member }
     {
         self.lanes.end(place);

@@ -1,7 +1,7 @@
 //! The members of a cluster, by their addresses.
 
 ghost use Rattle.std.specs.Prelude.{◌≡◌, ◌+◌, ◌-◌, ◌≤◌, IfOk};
-ghost use Rattle.press_net.specs.Addresses.{first_at, listed};
+ghost use Rattle.press_net.specs.Addresses.{behind_loss, first_at, listed, sockets_at};
 ghost use Rattle.press_server.specs.Digests.{digest_of};
 ghost use Rattle.press_server.specs.Members.{is_other_at};
 ghost use Rattle.press_wire.specs.Ranges.{member_id_of};
@@ -131,6 +131,8 @@ impl Peers {
     pub fn lose(&mut self, place: usize, tried: Option<SocketAddr>)
         ensures own { self.new.own ≡ self.old.own }
         ensures count { listed self.new.book ≡ listed self.old.book }
+        ensures lost { sockets_at self.new.book place
+            ≡ behind_loss tried (sockets_at self.old.book place) }
     {
         self.book.lose(place, tried);
     }

@@ -11,6 +11,7 @@ loop-message-init g c = (
   one_comes (view_of c.args.self.now.member) (view_of c.on.new.self) c.args.input c.on.result c.on.ensures.acts c.on.ensures.moves,
   record { result = c.on.result; acts = c.on.ensures.acts; moves = c.on.ensures.moves },
   λ place. refl,
+  refl,
 )
 
 pub returns-clause-compares : goal.returns-clause-compares

@@ -1,3 +1,4 @@
+use Rattle.std.specs.Prelude.{◌≡◌}
 use Rattle.press_server.specs.Going.{HasSameWays}
 use Rattle.press_server.specs.Living.{MemberLives, MemberTakes}
 use Rattle.press_server.proofs.clustered.Clustered.play.Given as goal
@@ -7,9 +8,11 @@ invariant-loop-message g l =
     MemberLives g.S.PromiseStore.seen l.fn.self.member l.self.member
     × MemberTakes g.S.PromiseStore.seen l.fn.input l.fn.self.member l.self.member
     × HasSameWays l.self.lanes l.fn.self.lanes
+    × (l.self.peers ≡ l.fn.self.peers)
 
 abbrev pub invariant-loop-to : goal.invariant-loop-to
 invariant-loop-to g l =
     MemberLives g.S.PromiseStore.seen l.fn.self.member l.self.member
     × MemberTakes g.S.PromiseStore.seen l.fn.input l.fn.self.member l.self.member
     × HasSameWays l.self.lanes l.fn.self.lanes
+    × (l.self.peers ≡ l.fn.self.peers)
