@@ -1,6 +1,7 @@
 pub mod Blames
 pub mod Delivering
 pub mod Fronts
+mod Hearing
 pub mod Mapped
 mod Named
 mod Owing

@@ -63,20 +63,20 @@ pub none_comes : {S N : Type 0} {seen : S → Seen} {moved : N → N → NodeMov
 none_comes only = record { steps = []; lives = refl }
 
 -- one comes
-pub one_comes : {S N : Type 0} {seen : S → Seen} {moved : N → N → NodeMove} {store : N → S} {state : N → NodeState} (old new : View N) (input : Input) (result : Result Outputs AllocError)
+unfoldable pub one_comes : {S N : Type 0} {seen : S → Seen} {moved : N → N → NodeMove} {store : N → S} {state : N → NodeState} (old new : View N) (input : Input) (result : Result Outputs AllocError)
     → Acts moved input old new result → AreItsMoves seen store state input old new result → IsLife seen moved store state old new
 one_comes old new input result acts moves = record {
   steps = record { input = input; result = result; next = new } ∷ [];
   lives = (acts, moves, refl);
 }
 
-lives_then : {S N : Type 0} (seen : S → Seen) (moved : N → N → NodeMove) (store : N → S) (state : N → NodeState) (first last : List (Step N)) (old next new : View N)
+pub lives_then : {S N : Type 0} (seen : S → Seen) (moved : N → N → NodeMove) (store : N → S) (state : N → NodeState) (first last : List (Step N)) (old next new : View N)
     → Lives seen moved store state first old next → Lives seen moved store state last next new → Lives seen moved store state (first ++ last) old new
 lives_then seen moved store state [] last old next new early late = subst (λ v. Lives seen moved store state last v new) early late
 lives_then seen moved store state (s ∷ first) last old next new early late = (early.0, early.1, lives_then seen moved store state first last s.next next new early.2 late)
 
 -- some come, and then some
-pub more_come : {S N : Type 0} {seen : S → Seen} {moved : N → N → NodeMove} {store : N → S} {state : N → NodeState} (old next new : View N)
+unfoldable pub more_come : {S N : Type 0} {seen : S → Seen} {moved : N → N → NodeMove} {store : N → S} {state : N → NodeState} (old next new : View N)
     → IsLife seen moved store state old next → IsLife seen moved store state next new → IsLife seen moved store state old new
 more_come {seen = seen} {moved = moved} {store = store} {state = state} old next new early late = record {
   steps = early.steps ++ late.steps;
@@ -94,6 +94,24 @@ pub record TakesInput {S N : Type 0} (seen : S → Seen) (moved : N → N → No
 
 abbrev pub MemberTakes : {S : Type 0} {t : _} {F : _} {g : _} → (S → Seen) → Input → Member S t F g → Member S t F g → Type 0
 MemberTakes seen input old new = TakesInput seen (λ a b. node_moved seen a b) (λ node. store_of node) (λ node. state_of node) input (view_of old) (view_of new)
+
+-- it is that member's report, or a message in its name
+abbrev pub IsOf : ℕ → Input → Type 0
+IsOf from (Command command) = ⊥
+IsOf from (Page target) = ⊥
+IsOf from (Letter message) = message.from ≡ from
+IsOf from (Report who report) = who ≡ from
+IsOf from (Ended to asked is_taken) = ⊥
+IsOf from HearOwn = ⊥
+IsOf from (Time now) = ⊥
+
+abbrev pub AreOf : {N : Type 0} → ℕ → List (Step N) → Type 0
+AreOf from [] = Unit {0}
+AreOf from (step ∷ steps) = IsOf from step.input × AreOf from steps
+
+-- nothing comes but what is of that member
+abbrev pub HearsOnly : {S : Type 0} {t : _} {F : _} {g : _} → (S → Seen) → ℕ → Member S t F g → Member S t F g → Type 0
+HearsOnly seen from old new = (life : MemberLives seen old new) × AreOf from life.steps
 
 -- a member is told last that a request to the member at that place has ended, with as many looks
 -- and questions as were in it

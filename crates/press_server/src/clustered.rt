@@ -3,9 +3,10 @@
 
 ghost use Rattle.std.specs.Prelude.{◌≡◌, ◌≢◌, ℕ, ◌&&◌, IfOk, MatchBool, MatchOption, None, false, if◌then◌else◌};
 ghost use Rattle.press_member.specs.Acts.{is_open, stop_in, view_of};
+ghost use Rattle.press_member.specs.declared.input.Input.TheVariants as input;
 ghost use Rattle.press_net.specs.Answering.{credit};
 ghost use Rattle.press_server.specs.Going.{AreKept, GoOut, HasEnded, HasSameWays, owed_at};
-ghost use Rattle.press_server.specs.Living.{Compares, IsToldOfEnd, MemberLives, MemberTakes};
+ghost use Rattle.press_server.specs.Living.{Compares, HearsOnly, IsToldOfEnd, MemberLives, MemberTakes};
 ghost use Rattle.press_server.specs.Members.{LosesAddress, is_other_at};
 ghost use Rattle.press_server.specs.Screening.{is_ahead};
 
@@ -238,6 +239,8 @@ impl<S: PromiseStore> Clustered<'_, S> {
         ensures same { IfOk result (λ is_same. MatchBool is_same
             (report.digests ≡ (view_of self.old.member).digests)
             (report.digests ≢ (view_of self.old.member).digests)) }
+        ensures takes { MemberTakes S.seen (input.Report from report) self.old.member
+            self.new.member }
         ensures ways { HasSameWays self.new.lanes self.old.lanes }
         ensures peers { self.new.peers ≡ self.old.peers }
     {
@@ -253,6 +256,7 @@ impl<S: PromiseStore> Clustered<'_, S> {
         ensures same { IfOk result (λ is_heard. MatchBool is_heard
             (batch.report.digests ≡ (view_of self.old.member).digests)
             (batch.report.digests ≢ (view_of self.old.member).digests)) }
+        ensures only { HearsOnly S.seen batch.from self.old.member self.new.member }
         ensures ways { HasSameWays self.new.lanes self.old.lanes }
         ensures peers { self.new.peers ≡ self.old.peers }
     {
