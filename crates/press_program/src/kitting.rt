@@ -1,6 +1,7 @@
 //! The kit files of a run.
 
-ghost use Rattle.std.specs.Prelude.{◌≡◌, IfErr, IfOk, map, string_bytes};
+ghost use Rattle.std.specs.Prelude.{◌≡◌, ◌<◌, IfErr, IfOk, IfSome, IsErrOf, length, map, string_bytes};
+ghost use Rattle.press_kit.specs.KitFile.{file_limit};
 ghost use Rattle.press_lint.specs.Files.{GivesSlips};
 ghost use Rattle.press_lint.specs.Joints.{files_of, read_together};
 ghost use Rattle.press_program.specs.KitFiles.{AreNamed, MeetsAlone, MeetsFault, kit_line, slip_front};
@@ -10,6 +11,7 @@ use press_kit::FILE_LIMIT;
 use press_lint::{FilesFault, NamedFile, lint_files};
 use press_text::{ReadLimitedFault, read_limited};
 use std::alloc::{AllocError, Global};
+use std::io::Read;
 use std::rt::Files;
 use std::{fs, io};
 use thiserror::Error;
@@ -43,6 +45,22 @@ impl From<AllocError> for KitFault {
     }
 }
 
+// The bytes that a reader has left, as many as a kit file may have.
+fn bytes_left<R: Read>(alloc: Global, reader: &mut R) -> Result<Vec<u8>, KitFault>
+    ensures alone { IfErr result (λ f. MeetsAlone f) }
+    ensures whole { IfOk result (λ bytes. IfSome (R.remaining reader.old)
+        (λ input. bytes.items ≡ input)) }
+    ensures over { IsErrOf result KitFault.TooLong → IfSome (R.remaining reader.old)
+        (λ input. file_limit < length input) }
+{
+    match read_limited(alloc, reader, FILE_LIMIT) {
+        Ok(bytes) => Ok(bytes),
+        Err(ReadLimitedFault::NoMemory) => Err(KitFault::NoMemory),
+        Err(ReadLimitedFault::ReadFault) => Err(KitFault::ReadFault),
+        Err(ReadLimitedFault::TooLong) => Err(KitFault::TooLong),
+    }
+}
+
 // The bytes of a file by its name. One that can't be opened counts as one that can't be read.
 fn bytes_of<Rt: AllocGlobal + Files>(rt: &Rt, file: &str) -> Result<Vec<u8>, KitFault>
     ensures { IfErr result (λ f. MeetsAlone f) }
@@ -52,12 +70,7 @@ fn bytes_of<Rt: AllocGlobal + Files>(rt: &Rt, file: &str) -> Result<Vec<u8>, Kit
         Err(e) if e.kind() == io::ErrorKind::OutOfMemory => return Err(KitFault::NoMemory),
         Err(_) => return Err(KitFault::ReadFault),
     };
-    match read_limited(rt.alloc(), &mut reader, FILE_LIMIT) {
-        Ok(bytes) => Ok(bytes),
-        Err(ReadLimitedFault::NoMemory) => Err(KitFault::NoMemory),
-        Err(ReadLimitedFault::ReadFault) => Err(KitFault::ReadFault),
-        Err(ReadLimitedFault::TooLong) => Err(KitFault::TooLong),
-    }
+    bytes_left(rt.alloc(), &mut reader)
 }
 
 /// Why kit files can't be used, with the file that this is about.

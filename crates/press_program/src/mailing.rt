@@ -1,6 +1,6 @@
 //! Commands of a file that go to members.
 
-ghost use Rattle.std.specs.Prelude.{ℕ, ◌≡◌, ◌+◌, IfOk, List, MatchResult, Option, false, length};
+ghost use Rattle.std.specs.Prelude.{ℕ, ◌≡◌, ◌+◌, Err, IfOk, List, MatchResult, Option, false, length};
 ghost use Rattle.std.specs.Io.KnownBytes.{Appends, Keeps};
 ghost use Rattle.press_client.specs.Reporting.{counts_of, report_of};
 ghost use Rattle.press_kit.specs.KitFile.{file_limit};
@@ -38,6 +38,8 @@ fn print<W: Write>(
         (report_of commands.now endings.now))
         (λ _. AppendsFront (W.contents writer.old) (W.contents writer.new)
         (report_of commands.now endings.now)) }
+    ensures left { result ≡ Err ReplayFault.ReadFault → Appends (W.contents writer.old)
+        (W.contents writer.new) (report_of commands.now endings.now) }
 {
     let text = report(alloc, commands, endings)?;
     write_once(writer, text.as_bytes())?;

@@ -33,6 +33,8 @@ fn words_ask_for_replies(rt: HostRuntime) -> Result<(), Fail> {
     }
     let missing = run_words(&rt, &["page", "--", "-", "json:2"])?;
     assert!(rt; missing.left(1, "{\"code\":404}", ""));
+    let nowhere = run_words(&rt, &["page", "nowhere.json", "json:2"])?;
+    assert!(rt; nowhere.left(2, "", "press: fault 40\n"));
     Ok(())
 }
 
