@@ -32,7 +32,7 @@ fn print<W: Write>(
     endings: &[Ending],
     writer: &mut W,
 ) -> Result<u8, ReplayFault>
-    ensures { MatchResult result
+    ensures prints { MatchResult result
         (λ status. (status ≡ mail_status (counts_of (length commands.now) endings.now))
         × Appends (W.contents writer.old) (W.contents writer.new)
         (report_of commands.now endings.now))

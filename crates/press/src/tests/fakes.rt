@@ -42,8 +42,8 @@ impl Read for Failing {
 pub struct Client<'a> {
     rt: &'a HostRuntime,
     addr: SocketAddr,
-    // Whether another one comes before it, and leaves without a word.
-    is_second: bool,
+    // What another one says that comes before it, and leaves then.
+    first: Option<&'a [u8]>,
     request: &'a [u8],
     stream: Option<TcpStream>,
 }
@@ -53,23 +53,29 @@ impl<'a> Client<'a> {
         Client {
             rt,
             addr,
-            is_second: false,
+            first: None,
             request,
             stream: None,
         }
     }
 
-    /// One behind another that leaves without a word.
-    pub fn second(rt: &'a HostRuntime, addr: SocketAddr, request: &'a [u8]) -> Client<'a> {
+    /// One behind another that says something and leaves.
+    pub fn behind(
+        rt: &'a HostRuntime,
+        addr: SocketAddr,
+        first: &'a [u8],
+        request: &'a [u8],
+    ) -> Client<'a> {
         Client {
-            is_second: true,
+            first: Some(first),
             ..Client::new(rt, addr, request)
         }
     }
 
     fn ask(&mut self) -> io::Result<()> {
-        if self.is_second {
-            drop(TcpStream::connect(self.rt, self.addr)?);
+        if let Some(first) = self.first {
+            let mut stream = TcpStream::connect(self.rt, self.addr)?;
+            stream.write_all(first)?;
         }
         let mut stream = TcpStream::connect(self.rt, self.addr)?;
         stream.write_all(self.request)?;

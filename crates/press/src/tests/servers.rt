@@ -35,10 +35,9 @@ struct Served {
     told: Vec<u8>,
 }
 
-// What comes of a request to a server for these words.
-fn ask(rt: &HostRuntime, words: &[&str], addr: SocketAddr, request: &[u8]) -> Result<Served, Fail> {
+// What comes of a client's request to a server for these words.
+fn ask_as(rt: &HostRuntime, words: &[&str], client: Client<'_>) -> Result<Served, Fail> {
     let words = words_of(rt, words)?;
-    let client = Client::new(rt, addr, request);
     let mut input: &[u8] = b"";
     let mut out = Narrow::with_flush(rt.alloc(), Flush::Asks(client));
     let mut told: Vec<u8> = Vec::new(rt.alloc());
@@ -48,6 +47,20 @@ fn ask(rt: &HostRuntime, words: &[&str], addr: SocketAddr, request: &[u8]) -> Re
     let mut reply = Vec::new(rt.alloc());
     out.reply(&mut reply)?;
     Ok(Served { reply, told })
+}
+
+// What comes of a request to a server for these words.
+fn ask(rt: &HostRuntime, words: &[&str], addr: SocketAddr, request: &[u8]) -> Result<Served, Fail> {
+    ask_as(rt, words, Client::new(rt, addr, request))
+}
+
+// The request that brings a form.
+fn post(rt: &HostRuntime, form: &str) -> Result<String, Fail> {
+    let request = format!(in rt.alloc();
+        "POST /command HTTP/1.1\r\nHost: a\r\nContent-Length: {}\r\n\r\n{form}",
+        form.len()
+    )?;
+    Ok(request)
 }
 
 fn reply_to(
@@ -68,10 +81,7 @@ fn refuses(
     addr: SocketAddr,
     (form, why): (&str, &str),
 ) -> Result<bool, Fail> {
-    let request = format!(in rt.alloc();
-        "POST /command HTTP/1.1\r\nHost: a\r\nContent-Length: {}\r\n\r\n{form}",
-        form.len()
-    )?;
+    let request = post(rt, form)?;
     let line = format!(in rt.alloc(); " press: POST /command 400: {why}\n")?;
     let Served { reply, told } = ask(rt, words, addr, request.as_bytes())?;
     Ok(reply.starts_with(b"HTTP/1.1 400 ") && told.ends_with(line.as_bytes()))
@@ -135,7 +145,7 @@ fn who_is_closed_without_a_reply_has_had_a_turn(rt: HostRuntime) -> Result<(), F
     let addr = free_addr(&rt, "127.0.0.1")?;
     let port = format!(in rt.alloc(); "{}", addr.port())?;
     let words = words_of(&rt, &["serve", "--port", &port, "--turns", "1"])?;
-    let client = Client::second(&rt, addr, FRONT);
+    let client = Client::behind(&rt, addr, b"", FRONT);
     let mut input: &[u8] = b"";
     let mut out = Narrow::with_flush(rt.alloc(), Flush::Asks(client));
     let mut told: Vec<u8> = Vec::new(rt.alloc());
@@ -161,6 +171,51 @@ fn a_message_of_a_stranger_is_not_taken(rt: HostRuntime) -> Result<(), Fail> {
         let reply = replied_by_member(&rt, addr, &peers, &[], QUESTION)?;
         assert!(rt; reply.starts_with(status.as_bytes()), "at {ip}");
     }
+    Ok(())
+}
+
+// Member 2 says that it counts other members.
+#[test]
+fn a_member_of_another_cluster_has_a_line(rt: HostRuntime) -> Result<(), Fail> {
+    let addr = free_addr(&rt, "127.0.0.1")?;
+    let peers = format!(in rt.alloc(); "{addr},127.0.0.1:1")?;
+    let mut request: Vec<u8> = Vec::new(rt.alloc());
+    request.extend_from_slice(
+        b"POST /members HTTP/1.1\r\nHost: a\r\nContent-Length: 34\r\n\r\n\x01\x02",
+    )?;
+    for _ in 0..32 {
+        request.push(0)?;
+    }
+    let words = [
+        "serve", "--id", "1", "--peers", &peers, "--store", "member", "--turns", "1",
+    ];
+    let Served { told, .. } = ask(&rt, &words, addr, &request)?;
+    fs::remove_file(&rt, "member")?;
+    fs::remove_file(&rt, "member-wal")?;
+    assert!(rt;
+        holds(
+            &told,
+            b"member 2 has other peers or another kit: not heard\n"
+        )
+    );
+    Ok(())
+}
+
+// A member's store is not one of a node by itself.
+#[test]
+fn a_store_of_another_is_not_served(rt: HostRuntime) -> Result<(), Fail> {
+    let addr = free_addr(&rt, "127.0.0.1")?;
+    let peers = format!(in rt.alloc(); "{addr}")?;
+    let port = format!(in rt.alloc(); "{}", addr.port())?;
+    let member = [
+        "serve", "--id", "1", "--peers", &peers, "--store", "tied", "--turns", "0",
+    ];
+    assert_eq!(rt; run_words(&rt, &member)?.status, 0);
+    let alone = ["serve", "--port", &port, "--store", "tied", "--turns", "0"];
+    let told = format!(in rt.alloc(); "{KIT}press: the store is another member's\n")?;
+    assert!(rt; run_words(&rt, &alone)?.left(2, "", &told));
+    fs::remove_file(&rt, "tied")?;
+    let _ = fs::remove_file(&rt, "tied-wal");
     Ok(())
 }
 
@@ -293,6 +348,21 @@ fn a_node_by_itself_tells_why_a_form_is_refused(rt: HostRuntime) -> Result<(), F
         let words = ["serve", "--port", &port, "--turns", "1", "--ahead", "60"];
         assert!(rt; refuses(&rt, &words, addr, (form, why))?, "at {why}");
     }
+    Ok(())
+}
+
+// Of two that are refused before a line goes out the line is about the later one.
+#[test]
+fn the_form_that_was_refused_last_has_the_line(rt: HostRuntime) -> Result<(), Fail> {
+    let addr = free_addr(&rt, "127.0.0.1")?;
+    let port = format!(in rt.alloc(); "{}", addr.port())?;
+    let first = post(&rt, REFUSALS[0].0)?;
+    let last = post(&rt, REFUSALS[2].0)?;
+    let client = Client::behind(&rt, addr, first.as_bytes(), last.as_bytes());
+    let words = ["serve", "--port", &port, "--turns", "2", "--ahead", "60"];
+    let Served { told, .. } = ask_as(&rt, &words, client)?;
+    assert!(rt; holds(&told, REFUSALS[2].1.as_bytes()));
+    assert!(rt; !holds(&told, REFUSALS[0].1.as_bytes()));
     Ok(())
 }
 
