@@ -212,8 +212,8 @@ fn a_store_of_another_is_not_served(rt: HostRuntime) -> Result<(), Fail> {
     ];
     assert_eq!(rt; run_words(&rt, &member)?.status, 0);
     let alone = ["serve", "--port", &port, "--store", "tied", "--turns", "0"];
-    let told = format!(in rt.alloc(); "{KIT}press: the store is another member's\n")?;
-    assert!(rt; run_words(&rt, &alone)?.left(2, "", &told));
+    let told = "press: the store is another member's\n";
+    assert!(rt; run_words(&rt, &alone)?.left(2, "", told));
     fs::remove_file(&rt, "tied")?;
     let _ = fs::remove_file(&rt, "tied-wal");
     Ok(())
