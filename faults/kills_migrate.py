@@ -1,5 +1,5 @@
 """Databases of version 1, for faults/kills --migrate and bench/store --migrate: they are made, taken over by a member that is killed, and read."""
-import pathlib, random, shutil, socket, sqlite3, subprocess, tempfile, time
+import functools, pathlib, random, shutil, socket, sqlite3, subprocess, tempfile, time
 
 ROWS, BLOCK = 10_000, 16
 VERSION_1 = (
@@ -58,10 +58,15 @@ def free_port():
         return it.getsockname()[1]
 
 
+@functools.cache
+def peers():
+    """The members of a run, to which its files are tied."""
+    return ",".join(f"127.0.0.1:{free_port()}" for _ in range(3))
+
+
 def start(program, file):
     """The first of three members, whose others are away, so that nothing is chosen."""
-    peers = ",".join(f"127.0.0.1:{free_port()}" for _ in range(3))
-    words = ["serve", "--id", "1", "--peers", peers, "--store", str(file)]
+    words = ["serve", "--id", "1", "--peers", peers(), "--store", str(file)]
     return subprocess.Popen([program, *words], stdout=subprocess.PIPE, stderr=subprocess.PIPE)
 
 
