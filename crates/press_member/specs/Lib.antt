@@ -15,3 +15,4 @@ pub mod Ready
 pub mod Shown
 pub mod Starting
 pub mod Turns
+pub mod Pacing

@@ -1,7 +1,8 @@
 //! When a member wakes, when it looks how far the others are, and when it asks what it has missed.
 //! It is a matter of time alone: what the cluster agrees on doesn't depend on it.
 
-ghost use Rattle.std.specs.Prelude.{◌≡◌, ◌≤◌, ◌+◌, ◌-◌, ◌&&◌, None, Some, if◌then◌else◌, true, false, max, nat_le, nat_lt, unwrap_or};
+ghost use Rattle.std.specs.Prelude.{◌≡◌, ◌<◌, ◌≤◌, ◌+◌, ◌-◌, ◌&&◌, ◌||◌, IsFalse, IsTrue, None, Some, if◌then◌else◌, false, is_some, max, min, nat_le, nat_lt, unwrap_or};
+ghost use Rattle.press_member.specs.Pacing.{HasSameNeeds, HasSameSeat, asks_at, has_all, is_busy, is_due, is_held_up, is_late, is_stuck, is_unbegun, last_asked, later, leads, rank_of, turn_from, wanted};
 
 use crate::signs::{Sign, sign_of};
 use press_wire::{MemberId, Message};
@@ -119,7 +120,8 @@ pub struct Pace {
 impl Pace {
     /// The pace of the member at `place` of `members`, with the milliseconds of a tick.
     pub fn new(place: usize, members: usize, tick: u64) -> Pace
-        ensures { result.is_settled ≡ false }
+        ensures settled { result.is_settled ≡ false }
+        ensures seat { (result.place ≡ place) × (result.members ≡ members) × (result.tick ≡ tick) }
     {
         Pace {
             place: place as u64,
@@ -161,7 +163,9 @@ impl Pace {
     }
 
     // How many have their turn before this one: who proposed last has it after all others.
-    fn rank(&self) -> u64 {
+    fn rank(&self) -> u64
+        ensures { result ≡ rank_of self.now }
+    {
         if self.members == 0 {
             return 0;
         }
@@ -175,22 +179,30 @@ impl Pace {
     }
 
     // The begin of its turn, which a rank leaves to others first.
-    fn turn_from(&self, time: u64) -> u64 {
+    fn turn_from(&self, time: u64) -> u64
+        ensures { result ≡ turn_from self.now (rank_of self.now) time }
+    {
         let turn = STEP.saturating_mul(self.rank());
         self.time.max(time.saturating_add(turn))
     }
 
-    fn leads(&self) -> bool {
+    fn leads(&self) -> bool
+        ensures { result ≡ leads self.now }
+    {
         self.leader == Some(self.place)
     }
 
     // Whether a block begins with the next slot, and nobody was heard to propose in it.
-    fn is_unbegun(&self) -> bool {
+    fn is_unbegun(&self) -> bool
+        ensures { result ≡ is_unbegun self.now }
+    {
         self.applied % BLOCK == 0 && self.begun <= self.applied / BLOCK
     }
 
     // Whether a command has waited long.
-    fn is_late(&self) -> bool {
+    fn is_late(&self) -> bool
+        ensures { result ≡ is_late self.now }
+    {
         self.waiting_at.saturating_add(LONG) <= self.time
     }
 
@@ -224,7 +236,11 @@ impl Pace {
     }
 
     /// A command was taken, or not.
-    pub fn note_command(&mut self, is_taken: bool) {
+    pub fn note_command(&mut self, is_taken: bool)
+        ensures seat { HasSameSeat self.new self.old }
+        ensures waits { IsTrue is_taken → IsTrue (is_some self.new.wake_at) }
+        ensures rests { IsFalse is_taken → self.new ≡ self.old }
+    {
         if is_taken && self.wake_at.is_none() {
             self.waiting_at = self.time;
             let turn = self.turn();
@@ -234,7 +250,12 @@ impl Pace {
 
     /// The node was woken: whether it proposes, and whether it does so for a gap, where no command
     /// waits.
-    pub fn note_wake(&mut self, is_filling: bool, proposes: bool) {
+    pub fn note_wake(&mut self, is_filling: bool, proposes: bool)
+        ensures seat { HasSameSeat self.new self.old }
+        ensures fills { IsTrue proposes → self.new.is_filling ≡ is_filling }
+        ensures tries { IsTrue proposes → self.new.tries ≡ min (self.old.tries + 1) 4294967295 }
+        ensures sleeps { IsFalse proposes → self.new.wake_at ≡ None }
+    {
         if proposes {
             self.tries = self.tries.saturating_add(1);
             self.is_filling = is_filling;
@@ -245,7 +266,9 @@ impl Pace {
     }
 
     // Somebody proposes for a slot. Whether that is news: it isn't in a block that is over.
-    fn hear(&mut self, leader: u64, slot: u64) -> bool {
+    fn hear(&mut self, leader: u64, slot: u64) -> bool
+        ensures seat { HasSameSeat self.new self.old }
+    {
         let block = slot.saturating_sub(1) / BLOCK;
         if block < self.applied / BLOCK {
             return false;
@@ -259,7 +282,9 @@ impl Pace {
     }
 
     // It proposes for a slot itself; whether it prepares its block.
-    fn lead(&mut self, slot: u64, is_preparing: bool) {
+    fn lead(&mut self, slot: u64, is_preparing: bool)
+        ensures seat { HasSameSeat self.new self.old }
+    {
         if self.hear(self.place, slot) {
             self.is_preparing = is_preparing;
             self.waiting_at = self.time;
@@ -270,7 +295,9 @@ impl Pace {
     }
 
     // The member at another place proposes for a slot.
-    fn leave_to(&mut self, place: u64, slot: u64) {
+    fn leave_to(&mut self, place: u64, slot: u64)
+        ensures seat { HasSameSeat self.new self.old }
+    {
         if self.hear(place, slot) {
             self.share();
             if let Some(at) = self.wake_at {
@@ -280,12 +307,17 @@ impl Pace {
     }
 
     // Another would propose, and is refused.
-    fn share(&mut self) {
+    fn share(&mut self)
+        ensures seat { HasSameSeat self.new self.old }
+        ensures shared { self.new.shared_until ≡ later self.old.time 1000 }
+    {
         self.shared_until = self.time.saturating_add(SHARED);
     }
 
     // Its own proposal was refused, by what this node has promised.
-    fn begin_again(&mut self) {
+    fn begin_again(&mut self)
+        ensures seat { HasSameSeat self.new self.old }
+    {
         if !self.leads() {
             return;
         }
@@ -295,7 +327,9 @@ impl Pace {
     }
 
     // What a message that it sends says of who proposes.
-    fn note(&mut self, message: &Message, own: MemberId, is_for_all: bool) {
+    fn note(&mut self, message: &Message, own: MemberId, is_for_all: bool)
+        ensures seat { HasSameSeat self.new self.old }
+    {
         let slot = u64::from(message.slot.number());
         match sign_of(message, own, is_for_all) {
             Sign::Nothing => {}
@@ -311,7 +345,9 @@ impl Pace {
     }
 
     /// What the messages of one event say of who proposes.
-    pub fn note_all(&mut self, sent: &[Message], own: MemberId) {
+    pub fn note_all(&mut self, sent: &[Message], own: MemberId)
+        ensures seat { HasSameSeat self.new self.old }
+    {
         let is_for_all = sent.len() > 1;
         for message in sent {
             self.note(message, own, is_for_all);
@@ -319,13 +355,17 @@ impl Pace {
     }
 
     /// Whether a command may wait, or somebody proposed lately.
-    pub fn is_busy(&self) -> bool {
+    pub fn is_busy(&self) -> bool
+        ensures { result ≡ is_busy self.now }
+    {
         let is_quiet = self.leader.is_none() || self.heard_at.saturating_add(SILENT) <= self.time;
         self.wake_at.is_some() || !is_quiet
     }
 
     /// Whether it wakes at once.
-    pub fn is_due(&self) -> bool {
+    pub fn is_due(&self) -> bool
+        ensures { result ≡ is_due self.now }
+    {
         match self.wake_at {
             Some(at) => at <= self.time,
             None => false,
@@ -333,7 +373,9 @@ impl Pace {
     }
 
     // Whether what others say holds it up: it hasn't applied that, and goes on applying some of it.
-    fn is_held_up(&self) -> bool {
+    fn is_held_up(&self) -> bool
+        ensures { result ≡ is_held_up self.now }
+    {
         match self.claimed_at {
             Some(since) => {
                 let moved_at = since.max(self.applied_at);
@@ -348,14 +390,16 @@ impl Pace {
     // Whether it has applied what is known to be chosen, and what others say that is chosen, as far
     // as that comes.
     fn has_all(&self) -> bool
-        ensures known { result ≡ true → self.now.is_known ≡ true }
-        ensures applied { result ≡ true → self.now.newest ≤ self.now.applied }
+        ensures { result ≡ has_all self.now }
     {
         self.is_known && self.applied >= self.newest && !self.is_held_up()
     }
 
     // Others say that so many slots are chosen.
     fn hear_claim(&mut self, claim: u64)
+        ensures seat { HasSameSeat self.new self.old }
+        ensures newest { self.new.newest ≡ self.old.newest }
+        ensures known { self.new.is_known ≡ self.old.is_known }
         ensures claim { self.new.claim ≡ claim }
         // The time from which on it holds this member up is that of the first of them.
         ensures since { self.new.claimed_at ≡ (if nat_le claim self.old.applied then None
@@ -369,14 +413,25 @@ impl Pace {
         }
     }
 
-    fn settle(&mut self) {
+    fn settle(&mut self)
+        ensures seat { HasSameSeat self.new self.old }
+        ensures wake { self.new.wake_at ≡ self.old.wake_at }
+        ensures needs { HasSameNeeds self.new self.old }
+        ensures time { self.new.time ≡ self.old.time }
+        ensures settled { self.new.is_settled ≡ (self.old.is_settled || has_all self.old) }
+    {
         self.is_settled |= self.has_all();
     }
 
     /// This many slots are applied; whether a command still waits. With a block that is over one
     /// that has waited long is proposed at once. What it fills goes on until a wake has nothing to
     /// propose.
-    pub fn note_applied(&mut self, applied: u64, waits: bool) {
+    pub fn note_applied(&mut self, applied: u64, waits: bool)
+        ensures seat { HasSameSeat self.new self.old }
+        ensures rests { self.old.applied < applied → IsFalse (waits || self.old.is_filling) →
+            self.new.wake_at ≡ None }
+        ensures applied { self.new.applied ≡ max self.old.applied applied }
+    {
         if applied <= self.applied {
             return;
         }
@@ -389,7 +444,12 @@ impl Pace {
     }
 
     // When it wakes behind a slot that was applied. What it has prepared goes on with its promises.
-    fn next_wake(&mut self, waits: bool, is_over: bool) -> Option<u64> {
+    fn next_wake(&mut self, waits: bool, is_over: bool) -> Option<u64>
+        ensures seat { HasSameSeat self.new self.old }
+        ensures applied { self.new.applied ≡ self.old.applied }
+        ensures none { IsFalse waits → result ≡ None }
+        ensures wakes { IsTrue waits → IsFalse self.old.is_preparing → IsTrue (is_some result) }
+    {
         if !waits {
             return None;
         }
@@ -405,6 +465,8 @@ impl Pace {
 
     /// This many slots are chosen, by votes or by what a majority said.
     pub fn prove(&mut self, chosen: u64)
+        ensures seat { HasSameSeat self.new self.old }
+        ensures known { self.new.is_known ≡ self.old.is_known }
         ensures settled { self.new.is_settled ≡ self.old.is_settled }
         ensures newest { self.new.newest ≡ max self.old.newest chosen }
     {
@@ -414,6 +476,7 @@ impl Pace {
     /// Somebody proposed for this slot: those before it are chosen. Votes that are on their way
     /// close a small distance.
     pub fn hear_of(&mut self, proposed: Option<u64>, is_taken: bool)
+        ensures seat { HasSameSeat self.new self.old }
         ensures newest { self.new.newest
             ≡ (if is_taken && nat_lt (self.old.applied + 32) (unwrap_or proposed 0)
             then max self.old.newest (unwrap_or proposed 0 - 1) else self.old.newest) }
@@ -429,12 +492,16 @@ impl Pace {
     }
 
     // The slot behind the applied ones.
-    fn next(&self) -> u64 {
+    fn next(&self) -> u64
+        ensures { result ≡ later self.now.applied 1 }
+    {
         self.applied.saturating_add(1)
     }
 
     /// Whether somebody proposed for this slot, the next one, long ago, and nobody does so now.
-    pub fn is_stuck(&self, slot: u64) -> bool {
+    pub fn is_stuck(&self, slot: u64) -> bool
+        ensures { result ≡ is_stuck self.now slot }
+    {
         slot == self.next()
             && slot == self.proposed
             && self.proposed_at.saturating_add(STUCK) <= self.time
@@ -450,14 +517,22 @@ impl Pace {
 
     /// What others say: so many slots of which a majority says that they are chosen, and the most
     /// that anybody says.
-    pub fn hear_reports(&mut self, borne_out: u64, claim: u64, is_known: bool) {
+    pub fn hear_reports(&mut self, borne_out: u64, claim: u64, is_known: bool)
+        ensures seat { HasSameSeat self.new self.old }
+        ensures newest { self.new.newest ≡ max self.old.newest borne_out }
+        ensures claim { self.new.claim ≡ claim }
+        ensures known { self.new.is_known ≡ (self.old.is_known || is_known) }
+    {
         self.prove(borne_out);
         self.hear_claim(claim);
         self.is_known |= is_known;
         self.settle();
     }
 
-    fn look(&mut self) {
+    fn look(&mut self)
+        ensures seat { HasSameSeat self.new self.old }
+        ensures time { self.new.time ≡ self.old.time }
+    {
         let tick = self.tick.min(MOST_TICK);
         let share = tick.saturating_mul(self.place) / 16;
         let wait = if self.is_known {
@@ -469,19 +544,26 @@ impl Pace {
     }
 
     // As far as it asks.
-    fn wanted_slot(&self) -> u64 {
+    fn wanted_slot(&self) -> u64
+        ensures { result ≡ wanted self.now }
+    {
         self.newest.max(self.claim)
     }
 
     // Whether it asks: for slots that it hasn't asked for, or again.
-    fn asks(&self) -> bool {
+    fn asks(&self) -> bool
+        ensures { result ≡ asks_at self.now.time self.now }
+    {
         self.wanted_slot() > self.applied
             && (self.applied >= self.asked_to || self.ask_at <= self.time)
     }
 
     // Asks for what is missing. The wait for answers is doubled each time that little came of it.
     fn ask(&mut self) -> Due
-        ensures { self.new.asked_to ≤ self.old.applied + 64 }
+        ensures seat { HasSameSeat self.new self.old }
+        ensures time { self.new.time ≡ self.old.time }
+        ensures due { result ≡ Due.Ask self.new.asked_to }
+        ensures window { self.new.asked_to ≡ last_asked self.old }
     {
         let is_new = self.applied >= self.asked_to
             || self.applied >= self.asked_from.saturating_add(SLACK);
@@ -500,7 +582,12 @@ impl Pace {
 
     // Takes the time. What was heard since it was last looked at counts from now on: a save may
     // have held this node up.
-    fn look_at_clock(&mut self, now: u64) {
+    fn look_at_clock(&mut self, now: u64)
+        ensures seat { HasSameSeat self.new self.old }
+        ensures needs { HasSameNeeds self.new self.old }
+        ensures time { self.new.time ≡ now }
+        ensures heard { self.new.heard_at ≡ (if self.old.is_fresh then now else self.old.heard_at) }
+    {
         let passed = now.saturating_sub(self.time);
         self.time = now;
         if self.is_fresh {
@@ -511,7 +598,12 @@ impl Pace {
     }
 
     /// Takes the time; returns what is due.
-    pub fn pass(&mut self, now: u64) -> Due {
+    pub fn pass(&mut self, now: u64) -> Due
+        ensures seat { HasSameSeat self.new self.old }
+        ensures asks { IsTrue (asks_at now self.old) → result ≡ Due.Ask (last_asked self.old) }
+        ensures looks { IsFalse (asks_at now self.old) → self.old.look_at ≤ now → result ≡ Due.Look }
+        ensures time { self.new.time ≡ now }
+    {
         self.look_at_clock(now);
         self.settle();
         if self.asks() {

@@ -1,5 +1,5 @@
 -- Where requests go: the addresses of those who are listed, by place (own).
-use Rattle.std.specs.Prelude.{ℕ, ◌≡◌, ◌≤◌, ◌<◌, ◌⊎◌, ◌+◌, ◌==◌, ◌&&◌, ◌++◌, ◌*◌, Bool, true, false, not, min, max, List, [], ◌∷◌, drop, take, filter, length, nat_eq, Option, Some, None, is_some, option_map, unwrap_or, slice_get, bytes_eq, if◌then◌else◌}
+use Rattle.std.specs.Prelude.{ℕ, ◌≡◌, ◌≤◌, ◌<◌, ◌⊎◌, ◌+◌, ◌-◌, ◌==◌, ◌&&◌, ◌++◌, ◌*◌, Bool, true, false, not, min, max, List, [], ◌∷◌, drop, take, filter, length, nat_eq, Option, Some, None, is_some, option_map, unwrap_or, slice_get, bytes_eq, if◌then◌else◌}
 use Rattle.std.specs.List.{list_any}
 use Rattle.std.specs.Net.Socket.{socket_ip}
 use Rattle.std.specs.declared.net.ip_addr.IpAddr.{IpAddr}
@@ -59,9 +59,17 @@ abbrev pub with_found : List SocketAddr → List SocketAddr → List SocketAddr
 with_found known found =
     if nat_eq (length found) 0 then known else fresh (still known found) found ++ still known found
 
+-- its name was looked up, and these addresses were found
+abbrev pub IsLookedUp : Entry → Entry → Type 0
+IsLookedUp old new = (found : List SocketAddr) × (new.sockets.items ≡ (if is_some old.name then with_found old.sockets.items found else old.sockets.items))
+
 -- milliseconds behind a lookup that took so long
 abbrev pub pause : ℕ → ℕ
 pause took = max 1000 (min (took * 30) 18446744073709551615)
+
+-- when the next name may be looked up: where the last lookup is over only now, by how long it took
+abbrev pub due_behind : AddressBook → ℕ → ℕ
+due_behind book now = unwrap_or (option_map (λ begun. min (now + pause (now - begun)) 18446744073709551615) book.begun) book.due
 
 -- its name is to be looked up
 abbrev pub wants : Entry → Bool
@@ -69,6 +77,10 @@ wants entry = entry.is_wanted && is_some entry.name
 
 abbrev pub wants_at : AddressBook → ℕ → Bool
 wants_at book place = unwrap_or (option_map wants (slice_get book.all.items place)) false
+
+-- the next lookup has the same turn and the same time
+abbrev pub HasSameTurn : AddressBook → AddressBook → Type 0
+HasSameTurn new old = (new.last ≡ old.last) × (new.begun ≡ old.begun) × (new.due ≡ old.due)
 
 -- none of the places from one on, before another, has a name that is to be looked up
 abbrev pub NoneWants : AddressBook → ℕ → (ℕ → Type 0) → Type 0

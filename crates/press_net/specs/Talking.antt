@@ -76,8 +76,8 @@ abbrev pub connection_at : Connections → ℕ → Option Connection
 connection_at connections place = option_and_then (λ connection. connection) (slice_get connections.places.items place)
 
 -- the one at a place is the one of that number, and its reply is held
-abbrev pub holds : Connections → ℕ → ℕ → Bool
-holds connections place number = unwrap_or (option_map (is_held_as number) (connection_at connections place)) false
+abbrev pub is_held_at : Connections → ℕ → ℕ → Bool
+is_held_at connections place number = unwrap_or (option_map (is_held_as number) (connection_at connections place)) false
 
 -- a connection stays at its place unless it meets a test
 abbrev pub kept_unless : (Connection → Bool) → Option Connection → Option Connection

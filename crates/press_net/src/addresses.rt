@@ -1,11 +1,11 @@
 //! Where requests go: the addresses of those who are listed, by place.
 
-ghost use Rattle.std.specs.Prelude.{ℕ, ◌≡◌, ◌≢◌, ◌++◌, ◌∷◌, ◌+◌, ◌-◌, ◌<◌, [], IfOk, IfErr, IfSome, Some, None, MatchOption, length, true, min};
+ghost use Rattle.std.specs.Prelude.{ℕ, ◌≡◌, ◌≢◌, ◌++◌, ◌∷◌, ◌<◌, ◌≤◌, [], IfOk, IfErr, IfSome, Some, None, false, length, slice_get, true};
 ghost use Rattle.std.specs.List.{list_any};
 ghost use Rattle.std.specs.Net.Socket.{socket_ip};
 ghost use Rattle.press_net.specs.Talking.{is_same};
 ghost use Rattle.press_net.specs.declared.addresses.Entry.{Entry};
-ghost use Rattle.press_net.specs.Addresses.{HasTurn, IsFirstWanted, behind_loss, first_at, fresh, has_ip, has_socket, is_same_socket, listed, pause, sockets_at, still, wants, went_first, with_found};
+ghost use Rattle.press_net.specs.Addresses.{HasSameTurn, HasTurn, IsFirstWanted, IsLookedUp, behind_loss, due_behind, first_at, fresh, has_ip, has_socket, is_same_socket, listed, pause, sockets_at, still, wants, wants_at, went_first, with_found};
 
 use std::alloc::{AllocError, Global};
 use std::net::{IpAddr, Net, SocketAddr, ToSocketAddrs};
@@ -181,8 +181,10 @@ impl Entry {
     // These were found. Without memory for all, only those are kept that were known and are found
     // again.
     fn take(&mut self, found: Vec<SocketAddr>) -> Result<(), AllocError>
-        ensures { IfOk result (λ _. self.new.sockets.items ≡
+        ensures found { IfOk result (λ _. self.new.sockets.items ≡
             with_found self.old.sockets.items found.items) }
+        ensures wanted { self.new.is_wanted ≡ self.old.is_wanted }
+        ensures name { self.new.name ≡ self.old.name }
     {
         if found.is_empty() {
             return Ok(());
@@ -196,7 +198,11 @@ impl Entry {
     }
 
     // Looks its name up.
-    fn look_up<N: Net>(&mut self, alloc: Global, net: &N) -> Result<(), AllocError> {
+    fn look_up<N: Net>(&mut self, alloc: Global, net: &N) -> Result<(), AllocError>
+        ensures wanted { self.new.is_wanted ≡ false }
+        ensures name { self.new.name ≡ self.old.name }
+        ensures found { IfOk result (λ _. IsLookedUp self.old self.new) }
+    {
         self.is_wanted = false;
         let Some(name) = &self.name else {
             return Ok(());
@@ -322,6 +328,9 @@ impl AddressBook {
         ensures others { (other : ℕ) → other ≢ place →
             sockets_at self.new other ≡ sockets_at self.old other }
         ensures count { listed self.new ≡ listed self.old }
+        ensures wanted { IfSome (slice_get self.new.all.items place)
+            (λ entry. entry.is_wanted ≡ true) }
+        ensures turn { HasSameTurn self.new self.old }
     {
         if let Some(entry) = self.all.get_mut(place) {
             entry.lose(tried);
@@ -346,8 +355,7 @@ impl AddressBook {
     fn note_end(&mut self, now: u64)
         ensures same { self.new.all ≡ self.old.all }
         ensures last { self.new.last ≡ self.old.last }
-        ensures due { MatchOption self.old.begun (self.new.due ≡ self.old.due)
-            (λ begun. self.new.due ≡ min (now + pause (now - begun)) 18446744073709551615) }
+        ensures due { self.new.due ≡ due_behind self.old now }
         ensures noted { self.new.begun ≡ None }
     {
         if let Some(begun) = self.begun.take() {
@@ -359,11 +367,16 @@ impl AddressBook {
     /// may be: at most one in a second, and none before thirty times as long as the last one took.
     /// It waits for the resolver.
     pub fn look_up<N: Net>(&mut self, net: &N, now: u64)
-        ensures rests { self.old.begun ≡ None → now < self.old.due → self.new.all ≡ self.old.all }
-        ensures begins { IfSome self.new.begun (λ begun. begun ≡ now) }
+        ensures rests { self.new.begun ≡ None → self.new.all ≡ self.old.all }
+        ensures early { now < due_behind self.old now → self.new.begun ≡ None }
+        ensures begins { due_behind self.old now ≤ now → (place : ℕ) →
+            wants_at self.old place ≡ true → self.new.begun ≡ Some now }
+        ensures time { IfSome self.new.begun (λ begun. begun ≡ now) }
         ensures turn { IfSome self.new.begun (λ _. HasTurn self.old self.new.last) }
         ensures others { (other : ℕ) → other ≢ self.new.last →
             sockets_at self.new other ≡ sockets_at self.old other }
+        ensures known { IfSome self.new.begun (λ _. wants_at self.new self.new.last ≡ false) }
+        ensures due { self.new.due ≡ due_behind self.old now }
     {
         self.note_end(now);
         if now < self.due {

@@ -1,6 +1,6 @@
 //! One connection, from its beginning to its end.
 
-ghost use Rattle.std.specs.Prelude.{◌≡◌, ◌≢◌, ◌≤◌, ◌⊎◌, ◌||◌, [], IfOk, IsFalse, IsTrue, if◌then◌else◌, length, nat_le, nat_lt};
+ghost use Rattle.std.specs.Prelude.{◌≡◌, ◌≢◌, ◌≤◌, ◌⊎◌, ◌||◌, [], false, IfOk, IsFalse, IsTrue, if◌then◌else◌, length, nat_le, nat_lt};
 ghost use Rattle.press_net.specs.declared.connection.Phase.TheVariants.{Ending, Reading, Writing};
 ghost use Rattle.press_net.specs.Talking.{IsAnswered, is_due, is_held_as, is_late, is_member, is_resting, is_stalled, may_stay, phase_behind};
 
@@ -395,6 +395,7 @@ impl Connection {
             whole ≡ nat_le (length self.new.told.bytes.items) self.new.told.sent) }
         ensures same { self.new.told.bytes ≡ self.old.told.bytes }
         ensures kept { self.new.is_kept ≡ self.old.is_kept }
+        ensures held { self.new.is_held ≡ self.old.is_held }
         ensures taken { self.new.taken ≡ (if nat_lt self.old.told.sent self.new.told.sent
             then now else self.old.taken) }
     {
@@ -413,6 +414,7 @@ impl Connection {
         ensures none { (self.new.came.bytes.items ≡ []) × (self.new.told.bytes.items ≡ []) }
         ensures sent { self.new.told.sent ≡ 0 }
         ensures begun { self.new.arrival.begun ≡ now }
+        ensures held { self.new.is_held ≡ self.old.is_held }
         ensures whose { (self.new.arrival.from ≡ self.old.arrival.from)
             × (self.new.arrival.number ≡ self.old.arrival.number)
             × (self.new.arrival.group ≡ self.old.arrival.group) }
@@ -427,6 +429,7 @@ impl Connection {
     fn finish(&mut self, now: Instant) -> io::Result<()>
         ensures behind { IfOk result (λ _. self.new.phase ≡ phase_behind self.old.is_kept) }
         ensures group { self.new.arrival.group ≡ self.old.arrival.group }
+        ensures held { self.new.is_held ≡ self.old.is_held }
     {
         if self.is_kept {
             self.begin_again(now);
@@ -445,7 +448,9 @@ impl Connection {
     }
 
     // Drains what still comes.
-    fn read_away(&mut self) -> io::Result<()> {
+    fn read_away(&mut self) -> io::Result<()>
+        ensures { self.new.is_held ≡ self.old.is_held }
+    {
         let mut piece = [0u8; PIECE];
         for _ in 0..MOST_AWAY {
             match self.stream.read(&mut piece) {
@@ -463,7 +468,9 @@ impl Connection {
     }
 
     /// Lets its reply out.
-    pub fn let_out(&mut self, now: Instant) {
+    pub fn let_out(&mut self, now: Instant)
+        ensures { self.new.is_held ≡ false }
+    {
         self.is_held = false;
         self.taken = now;
         if self.send_reply(now).is_err() {
@@ -472,7 +479,9 @@ impl Connection {
     }
 
     // What is left to do after a look.
-    fn send_reply(&mut self, now: Instant) -> io::Result<()> {
+    fn send_reply(&mut self, now: Instant) -> io::Result<()>
+        ensures { self.new.is_held ≡ self.old.is_held }
+    {
         if self.phase == Phase::Writing && !self.is_held && self.send(now)? {
             self.finish(now)?;
         }

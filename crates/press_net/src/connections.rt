@@ -4,7 +4,7 @@ ghost use Rattle.std.specs.Prelude.{◌≡◌, ◌<◌, ◌≤◌, [], IfErr, If
 ghost use Rattle.std.specs.List.{list_all};
 ghost use Rattle.press_net.specs.declared.connection.Group.TheVariants.{Member};
 ghost use Rattle.press_net.specs.declared.connection.Connection.{Connection};
-ghost use Rattle.press_net.specs.Talking.{GivesWay, GoesFirst, GoesFor, HasNone, HasRank, IsOldest, MakesPlace, MakesWay, MayGrow, count_of, free_where, has_room, holds, is_crowded, is_from, is_late, is_reading, is_same, is_stranger, is_unheard, kept_unless, meets, rank_of, connection_at, with_slot};
+ghost use Rattle.press_net.specs.Talking.{GivesWay, GoesFirst, GoesFor, HasNone, HasRank, IsOldest, MakesPlace, MakesWay, MayGrow, count_of, free_where, has_room, is_crowded, is_from, is_held_at, is_late, is_reading, is_same, is_stranger, is_unheard, kept_unless, meets, rank_of, connection_at, with_slot};
 
 use crate::connection::{Connection, Group, Phase};
 use std::alloc::{AllocError, Global};
@@ -235,8 +235,8 @@ impl Connections {
     }
 
     /// Whether the one at a place is the one of that number, and its reply is held.
-    pub fn holds(&self, place: usize, number: u64) -> bool
-        ensures { result ≡ holds self.now place number }
+    pub fn is_held_at(&self, place: usize, number: u64) -> bool
+        ensures { result ≡ is_held_at self.now place number }
     {
         match self.places.get(place) {
             Some(Some(connection)) => connection.is_held_as(number),

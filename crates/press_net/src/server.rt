@@ -7,7 +7,7 @@ ghost use Rattle.std.specs.IoError.{raw_os_error};
 ghost use Rattle.press_net.specs.Accepting.{is_wanting, miss_of};
 ghost use Rattle.press_net.specs.Answering.{credit};
 ghost use Rattle.press_net.specs.Lanes.{IsCredited, after_end, call_at, changed_at, queues};
-ghost use Rattle.press_net.specs.Talking.{free_where, group_of, holds, is_crowded, is_reading};
+ghost use Rattle.press_net.specs.Talking.{free_where, group_of, is_crowded, is_held_at, is_reading};
 ghost use Rattle.press_net.specs.Turning.{KeepsAllButCalls, call_of, ends_at, holder_named, connection_of};
 
 use crate::answers::{Answers, Outgoing, Time, Traffic};
@@ -415,31 +415,32 @@ impl Server {
             return;
         };
         let had_turn = connection.step(answers, now, log);
-        let is_over = connection.phase() == Phase::Over;
+        let phase = connection.phase();
         let has_more = connection.has_more();
         let held = Held {
             place,
             number: connection.number(),
         };
         let is_held = had_turn && connection.is_held();
-        if is_over || (has_more && self.watch_again(place).is_err()) {
+        let is_lost = has_more && self.watch_again(place).is_err();
+        if phase == Phase::Over || is_lost {
             self.connections.leave(place);
         } else if is_held {
             self.hold(held);
         }
-        if had_turn {
+        if had_turn || (is_lost && phase == Phase::Reading) {
             self.had_turn();
         }
     }
 
     // Lets a held reply out, if its connection is still there.
     fn let_out(&mut self, held: Held)
-        ensures other { IsFalse (holds self.old.connections held.place held.number) →
+        ensures other { IsFalse (is_held_at self.old.connections held.place held.number) →
             self.new ≡ self.old }
     {
         let Held { place, number } = held;
         let now = self.now;
-        if !self.connections.holds(place, number) {
+        if !self.connections.is_held_at(place, number) {
             return;
         }
         let Some(connection) = self.connections.get_mut(place) else {

@@ -7,3 +7,4 @@ mod Named
 mod Owing
 mod Samples
 pub mod Sorts
+mod Waits

@@ -1,11 +1,11 @@
 -- Looks and questions whose ends are to be told, as far as 32 bits count them, and that they are.
-use Rattle.std.proofs.Common.{ℕ, ◌≡◌, ◌+◌, Bool, List, [], ◌∷◌, ◌++◌, MatchOption, Some, if◌then◌else◌, min, arith, subst, sym}
+use Rattle.std.proofs.Common.{ℕ, ◌≡◌, ◌+◌, Bool, List, [], ◌∷◌, ◌++◌, IsTrue, MatchOption, Some, if◌then◌else◌, min, arith, subst, sym}
 use Rattle.press_acceptor.specs.Seen.{Seen}
 use Rattle.press_member.specs.declared.input.Input.TheVariants.{Ended}
 use Rattle.press_member.specs.declared.member.Member.{Member}
 use Rattle.press_net.specs.Answering.{Credit}
 use Rattle.press_server.specs.Going.{AreKept, GoOut, counted, is_question, question_count}
-use Rattle.press_server.specs.Living.{IsToldOfEnd, MemberLives, MemberTakes}
+use Rattle.press_server.specs.Living.{HearsReply, IsToldOfEnd, MemberLives, MemberTakes}
 use Rattle.press_server.specs.declared.lanes.Waiting.{Waiting}
 use Rattle.press_wire.specs.Ranges.{member_id_of}
 
@@ -27,7 +27,7 @@ given_up asked before between after out kept = grind (arith, out.1, out.2, kept)
 
 -- a member that is told last of an end
 pub told_last : {S : Type 0} {t : _} {F : _} {g : _} (seen : S → Seen) (credit : Credit) (old between new : Member S t F g) (to : ℕ) (is_taken : Bool)
-    → member_id_of (credit.place + 1) ≡ Some to → MemberLives seen old between → MemberTakes seen (Ended to credit.errand.asked is_taken) between new → IsToldOfEnd seen credit old new
-told_last {S = S} {t = t} {F = F} {g = g} seen credit old between new to is_taken is lives takes =
-    subst (λ found. MatchOption found (new ≡ old) (λ to. (is_taken : Bool) × (between : Member S t F g) × MemberLives seen old between × MemberTakes seen (Ended to credit.errand.asked is_taken) between new))
-    (sym is) (is_taken, between, lives, takes)
+    → member_id_of (credit.place + 1) ≡ Some to → (IsTrue is_taken → HearsReply seen to credit.reply old between) → MemberLives seen old between → MemberTakes seen (Ended to credit.errand.asked is_taken) between new → IsToldOfEnd seen credit old new
+told_last {S = S} {t = t} {F = F} {g = g} seen credit old between new to is_taken is heard lives takes =
+    subst (λ found. MatchOption found (new ≡ old) (λ to. (is_taken : Bool) × (between : Member S t F g) × (IsTrue is_taken → HearsReply seen to credit.reply old between) × MemberLives seen old between × MemberTakes seen (Ended to credit.errand.asked is_taken) between new))
+    (sym is) (is_taken, between, heard, lives, takes)

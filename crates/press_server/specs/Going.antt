@@ -1,5 +1,8 @@
 -- What waits to go out to a member (own).
-use Rattle.std.specs.Prelude.{ℕ, ◌≡◌, ◌+◌, ◌-◌, ◌==◌, ◌&&◌, ◌||◌, Bool, true, false, List, [], ◌∷◌, drop, length, min, nat_le, nat_lt, option_map, slice_get, unwrap_or, if◌then◌else◌}
+use Rattle.std.specs.Prelude.{ℕ, ◌≡◌, ◌+◌, ◌-◌, ◌==◌, ◌&&◌, ◌||◌, ◌⊎◌, ◌++◌, Bool, true, false, List, [], ◌∷◌, drop, length, min, nat_le, nat_lt, not, option_map, slice_get, unwrap_or, if◌then◌else◌}
+use Rattle.press_batch.specs.Spelling.{Written, begun, fits, with_message}
+use Rattle.press_batch.specs.declared.report.Report.{Report}
+use Rattle.press_wire.specs.Spelling.{is_too_long_message}
 use Rattle.press_wire.specs.declared.message.Body.{Body}
 use Rattle.press_wire.specs.declared.message.Body.TheVariants.{Prepare, Promise, Nack, Accept, Accepted, Query}
 use Rattle.press_server.specs.declared.lanes.Lane.{Lane}
@@ -64,14 +67,46 @@ GoOut asked before after = (count : ℕ) × (before ≡ count + after) × (asked
 abbrev pub AreKept : ℕ → ℕ → Type 0
 AreKept before after = counted after ≡ counted before
 
+-- the messages that wait for the member at a place
+abbrev pub waiting_at : Lanes → ℕ → List Waiting
+waiting_at lanes place = unwrap_or (option_map (λ lane. lane.waiting.items) (slice_get lanes.all.items place)) []
+
+-- a batch with one message more; the same where it has no room for it, or none has
+abbrev pub with_waiting : Waiting → Written → Written
+with_waiting waiting batch =
+    if not (is_too_long_message waiting.message) && fits (length batch.bytes) waiting.message then with_message waiting.message batch else batch
+
+-- the oldest of those that waited has gone into a batch; one that an empty batch doesn't take is lost
+abbrev pub GoesIn : List Waiting → List Waiting → Written → Written → Type 0
+GoesIn before after old new = (first : Waiting) × (before ≡ first ∷ after) × (new ≡ with_waiting first old) × ((new.count ≡ old.count + 1) ⊎ (old.count ≡ 0))
+
+-- some have gone into a batch, the oldest first, each as one does
+pub data GoIn : List Waiting → List Waiting → Written → Written → Type 0 where
+  none_goes : (waiting : List Waiting) (batch : Written) → GoIn waiting waiting batch batch
+  one_goes : (before between after : List Waiting) (old next new : Written) → GoIn before between old next → GoesIn between after next new → GoIn before after old new
+
+-- what waited, as far as it went, stands behind a head, in a batch of that member with that report
+abbrev pub Carries : List Waiting → List Waiting → ℕ → Report → List ℕ → Type 0
+Carries before after from report bytes =
+    (head : List ℕ) × (batch : Written) × GoIn before after (begun from report) batch × (bytes ≡ head ++ batch.bytes)
+
 -- the oldest makes room where 3,333 wait
 abbrev pub with_room : List Waiting → List Waiting
 with_room waiting = if nat_le 3333 (length waiting) then drop 1 waiting else waiting
+
+-- one waits behind the others; without memory it is lost
+abbrev pub IsPut : Waiting → List Waiting → List Waiting → Type 0
+IsPut last old new = (new ≡ with_room old ++ last ∷ []) ⊎ (new ≡ with_room old)
 
 -- the oldest is a question
 abbrev pub asks_first : List Waiting → Bool
 asks_first [] = false
 asks_first (first ∷ rest) = is_question first.message.body
+
+-- those behind the oldest ones that have waited for more than two seconds
+abbrev pub fresh_of : ℕ → List Waiting → List Waiting
+fresh_of now [] = []
+fresh_of now (first ∷ rest) = if nat_lt 2000 (now - first.since) then fresh_of now rest else first ∷ rest
 
 -- the oldest has waited for more than two seconds
 abbrev pub is_stale : ℕ → List Waiting → Bool

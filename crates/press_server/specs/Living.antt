@@ -1,8 +1,9 @@
 -- What becomes of a node, or of a member, that a server serves: a chain of turns (own).
-use Rattle.std.specs.Prelude.{ℕ, ◌≡◌, ◌+◌, Bool, List, [], ◌∷◌, ◌++◌, MatchOption, Option, Some, Result, refl}
+use Rattle.std.specs.Prelude.{ℕ, ◌≡◌, ◌+◌, ◌==◌, Bool, IsTrue, List, [], ◌∷◌, ◌++◌, MatchOption, Option, Some, Result, if◌then◌else◌, refl}
 use Rattle.std.proofs.Common.{subst}
 use Rattle.std.specs.declared.alloc.AllocError.{AllocError}
 use Rattle.press_acceptor.specs.Seen.{Seen}
+use Rattle.press_batch.specs.Carried.{Carried}
 use Rattle.press_http.specs.declared.fault.HttpFault.{HttpFault}
 use Rattle.press_net.specs.Answering.{Credit}
 use Rattle.press_node.specs.Nodes.{NodeMove, node_moved, state_of, store_of}
@@ -18,8 +19,10 @@ use Rattle.press_member.specs.declared.input.Input.TheVariants.{Command, Page, M
 use Rattle.press_member.specs.declared.member.Member.{Member}
 use Rattle.press_member.specs.declared.output.Answer.{Answer}
 use Rattle.press_member.specs.declared.output.Outputs.{Outputs}
+use Rattle.press_server.specs.Members.{IsSaid}
 use Rattle.press_server.specs.Turns.{ServesTurn}
 use Rattle.press_wire.specs.Ranges.{member_id_of}
+use Rattle.press_wire.specs.declared.message.Message.{Message}
 
 -- any number of steps
 pub data Chain {T : Type 0} (Step : T → T → Type 0) : T → T → Type 0 where
@@ -113,12 +116,33 @@ AreOf from (step ∷ steps) = IsOf from step.input × AreOf from steps
 abbrev pub HearsOnly : {S : Type 0} {t : _} {F : _} {g : _} → (S → Seen) → ℕ → Member S t F g → Member S t F g → Type 0
 HearsOnly seen from old new = (life : MemberLives seen old new) × AreOf from life.steps
 
+-- a member takes these inputs, in their order, and no others
+abbrev pub TakesAll : {S : Type 0} {t : _} {F : _} {g : _} → (S → Seen) → List Input → Member S t F g → Member S t F g → Type 0
+TakesAll seen [] old new = new ≡ old
+TakesAll {S = S} {t = t} {F = F} {g = g} seen (input ∷ inputs) old new = (next : Member S t F g) × MemberTakes seen input old next × TakesAll seen inputs next new
+
+-- those of these messages that are in that member's name
+abbrev pub letters : ℕ → List Message → List Input
+letters from [] = []
+letters from (message ∷ messages) = if message.from == from then Letter message ∷ letters from messages else letters from messages
+
+-- what a batch brings: its report, and then its messages
+abbrev pub inputs_in : Carried → List Input
+inputs_in batch = Report batch.from batch.report ∷ letters batch.from batch.messages
+
+-- a reply is a batch of that member, which counts the same members and runs the same kit, and all of
+-- it is heard
+abbrev pub HearsReply : {S : Type 0} {t : _} {F : _} {g : _} → (S → Seen) → ℕ → List ℕ → Member S t F g → Member S t F g → Type 0
+HearsReply seen from reply old new =
+    (batch : Carried) × (batch.from ≡ from) × IsSaid reply batch × (batch.report.digests ≡ (view_of old).digests) × TakesAll seen (inputs_in batch) old new
+
 -- a member is told last that a request to the member at that place has ended, with as many looks
--- and questions as were in it
+-- and questions as were in it; as one that was taken only where its reply was heard
 abbrev pub IsToldOfEnd : {S : Type 0} {t : _} {F : _} {g : _} → (S → Seen) → Credit → Member S t F g → Member S t F g → Type 0
 IsToldOfEnd {S = S} {t = t} {F = F} {g = g} seen credit old new =
     MatchOption (member_id_of (credit.place + 1)) (new ≡ old)
-    (λ to. (is_taken : Bool) × (between : Member S t F g) × MemberLives seen old between × MemberTakes seen (Ended to credit.errand.asked is_taken) between new)
+    (λ to. (is_taken : Bool) × (between : Member S t F g) × (IsTrue is_taken → HearsReply seen to credit.reply old between) × MemberLives seen old between
+    × MemberTakes seen (Ended to credit.errand.asked is_taken) between new)
 
 -- what is answered to a report: whether it is of the same members and the same kit
 abbrev pub Compares : {N : Type 0} → View N → Input → Answer → Type 0

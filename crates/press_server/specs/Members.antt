@@ -1,5 +1,6 @@
 -- The members of a cluster (own).
-use Rattle.std.specs.Prelude.{ℕ, ◌≡◌, ◌+◌, ◌-◌, ◌==◌, ◌&&◌, List, drop, Bool, not, Option, None, Some, option_map, unwrap_or}
+use Rattle.std.specs.Prelude.{ℕ, ◌≡◌, ◌+◌, ◌-◌, ◌==◌, ◌&&◌, List, drop, codes, nat_eq, Bool, true, not, Option, None, Some, option_map, unwrap_or}
+use Rattle.std.specs.List.{starts_with}
 use Rattle.std.specs.declared.net.ip_addr.IpAddr.{IpAddr}
 use Rattle.press_acceptor.specs.StoreMap.{StoreMap}
 use Rattle.press_batch.specs.Carried.{Carried}
@@ -21,9 +22,17 @@ number_of (Member id peers tick) = Some id
 abbrev pub is_other_at : Peers → ℕ → IpAddr → Bool
 is_other_at peers member ip = not (member == peers.own) && has_ip ip (sockets_at peers.book (member - 1))
 
--- a reply is a batch of that member behind its head
+-- it says that what was asked is done
+abbrev pub is_done : List ℕ → Bool
+is_done reply = starts_with nat_eq reply (codes "HTTP/1.1 200 ")
+
+-- a reply that something is done is that batch behind its head
+abbrev pub IsSaid : List ℕ → Carried → Type 0
+IsSaid reply batch = (is_done reply ≡ true) × (head : ℕ) × (drop head reply ≡ spelled_batch batch)
+
+-- it is a batch of that member
 abbrev pub SaysBatch : ℕ → List ℕ → Type 0
-SaysBatch member reply = (head : ℕ) × (batch : Carried) × (batch.from ≡ member) × (drop head reply ≡ spelled_batch batch)
+SaysBatch member reply = (batch : Carried) × (batch.from ≡ member) × IsSaid reply batch
 
 -- where a request to the member at a place came to no batch of that member, and where it went is
 -- its first address, the next one goes to the next

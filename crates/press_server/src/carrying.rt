@@ -1,8 +1,9 @@
 //! How a batch goes over a connection: in the request that brings it, and in the reply to that,
 //! which is a batch as well.
 
-ghost use Rattle.std.specs.Prelude.{ℕ, ◌≡◌, IfSome, drop};
-ghost use Rattle.press_server.specs.Members.{SaysBatch};
+ghost use Rattle.std.specs.Prelude.{ℕ, ◌≡◌, ◌++◌, IfOk, IfSome, List, drop, true};
+ghost use Rattle.press_batch.specs.Carried.{carried};
+ghost use Rattle.press_server.specs.Members.{IsSaid, is_done};
 
 use httparse::spans::{EMPTY_HEADER_SPAN, parse_request};
 use httparse::{Error, Status};
@@ -23,7 +24,9 @@ fn head_of(alloc: Global, count: usize) -> Result<String, AllocError> {
 }
 
 /// The bytes of the request that brings a batch. None without memory.
-pub fn request_of(alloc: Global, batch: &[u8]) -> Option<Vec<u8>> {
+pub fn request_of(alloc: Global, batch: &[u8]) -> Option<Vec<u8>>
+    ensures { IfSome result (λ request. (head : List ℕ) × (request.items ≡ head ++ batch.now)) }
+{
     let head = head_of(alloc, batch.len()).ok()?;
     let mut request = head.into_bytes();
     request.extend_from_slice(batch).ok()?;
@@ -56,7 +59,11 @@ fn head_of_done(alloc: Global, count: usize) -> Result<String, AllocError> {
 }
 
 /// Writes the reply to a batch: another one.
-pub fn tell_batch(alloc: Global, batch: &[u8], told: &mut Vec<u8>) -> Result<u16, HttpFault> {
+pub fn tell_batch(alloc: Global, batch: &[u8], told: &mut Vec<u8>) -> Result<u16, HttpFault>
+    ensures done { IfOk result (λ status. status ≡ 200) }
+    ensures written { IfOk result (λ _. (head : List ℕ)
+        × (told.new.items ≡ told.old.items ++ (head ++ batch.now))) }
+{
     let mut reply = head_of_done(alloc, batch.len())?.into_bytes();
     reply.extend_from_slice(batch)?;
     told.extend_from_slice(&reply)?;
@@ -65,7 +72,8 @@ pub fn tell_batch(alloc: Global, batch: &[u8], told: &mut Vec<u8>) -> Result<u16
 
 // The body of a reply that says that what was asked is done.
 fn body_of_done(reply: &[u8]) -> Option<&[u8]>
-    ensures { IfSome result (λ body. (head : ℕ) × (body.now ≡ drop head reply.now)) }
+    ensures done { IfSome result (λ _. is_done reply.now ≡ true) }
+    ensures behind { IfSome result (λ body. (head : ℕ) × (body.now ≡ drop head reply.now)) }
 {
     if !reply.starts_with(DONE) {
         return None;
@@ -77,7 +85,7 @@ fn body_of_done(reply: &[u8]) -> Option<&[u8]>
 /// The batch of a member in its reply to another.
 pub fn batch_by(alloc: Global, member: MemberId, reply: &[u8]) -> Option<Batch>
     ensures from { IfSome result (λ batch. batch.from ≡ member) }
-    ensures said { IfSome result (λ _. SaysBatch member reply.now) }
+    ensures said { IfSome result (λ batch. IsSaid reply.now (carried batch)) }
 {
     match decode_batch(alloc, body_of_done(reply)?) {
         Ok(batch) if batch.from == member => Some(batch),

@@ -1,12 +1,16 @@
 //! A member of a cluster behind a server: what comes over sockets is given to it, and what it sends
 //! goes out.
 
-ghost use Rattle.std.specs.Prelude.{◌≡◌, ◌≢◌, ℕ, ◌&&◌, IfOk, MatchBool, MatchOption, None, false, if◌then◌else◌};
-ghost use Rattle.press_member.specs.Acts.{is_open, stop_in, view_of};
+ghost use Rattle.std.specs.Prelude.{◌≡◌, ◌≢◌, ℕ, ◌&&◌, ◌||◌, ◌++◌, ◌-◌, IfOk, IfSome, IsTrue, List, MatchBool, MatchOption, None, false, if◌then◌else◌};
+ghost use Rattle.std.specs.List.{list_any};
+ghost use Rattle.press_batch.specs.Carried.{carried};
+ghost use Rattle.press_member.specs.Acts.{has_more, is_open, stop_in, view_of};
+ghost use Rattle.press_member.specs.Readiness.{report_of};
 ghost use Rattle.press_member.specs.declared.input.Input.TheVariants as input;
+ghost use Rattle.press_net.specs.Addresses.{first_at};
 ghost use Rattle.press_net.specs.Answering.{credit};
-ghost use Rattle.press_server.specs.Going.{AreKept, GoOut, HasEnded, HasSameWays, owed_at};
-ghost use Rattle.press_server.specs.Living.{Compares, HearsOnly, IsToldOfEnd, MemberLives, MemberTakes};
+ghost use Rattle.press_server.specs.Going.{AreKept, Carries, GoOut, HasEnded, HasSameWays, fresh_of, is_ready, owed_at, waiting_at};
+ghost use Rattle.press_server.specs.Living.{Compares, HearsOnly, IsToldOfEnd, MemberLives, MemberTakes, TakesAll, inputs_in};
 ghost use Rattle.press_server.specs.Members.{LosesAddress, is_other_at};
 ghost use Rattle.press_server.specs.Screening.{is_ahead};
 
@@ -257,6 +261,8 @@ impl<S: PromiseStore> Clustered<'_, S> {
             (batch.report.digests ≡ (view_of self.old.member).digests)
             (batch.report.digests ≢ (view_of self.old.member).digests)) }
         ensures only { HearsOnly S.seen batch.from self.old.member self.new.member }
+        ensures all { IfOk result (λ is_heard. IsTrue is_heard →
+            TakesAll S.seen (inputs_in (carried batch)) self.old.member self.new.member) }
         ensures ways { HasSameWays self.new.lanes self.old.lanes }
         ensures peers { self.new.peers ≡ self.old.peers }
     {
@@ -277,7 +283,11 @@ impl<S: PromiseStore> Clustered<'_, S> {
     }
 
     // What a batch is written with.
-    fn sender(&self) -> Sender {
+    fn sender(&self) -> Sender
+        ensures from { result.from ≡ self.now.peers.own }
+        ensures report { result.report ≡ report_of self.now.member }
+        ensures now { result.now ≡ self.now.time.millis }
+    {
         Sender {
             alloc: self.alloc,
             from: self.peers.own(),
@@ -288,7 +298,12 @@ impl<S: PromiseStore> Clustered<'_, S> {
 
     // What waits for a member goes out with the reply to its batch.
     fn tell_back(&mut self, to: MemberId, told: &mut Vec<u8>) -> Result<u16, HttpFault>
-        ensures { self.new.member ≡ self.old.member }
+        ensures member { self.new.member ≡ self.old.member }
+        ensures carries { IfOk result (λ _. (reply : List ℕ)
+            × (told.new.items ≡ told.old.items ++ reply)
+            × Carries (fresh_of self.old.time.millis (waiting_at self.old.lanes (to - 1)))
+            (waiting_at self.new.lanes (to - 1)) self.old.peers.own
+            (report_of self.old.member) reply) }
     {
         let sender = self.sender();
         match self.lanes.pack_reply(place_of(to), sender) {
@@ -432,6 +447,11 @@ impl<S: PromiseStore> Clustered<'_, S> {
     #[tactic(auto, using(crate::proofs::Owing::given_up))]
     fn outgoing(&mut self, place: usize) -> Option<Outgoing>
         ensures member { self.new.member ≡ self.old.member }
+        ensures carries { IfSome result (λ outgoing. Carries (waiting_at self.old.lanes place)
+            (waiting_at self.new.lanes place) self.old.peers.own (report_of self.old.member)
+            outgoing.bytes.items) }
+        ensures goes { IfSome result (λ outgoing. (outgoing.place ≡ place)
+            × (outgoing.errand.addr ≡ first_at self.old.peers.book place)) }
         ensures asks { MatchOption result
             (AreKept (owed_at self.old.lanes place) (owed_at self.new.lanes place))
             (λ outgoing. GoOut outgoing.errand.asked (owed_at self.old.lanes place)
@@ -459,6 +479,9 @@ impl<S: PromiseStore> Clustered<'_, S> {
     fn hear_back(&mut self, said: Option<Batch>) -> bool
         requires always { Unit {0} }
         ensures lives { MemberLives S.seen self.old.member self.new.member }
+        ensures heard { IsTrue result → MatchOption said ⊥ (λ batch.
+            (batch.report.digests ≡ (view_of self.old.member).digests)
+            × TakesAll S.seen (inputs_in (carried batch)) self.old.member self.new.member) }
         ensures ways { HasSameWays self.new.lanes self.old.lanes }
         ensures peers { self.new.peers ≡ self.old.peers }
     {
@@ -512,7 +535,10 @@ impl<S: PromiseStore> Answers for Clustered<'_, S> {
         self.outgoing(place)
     }
 
-    fn has_more(&self) -> bool {
+    fn has_more(&self) -> bool
+        ensures { result ≡ (has_more (view_of self.now.member)
+            || list_any (is_ready self.now.time.millis) self.now.lanes.all.items) }
+    {
         self.member.has_more() || self.lanes.is_ready(self.time.millis)
     }
 

@@ -1,7 +1,9 @@
 //! What waits to go out to each member.
 
-ghost use Rattle.std.specs.Prelude.{ℕ, ◌≡◌, ◌<◌, ◌≤◌, ◌⊎◌, [], ◌∷◌, ◌+◌, ◌-◌, ◌++◌, IfErr, IfOk, IfSome, IsTrue, MatchOption, None, drop, if◌then◌else◌, length, slice_get};
-ghost use Rattle.press_server.specs.Going.{AreKept, GoOut, HasEnded, HasSameWay, HasSameWays, asks_first, counted, is_free, is_question, is_ready, is_stale, owed, owed_at, question_count, with_room};
+ghost use Rattle.std.specs.Prelude.{ℕ, ◌≡◌, ◌≢◌, ◌<◌, ◌≤◌, ◌⊎◌, ◌+◌, ◌-◌, IfErr, IfOk, IfSome, IsTrue, MatchOption, None, drop, false, if◌then◌else◌, length, slice_get};
+ghost use Rattle.std.specs.List.{list_any};
+ghost use Rattle.press_batch.specs.Spelling.{begun};
+ghost use Rattle.press_server.specs.Going.{AreKept, GoIn, GoOut, GoesIn, HasEnded, HasSameWay, HasSameWays, IsPut, asks_first, counted, fresh_of, is_free, is_question, is_ready, is_stale, owed, owed_at, question_count, waiting_at};
 
 use crate::peers::place_of;
 use press_batch::{BatchFault, BatchWriter, Report};
@@ -93,9 +95,8 @@ impl Lane {
 
     // A message waits behind all others, or is lost for want of memory.
     fn put(&mut self, message: Message, now: u64)
-        ensures puts { (self.new.waiting.items ≡ with_room self.old.waiting.items
-            ++ (record { message = message; since = now }) ∷ [])
-            ⊎ (self.new.waiting.items ≡ with_room self.old.waiting.items) }
+        ensures puts { IsPut (record { message = message; since = now }) self.old.waiting.items
+            self.new.waiting.items }
         ensures most { length self.old.waiting.items ≤ 3333 →
             length self.new.waiting.items ≤ 3333 }
         ensures way { HasSameWay self.new self.old }
@@ -125,15 +126,13 @@ impl Lane {
         }
     }
 
-    // What is too old is lost.
+    // From the oldest on, as far as each has waited for too long.
     fn lose_stale(&mut self, now: u64)
         ensures way { HasSameWay self.new self.old }
         ensures kept { AreKept (owed self.old) (owed self.new) }
+        ensures fresh { self.new.waiting.items ≡ fresh_of now self.old.waiting.items }
     {
-        for _ in 0..self.waiting.len() {
-            if !self.is_stale(now) {
-                return;
-            }
+        while self.is_stale(now) {
             self.lose();
         }
     }
@@ -142,11 +141,9 @@ impl Lane {
     // or for want of room or memory. One that no batch takes is lost.
     fn move_one(&mut self, batch: &mut BatchWriter) -> Option<u32>
         ensures way { HasSameWay self.new self.old }
-        ensures stays { result ≡ None → self.new.waiting.items ≡ self.old.waiting.items }
-        ensures goes { IfSome result (λ _.
-            self.new.waiting.items ≡ drop 1 self.old.waiting.items) }
-        ensures fits { IfSome result (λ _. (batch.new.count ≡ batch.old.count + 1)
-            ⊎ (batch.old.count ≡ 0)) }
+        ensures stays { result ≡ None → (self.new ≡ self.old) × (batch.new ≡ batch.old) }
+        ensures goes { IfSome result (λ _. GoesIn self.old.waiting.items self.new.waiting.items
+            batch.old batch.new) }
         ensures asks { IfSome result (λ count. question_count self.old.waiting.items ≡
             count + question_count self.new.waiting.items) }
         ensures lost { self.new.lost ≡ self.old.lost }
@@ -178,6 +175,7 @@ impl Lane {
     // is.
     fn move_all(&mut self, batch: &mut BatchWriter) -> u32
         ensures way { HasSameWay self.new self.old }
+        ensures goes { GoIn self.old.waiting.items self.new.waiting.items batch.old batch.new }
         ensures asks { GoOut result (question_count self.old.waiting.items)
             (question_count self.new.waiting.items) }
         ensures lost { self.new.lost ≡ self.old.lost }
@@ -198,6 +196,8 @@ impl Lane {
         ensures looks { IfOk result (λ _. self.new.looks ≡ 0) }
         ensures way { IfOk result (λ _. self.new.«open» ≡ counted (self.old.«open» + 1)) }
         ensures asks { IfOk result (λ parcel. GoOut parcel.asked (owed self.old) (owed self.new)) }
+        ensures goes { IfOk result (λ parcel. GoIn self.old.waiting.items self.new.waiting.items
+            (begun sender.from sender.report) parcel.batch) }
         ensures stays { IfErr result (λ _. self.new ≡ self.old) }
     {
         let mut batch = BatchWriter::new(sender.alloc, sender.from, &sender.report)?;
@@ -224,6 +224,7 @@ impl Lane {
     fn move_said(&mut self, batch: &mut BatchWriter)
         ensures way { HasSameWay self.new self.old }
         ensures kept { owed self.new ≡ owed self.old }
+        ensures goes { GoIn self.old.waiting.items self.new.waiting.items batch.old batch.new }
     {
         for _ in 0..self.waiting.len() {
             if self.asks_first() || self.move_one(batch).is_none() {
@@ -237,6 +238,8 @@ impl Lane {
     fn pack_reply(&mut self, sender: Sender) -> Result<BatchWriter, BatchFault>
         ensures way { HasSameWay self.new self.old }
         ensures kept { AreKept (owed self.old) (owed self.new) }
+        ensures goes { IfOk result (λ batch. GoIn (fresh_of sender.now self.old.waiting.items)
+            self.new.waiting.items (begun sender.from sender.report) batch) }
     {
         let mut batch = BatchWriter::new(sender.alloc, sender.from, &sender.report)?;
         self.lose_stale(sender.now);
@@ -253,7 +256,9 @@ pub struct Lanes {
 
 impl Lanes {
     /// Nothing waits for any of so many members.
-    pub fn new(alloc: Global, count: usize) -> Result<Lanes, AllocError> {
+    pub fn new(alloc: Global, count: usize) -> Result<Lanes, AllocError>
+        ensures { IfOk result (λ lanes. length lanes.all.items ≡ count) }
+    {
         let mut all = Vec::new(alloc);
         for _ in 0..count {
             all.push(Lane {
@@ -272,6 +277,11 @@ impl Lanes {
         ensures kept { message.to - 1 < length self.old.all.items →
             AreKept (owed_at self.old (message.to - 1) + (if is_question message.body then 1 else 0))
             (owed_at self.new (message.to - 1)) }
+        ensures puts { message.to - 1 < length self.old.all.items → IsPut
+            (record { message = message; since = now }) (waiting_at self.old (message.to - 1))
+            (waiting_at self.new (message.to - 1)) }
+        ensures others { (other : ℕ) → other ≢ message.to - 1 →
+            waiting_at self.new other ≡ waiting_at self.old other }
         ensures ways { HasSameWays self.new self.old }
     {
         if let Some(lane) = self.all.get_mut(place_of(message.to)) {
@@ -291,7 +301,9 @@ impl Lanes {
     }
 
     /// Whether something may go out.
-    pub fn is_ready(&self, now: u64) -> bool {
+    pub fn is_ready(&self, now: u64) -> bool
+        ensures { result ≡ list_any (is_ready now) self.now.all.items }
+    {
         self.all.iter().any(|lane| lane.is_ready(now))
     }
 
@@ -299,6 +311,10 @@ impl Lanes {
     pub fn ready(&mut self, now: u64) -> Option<usize>
         ensures is { IfSome result (λ place. IfSome (slice_get self.new.all.items place)
             (λ lane. IsTrue (is_ready now lane))) }
+        ensures none { result ≡ None → (i : ℕ) → i < length self.new.all.items →
+            IfSome (slice_get self.new.all.items i) (λ lane. is_ready now lane ≡ false) }
+        ensures fresh { (i : ℕ) → (waiting_at self.new i ≡ waiting_at self.old i)
+            ⊎ (waiting_at self.new i ≡ fresh_of now (waiting_at self.old i)) }
         ensures kept { (i : ℕ) → AreKept (owed_at self.old i) (owed_at self.new i) }
         ensures ways { HasSameWays self.new self.old }
     {
@@ -317,6 +333,8 @@ impl Lanes {
     pub fn pack(&mut self, place: usize, sender: Sender) -> Option<Parcel>
         ensures asks { MatchOption result (owed_at self.new place ≡ owed_at self.old place)
             (λ parcel. GoOut parcel.asked (owed_at self.old place) (owed_at self.new place)) }
+        ensures goes { IfSome result (λ parcel. GoIn (waiting_at self.old place)
+            (waiting_at self.new place) (begun sender.from sender.report) parcel.batch) }
         ensures there { IfSome result (λ _. place < length self.new.all.items) }
     {
         self.all.get_mut(place)?.pack(sender).ok()
@@ -326,6 +344,8 @@ impl Lanes {
     pub fn pack_reply(&mut self, place: usize, sender: Sender) -> Option<BatchWriter>
         ensures kept { AreKept (owed_at self.old place) (owed_at self.new place) }
         ensures ways { HasSameWays self.new self.old }
+        ensures goes { IfSome result (λ batch. GoIn (fresh_of sender.now (waiting_at self.old place))
+            (waiting_at self.new place) (begun sender.from sender.report) batch) }
     {
         self.all.get_mut(place)?.pack_reply(sender).ok()
     }

@@ -1,7 +1,10 @@
+use crate::tests::fixtures::holds;
 use std::alloc::Global;
 use std::io;
 use std::io::{Read, Write};
-use std::net::{SocketAddr, TcpStream};
+use std::net::{Shutdown, SocketAddr, TcpListener, TcpStream};
+use std::thread::sleep;
+use std::time::Duration;
 
 /// A reader that gives seven bytes at a time. The read after a given number fails, and any later
 /// one gives more.
@@ -37,7 +40,8 @@ impl Read for Failing {
     }
 }
 
-/// A client that asks once, as soon as a server says that it listens.
+/// A client that asks once, as soon as a server says that it listens. It says nothing more then,
+/// unless it stays.
 #[derive(Drop)]
 pub struct Client<'a> {
     rt: &'a HostRuntime,
@@ -45,6 +49,7 @@ pub struct Client<'a> {
     // What another one says that comes before it, and leaves then.
     first: Option<&'a [u8]>,
     request: &'a [u8],
+    stays: bool,
     stream: Option<TcpStream>,
 }
 
@@ -55,7 +60,16 @@ impl<'a> Client<'a> {
             addr,
             first: None,
             request,
+            stays: false,
             stream: None,
+        }
+    }
+
+    /// One whose connection stays open behind its request.
+    pub fn staying(rt: &'a HostRuntime, addr: SocketAddr, request: &'a [u8]) -> Client<'a> {
+        Client {
+            stays: true,
+            ..Client::new(rt, addr, request)
         }
     }
 
@@ -79,6 +93,9 @@ impl<'a> Client<'a> {
         }
         let mut stream = TcpStream::connect(self.rt, self.addr)?;
         stream.write_all(self.request)?;
+        if !self.stays {
+            stream.shutdown(Shutdown::Write)?;
+        }
         self.stream = Some(stream);
         Ok(())
     }
@@ -175,5 +192,125 @@ impl Read for Endless {
         buf.fill(b' ');
         self.given = self.given.saturating_add(buf.len());
         Ok(buf.len())
+    }
+}
+
+// Where the body of a request begins.
+const HEAD_END: &[u8] = b"\r\n\r\n";
+
+// The bytes of a report.
+const REPORT: usize = 34;
+
+// What a request brings: nothing, where it isn't whole.
+fn body_of(request: &[u8]) -> &[u8] {
+    match request.windows(4).position(|it| it == HEAD_END) {
+        Some(place) => &request[place.saturating_add(HEAD_END.len()).min(request.len())..],
+        None => b"",
+    }
+}
+
+// The reply of member 2 with this report, which is of member 1.
+fn reply_with(alloc: Global, report: &[u8]) -> io::Result<Vec<u8>> {
+    let mut reply: Vec<u8> = Vec::new(alloc);
+    reply.extend_from_slice(b"HTTP/1.1 200 OK\r\nContent-Length: 34\r\n\r\n\x01\x02")?;
+    reply.extend_from_slice(&report[report.len().min(2)..])?;
+    Ok(reply)
+}
+
+/// The other one of two members, which says of itself what member 1 says, and nothing more. It
+/// stands behind the lines of that one's server: at each line of a request it replies to what has
+/// come, and the next client asks a while later.
+#[derive(Drop)]
+pub struct Mirror<'a> {
+    rt: &'a HostRuntime,
+    listener: TcpListener,
+    streams: Vec<TcpStream>,
+    // The server of member 1, and what it is still to be asked.
+    addr: SocketAddr,
+    requests: &'a [&'a [u8]],
+    clients: Vec<TcpStream>,
+    /// The lines.
+    pub lines: Vec<u8>,
+    /// The last request of member 1 with a message.
+    pub brought: Vec<u8>,
+}
+
+impl<'a> Mirror<'a> {
+    /// It waits for nobody.
+    pub fn new(
+        rt: &'a HostRuntime,
+        listener: TcpListener,
+        addr: SocketAddr,
+        requests: &'a [&'a [u8]],
+    ) -> io::Result<Mirror<'a>> {
+        listener.set_nonblocking(true)?;
+        Ok(Mirror {
+            rt,
+            listener,
+            streams: Vec::new(rt.alloc()),
+            addr,
+            requests,
+            clients: Vec::new(rt.alloc()),
+            lines: Vec::new(rt.alloc()),
+            brought: Vec::new(rt.alloc()),
+        })
+    }
+
+    // Takes the one that waits first, if one does.
+    fn accept(&mut self) -> io::Result<()> {
+        if let Ok((stream, _)) = self.listener.accept() {
+            stream.set_nonblocking(true)?;
+            self.streams.push(stream)?;
+        }
+        Ok(())
+    }
+
+    // Replies to what has come.
+    fn give_back(&mut self) -> io::Result<()> {
+        let mut piece = [0u8; 4096];
+        for stream in self.streams.iter_mut() {
+            let Ok(count) = stream.read(&mut piece) else {
+                continue;
+            };
+            let request = &piece[..count];
+            let body = body_of(request);
+            if body.len() > REPORT {
+                self.brought.clear();
+                self.brought.extend_from_slice(request)?;
+            }
+            let report = &body[..body.len().min(REPORT)];
+            stream.write_all(&reply_with(self.rt.alloc(), report)?)?;
+        }
+        Ok(())
+    }
+
+    // The next client asks.
+    fn ask(&mut self) -> io::Result<()> {
+        let Some((request, requests)) = self.requests.split_first() else {
+            return Ok(());
+        };
+        self.requests = requests;
+        sleep(self.rt, Duration::from_millis(20));
+        let mut stream = TcpStream::connect(self.rt, self.addr)?;
+        stream.write_all(request)?;
+        stream.shutdown(Shutdown::Write)?;
+        self.clients.push(stream)?;
+        Ok(())
+    }
+}
+
+impl Write for Mirror<'_> {
+    fn write(&mut self, line: &[u8]) -> io::Result<usize> {
+        self.lines.extend_from_slice(line)?;
+        if holds(line, b" /") {
+            self.accept()?;
+            self.give_back()?;
+            self.ask()?;
+        }
+        Ok(line.len())
+    }
+
+    fn flush(&mut self) -> io::Result<()> {
+        Ok(())
     }
 }

@@ -73,3 +73,13 @@ impl EndedRun {
         self.left(2, "", "press: usage\n") && self.rest == LETTERS.len()
     }
 }
+
+/// Whether these bytes hold those.
+pub fn holds(bytes: &[u8], part: &[u8]) -> bool {
+    for at in 0..bytes.len() {
+        if bytes[at..].starts_with(part) {
+            return true;
+        }
+    }
+    false
+}

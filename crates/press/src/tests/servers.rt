@@ -1,5 +1,5 @@
-use crate::tests::fakes::{Client, Flush, Narrow};
-use crate::tests::fixtures::{run_words, words_of};
+use crate::tests::fakes::{Client, Flush, Mirror, Narrow};
+use crate::tests::fixtures::{holds, run_words, words_of};
 use press_program::run;
 use std::fs;
 use std::net::{SocketAddr, TcpListener};
@@ -21,6 +21,15 @@ const KIT: &str = "press: it plays the demonstration kit (no --kit)\n";
 // A question for the vote of slot 1, from member 2 to member 1.
 const QUESTION: &[u8] =
     b"POST /peer HTTP/1.1\r\nHost: a\r\nContent-Length: 7\r\n\r\n\x06\x02\x01\x00\x00\x00\x01";
+
+// What member 1 is asked behind the first time: whether it is ready, a command, and whether it is
+// ready still.
+const REQUESTS: [&[u8]; 7] = [READY, TICK, READY, READY, READY, READY, READY];
+
+// How a prepare of member 1 to member 2 for slot 1 begins, and the promise that answers it.
+const PREPARE: &[u8] = b"\x01\x01\x02\x00\x00\x00\x01";
+
+const PROMISE: &[u8] = b"\x02\x02\x01\x00\x00\x00\x01";
 
 // A port of that address at which nothing listens.
 fn free_addr(rt: &HostRuntime, ip: &str) -> Result<SocketAddr, Fail> {
@@ -134,7 +143,8 @@ fn a_long_request_is_read_to_its_end(rt: HostRuntime) -> Result<(), Fail> {
         request.push_str("0123456789")?;
     }
     let words = ["serve", "--port", &port, "--turns", "1"];
-    let reply = reply_to(&rt, &words, addr, request.as_bytes())?;
+    let client = Client::staying(&rt, addr, request.as_bytes());
+    let Served { reply, .. } = ask_as(&rt, &words, client)?;
     assert!(rt; reply.starts_with(b"HTTP/1.1 202 "));
     Ok(())
 }
@@ -219,16 +229,26 @@ fn a_store_of_another_is_not_served(rt: HostRuntime) -> Result<(), Fail> {
     Ok(())
 }
 
-// The other member is at an address where nothing listens.
+// What the first of these members is asked, behind whose address those of the others stand, and the
+// status of its reply.
+const ALONE: [(&str, &[u8], &str); 6] = [
+    ("", FRONT, "HTTP/1.1 200 "),
+    ("", READY, "HTTP/1.1 200 "),
+    ("", TICK, "HTTP/1.1 202 "),
+    (",127.0.0.2:1", FRONT, "HTTP/1.1 503 "),
+    (",127.0.0.2:1", READY, "HTTP/1.1 503 "),
+    (",127.0.0.2:1", TICK, "HTTP/1.1 503 "),
+];
+
+// The other member is at an address where nothing listens. The reply to a command that is refused
+// for now is held before it goes out.
 #[test]
 fn one_of_two_members_alone_is_not_ready(rt: HostRuntime) -> Result<(), Fail> {
-    for (others, status) in [("", "HTTP/1.1 200 "), (",127.0.0.2:1", "HTTP/1.1 503 ")] {
-        for request in [FRONT, READY] {
-            let addr = free_addr(&rt, "127.0.0.1")?;
-            let peers = format!(in rt.alloc(); "{addr}{others}")?;
-            let reply = replied_by_member(&rt, addr, &peers, &[], request)?;
-            assert!(rt; reply.starts_with(status.as_bytes()), "at {peers}");
-        }
+    for (others, request, status) in ALONE {
+        let addr = free_addr(&rt, "127.0.0.1")?;
+        let peers = format!(in rt.alloc(); "{addr}{others}")?;
+        let reply = replied_by_member(&rt, addr, &peers, &[], request)?;
+        assert!(rt; reply.starts_with(status.as_bytes()), "at {peers}");
     }
     Ok(())
 }
@@ -249,16 +269,6 @@ fn a_server_tells_how_it_stands_where_it_is_to(rt: HostRuntime) -> Result<(), Fa
         }
     }
     Ok(())
-}
-
-// Whether these bytes hold those.
-fn holds(bytes: &[u8], part: &[u8]) -> bool {
-    for at in 0..bytes.len() {
-        if bytes[at..].starts_with(part) {
-            return true;
-        }
-    }
-    false
 }
 
 // A command, and how many slots are chosen where its store is opened again.
@@ -409,5 +419,59 @@ fn a_server_without_turns_ends(rt: HostRuntime) -> Result<(), Fail> {
     }
     fs::remove_file(&rt, "kept")?;
     fs::remove_file(&rt, "kept-wal")?;
+    Ok(())
+}
+
+// What comes of the first command of member 1 of two, once it has heard from the other.
+fn first_command<'a>(
+    rt: &'a HostRuntime,
+    addr: SocketAddr,
+    other: SocketAddr,
+) -> Result<Mirror<'a>, Fail> {
+    let peers = format!(in rt.alloc(); "{addr},{other}")?;
+    let words = words_of(
+        rt,
+        &[
+            "serve", "--id", "1", "--peers", &peers, "--store", "member", "--turns", "8",
+        ],
+    )?;
+    let listener = TcpListener::bind(rt, other)?;
+    let mut mirror = Mirror::new(rt, listener, addr, &REQUESTS)?;
+    let client = Client::new(rt, addr, READY);
+    let mut input: &[u8] = b"";
+    let mut out = Narrow::with_flush(rt.alloc(), Flush::Asks(client));
+    if run(rt, &words, &mut input, &mut out, &mut mirror) != 0 {
+        return Err(Fail::from("no server"));
+    }
+    fs::remove_file(rt, "member")?;
+    fs::remove_file(rt, "member-wal")?;
+    Ok(mirror)
+}
+
+// Member 1 is ready once it hears member 2, and asks it for a promise; member 2 promises in its
+// reply.
+#[test]
+fn members_hear_each_other(rt: HostRuntime) -> Result<(), Fail> {
+    let addr = free_addr(&rt, "127.0.0.1")?;
+    let other = free_addr(&rt, "127.0.0.1")?;
+    let Mirror { lines, brought, .. } = first_command(&rt, addr, other)?;
+    for part in [
+        " GET /ready 503 ",
+        " GET /ready 200 ",
+        " POST /command 202 ",
+    ] {
+        assert!(rt; holds(&lines, part.as_bytes()), "no {part}");
+    }
+    assert!(rt; brought.starts_with(b"POST /members "));
+    assert!(rt; holds(&brought, PREPARE));
+    let peers = format!(in rt.alloc(); "{addr},{other}")?;
+    let words = [
+        "serve", "--id", "2", "--peers", &peers, "--store", "member", "--turns", "1",
+    ];
+    let reply = reply_to(&rt, &words, other, &brought)?;
+    fs::remove_file(&rt, "member")?;
+    fs::remove_file(&rt, "member-wal")?;
+    assert!(rt; reply.starts_with(b"HTTP/1.1 200 "));
+    assert!(rt; holds(&reply, PROMISE));
     Ok(())
 }

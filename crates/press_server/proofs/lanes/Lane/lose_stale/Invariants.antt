@@ -1,5 +1,12 @@
-use Rattle.press_server.specs.Going.{AreKept, HasSameWay, owed}
+use Rattle.std.specs.Prelude.{◌≡◌, length}
+use Rattle.press_server.specs.Going.{AreKept, HasSameWay, fresh_of, owed}
 use Rattle.press_server.proofs.lanes.Lane.lose_stale.Given as goal
 
-abbrev pub invariant-loop : goal.invariant-loop
-invariant-loop l = HasSameWay l.self l.initial.self × AreKept (owed l.initial.self) (owed l.self)
+abbrev pub invariant-loop-self : goal.invariant-loop-self
+invariant-loop-self l =
+    HasSameWay l.self l.initial.self
+    × AreKept (owed l.initial.self) (owed l.self)
+    × (fresh_of l.fn.now l.self.waiting.items ≡ fresh_of l.fn.now l.initial.self.waiting.items)
+
+abbrev pub decreases-loop-self : goal.decreases-loop-self
+decreases-loop-self l = length l.self.waiting.items

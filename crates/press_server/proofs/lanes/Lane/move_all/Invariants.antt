@@ -1,5 +1,5 @@
 use Rattle.std.specs.Prelude.{◌≡◌}
-use Rattle.press_server.specs.Going.{GoOut, HasSameWay, question_count}
+use Rattle.press_server.specs.Going.{GoIn, GoOut, HasSameWay, question_count}
 use Rattle.press_server.proofs.lanes.Lane.move_all.Given as goal
 
 abbrev pub invariant-loop : goal.invariant-loop
@@ -7,3 +7,4 @@ invariant-loop l =
     HasSameWay l.self l.initial.self
     × GoOut l.asked (question_count l.initial.self.waiting.items) (question_count l.self.waiting.items)
     × (l.self.lost ≡ l.initial.self.lost)
+    × GoIn l.initial.self.waiting.items l.self.waiting.items l.initial.batch l.batch
