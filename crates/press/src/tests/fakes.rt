@@ -225,9 +225,10 @@ pub struct Mirror<'a> {
     rt: &'a HostRuntime,
     listener: TcpListener,
     streams: Vec<TcpStream>,
-    // The server of member 1, and what it is still to be asked.
+    // The server of member 1, what it is to be asked, and how much of that it was.
     addr: SocketAddr,
     requests: &'a [&'a [u8]],
+    asked: usize,
     clients: Vec<TcpStream>,
     /// The lines.
     pub lines: Vec<u8>,
@@ -250,6 +251,7 @@ impl<'a> Mirror<'a> {
             streams: Vec::new(rt.alloc()),
             addr,
             requests,
+            asked: 0,
             clients: Vec::new(rt.alloc()),
             lines: Vec::new(rt.alloc()),
             brought: Vec::new(rt.alloc()),
@@ -286,10 +288,10 @@ impl<'a> Mirror<'a> {
 
     // The next client asks.
     fn ask(&mut self) -> io::Result<()> {
-        let Some((request, requests)) = self.requests.split_first() else {
+        let Some(request) = self.requests.get(self.asked) else {
             return Ok(());
         };
-        self.requests = requests;
+        self.asked = self.asked.saturating_add(1);
         sleep(self.rt, Duration::from_millis(20));
         let mut stream = TcpStream::connect(self.rt, self.addr)?;
         stream.write_all(request)?;
