@@ -147,7 +147,8 @@ impl SiteFiles {
 
     // The next file is whole.
     fn turn(&mut self) -> Result<(), AllocError>
-        ensures turned { IfOk result (λ _. writing_of self.new ≡ spec.next_file (writing_of self.old)) }
+        ensures turned { IfOk result (λ _. writing_of self.new
+            ≡ spec.next_file (writing_of self.old)) }
         ensures limits { self.new.limits ≡ self.old.limits }
     {
         let front = String::from_str(self.alloc, FRONT)?;

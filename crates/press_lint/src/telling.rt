@@ -77,8 +77,8 @@ impl<'f> First<'_, 'f> {
     // Which other file has what is at a place by its name.
     fn tell_named(self, alloc: Global, at: Place) -> Result<String, AllocError>
         ensures { IfOk result (λ t. string_bytes t
-            ≡ spec.tell_named at (told_name self.entry.parts at) (map share_of self.entry.behind.now)
-            (spec.turn_parts (share_of self.entry.share.now) self.entry.parts)) }
+            ≡ spec.tell_named at (told_name self.entry.parts at)
+            (map share_of self.entry.behind.now) (spec.turn_parts (share_of self.entry.share.now) self.entry.parts)) }
     {
         let First {
             share,

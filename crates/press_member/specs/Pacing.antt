@@ -55,16 +55,16 @@ is_stuck pace slot =
     (slot == later pace.applied 1) && (slot == pace.proposed) && nat_le (later pace.proposed_at 2000) pace.time && not (is_busy pace)
 
 -- as far as it asks
-abbrev pub wanted : Pace → ℕ
-wanted pace = max pace.newest pace.claim
+abbrev pub wanted_slot : Pace → ℕ
+wanted_slot pace = max pace.newest pace.claim
 
 -- at that time it lacks a slot that it hasn't asked for, or for which it asks again
 abbrev pub asks_at : ℕ → Pace → Bool
-asks_at now pace = nat_lt pace.applied (wanted pace) && (nat_le pace.asked_to pace.applied || nat_le pace.ask_at now)
+asks_at now pace = nat_lt pace.applied (wanted_slot pace) && (nat_le pace.asked_to pace.applied || nat_le pace.ask_at now)
 
 -- the last slot that it asks for: 64 at most
 abbrev pub last_asked : Pace → ℕ
-last_asked pace = min (wanted pace) (later pace.applied 64)
+last_asked pace = min (wanted_slot pace) (later pace.applied 64)
 
 -- who has its turn behind so many others at four milliseconds each, and not before now
 abbrev pub turn_from : Pace → ℕ → ℕ → ℕ

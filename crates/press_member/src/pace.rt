@@ -2,7 +2,7 @@
 //! It is a matter of time alone: what the cluster agrees on doesn't depend on it.
 
 ghost use Rattle.std.specs.Prelude.{◌≡◌, ◌<◌, ◌≤◌, ◌+◌, ◌-◌, ◌&&◌, ◌||◌, IsFalse, IsTrue, None, Some, if◌then◌else◌, false, is_some, max, min, nat_le, nat_lt, unwrap_or};
-ghost use Rattle.press_member.specs.Pacing.{HasSameNeeds, HasSameSeat, asks_at, has_all, is_busy, is_due, is_held_up, is_late, is_stuck, is_unbegun, last_asked, later, leads, rank_of, turn_from, wanted};
+ghost use Rattle.press_member.specs.Pacing.{HasSameNeeds, HasSameSeat, asks_at, has_all, is_busy, is_due, is_held_up, is_late, is_stuck, is_unbegun, last_asked, later, leads, rank_of, turn_from, wanted_slot};
 
 use crate::signs::{Sign, sign_of};
 use press_wire::{MemberId, Message};
@@ -545,7 +545,7 @@ impl Pace {
 
     // As far as it asks.
     fn wanted_slot(&self) -> u64
-        ensures { result ≡ wanted self.now }
+        ensures { result ≡ wanted_slot self.now }
     {
         self.newest.max(self.claim)
     }
@@ -601,7 +601,8 @@ impl Pace {
     pub fn pass(&mut self, now: u64) -> Due
         ensures seat { HasSameSeat self.new self.old }
         ensures asks { IsTrue (asks_at now self.old) → result ≡ Due.Ask (last_asked self.old) }
-        ensures looks { IsFalse (asks_at now self.old) → self.old.look_at ≤ now → result ≡ Due.Look }
+        ensures looks { IsFalse (asks_at now self.old) → self.old.look_at ≤ now →
+            result ≡ Due.Look }
         ensures time { self.new.time ≡ now }
     {
         self.look_at_clock(now);

@@ -63,6 +63,10 @@ with_found known found =
 abbrev pub IsLookedUp : Entry → Entry → Type 0
 IsLookedUp old new = (found : List SocketAddr) × (new.sockets.items ≡ (if is_some old.name then with_found old.sockets.items found else old.sockets.items))
 
+-- the name of the one at a place was looked up, and these addresses were found
+abbrev pub IsLookedUpAt : AddressBook → AddressBook → ℕ → Type 0
+IsLookedUpAt old new place = (found : List SocketAddr) × (sockets_at new place ≡ with_found (sockets_at old place) found)
+
 -- milliseconds behind a lookup that took so long
 abbrev pub pause : ℕ → ℕ
 pause took = max 1000 (min (took * 30) 18446744073709551615)

@@ -5,7 +5,7 @@ ghost use Rattle.std.specs.List.{list_any};
 ghost use Rattle.std.specs.Net.Socket.{socket_ip};
 ghost use Rattle.press_net.specs.Talking.{is_same};
 ghost use Rattle.press_net.specs.declared.addresses.Entry.{Entry};
-ghost use Rattle.press_net.specs.Addresses.{HasSameTurn, HasTurn, IsFirstWanted, IsLookedUp, behind_loss, due_behind, first_at, fresh, has_ip, has_socket, is_same_socket, listed, pause, sockets_at, still, wants, wants_at, went_first, with_found};
+ghost use Rattle.press_net.specs.Addresses.{HasSameTurn, HasTurn, IsFirstWanted, IsLookedUp, IsLookedUpAt, behind_loss, due_behind, first_at, fresh, has_ip, has_socket, is_same_socket, listed, pause, sockets_at, still, wants, wants_at, went_first, with_found};
 
 use std::alloc::{AllocError, Global};
 use std::net::{IpAddr, Net, SocketAddr, ToSocketAddrs};
@@ -178,37 +178,39 @@ impl Entry {
         self.is_wanted && self.name.is_some()
     }
 
-    // These were found. Without memory for all, only those are kept that were known and are found
-    // again.
-    fn take(&mut self, found: Vec<SocketAddr>) -> Result<(), AllocError>
+    // These were found. Without memory what was known stays.
+    fn take(&mut self, alloc: Global, found: Vec<SocketAddr>) -> Result<(), AllocError>
         ensures found { IfOk result (λ _. self.new.sockets.items ≡
             with_found self.old.sockets.items found.items) }
+        ensures stays { IfErr result (λ _. self.new ≡ self.old) }
         ensures wanted { self.new.is_wanted ≡ self.old.is_wanted }
         ensures name { self.new.name ≡ self.old.name }
     {
         if found.is_empty() {
             return Ok(());
         }
+        let mut known = Vec::new(alloc);
+        known.extend_from_slice(&self.sockets)?;
+        keep_found(&mut known, &found);
         let mut found = found;
-        keep_found(&mut self.sockets, &found);
-        drop_known(&mut found, &self.sockets);
-        found.extend_from_slice(&self.sockets)?;
+        drop_known(&mut found, &known);
+        found.extend_from_slice(&known)?;
         self.sockets = found;
         Ok(())
     }
 
-    // Looks its name up.
+    // Looks its name up; without memory nothing is found.
     fn look_up<N: Net>(&mut self, alloc: Global, net: &N) -> Result<(), AllocError>
         ensures wanted { self.new.is_wanted ≡ false }
         ensures name { self.new.name ≡ self.old.name }
-        ensures found { IfOk result (λ _. IsLookedUp self.old self.new) }
+        ensures found { IsLookedUp self.old self.new }
     {
         self.is_wanted = false;
         let Some(name) = &self.name else {
             return Ok(());
         };
         let found = sockets_of(alloc, net, name.as_str())?;
-        self.take(found)
+        self.take(alloc, found)
     }
 }
 
@@ -376,6 +378,8 @@ impl AddressBook {
         ensures others { (other : ℕ) → other ≢ self.new.last →
             sockets_at self.new other ≡ sockets_at self.old other }
         ensures known { IfSome self.new.begun (λ _. wants_at self.new self.new.last ≡ false) }
+        ensures found { IfSome self.new.begun (λ _.
+            IsLookedUpAt self.old self.new self.new.last) }
         ensures due { self.new.due ≡ due_behind self.old now }
     {
         self.note_end(now);

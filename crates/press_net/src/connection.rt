@@ -1,8 +1,8 @@
 //! One connection, from its beginning to its end.
 
-ghost use Rattle.std.specs.Prelude.{◌≡◌, ◌≢◌, ◌≤◌, ◌⊎◌, ◌||◌, [], false, IfOk, IsFalse, IsTrue, if◌then◌else◌, length, nat_le, nat_lt};
+ghost use Rattle.std.specs.Prelude.{◌≡◌, ◌≢◌, ◌≤◌, ◌⊎◌, ◌||◌, [], false, IfOk, IsFalse, IsOk, IsTrue, if◌then◌else◌, length, nat_le, nat_lt};
 ghost use Rattle.press_net.specs.declared.connection.Phase.TheVariants.{Ending, Reading, Writing};
-ghost use Rattle.press_net.specs.Talking.{IsAnswered, is_due, is_held_as, is_late, is_member, is_resting, is_stalled, may_stay, phase_behind};
+ghost use Rattle.press_net.specs.Talking.{IsAnswered, is_due, is_held_as, is_late, is_member, is_reading, is_resting, is_stalled, may_stay, phase_behind};
 
 use crate::answers::Answers;
 use crate::request_buffer::RequestBuffer;
@@ -293,7 +293,10 @@ impl Connection {
 
     // Reads what has come of the request, as far as it is to be looked at; returns whether the
     // input has ended.
-    fn gather(&mut self) -> io::Result<bool> {
+    fn gather(&mut self) -> io::Result<bool>
+        ensures phase { self.new.phase ≡ self.old.phase }
+        ensures kept { self.new.is_kept ≡ self.old.is_kept }
+    {
         let mut piece = [0u8; PIECE];
         for _ in 0..MOST_PIECES {
             match self.stream.read(&mut piece) {
@@ -366,7 +369,9 @@ impl Connection {
 
     fn hear<A: Answers, E: Write>(&mut self, answers: &mut A, now: Instant, log: &mut E) -> bool
         requires always { Unit {0} }
-        ensures { A.becomes answers.old answers.new }
+        ensures becomes { A.becomes answers.old answers.new }
+        ensures turn { IsFalse result →
+            (self.new.phase ≡ self.old.phase) ⊎ IsTrue self.old.is_kept }
     {
         match self.gather() {
             // Whoever leaves now, or is lost, has no request that could fail.
@@ -480,7 +485,8 @@ impl Connection {
 
     // What is left to do after a look.
     fn send_reply(&mut self, now: Instant) -> io::Result<()>
-        ensures { self.new.is_held ≡ self.old.is_held }
+        ensures held { self.new.is_held ≡ self.old.is_held }
+        ensures reads { self.old.phase ≡ Reading → (self.new ≡ self.old) × IsOk result }
     {
         if self.phase == Phase::Writing && !self.is_held && self.send(now)? {
             self.finish(now)?;
@@ -495,7 +501,9 @@ impl Connection {
     /// reply was made, or it was closed within a request.
     pub fn step<A: Answers, E: Write>(&mut self, answers: &mut A, now: Instant, log: &mut E) -> bool
         requires always { Unit {0} }
-        ensures { A.becomes answers.old answers.new }
+        ensures becomes { A.becomes answers.old answers.new }
+        ensures turn { IsFalse result → IsTrue (is_reading self.old) →
+            IsTrue (is_reading self.new) ⊎ IsTrue self.old.is_kept }
     {
         self.has_more = false;
         let had_turn = self.phase == Phase::Reading && self.hear(answers, now, log);

@@ -138,10 +138,12 @@ fn number_before(
     slot: &Option<Connection>,
 ) -> Option<u64>
     ensures { MatchOption result
-        ((connection : Connection) → slot.now ≡ Some connection → HasRank round.now rank connection →
-        connection.arrival.number < round.first → IsSomeAnd found (λ f. f.1 ≤ connection.arrival.number))
-        (λ number. (connection : Connection) × (slot.now ≡ Some connection) × HasRank round.now rank connection
-        × (connection.arrival.number < round.first) × (number ≡ connection.arrival.number)
+        ((connection : Connection) → slot.now ≡ Some connection →
+        HasRank round.now rank connection → connection.arrival.number < round.first →
+        IsSomeAnd found (λ f. f.1 ≤ connection.arrival.number))
+        (λ number. (connection : Connection) × (slot.now ≡ Some connection)
+        × HasRank round.now rank connection × (connection.arrival.number < round.first)
+        × (number ≡ connection.arrival.number)
         × IfSome found (λ f. number < f.1)) }
 {
     let Some(connection) = slot else {
@@ -426,7 +428,8 @@ impl Connections {
         log: &mut E,
     ) -> Result<Option<usize>, AllocError>
         ensures entered { IfOk result (λ place. (slots : List (Option Connection))
-            × MakesPlace self.old.most connection.arrival.group round self.old.places.items slots place
+            × MakesPlace self.old.most connection.arrival.group round self.old.places.items
+            slots place
             × (self.new.places.items ≡ with_slot place (Some connection) slots)) }
         ensures no_memory { IfErr result (λ _. MayGrow self.old.most self.old.places.items
             × (self.new.places.items ≡ self.old.places.items)) }

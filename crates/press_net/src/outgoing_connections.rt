@@ -38,7 +38,8 @@ impl Lane {
         ensures first { result ≡ (if is_ready (queue_of self.old)
             then slice_get (queue_of self.old).waiting 0 else None) }
         ensures sent { queue_of self.new ≡
-            (if is_ready (queue_of self.old) then after_send (queue_of self.old) else queue_of self.old) }
+            (if is_ready (queue_of self.old) then after_send (queue_of self.old)
+            else queue_of self.old) }
     {
         if !self.is_ready() {
             return None;

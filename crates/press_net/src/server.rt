@@ -270,8 +270,8 @@ impl Server {
         ensures from { result.from ≡ from }
         ensures number { result.number ≡ self.entry.now.came }
         ensures begun { result.begun ≡ self.entry.now.now }
-        ensures group { result.group ≡ group_of is_member
-            (is_crowded self.entry.now.connections.most from self.entry.now.connections.places.items) }
+        ensures group { result.group ≡ group_of is_member (is_crowded
+            self.entry.now.connections.most from self.entry.now.connections.places.items) }
     {
         Arrival {
             from,
@@ -393,7 +393,8 @@ impl Server {
     fn had_turn(&mut self)
         ensures left { self.new.left ≡ option_map (λ left. left - 1) self.old.left }
         ensures ends { self.new.connections.places.items ≡ (if ends_at 0 self.new.left
-            then free_where is_reading self.old.connections.places.items else self.old.connections.places.items) }
+            then free_where is_reading self.old.connections.places.items
+            else self.old.connections.places.items) }
         ensures same { self.new.calls ≡ self.old.calls }
     {
         if let Some(left) = self.left {

@@ -118,7 +118,8 @@ impl<S: PromiseStore> Node<S> {
             (λ node. Calls LoadsRound (S.seen store) (S.seen (store_of node)) None)
             (λ e. Calls LoadsRound (S.seen store) (S.seen e.store) (Some e.fault)) }
         ensures looks { MatchResult result
-            (λ node. (S.seen (store_of node)).is_honest → Looks (S.seen store) (S.seen (store_of node)))
+            (λ node. (S.seen (store_of node)).is_honest →
+            Looks (S.seen store) (S.seen (store_of node)))
             (λ e. (S.seen e.store).is_honest → Looks (S.seen store) (S.seen e.store)) }
     {
         match store.last_round() {

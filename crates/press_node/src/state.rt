@@ -152,8 +152,8 @@ impl State {
         ensures page { IsFolded (kit_view kit.now) self.now →
             IfOk result (λ reply. IsPageAt (kit_view kit.now) self.now.up target.now reply) }
         ensures down { is_down self.now ≡ true → result ≡ Err NodeFault.Down }
-        ensures fault { IfErr result (λ fault. ((fault ≡ NodeFault.Down) × (is_down self.now ≡ true))
-            ⊎ (fault ≡ NodeFault.NoMemory)) }
+        ensures fault { IfErr result (λ fault. ((fault ≡ NodeFault.Down)
+            × (is_down self.now ≡ true)) ⊎ (fault ≡ NodeFault.NoMemory)) }
     {
         let Some(up) = &self.up else {
             return Err(NodeFault::Down);
@@ -169,8 +169,8 @@ impl State {
         ensures desk { IsFolded (kit_view kit.now) self.now →
             IfOk result (λ reply. IsDeskAt (kit_view kit.now) self.now.up asked reply) }
         ensures down { is_down self.now ≡ true → result ≡ Err NodeFault.Down }
-        ensures fault { IfErr result (λ fault. ((fault ≡ NodeFault.Down) × (is_down self.now ≡ true))
-            ⊎ (fault ≡ NodeFault.NoMemory)) }
+        ensures fault { IfErr result (λ fault. ((fault ≡ NodeFault.Down)
+            × (is_down self.now ≡ true)) ⊎ (fault ≡ NodeFault.NoMemory)) }
     {
         let Some(up) = &self.up else {
             return Err(NodeFault::Down);

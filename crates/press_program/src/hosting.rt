@@ -118,8 +118,8 @@ impl<S: Serves> Hosting<'_, '_, S> {
         writer: &mut W,
         error: &mut E,
     ) -> Result<(), ServeFault>
-        ensures { IsServed S.served (view_of_source self.now.over.kit.now) (server_of setup.now) result
-            (W.contents writer.old) (W.contents writer.new) }
+        ensures { IsServed S.served (view_of_source self.now.over.kit.now) (server_of setup.now)
+            result (W.contents writer.old) (W.contents writer.new) }
     {
         match self.over.kit {
             KitSource::Demonstration => match self.serve_demonstration(setup, writer, error) {
@@ -135,8 +135,8 @@ impl<S: Serves> Hosting<'_, '_, S> {
 
     // Runs a server, and reports its fault.
     fn serve<W: Write, E: Write>(&self, setup: &Setup<'_>, writer: &mut W, error: &mut E) -> u8
-        ensures { Listens S.served (view_of_source self.now.over.kit.now) (server_of setup.now) result
-            (W.contents writer.old) (W.contents writer.new) }
+        ensures { Listens S.served (view_of_source self.now.over.kit.now) (server_of setup.now)
+            result (W.contents writer.old) (W.contents writer.new) }
     {
         match self.host(setup, writer, error) {
             Ok(()) => 0,

@@ -30,8 +30,8 @@ impl Arguments<'_> {
         ensures reads { ReadsFor (job_of self.now.job) (R.remaining reader.old)
             (R.remaining reader.new) }
         ensures runs { RunsOver S.served (map (λ kit. kit.now) self.now.kits.items)
-            (job_of self.now.job) (R.remaining reader.old) result (W.contents writer.old) (W.contents writer.new)
-            (E.contents error.old) (E.contents error.new) }
+            (job_of self.now.job) (R.remaining reader.old) result (W.contents writer.old)
+            (W.contents writer.new) (E.contents error.old) (E.contents error.new) }
     {
         let Program { rt, serves } = *program;
         if self.kits.is_empty() {

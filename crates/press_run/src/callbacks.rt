@@ -21,7 +21,8 @@ pub trait Callbacks {
     /// Whether the texts of the turn that is due at a place are within the bytes. It is asked
     /// before they are made.
     fn fits(&self, place: Option<usize>, input: &CallIn) -> bool
-        ensures { result ≡ fits (turn_of (or_empty (script_at place (scripts self.now))) input.now) };
+        ensures { result
+            ≡ fits (turn_of (or_empty (script_at place (scripts self.now))) input.now) };
 
     /// What the closure of the callback at a place gives; without a place, the value is returned.
     fn turn(&self, alloc: Global, place: Option<usize>, input: &CallIn) -> Result<Turn, AllocError>

@@ -1,5 +1,5 @@
 -- What waits to go out to a member (own).
-use Rattle.std.specs.Prelude.{ℕ, ◌≡◌, ◌+◌, ◌-◌, ◌==◌, ◌&&◌, ◌||◌, ◌⊎◌, ◌++◌, Bool, true, false, List, [], ◌∷◌, drop, length, min, nat_le, nat_lt, not, option_map, slice_get, unwrap_or, if◌then◌else◌}
+use Rattle.std.specs.Prelude.{ℕ, ◌≡◌, ◌≢◌, ◌+◌, ◌-◌, ◌==◌, ◌&&◌, ◌||◌, ◌⊎◌, ◌++◌, Bool, true, false, List, [], ◌∷◌, drop, length, min, nat_le, nat_lt, not, option_map, slice_get, unwrap_or, if◌then◌else◌}
 use Rattle.press_batch.specs.Spelling.{Written, begun, fits, with_message}
 use Rattle.press_batch.specs.declared.report.Report.{Report}
 use Rattle.press_wire.specs.Spelling.{is_too_long_message}
@@ -70,6 +70,14 @@ AreKept before after = counted after ≡ counted before
 -- the messages that wait for the member at a place
 abbrev pub waiting_at : Lanes → ℕ → List Waiting
 waiting_at lanes place = unwrap_or (option_map (λ lane. lane.waiting.items) (slice_get lanes.all.items place)) []
+
+-- the same messages wait for each member
+abbrev pub HasSameWaiting : Lanes → Lanes → Type 0
+HasSameWaiting new old = (place : ℕ) → waiting_at new place ≡ waiting_at old place
+
+-- the same messages wait for each member but the one at a place
+abbrev pub HasSameElsewhere : ℕ → Lanes → Lanes → Type 0
+HasSameElsewhere place new old = (other : ℕ) → other ≢ place → waiting_at new other ≡ waiting_at old other
 
 -- a batch with one message more; the same where it has no room for it, or none has
 abbrev pub with_waiting : Waiting → Written → Written

@@ -1,9 +1,9 @@
 //! What waits to go out to each member.
 
-ghost use Rattle.std.specs.Prelude.{ℕ, ◌≡◌, ◌≢◌, ◌<◌, ◌≤◌, ◌⊎◌, ◌+◌, ◌-◌, IfErr, IfOk, IfSome, IsTrue, MatchOption, None, drop, false, if◌then◌else◌, length, slice_get};
+ghost use Rattle.std.specs.Prelude.{ℕ, ◌≡◌, ◌<◌, ◌≤◌, ◌⊎◌, ◌+◌, ◌-◌, IfErr, IfOk, IfSome, IsTrue, MatchOption, None, drop, false, if◌then◌else◌, length, slice_get};
 ghost use Rattle.std.specs.List.{list_any};
 ghost use Rattle.press_batch.specs.Spelling.{begun};
-ghost use Rattle.press_server.specs.Going.{AreKept, GoIn, GoOut, GoesIn, HasEnded, HasSameWay, HasSameWays, IsPut, asks_first, counted, fresh_of, is_free, is_question, is_ready, is_stale, owed, owed_at, question_count, waiting_at};
+ghost use Rattle.press_server.specs.Going.{AreKept, GoIn, GoOut, GoesIn, HasEnded, HasSameElsewhere, HasSameWaiting, HasSameWay, HasSameWays, IsPut, asks_first, counted, fresh_of, is_free, is_question, is_ready, is_stale, owed, owed_at, question_count, waiting_at};
 
 use crate::peers::place_of;
 use press_batch::{BatchFault, BatchWriter, Report};
@@ -165,6 +165,7 @@ impl Lane {
     // A request has ended that never went out.
     fn give_up(&mut self, asked: u32)
         ensures kept { AreKept (owed self.old + asked) (owed self.new) }
+        ensures waits { self.new.waiting.items ≡ self.old.waiting.items }
         ensures way { self.new.«open» ≡ self.old.«open» - 1 }
     {
         self.open = self.open.saturating_sub(1);
@@ -240,6 +241,7 @@ impl Lane {
         ensures kept { AreKept (owed self.old) (owed self.new) }
         ensures goes { IfOk result (λ batch. GoIn (fresh_of sender.now self.old.waiting.items)
             self.new.waiting.items (begun sender.from sender.report) batch) }
+        ensures stays { IfErr result (λ _. self.new ≡ self.old) }
     {
         let mut batch = BatchWriter::new(sender.alloc, sender.from, &sender.report)?;
         self.lose_stale(sender.now);
@@ -275,13 +277,12 @@ impl Lanes {
     /// A message is to go out.
     pub fn put(&mut self, message: Message, now: u64)
         ensures kept { message.to - 1 < length self.old.all.items →
-            AreKept (owed_at self.old (message.to - 1) + (if is_question message.body then 1 else 0))
-            (owed_at self.new (message.to - 1)) }
+            AreKept (owed_at self.old (message.to - 1)
+            + (if is_question message.body then 1 else 0)) (owed_at self.new (message.to - 1)) }
         ensures puts { message.to - 1 < length self.old.all.items → IsPut
             (record { message = message; since = now }) (waiting_at self.old (message.to - 1))
             (waiting_at self.new (message.to - 1)) }
-        ensures others { (other : ℕ) → other ≢ message.to - 1 →
-            waiting_at self.new other ≡ waiting_at self.old other }
+        ensures others { HasSameElsewhere (message.to - 1) self.new self.old }
         ensures ways { HasSameWays self.new self.old }
     {
         if let Some(lane) = self.all.get_mut(place_of(message.to)) {
@@ -293,6 +294,7 @@ impl Lanes {
     pub fn look(&mut self, to: MemberId)
         ensures kept { to - 1 < length self.old.all.items →
             AreKept (owed_at self.old (to - 1) + 1) (owed_at self.new (to - 1)) }
+        ensures waits { HasSameWaiting self.new self.old }
         ensures ways { HasSameWays self.new self.old }
     {
         if let Some(lane) = self.all.get_mut(place_of(to)) {
@@ -335,6 +337,8 @@ impl Lanes {
             (λ parcel. GoOut parcel.asked (owed_at self.old place) (owed_at self.new place)) }
         ensures goes { IfSome result (λ parcel. GoIn (waiting_at self.old place)
             (waiting_at self.new place) (begun sender.from sender.report) parcel.batch) }
+        ensures others { HasSameElsewhere place self.new self.old }
+        ensures stays { result ≡ None → HasSameWaiting self.new self.old }
         ensures there { IfSome result (λ _. place < length self.new.all.items) }
     {
         self.all.get_mut(place)?.pack(sender).ok()
@@ -344,8 +348,11 @@ impl Lanes {
     pub fn pack_reply(&mut self, place: usize, sender: Sender) -> Option<BatchWriter>
         ensures kept { AreKept (owed_at self.old place) (owed_at self.new place) }
         ensures ways { HasSameWays self.new self.old }
-        ensures goes { IfSome result (λ batch. GoIn (fresh_of sender.now (waiting_at self.old place))
-            (waiting_at self.new place) (begun sender.from sender.report) batch) }
+        ensures goes { IfSome result (λ batch. GoIn
+            (fresh_of sender.now (waiting_at self.old place)) (waiting_at self.new place)
+            (begun sender.from sender.report) batch) }
+        ensures others { HasSameElsewhere place self.new self.old }
+        ensures stays { result ≡ None → HasSameWaiting self.new self.old }
     {
         self.all.get_mut(place)?.pack_reply(sender).ok()
     }
@@ -354,6 +361,7 @@ impl Lanes {
     pub fn give_up(&mut self, place: usize, asked: u32)
         ensures kept { place < length self.old.all.items →
             AreKept (owed_at self.old place + asked) (owed_at self.new place) }
+        ensures waits { HasSameWaiting self.new self.old }
         ensures ways { HasEnded place self.new self.old }
     {
         if let Some(lane) = self.all.get_mut(place) {
@@ -364,6 +372,7 @@ impl Lanes {
     /// A request that was on its way to the member at a place has ended.
     pub fn end(&mut self, place: usize)
         ensures kept { owed_at self.new place ≡ owed_at self.old place }
+        ensures waits { HasSameWaiting self.new self.old }
         ensures ways { HasEnded place self.new self.old }
     {
         if let Some(lane) = self.all.get_mut(place) {

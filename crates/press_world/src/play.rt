@@ -182,8 +182,8 @@ impl World {
             stored_does (size self.old) (model self.old) coming.message_index index
             (slice_get (model self.old).places index) coming.event stop) }
         ensures statics { statics self.new ≡ statics self.old }
-        ensures happens { Happens (size self.old) (model self.old) coming.message_index index coming.event
-            cut (model self.new) result }
+        ensures happens { Happens (size self.old) (model self.old) coming.message_index index
+            coming.event cut (model self.new) result }
     {
         let before = self.cluster.sent.len();
         match self.play_event(index, coming, cut) {
