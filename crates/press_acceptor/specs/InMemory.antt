@@ -9,6 +9,7 @@ use Rattle.std.specs.Ordering.{nat_cmp}
 use Rattle.press_apply.specs.declared.value.Value.{Value}
 use Rattle.press_wire.specs.Blocks.{block_of}
 use Rattle.press_wire.specs.Copies.{HasVotes}
+use Rattle.press_wire.specs.Ranges.{last_slot}
 use Rattle.press_wire.specs.Votes.{vote_in, IsWithin}
 use Rattle.press_wire.specs.declared.ballot.Ballot.{Ballot}
 use Rattle.press_wire.specs.declared.vote.Vote.{Vote}
@@ -34,7 +35,7 @@ entries_at f (n ∷ ns) = with_entry n (f n) (entries_at f ns)
 
 -- all slots
 unfoldable pub all_slots : List ℕ
-all_slots = range_with_len 1 1000000
+all_slots = range_with_len 1 last_slot
 
 -- the map of what each slot has
 unfoldable pub map_of : {X : Type 0} → (ℕ → Option X) → FinMap nat_cmp X

@@ -21,8 +21,8 @@ pub record StoreMove : Type 1 where
   -- it is the very same
   pub same : Type 0
 
-abbrev pub moved : {S : Type 0} → (S → Seen) → S → S → StoreMove
-moved seen old new = record { old = seen old; new = seen new; same = new ≡ old }
+abbrev pub store_move : {S : Type 0} → (S → Seen) → S → S → StoreMove
+store_move seen old new = record { old = seen old; new = seen new; same = new ≡ old }
 
 -- what the store answers counts: where it isn't asked always, else where it is honest
 abbrev pub Trusts : List Call → StoreMove → Type 0

@@ -7,7 +7,7 @@ ghost use Rattle.press_acceptor.specs.Plans.{accept_plan, prepare_plan, query_pl
 ghost use Rattle.press_acceptor.specs.Seen.{Calls, Looks, fault_in};
 ghost use Rattle.press_acceptor.specs.Seen.Call.{LoadsBlock};
 ghost use Rattle.press_acceptor.specs.StoreMap.{promise_of, vote_of};
-ghost use Rattle.press_acceptor.specs.Turned.{Says, Turned, moved};
+ghost use Rattle.press_acceptor.specs.Turned.{Says, Turned, store_move};
 ghost use Rattle.press_acceptor.specs.Turns.{accept_turn, prepare_turn, query_turn};
 
 use crate::fault::StoreFault;
@@ -35,9 +35,9 @@ impl Acceptor {
     ) -> Result<Said, StoreFault>
         requires { is_first first ≡ true }
         ensures said { Says (reads_and_promises first) (λ said. said)
-            (λ kept. (prepare_turn kept first ballot).said) (moved S.seen store.old store.new)
+            (λ kept. (prepare_turn kept first ballot).said) (store_move S.seen store.old store.new)
             result }
-        ensures turned { Turned (prepare_plan first ballot) (moved S.seen store.old store.new)
+        ensures turned { Turned (prepare_plan first ballot) (store_move S.seen store.old store.new)
             (fault_in result) }
     {
         let block = store.load(first)?;
@@ -59,9 +59,10 @@ impl Acceptor {
     ) -> Result<Said, StoreFault>
         ensures said { let vote : Vote = record { ballot = ballot; value = value.now } in
             Says (reads_and_votes slot) (λ said. said) (λ kept. (accept_turn kept slot vote).said)
-            (moved S.seen store.old store.new) result }
+            (store_move S.seen store.old store.new) result }
         ensures turned { let vote : Vote = record { ballot = ballot; value = value.now } in
-            Turned (accept_plan slot vote) (moved S.seen store.old store.new) (fault_in result) }
+            Turned (accept_plan slot vote) (store_move S.seen store.old store.new)
+            (fault_in result) }
     {
         let row = row_of(store, slot)?;
         let refused = row.refuses_accept(&ballot);
@@ -80,8 +81,8 @@ impl Acceptor {
     /// Reports the vote for the slot, if there is one.
     pub fn on_query<S: PromiseStore>(store: &mut S, slot: Slot) -> Result<Said, StoreFault>
         ensures said { Says (reads slot) (λ said. said) (λ kept. (query_turn kept slot).said)
-            (moved S.seen store.old store.new) result }
-        ensures turned { Turned (query_plan slot) (moved S.seen store.old store.new)
+            (store_move S.seen store.old store.new) result }
+        ensures turned { Turned (query_plan slot) (store_move S.seen store.old store.new)
             (fault_in result) }
     {
         let row = row_of(store, slot)?;

@@ -1,12 +1,13 @@
 //! The acceptor's part of a node's event: the messages that answer one message.
 
 ghost use Rattle.std.specs.Prelude.{◌≡◌, ◌≤◌, IfOk, OnErr};
+ghost use Rattle.press_wire.specs.Ranges.{most_members};
 ghost use Rattle.press_wire.specs.declared.vote.Vote.{Vote};
 ghost use Rattle.press_acceptor.specs.Answers.{acceptor_answer, said_out, query_out};
 ghost use Rattle.press_acceptor.specs.Messages as model;
 ghost use Rattle.press_acceptor.specs.Plans.{answer_calls, answer_plan};
 ghost use Rattle.press_acceptor.specs.Seen.{fault_in};
-ghost use Rattle.press_acceptor.specs.Turned.{Says, Turned, moved};
+ghost use Rattle.press_acceptor.specs.Turned.{Says, Turned, store_move};
 ghost use Rattle.press_acceptor.specs.declared.said.Said.TheVariants as says;
 
 use crate::acceptor::Acceptor;
@@ -65,12 +66,12 @@ impl Acceptor {
         id: MemberId,
         message: &Message,
     ) -> Result<Vec<Message>, StoreFault>
-        requires { members ≤ 7 }
+        requires { members ≤ most_members }
         ensures out { Says (answer_calls message.now.slot message.now.body) (λ out. out.items)
             (λ kept. (acceptor_answer members id kept message.now).out)
-            (moved S.seen store.old store.new) result }
+            (store_move S.seen store.old store.new) result }
         ensures turned { Turned (answer_plan members id message.now)
-            (moved S.seen store.old store.new) (fault_in result) }
+            (store_move S.seen store.old store.new) (fault_in result) }
     {
         let (asker, slot) = (message.from, message.slot);
         let asked = Question {
@@ -113,7 +114,7 @@ fn request_messages(
     ballot: Ballot,
     said: Said,
 ) -> Result<Vec<Message>, AllocError>
-    requires { asked.members ≤ 7 }
+    requires { asked.members ≤ most_members }
     ensures { IfOk result (λ out. out.items
         ≡ said_out asked.members asked.id asked.slot ballot asked.asker said) }
 {

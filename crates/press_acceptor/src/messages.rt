@@ -2,6 +2,7 @@
 
 ghost use Rattle.std.specs.Prelude.{◌≡◌, ◌≤◌, IfOk};
 ghost use Rattle.press_acceptor.specs.Messages as model;
+ghost use Rattle.press_wire.specs.Ranges.{most_members};
 
 use press_wire::{Body, MemberId, Message, Slot};
 use std::alloc::{AllocError, Global};
@@ -9,7 +10,7 @@ use std::alloc::{AllocError, Global};
 // The member with that number.
 fn member(number: u8) -> MemberId
     requires least { 1 ≤ number }
-    requires most { number ≤ 7 }
+    requires most { number ≤ most_members }
     ensures { result ≡ number }
 {
     let Some(node) = MemberId::new(number) else {
@@ -42,7 +43,7 @@ pub fn to_all(
     heading: Heading,
     body: &Body,
 ) -> Result<Vec<Message>, AllocError>
-    requires { members ≤ 7 }
+    requires { members ≤ most_members }
     ensures { IfOk result
         (λ out. out.items ≡ model.to_all members heading.from heading.slot body.now) }
 {

@@ -19,7 +19,7 @@ use Rattle.press_apply.specs.declared.fault.ApplyFault.TheVariants.{Site}
 use Rattle.press_apply.specs.declared.kind.CommandKind.TheVariants as kind
 use Rattle.press_apply.specs.declared.value.Value.{Value}
 use Rattle.press_apply.specs.declared.value.Value.TheVariants.{Noop, Cmd}
-use Rattle.press_apply.specs.Apply.{◌>>=◌, at_moment, boots, deletes, does, inserts, settled, site_of, ticks, trashes, untrashes, updates}
+use Rattle.press_apply.specs.Apply.{◌>>=◌, at_moment, boots, delete_work, does, insert_work, keep_outcome, site_of, tick_work, trash_work, untrash_work, update_work}
 use Rattle.press_apply.specs.Apply as now
 use Rattle.press_apply.specs.Kinds.{kind_of_command}
 
@@ -28,26 +28,26 @@ abbrev pub callbacks_on : KitView → Meaning
 callbacks_on kit = runs.callbacks_of effect_on kit.scripts
 
 -- work after a boot by these callbacks
-abbrev pub booted : KitView → SiteView → (State → Result (State × ℕ) ApplyFault) → Result (SiteView × ℕ) ApplyFault
-booted kit site work = site_of (boots (callbacks_on kit) kit site >>= work)
+abbrev pub work_after_boot : KitView → SiteView → (State → Result (State × ℕ) ApplyFault) → Result (SiteView × ℕ) ApplyFault
+work_after_boot kit site work = site_of (boots (callbacks_on kit) kit site >>= work)
 
 -- the work of each command; a change of the plugins runs no callback (there was no switch of profile: here it is refused)
 abbrev pub work_of : KitView → SiteView → Command → Result (SiteView × ℕ) ApplyFault
-work_of kit s (Insert draft) = booted kit s (inserts (callbacks_on kit) draft)
-work_of kit s (Update id draft) = booted kit s (updates (callbacks_on kit) id draft)
-work_of kit s (Trash id) = booted kit s (trashes (callbacks_on kit) id)
-work_of kit s (Untrash id) = booted kit s (untrashes (callbacks_on kit) id)
-work_of kit s (Delete id) = booted kit s (deletes (callbacks_on kit) id)
-work_of kit s (SetOption name value) = booted kit s (does (callbacks_on kit) (effect.SetOption name value))
+work_of kit s (Insert draft) = work_after_boot kit s (insert_work (callbacks_on kit) draft)
+work_of kit s (Update id draft) = work_after_boot kit s (update_work (callbacks_on kit) id draft)
+work_of kit s (Trash id) = work_after_boot kit s (trash_work (callbacks_on kit) id)
+work_of kit s (Untrash id) = work_after_boot kit s (untrash_work (callbacks_on kit) id)
+work_of kit s (Delete id) = work_after_boot kit s (delete_work (callbacks_on kit) id)
+work_of kit s (SetOption name value) = work_after_boot kit s (does (callbacks_on kit) (effect.SetOption name value))
 work_of kit s (Activate plugin) = now.work_of kit s (Activate plugin)
 work_of kit s (Deactivate plugin) = now.work_of kit s (Deactivate plugin)
-work_of kit s Tick = booted kit s (ticks (callbacks_on kit))
+work_of kit s Tick = work_after_boot kit s (tick_work (callbacks_on kit))
 work_of kit s (Profile to) = Err (Site BadProfile)
 
 -- by what became of the token before
 abbrev pub applied_where : KitView → SiteView → Stamped → Option Outcome → SiteView × Outcome
 applied_where kit s c (Some outcome) = (s, outcome)
-applied_where kit s c None = settled s c.token (work_of kit s c.command)
+applied_where kit s c None = keep_outcome s c.token (work_of kit s c.command)
 
 -- one value
 abbrev pub applied : KitView → SiteView → Value → SiteView × Outcome
@@ -55,13 +55,13 @@ applied kit s (Noop at) = (at_moment at s, Done 0)
 applied kit s (Cmd c) = applied_where kit (at_moment c.at s) c (outcome_of c.token s.outcomes)
 
 -- Fold: values in their order
-abbrev pub folded : KitView → SiteView → List Value → SiteView
-folded kit s [] = s
-folded kit s (v ∷ vs) = folded kit (applied kit s v).0 vs
+abbrev pub fold_values : KitView → SiteView → List Value → SiteView
+fold_values kit s [] = s
+fold_values kit s (v ∷ vs) = fold_values kit (applied kit s v).0 vs
 
 -- the site that they make
 abbrev pub site_after : KitView → List Value → SiteView
-site_after kit values = folded kit no_site values
+site_after kit values = fold_values kit no_site values
 
 -- ---- which values leave a site in its profile
 

@@ -6,10 +6,10 @@ use Rattle.press_callbacks.specs.Kits.{KitView, kit_view}
 use Rattle.press_callbacks.specs.declared.kit.Kit.{Kit}
 use Rattle.press_run.specs.Outcome.{state_of}
 use Rattle.press_run.specs.Run.{Meaning, State}
-use Rattle.press_run.specs.Standing.{standing}
+use Rattle.press_run.specs.Standing.{machine_view}
 use Rattle.press_site.specs.declared.token.Outcome.{Outcome}
 use Rattle.press_site.specs.declared.token.Outcome.TheVariants.{Done, Refused}
-use Rattle.press_site.specs.Open.{Open, begun_of}
+use Rattle.press_site.specs.Open.{Open, site_at_start}
 use Rattle.press_site.specs.Outcomes.{outcome_of}
 use Rattle.press_site.specs.SiteView.{SiteView}
 use Rattle.press_apply.specs.Apply.{callbacks_on, work_of}
@@ -25,7 +25,7 @@ use Rattle.press_apply.specs.Faults.{apply_fault_number}
 
 -- what a command's work is at
 abbrev pub state_in : Work → State
-state_in w = state_of (standing (λ o. o.site) (λ o. Some (begun_of o)) w.machine)
+state_in w = state_of (machine_view (λ o. o.site) (λ o. Some (site_at_start o)) w.machine)
 
 -- what a kit's callbacks come to
 abbrev pub meaning_in : {t : _} {F : _} {g : _} → Kit t F g → Meaning
@@ -40,7 +40,7 @@ Refuses (Site fault) meant = meant ≡ Err (Site fault)
 
 -- a boot on an open site, which a refusal hands back
 abbrev pub Boots : Result State ApplyFault → Open → Result Work Worked → Type 0
-Boots meant old result = MatchResult result (λ work. (meant ≡ Ok (state_in work)) × (begun_of work.machine.site ≡ begun_of old)) (λ stopped. IsErrAnd stopped.id (λ fault. Refuses fault meant) × (begun_of stopped.site ≡ begun_of old))
+Boots meant old result = MatchResult result (λ work. (meant ≡ Ok (state_in work)) × (site_at_start work.machine.site ≡ site_at_start old)) (λ stopped. IsErrAnd stopped.id (λ fault. Refuses fault meant) × (site_at_start stopped.site ≡ site_at_start old))
 
 -- what a step shows of the state after it and of its answer
 abbrev pub Steps : {A M : Type 0} → (State → A → M) → Result M ApplyFault → Work → Result A ApplyFault → Type 0
@@ -64,15 +64,15 @@ TellsLimits result old new = is_limit result ≡ false → new.machine.met_limit
 
 -- what it leaves of the site
 abbrev pub GoesBack : Work → Work → Type 0
-GoesBack old new = begun_of new.machine.site ≡ begun_of old.machine.site
+GoesBack old new = site_at_start new.machine.site ≡ site_at_start old.machine.site
 
 -- the site after the whole work, and the id of the post that it is about, or 0
 abbrev pub Works : Result (SiteView × ℕ) ApplyFault → Open → Worked → Type 0
-Works meant old worked = MatchResult worked.id (λ id. meant ≡ Ok (worked.site.site, id)) (λ fault. Refuses fault meant) × (begun_of worked.site ≡ begun_of old)
+Works meant old worked = MatchResult worked.id (λ id. meant ≡ Ok (worked.site.site, id)) (λ fault. Refuses fault meant) × (site_at_start worked.site ≡ site_at_start old)
 
 -- work that has ended with this
-abbrev pub ended : Work → Result ℕ ApplyFault → Worked
-ended w id = record { site = w.machine.site; id = id; met_limit = w.machine.met_limit }
+abbrev pub end_work : Work → Result ℕ ApplyFault → Worked
+end_work w id = record { site = w.machine.site; id = id; met_limit = w.machine.met_limit }
 
 -- where the whole work tells no limit, none was met
 abbrev pub TellsItsLimit : Worked → Type 0

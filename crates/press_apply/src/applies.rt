@@ -3,11 +3,11 @@
 ghost use Rattle.std.specs.Prelude.{◌≡◌, ◌≢◌, ℕ, None, Ok, Err, MatchResult, false, max, IfOk, IfSome, OnErr, OnOk, is_some};
 ghost use Rattle.press_callbacks.specs.Kits.{kit_view, plugin_of, plugins_in};
 ghost use Rattle.press_site.specs.Effects.{effect_on};
-ghost use Rattle.press_site.specs.Open.{begun_of};
+ghost use Rattle.press_site.specs.Open.{site_at_start};
 ghost use Rattle.press_site.specs.Outcomes.{outcome_of};
-ghost use Rattle.press_apply.specs.Apply.{alone, applied, applied_where, at_moment, booted};
-ghost use Rattle.press_apply.specs.Apply.{deletes, does, inserts, ticks, trashes, untrashes};
-ghost use Rattle.press_apply.specs.Apply.{updates, with_kept, work_of};
+ghost use Rattle.press_apply.specs.Apply.{work_without_boot, applied, applied_where, at_moment, work_after_boot};
+ghost use Rattle.press_apply.specs.Apply.{delete_work, does, insert_work, tick_work, trash_work, untrash_work};
+ghost use Rattle.press_apply.specs.Apply.{update_work, with_kept, work_of};
 ghost use Rattle.press_apply.specs.Works.{GrowsBehind, IsOutcome, Refuses, TakesMemory, TakesNone};
 ghost use Rattle.press_apply.specs.Works.{TellsItsLimit, Works, meaning_in};
 
@@ -68,13 +68,13 @@ fn apply_command(
     ensures err { OnErr result (site.new ≡ site.old) }
 {
     match site.result_of(&stamped.token) {
-        Some(outcome) => Ok(answered_again(site, stamped.at, outcome)),
+        Some(outcome) => Ok(answer_again(site, stamped.at, outcome)),
         None => apply_new(alloc, site, kit, stamped),
     }
 }
 
 // A token that is known keeps its outcome.
-fn answered_again(site: &mut Site, at: Moment, outcome: Outcome) -> Outcome
+fn answer_again(site: &mut Site, at: Moment, outcome: Outcome) -> Outcome
     ensures outcome { result ≡ outcome }
     ensures moment { site.new ≡ at_moment at site.old }
 {
@@ -126,7 +126,7 @@ fn try_command(
         met_limit: _,
     } = work(alloc, kit, site.begin(), &stamped.command);
     match outcome(id) {
-        Ok(Outcome::Done(id)) => done(alloc, site, &stamped.token, id),
+        Ok(Outcome::Done(id)) => keep_done(alloc, site, &stamped.token, id),
         Ok(Outcome::Refused(fault)) => refusal(alloc, site.back(), &stamped.token, fault),
         Err(fault) => (site.back(), Err(fault)),
     }
@@ -144,7 +144,7 @@ fn outcome(id: Result<u64, ApplyFault>) -> Result<Outcome, AllocError>
 }
 
 // A command that is done leaves the site as it stands after its work.
-fn done(
+fn keep_done(
     alloc: Global,
     site: OpenSite,
     token: &Token,
@@ -154,10 +154,10 @@ fn done(
     ensures outcome { IfOk result.1 (λ outcome. outcome ≡ Outcome.Done id) }
     ensures site { OnOk result.1
         (result.0 ≡ with_kept token.now (Outcome.Done id) site.site site.site) }
-    ensures err { OnErr result.1 (result.0 ≡ begun_of site) }
+    ensures err { OnErr result.1 (result.0 ≡ site_at_start site) }
 {
     let outcome = Outcome::Done(id);
-    let Ok(own) = token.copied(alloc) else {
+    let Ok(own) = token.copy_in(alloc) else {
         return (site.back(), Err(AllocError));
     };
     match site.settle_with(own, outcome) {
@@ -195,7 +195,7 @@ fn keep(
     ensures site { OnOk result (site.new ≡ with_kept token.now outcome site.old site.old) }
     ensures err { OnErr result (site.new ≡ site.old) }
 {
-    site.keep(token.copied(alloc)?, outcome)?;
+    site.keep(token.copy_in(alloc)?, outcome)?;
     Ok(outcome)
 }
 
@@ -224,8 +224,8 @@ fn work(alloc: Global, kit: &Kit, site: OpenSite, command: &Command) -> Worked
 
 #[tactic(auto, using(crate::proofs::Refusals::boot_stopped, crate::proofs::Refusals::work_ended, crate::proofs::Refusals::tells_its_limit))]
 fn insert(alloc: Global, kit: &Kit, site: OpenSite, draft: &Draft) -> Worked
-    ensures works { Works (booted (kit_view kit.now) site.site
-        (inserts (meaning_in kit.now) draft.now)) site result }
+    ensures works { Works (work_after_boot (kit_view kit.now) site.site
+        (insert_work (meaning_in kit.now) draft.now)) site result }
     ensures limits { TellsItsLimit result }
 {
     match Work::begin(alloc, kit, site) {
@@ -239,8 +239,8 @@ fn insert(alloc: Global, kit: &Kit, site: OpenSite, draft: &Draft) -> Worked
 
 #[tactic(auto, using(crate::proofs::Refusals::boot_stopped, crate::proofs::Refusals::work_ended, crate::proofs::Refusals::tells_its_limit))]
 fn update(alloc: Global, kit: &Kit, site: OpenSite, edit: Edit<'_>) -> Worked
-    ensures works { Works (booted (kit_view kit.now) site.site
-        (updates (meaning_in kit.now) edit.entry.id edit.entry.draft.now)) site result }
+    ensures works { Works (work_after_boot (kit_view kit.now) site.site
+        (update_work (meaning_in kit.now) edit.entry.id edit.entry.draft.now)) site result }
     ensures limits { TellsItsLimit result }
 {
     match Work::begin(alloc, kit, site) {
@@ -254,8 +254,8 @@ fn update(alloc: Global, kit: &Kit, site: OpenSite, edit: Edit<'_>) -> Worked
 
 #[tactic(auto, using(crate::proofs::Refusals::boot_stopped, crate::proofs::Refusals::work_ended, crate::proofs::Refusals::tells_its_limit))]
 fn trash(alloc: Global, kit: &Kit, site: OpenSite, id: u64) -> Worked
-    ensures works { Works (booted (kit_view kit.now) site.site (trashes (meaning_in kit.now) id))
-        site result }
+    ensures works { Works (work_after_boot (kit_view kit.now) site.site
+        (trash_work (meaning_in kit.now) id)) site result }
     ensures limits { TellsItsLimit result }
 {
     match Work::begin(alloc, kit, site) {
@@ -269,8 +269,8 @@ fn trash(alloc: Global, kit: &Kit, site: OpenSite, id: u64) -> Worked
 
 #[tactic(auto, using(crate::proofs::Refusals::boot_stopped, crate::proofs::Refusals::work_ended, crate::proofs::Refusals::tells_its_limit))]
 fn untrash(alloc: Global, kit: &Kit, site: OpenSite, id: u64) -> Worked
-    ensures works { Works (booted (kit_view kit.now) site.site (untrashes (meaning_in kit.now) id))
-        site result }
+    ensures works { Works (work_after_boot (kit_view kit.now) site.site
+        (untrash_work (meaning_in kit.now) id)) site result }
     ensures limits { TellsItsLimit result }
 {
     match Work::begin(alloc, kit, site) {
@@ -284,8 +284,8 @@ fn untrash(alloc: Global, kit: &Kit, site: OpenSite, id: u64) -> Worked
 
 #[tactic(auto, using(crate::proofs::Refusals::boot_stopped, crate::proofs::Refusals::work_ended, crate::proofs::Refusals::tells_its_limit))]
 fn delete(alloc: Global, kit: &Kit, site: OpenSite, id: u64) -> Worked
-    ensures works { Works (booted (kit_view kit.now) site.site (deletes (meaning_in kit.now) id))
-        site result }
+    ensures works { Works (work_after_boot (kit_view kit.now) site.site
+        (delete_work (meaning_in kit.now) id)) site result }
     ensures limits { TellsItsLimit result }
 {
     match Work::begin(alloc, kit, site) {
@@ -299,7 +299,7 @@ fn delete(alloc: Global, kit: &Kit, site: OpenSite, id: u64) -> Worked
 
 #[tactic(auto, using(crate::proofs::Refusals::boot_stopped, crate::proofs::Refusals::work_ended, crate::proofs::Refusals::tells_its_limit))]
 fn set_option(alloc: Global, kit: &Kit, site: OpenSite, setting: Setting<'_>) -> Worked
-    ensures works { Works (booted (kit_view kit.now) site.site
+    ensures works { Works (work_after_boot (kit_view kit.now) site.site
         (does (meaning_in kit.now)
         (Effect.SetOption setting.entry.name.now setting.entry.value.now))) site result }
     ensures limits { TellsItsLimit result }
@@ -315,8 +315,8 @@ fn set_option(alloc: Global, kit: &Kit, site: OpenSite, setting: Setting<'_>) ->
 
 #[tactic(auto, using(crate::proofs::Refusals::boot_stopped, crate::proofs::Refusals::work_ended, crate::proofs::Refusals::tells_its_limit))]
 fn tick(alloc: Global, kit: &Kit, site: OpenSite) -> Worked
-    ensures works { Works (booted (kit_view kit.now) site.site (ticks (meaning_in kit.now))) site
-        result }
+    ensures works { Works (work_after_boot (kit_view kit.now) site.site
+        (tick_work (meaning_in kit.now))) site result }
     ensures limits { TellsItsLimit result }
 {
     match Work::begin(alloc, kit, site) {
@@ -342,33 +342,35 @@ fn activate(alloc: Global, kit: &Kit, site: OpenSite, plugin: &Name) -> Worked
         return without_run(site, Err(ApplyFault::Site(SiteFault::AlreadyActive)));
     }
     match plugin.copy(alloc) {
-        Ok(plugin) => alone(site, Effect::Activate { plugin }),
+        Ok(plugin) => work_without_boot(site, Effect::Activate { plugin }),
         Err(_) => without_run(site, Err(ApplyFault::NoMemory)),
     }
 }
 
 fn deactivate(alloc: Global, site: OpenSite, plugin: &Name) -> Worked
-    ensures works { Works (alone (effect_on site.site (Effect.Deactivate plugin.now))) site result }
+    ensures works { Works
+        (work_without_boot (effect_on site.site (Effect.Deactivate plugin.now))) site result }
     ensures limits { TellsItsLimit result }
     ensures memory { GrowsBehind result.id
-        (alone (effect_on site.site (Effect.Deactivate plugin.now))) }
+        (work_without_boot (effect_on site.site (Effect.Deactivate plugin.now))) }
 {
     if !is_active(site.site().active(), plugin) {
         return without_run(site, Err(ApplyFault::Site(SiteFault::NotActive)));
     }
     match plugin.copy(alloc) {
-        Ok(plugin) => alone(site, Effect::Deactivate { plugin }),
+        Ok(plugin) => work_without_boot(site, Effect::Deactivate { plugin }),
         Err(_) => without_run(site, Err(ApplyFault::NoMemory)),
     }
 }
 
 // Takes no memory.
 fn switch_profile(site: OpenSite, to: u8) -> Worked
-    ensures works { Works (alone (effect_on site.site (Effect.Profile to))) site result }
+    ensures works { Works (work_without_boot (effect_on site.site (Effect.Profile to)))
+        site result }
     ensures limits { TellsItsLimit result }
     ensures memory { result.id ≢ Err ApplyFault.NoMemory }
 {
-    alone(site, Effect::Profile(to))
+    work_without_boot(site, Effect::Profile(to))
 }
 
 fn has_plugin(kit: &Kit, plugin: &Name) -> bool
@@ -378,10 +380,10 @@ fn has_plugin(kit: &Kit, plugin: &Name) -> bool
 }
 
 // A change that boots nothing and runs no hook.
-fn alone(mut site: OpenSite, effect: Effect) -> Worked
-    ensures works { Works (alone (effect_on site.site effect)) site result }
+fn work_without_boot(mut site: OpenSite, effect: Effect) -> Worked
+    ensures works { Works (work_without_boot (effect_on site.site effect)) site result }
     ensures limits { TellsItsLimit result }
-    ensures memory { GrowsBehind result.id (alone (effect_on site.site effect)) }
+    ensures memory { GrowsBehind result.id (work_without_boot (effect_on site.site effect)) }
     ensures profile { (to : ℕ) → effect ≡ Effect.Profile to → result.id ≢ Err ApplyFault.NoMemory }
 {
     let id = change_site(&mut site, effect);
@@ -399,13 +401,13 @@ fn without_run(site: OpenSite, id: Result<u64, ApplyFault>) -> Worked
     }
 }
 
-#[tactic(auto, using(crate::proofs::Refusals::alone_refused))]
+#[tactic(auto, using(crate::proofs::Refusals::without_boot_refused))]
 fn change_site(site: &mut OpenSite, effect: Effect) -> Result<u64, ApplyFault>
     ensures does { MatchResult result
-        (λ id. alone (effect_on site.old.site effect) ≡ Ok (site.new.site, id))
-        (λ fault. Refuses fault (alone (effect_on site.old.site effect))) }
-    ensures back { begun_of site.new ≡ begun_of site.old }
-    ensures memory { GrowsBehind result (alone (effect_on site.old.site effect)) }
+        (λ id. work_without_boot (effect_on site.old.site effect) ≡ Ok (site.new.site, id))
+        (λ fault. Refuses fault (work_without_boot (effect_on site.old.site effect))) }
+    ensures back { site_at_start site.new ≡ site_at_start site.old }
+    ensures memory { GrowsBehind result (work_without_boot (effect_on site.old.site effect)) }
     ensures profile { (to : ℕ) → effect ≡ Effect.Profile to → result ≢ Err ApplyFault.NoMemory }
 {
     let changed = site.effect(effect)?;

@@ -39,7 +39,7 @@ pub fn move_fault(to: Move, post: Option<&Post>) -> Option<SiteFault>
 {
     match post {
         None => Some(SiteFault::NoSuchPost),
-        Some(post) => match post.moved(to) {
+        Some(post) => match post.status_after_move(to) {
             Ok(_) => None,
             Err(fault) => Some(SiteFault::from(fault)),
         },

@@ -80,7 +80,7 @@ impl Stamped {
         ensures { IfOk result (λ s. s ≡ self.now) }
     {
         Ok(Stamped {
-            token: self.token.copied(alloc)?,
+            token: self.token.copy_in(alloc)?,
             at: self.at,
             command: self.command.copy(alloc)?,
         })
@@ -88,13 +88,13 @@ impl Stamped {
 }
 
 impl Copied for Command {
-    fn copied(&self, alloc: Global) -> Result<Command, AllocError> {
+    fn copy_in(&self, alloc: Global) -> Result<Command, AllocError> {
         self.copy(alloc)
     }
 }
 
 impl Copied for Stamped {
-    fn copied(&self, alloc: Global) -> Result<Stamped, AllocError> {
+    fn copy_in(&self, alloc: Global) -> Result<Stamped, AllocError> {
         self.copy(alloc)
     }
 }

@@ -40,7 +40,7 @@ impl CommandKind {
     }
 
     /// The kind of that word.
-    pub fn named(word: &str) -> Option<CommandKind>
+    pub fn from_word(word: &str) -> Option<CommandKind>
         ensures { result ≡ kind_named word.now }
     {
         if word == "insert" {

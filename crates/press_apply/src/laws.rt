@@ -6,7 +6,7 @@ ghost use Rattle.press_site.specs.declared.token.Outcome.{Outcome};
 ghost use Rattle.press_site.specs.declared.token.Token.{Token};
 ghost use Rattle.press_site.specs.Outcomes.{outcome_of};
 ghost use Rattle.press_site.specs.SiteView.{SiteView};
-ghost use Rattle.press_apply.specs.Apply.{applied, at_moment, folded, site_after};
+ghost use Rattle.press_apply.specs.Apply.{applied, at_moment, fold_values, site_after};
 ghost use Rattle.press_apply.specs.Same.{is_same_value};
 ghost use Rattle.press_apply.specs.Tokens.{each_token_once};
 ghost use Rattle.press_apply.specs.declared.command.Stamped.{Stamped};
@@ -22,10 +22,10 @@ pub fn token_answers_once()
         ≡ Some (applied kit site (Cmd c)).1 }
     ensures stays { (kit : KitView) (site : SiteView) (token : Token) (outcome : Outcome)
         (later : List Value) → outcome_of token site.outcomes ≡ Some outcome
-        → outcome_of token (folded kit site later).outcomes ≡ Some outcome }
+        → outcome_of token (fold_values kit site later).outcomes ≡ Some outcome }
     ensures answers { (kit : KitView) (site : SiteView) (c again : Stamped) (between : List Value)
         → again.token ≡ c.token
-        → let after = folded kit (applied kit site (Cmd c)).0 between in
+        → let after = fold_values kit (applied kit site (Cmd c)).0 between in
         applied kit after (Cmd again) ≡ (at_moment again.at after, (applied kit site (Cmd c)).1) }
     ensures once { (kit : KitView) (values : List Value)
         → site_after kit (each_token_once values) ≡ site_after kit values }

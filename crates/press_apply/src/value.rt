@@ -28,7 +28,7 @@ impl Value {
 }
 
 impl Copied for Value {
-    fn copied(&self, alloc: Global) -> Result<Value, AllocError> {
+    fn copy_in(&self, alloc: Global) -> Result<Value, AllocError> {
         self.copy(alloc)
     }
 }

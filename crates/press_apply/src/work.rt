@@ -6,12 +6,12 @@ ghost use Rattle.press_callbacks.specs.Kits.{kit_view, plugins_in};
 ghost use Rattle.press_events.specs.DueEvents.{due};
 ghost use Rattle.press_posts.specs.PostChange.{post_at};
 ghost use Rattle.press_run.specs.Boot.{boot_actions};
-ghost use Rattle.press_apply.specs.Apply.{between, boots, changes, delete_fault, deletes, does};
-ghost use Rattle.press_apply.specs.Apply.{filtered, fires, move_fault, update_fault, wanted_fault};
-ghost use Rattle.press_apply.specs.Apply.{inserts, passes, prepared, takes, takes_all, ticks, trashes};
-ghost use Rattle.press_apply.specs.Apply.{untrashes, updates};
+ghost use Rattle.press_apply.specs.Apply.{change_between, boots, changes, delete_fault, delete_work, does};
+ghost use Rattle.press_apply.specs.Apply.{filter_text, fires, move_fault, update_fault, wanted_fault};
+ghost use Rattle.press_apply.specs.Apply.{insert_work, passes, prepare_draft, takes, takes_all, tick_work, trash_work};
+ghost use Rattle.press_apply.specs.Apply.{untrash_work, update_work};
 ghost use Rattle.press_apply.specs.Works.{Boots, GoesBack, GrowsBehind, Steps, TellsItsLimit, TellsLimits};
-ghost use Rattle.press_apply.specs.Works.{ended, is_limit, meaning_in, state_in};
+ghost use Rattle.press_apply.specs.Works.{end_work, is_limit, meaning_in, state_in};
 
 use crate::actions::{about, event_fires};
 use crate::checks::{delete_fault, move_fault, update_fault, wanted_fault};
@@ -121,7 +121,7 @@ impl Work {
     fn filter_text(&mut self, kit: &Kit, hook: &str, text: &Text) -> Result<Text, ApplyFault>
         requires { name_fault 64 hook.now ≡ None }
         ensures steps { Steps (λ s text. record { text = text; state = s })
-            (filtered (meaning_in kit.now) hook.now text.now (state_in self.old))
+            (filter_text (meaning_in kit.now) hook.now text.now (state_in self.old))
             self.new result }
         ensures back { GoesBack self.old self.new }
         ensures limit { TellsLimits result self.old self.new }
@@ -163,10 +163,10 @@ impl Work {
     }
 
     /// A new post, whose title is filtered before its content.
-    #[tactic(auto, unfolding(crate::specs::Apply::inserts), using(crate::proofs::Refusals::handed_on))]
+    #[tactic(auto, unfolding(crate::specs::Apply::insert_work), using(crate::proofs::Refusals::handed_on))]
     pub fn insert(&mut self, kit: &Kit, draft: &Draft) -> Result<u64, ApplyFault>
         ensures steps { Steps (λ s id. (s, id))
-            (inserts (meaning_in kit.now) draft.now (state_in self.old)) self.new result }
+            (insert_work (meaning_in kit.now) draft.now (state_in self.old)) self.new result }
         ensures back { GoesBack self.old self.new }
         ensures limit { TellsLimits result self.old self.new }
         ensures memory { GrowsBehind result (passes (wanted_fault draft.now.status)) }
@@ -177,10 +177,11 @@ impl Work {
     }
 
     /// Another title, content, status and date for a post, filtered likewise.
-    #[tactic(auto, unfolding(crate::specs::Apply::updates), using(crate::proofs::Refusals::handed_on))]
+    #[tactic(auto, unfolding(crate::specs::Apply::update_work), using(crate::proofs::Refusals::handed_on))]
     pub fn update(&mut self, kit: &Kit, edit: Edit<'_>) -> Result<u64, ApplyFault>
         ensures steps { Steps (λ s id. (s, id))
-            (updates (meaning_in kit.now) edit.entry.id edit.entry.draft.now (state_in self.old))
+            (update_work (meaning_in kit.now) edit.entry.id edit.entry.draft.now
+            (state_in self.old))
             self.new result }
         ensures back { GoesBack self.old self.new }
         ensures limit { TellsLimits result self.old self.new }
@@ -194,10 +195,10 @@ impl Work {
     }
 
     // A draft whose title and content are filtered.
-    #[tactic(auto, unfolding(crate::specs::Apply::prepared), using(crate::proofs::Refusals::handed_on))]
+    #[tactic(auto, unfolding(crate::specs::Apply::prepare_draft), using(crate::proofs::Refusals::handed_on))]
     fn prepare(&mut self, kit: &Kit, draft: &Draft) -> Result<Draft, ApplyFault>
         ensures steps { Steps (λ s d. (s, d))
-            (prepared (meaning_in kit.now) draft.now (state_in self.old)) self.new result }
+            (prepare_draft (meaning_in kit.now) draft.now (state_in self.old)) self.new result }
         ensures back { GoesBack self.old self.new }
         ensures limit { TellsLimits result self.old self.new }
     {
@@ -210,8 +211,8 @@ impl Work {
     }
 
     // A change of a post between an action before it and one after its fires.
-    #[tactic(auto, unfolding(crate::specs::Apply::between), using(crate::proofs::Refusals::handed_on))]
-    fn between(
+    #[tactic(auto, unfolding(crate::specs::Apply::change_between), using(crate::proofs::Refusals::handed_on))]
+    fn change_between(
         &mut self,
         kit: &Kit,
         hooks: &Hooks<'_>,
@@ -221,7 +222,7 @@ impl Work {
         requires begins { name_fault 64 hooks.now.before.now ≡ None }
         requires ends { name_fault 64 hooks.now.after.now ≡ None }
         ensures steps { Steps (λ s id. (s, id))
-            (between (meaning_in kit.now) hooks.now.before.now effect hooks.now.after.now id
+            (change_between (meaning_in kit.now) hooks.now.before.now effect hooks.now.after.now id
             (state_in self.old))
             self.new result }
         ensures back { GoesBack self.old self.new }
@@ -233,10 +234,10 @@ impl Work {
         Ok(done)
     }
 
-    #[tactic(auto, unfolding(crate::specs::Apply::trashes), using(crate::proofs::Refusals::handed_on))]
+    #[tactic(auto, unfolding(crate::specs::Apply::trash_work), using(crate::proofs::Refusals::handed_on))]
     pub fn trash(&mut self, kit: &Kit, id: u64) -> Result<u64, ApplyFault>
         ensures steps { Steps (λ s id. (s, id))
-            (trashes (meaning_in kit.now) id (state_in self.old))
+            (trash_work (meaning_in kit.now) id (state_in self.old))
             self.new result }
         ensures back { GoesBack self.old self.new }
         ensures limit { TellsLimits result self.old self.new }
@@ -249,13 +250,13 @@ impl Work {
             id,
             to: Move::Trash,
         };
-        Ok(self.between(kit, &Hooks { before, after }, effect, id)?)
+        Ok(self.change_between(kit, &Hooks { before, after }, effect, id)?)
     }
 
-    #[tactic(auto, unfolding(crate::specs::Apply::untrashes), using(crate::proofs::Refusals::handed_on))]
+    #[tactic(auto, unfolding(crate::specs::Apply::untrash_work), using(crate::proofs::Refusals::handed_on))]
     pub fn untrash(&mut self, kit: &Kit, id: u64) -> Result<u64, ApplyFault>
         ensures steps { Steps (λ s id. (s, id))
-            (untrashes (meaning_in kit.now) id (state_in self.old))
+            (untrash_work (meaning_in kit.now) id (state_in self.old))
             self.new result }
         ensures back { GoesBack self.old self.new }
         ensures limit { TellsLimits result self.old self.new }
@@ -268,13 +269,13 @@ impl Work {
             id,
             to: Move::Untrash,
         };
-        Ok(self.between(kit, &Hooks { before, after }, effect, id)?)
+        Ok(self.change_between(kit, &Hooks { before, after }, effect, id)?)
     }
 
-    #[tactic(auto, unfolding(crate::specs::Apply::deletes), using(crate::proofs::Refusals::handed_on))]
+    #[tactic(auto, unfolding(crate::specs::Apply::delete_work), using(crate::proofs::Refusals::handed_on))]
     pub fn delete(&mut self, kit: &Kit, id: u64) -> Result<u64, ApplyFault>
         ensures steps { Steps (λ s id. (s, id))
-            (deletes (meaning_in kit.now) id (state_in self.old))
+            (delete_work (meaning_in kit.now) id (state_in self.old))
             self.new result }
         ensures back { GoesBack self.old self.new }
         ensures limit { TellsLimits result self.old self.new }
@@ -284,7 +285,7 @@ impl Work {
         passes(delete_fault(self.machine.site.site().post(id)))?;
         let (before, after) = ("before_delete_post", "deleted_post");
         let effect = Effect::Delete { id };
-        Ok(self.between(kit, &Hooks { before, after }, effect, id)?)
+        Ok(self.change_between(kit, &Hooks { before, after }, effect, id)?)
     }
 
     fn take_event(&mut self, event: &Event) -> Result<Changed, ApplyFault>
@@ -294,7 +295,7 @@ impl Work {
         ensures back { GoesBack self.old self.new }
         ensures limit { self.new.machine.met_limit ≡ self.old.machine.met_limit }
     {
-        let own = event.copied(self.alloc)?;
+        let own = event.copy_in(self.alloc)?;
         Ok(self.change(Effect::Take(own))?)
     }
 
@@ -338,7 +339,7 @@ impl Work {
 
     /// The work at its end, with what it answered.
     pub fn end(self, id: Result<u64, ApplyFault>) -> Worked
-        ensures { result ≡ ended self id }
+        ensures { result ≡ end_work self id }
     {
         let Work { alloc: _, machine } = self;
         let met_limit = machine.met_limit;
@@ -352,7 +353,7 @@ impl Work {
 
     /// Takes what is due, which is listed once.
     pub fn tick(&mut self, kit: &Kit) -> Result<u64, ApplyFault>
-        ensures steps { Steps (λ s id. (s, id)) (ticks (meaning_in kit.now) (state_in self.old))
+        ensures steps { Steps (λ s id. (s, id)) (tick_work (meaning_in kit.now) (state_in self.old))
             self.new result }
         ensures back { GoesBack self.old self.new }
         ensures limit { TellsLimits result self.old self.new }
@@ -361,11 +362,11 @@ impl Work {
         self.take_due(kit, due.as_slice())
     }
 
-    #[tactic(auto, unfolding(crate::specs::Apply::ticks), using(crate::proofs::Refusals::no_id_refused))]
+    #[tactic(auto, unfolding(crate::specs::Apply::tick_work), using(crate::proofs::Refusals::no_id_refused))]
     fn take_due(&mut self, kit: &Kit, events: &[Event]) -> Result<u64, ApplyFault>
         requires { events.now ≡ due self.old.machine.site.site.moment
             self.old.machine.site.site.events }
-        ensures steps { Steps (λ s id. (s, id)) (ticks (meaning_in kit.now) (state_in self.old))
+        ensures steps { Steps (λ s id. (s, id)) (tick_work (meaning_in kit.now) (state_in self.old))
             self.new result }
         ensures back { GoesBack self.old self.new }
         ensures limit { TellsLimits result self.old self.new }

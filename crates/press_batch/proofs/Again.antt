@@ -12,10 +12,10 @@ use Rattle.press_wire.specs.Reading.{read_message}
 use Rattle.press_wire.specs.Spelling.{number4, number8, spelled_message}
 use Rattle.press_wire.proofs.Codec.{passes_only}
 use Rattle.press_wire.proofs.MessageLaws.{reads_back}
-use Rattle.press_batch.specs.Carried.{Carried}
+use Rattle.press_batch.specs.Carried.{BatchContent}
 use Rattle.press_batch.specs.Fields.{◌>>=◌, bytes_at, number_at, number4_at, number8_at, version_at, member_at, piece_at}
 use Rattle.press_batch.specs.Held.{IsReport, IsBatch, AreMessages, AreFormed, ReadBack}
-use Rattle.press_batch.specs.Reading.{digests_at, report_at, head_at, ended, read_report, message_at, messages_within, batch_in, read_batch}
+use Rattle.press_batch.specs.Reading.{digests_at, report_at, head_at, or_extra, read_report, message_at, messages_within, batch_in, read_batch}
 use Rattle.press_batch.specs.Spelling.{spelled_report, spelled_piece, spelled_messages, spelled_batch, most_bytes}
 use Rattle.press_batch.specs.declared.fault.BatchFault.{BatchFault}
 use Rattle.press_batch.specs.declared.report.Digests.{Digests}
@@ -84,7 +84,7 @@ head_again from r rest node is =
 
 pub report_reads_back : (from : ℕ) (r : Report) → IsNode from → IsReport r → read_report (spelled_report from r) ≡ Ok (from, r)
 unfolding read_report
-report_reads_back from r node is = ap (λ (t : List ℕ). head_at t >>= ended) (sym (append-nil (spelled_report from r))) ∙ next (head_at (spelled_report from r ++ [])) ended ((from, r), []) (head_again from r [] node is)
+report_reads_back from r node is = ap (λ (t : List ℕ). head_at t >>= or_extra) (sym (append-nil (spelled_report from r))) ∙ next (head_at (spelled_report from r ++ [])) or_extra ((from, r), []) (head_again from r [] node is)
 
 -- ---- messages
 
@@ -125,7 +125,7 @@ messages_again (suc more) (m ∷ messages) enough few read =
 
 -- ---- batches
 
-batch_again : (b : Carried) → IsNode b.from → IsReport b.report → length (spelled_batch b) ≤ most_bytes → AreRead b.messages → read_batch (spelled_batch b) ≡ Ok b
+batch_again : (b : BatchContent) → IsNode b.from → IsReport b.report → length (spelled_batch b) ≤ most_bytes → AreRead b.messages → read_batch (spelled_batch b) ≡ Ok b
 unfolding read_batch batch_in spelled_batch
 batch_again b node is short read =
     let fitting : ltb most_bytes (length (spelled_report b.from b.report ++ spelled_messages b.messages)) ≡ false = le-ltb _ _ short in
@@ -136,7 +136,7 @@ are_read : (messages : List Message) → AreMessages messages → AreRead messag
 are_read [] are = tt
 are_read (m ∷ messages) are = (reads_back m are.0.0 are.0.1 are.0.2, are_read messages are.1)
 
-pub batch_reads_back : (b : Carried) → IsBatch b → length (spelled_batch b) ≤ most_bytes → read_batch (spelled_batch b) ≡ Ok b
+pub batch_reads_back : (b : BatchContent) → IsBatch b → length (spelled_batch b) ≤ most_bytes → read_batch (spelled_batch b) ≡ Ok b
 batch_reads_back b is short = batch_again b is.0 is.1 short (are_read b.messages is.2)
 
 -- ---- what was written
@@ -145,12 +145,12 @@ formed_read : (messages : List Message) → ReadBack messages → AreFormed mess
 formed_read [] back formed = tt
 formed_read (m ∷ messages) back formed = (back.0 formed.0, formed_read messages back.1 formed.1)
 
-pub written_reads : (b : Carried) (bytes : List ℕ) → IsNode b.from → IsReport b.report → ReadBack b.messages → bytes ≡ spelled_batch b → length bytes ≤ most_bytes → AreFormed b.messages → read_batch bytes ≡ Ok b
+pub written_reads : (b : BatchContent) (bytes : List ℕ) → IsNode b.from → IsReport b.report → ReadBack b.messages → bytes ≡ spelled_batch b → length bytes ≤ most_bytes → AreFormed b.messages → read_batch bytes ≡ Ok b
 written_reads b bytes node is back spelled short formed =
     ap read_batch spelled ∙ batch_again b node is (subst (λ (t : List ℕ). length t ≤ most_bytes) spelled short) (formed_read b.messages back formed)
 
 -- the report, and then the messages
-pub made_reads : (b : Carried) (bytes front : List ℕ) {messages : List Message} → IsNode b.from → IsReport b.report → ReadBack b.messages → front ≡ spelled_report b.from b.report → messages ≡ b.messages → bytes ≡ front ++ spelled_messages messages → length bytes ≤ most_bytes → AreFormed b.messages → read_batch bytes ≡ Ok b
+pub made_reads : (b : BatchContent) (bytes front : List ℕ) {messages : List Message} → IsNode b.from → IsReport b.report → ReadBack b.messages → front ≡ spelled_report b.from b.report → messages ≡ b.messages → bytes ≡ front ++ spelled_messages messages → length bytes ≤ most_bytes → AreFormed b.messages → read_batch bytes ≡ Ok b
 unfolding spelled_batch
 made_reads b bytes front node is back begun same made short formed =
     written_reads b bytes node is back (made ∙ ap (λ (xs : List Message). front ++ spelled_messages xs) same ∙ ap (λ (t : List ℕ). t ++ spelled_messages b.messages) begun) short formed

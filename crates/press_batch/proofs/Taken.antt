@@ -11,9 +11,9 @@ use Rattle.press_wire.specs.Reading.{read_message}
 use Rattle.press_wire.specs.Spelling.{number4, number8, spelled_message}
 use Rattle.press_wire.proofs.Codec.{IsBytes-drop, IsBytes-take, IsBytes-rest, IsBytes-front, IsBytes-back, join, only_named, only_passes}
 use Rattle.press_wire.proofs.MessageLaws.{is_read}
-use Rattle.press_batch.specs.Carried.{Carried}
+use Rattle.press_batch.specs.Carried.{BatchContent}
 use Rattle.press_batch.specs.Fields.{or_fault, number4_at, number8_at, is_version, version_at, member_at, piece_at}
-use Rattle.press_batch.specs.Reading.{ended, digests_at, report_at, head_at, read_report, message_at, messages_within, messages_in, batch_in, read_batch}
+use Rattle.press_batch.specs.Reading.{or_extra, digests_at, report_at, head_at, read_report, message_at, messages_within, messages_in, batch_in, read_batch}
 use Rattle.press_batch.specs.Spelling.{spelled_report, spelled_piece, spelled_messages, spelled_batch, most_bytes}
 use Rattle.press_batch.specs.declared.fault.BatchFault.{BatchFault}
 use Rattle.press_batch.specs.declared.fault.BatchFault.TheVariants.{TooLong, Short, BadVersion, BadMember, Extra}
@@ -176,7 +176,7 @@ messages_taken (suc more) (b ∷ bytes) messages fits enough e =
 
 -- ---- batches
 
-pub batch_taken : (bytes rest : List ℕ) (b : Carried) → IsBytes bytes → head_at bytes ≡ Ok ((b.from, b.report), rest) → messages_in rest ≡ Ok b.messages → bytes ≡ spelled_batch b
+pub batch_taken : (bytes rest : List ℕ) (b : BatchContent) → IsBytes bytes → head_at bytes ≡ Ok ((b.from, b.report), rest) → messages_in rest ≡ Ok b.messages → bytes ≡ spelled_batch b
 unfolding spelled_batch
 batch_taken bytes rest b fits head messages =
     let p = head_takes bytes (b.from, b.report) rest fits head in
@@ -184,7 +184,7 @@ batch_taken bytes rest b fits head messages =
 
 -- ---- the laws
 
-ended_ok : {A : Type 0} (x : A × List ℕ) (y : A) → ended x ≡ Ok y → (nat_eq (length x.1) 0 ≡ true) × (x.0 ≡ y)
+ended_ok : {A : Type 0} (x : A × List ℕ) (y : A) → or_extra x ≡ Ok y → (nat_eq (length x.1) 0 ≡ true) × (x.0 ≡ y)
 ended_ok x y e = go (nat_eq (length x.1) 0) refl e
   where
     go : (t : Bool) → nat_eq (length x.1) 0 ≡ t → cond t (Ok x.0) (Err Extra) ≡ Ok y → (nat_eq (length x.1) 0 ≡ true) × (x.0 ≡ y)
@@ -194,19 +194,19 @@ ended_ok x y e = go (nat_eq (length x.1) 0) refl e
 pub report_is_spelled : (bytes : List ℕ) (from : ℕ) (r : Report) → IsBytes bytes → read_report bytes ≡ Ok (from, r) → bytes ≡ spelled_report from r
 unfolding read_report
 report_is_spelled bytes from r fits e =
-    let a = bind_ok (head_at bytes) ended (from, r) e in
+    let a = bind_ok (head_at bytes) or_extra (from, r) e in
     let w = ended_ok a.0 (from, r) a.2 in
     subst (λ (h : ℕ × Report). bytes ≡ spelled_report h.0 h.1) w.1 (report_taken bytes a.0.1 a.0.0.0 a.0.0.1 fits a.1 w.0)
 
-pub batch_is_spelled : (bytes : List ℕ) (b : Carried) → IsBytes bytes → read_batch bytes ≡ Ok b → bytes ≡ spelled_batch b
+pub batch_is_spelled : (bytes : List ℕ) (b : BatchContent) → IsBytes bytes → read_batch bytes ≡ Ok b → bytes ≡ spelled_batch b
 unfolding read_batch batch_in
 batch_is_spelled bytes b fits e =
     let g = short_ok (ltb most_bytes (length bytes)) (batch_in bytes) b e in
     let a = bind_ok (head_at bytes) _ b g in
     let d = bind_ok (messages_in a.0.1) _ b a.2 in
-    let made : Carried = record { from = a.0.0.0; report = a.0.0.1; messages = d.0 } in
-    subst (λ (x : Carried). bytes ≡ spelled_batch x) (ok_is made b d.2) (batch_taken bytes a.0.1 made fits a.1 d.1)
+    let made : BatchContent = record { from = a.0.0.0; report = a.0.0.1; messages = d.0 } in
+    subst (λ (x : BatchContent). bytes ≡ spelled_batch x) (ok_is made b d.2) (batch_taken bytes a.0.1 made fits a.1 d.1)
   where
-    short_ok : (t : Bool) (r : Result Carried BatchFault) (b : Carried) → cond t (Err TooLong) r ≡ Ok b → r ≡ Ok b
+    short_ok : (t : Bool) (r : Result BatchContent BatchFault) (b : BatchContent) → cond t (Err TooLong) r ≡ Ok b → r ≡ Ok b
     short_ok true r b e = absurd cc
     short_ok false r b e = e

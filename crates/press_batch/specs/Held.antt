@@ -4,7 +4,7 @@ use Rattle.press_wire.specs.declared.message.Message.{Message}
 use Rattle.press_wire.specs.Held.{IsNode, IsMessage, IsFormed}
 use Rattle.press_wire.specs.Reading.{read_message}
 use Rattle.press_wire.specs.Spelling.{spelled_message, is_too_long_message}
-use Rattle.press_batch.specs.Carried.{Carried}
+use Rattle.press_batch.specs.Carried.{BatchContent}
 use Rattle.press_batch.specs.declared.report.Report.{Report}
 
 abbrev pub IsReport : Report → Type 0
@@ -25,7 +25,7 @@ abbrev pub AreMessages : List Message → Type 0
 AreMessages [] = Unit {0}
 AreMessages (m ∷ messages) = (IsMessage m × IsFormed m × (is_too_long_message m ≡ false)) × AreMessages messages
 
-abbrev pub IsBatch : Carried → Type 0
+abbrev pub IsBatch : BatchContent → Type 0
 IsBatch b = IsNode b.from × IsReport b.report × AreMessages b.messages
 
 -- a message in form is read from its spelling

@@ -8,7 +8,7 @@ use Rattle.press_batch.specs.declared.fault.BatchFault.{BatchFault}
 use Rattle.press_batch.specs.declared.fault.BatchFault.TheVariants.{TooLong, BadMessage, Extra}
 use Rattle.press_batch.specs.declared.report.Digests.{Digests}
 use Rattle.press_batch.specs.declared.report.Report.{Report}
-use Rattle.press_batch.specs.Carried.{Carried}
+use Rattle.press_batch.specs.Carried.{BatchContent}
 use Rattle.press_batch.specs.Fields.{Reading, ◌>>=◌, number8_at, version_at, member_at, piece_at}
 use Rattle.press_batch.specs.Spelling.{most_bytes}
 
@@ -36,12 +36,12 @@ head_at bytes = do
   Ok ((from.0, report.0), report.1)
 
 -- nothing is left
-abbrev pub ended : {A : Type 0} → A × List ℕ → Result A BatchFault
-ended x = if length x.1 == 0 then Ok x.0 else Err Extra
+abbrev pub or_extra : {A : Type 0} → A × List ℕ → Result A BatchFault
+or_extra x = if length x.1 == 0 then Ok x.0 else Err Extra
 
 -- all of the bytes as one report
 unfoldable pub read_report : List ℕ → Result (ℕ × Report) BatchFault
-read_report bytes = head_at bytes >>= ended
+read_report bytes = head_at bytes >>= or_extra
 
 -- ---- batches
 
@@ -66,11 +66,11 @@ messages_within (suc more) (b ∷ bytes) = do
 abbrev pub messages_in : List ℕ → Result (List Message) BatchFault
 messages_in bytes = messages_within (length bytes) bytes
 
-unfoldable pub batch_in : List ℕ → Result Carried BatchFault
+unfoldable pub batch_in : List ℕ → Result BatchContent BatchFault
 batch_in bytes = do
   head ← head_at bytes
   messages ← messages_in head.1
   Ok (record { from = head.0.0; report = head.0.1; messages = messages })
 
-unfoldable pub read_batch : List ℕ → Result Carried BatchFault
+unfoldable pub read_batch : List ℕ → Result BatchContent BatchFault
 read_batch bytes = if nat_lt most_bytes (length bytes) then Err TooLong else batch_in bytes

@@ -2,7 +2,7 @@
 use Rattle.std.specs.Prelude.{ℕ, ◌+◌, List, [], ◌∷◌, ◌++◌, length, nat_le, Bool, Option, None, Some, if◌then◌else◌}
 use Rattle.press_wire.specs.declared.message.Message.{Message}
 use Rattle.press_wire.specs.Spelling.{number4, number8, spelled_message, is_too_long_message}
-use Rattle.press_batch.specs.Carried.{Carried}
+use Rattle.press_batch.specs.Carried.{BatchContent}
 use Rattle.press_batch.specs.declared.fault.BatchFault.{BatchFault}
 use Rattle.press_batch.specs.declared.fault.BatchFault.TheVariants.{TooLong, BadMessage}
 use Rattle.press_batch.specs.declared.report.Report.{Report}
@@ -31,7 +31,7 @@ unfoldable pub spelled_messages : List Message → List ℕ
 spelled_messages [] = []
 spelled_messages (m ∷ messages) = spelled_piece (spelled_message m) ++ spelled_messages messages
 
-unfoldable pub spelled_batch : Carried → List ℕ
+unfoldable pub spelled_batch : BatchContent → List ℕ
 spelled_batch b = spelled_report b.from b.report ++ spelled_messages b.messages
 
 -- ---- batches that have none
@@ -47,22 +47,22 @@ refusal_behind len (m ∷ messages) =
     if is_too_long_message m then Some BadMessage
     else (if fits len m then refusal_behind (len + (4 + length (spelled_message m))) messages else Some TooLong)
 
-abbrev pub refusal : Carried → Option BatchFault
+abbrev pub refusal : BatchContent → Option BatchFault
 refusal b = refusal_behind (length (spelled_report b.from b.report)) b.messages
 
 -- ---- a batch that is written message by message
 
-pub record Written : Type 0 where
+pub record WrittenBatch : Type 0 where
   pub bytes : List ℕ
   pub count : ℕ
 
 -- the report alone
-abbrev pub begun : ℕ → Report → Written
-begun from r = record { bytes = spelled_report from r; count = 0 }
+abbrev pub report_alone : ℕ → Report → WrittenBatch
+report_alone from r = record { bytes = spelled_report from r; count = 0 }
 
 -- one message more
-abbrev pub with_message : Message → Written → Written
+abbrev pub with_message : Message → WrittenBatch → WrittenBatch
 with_message m w = record { bytes = w.bytes ++ spelled_piece (spelled_message m); count = w.count + 1 }
 
-abbrev pub with_last : Message → Carried → Carried
+abbrev pub with_last : Message → BatchContent → BatchContent
 with_last m b = record { from = b.from; report = b.report; messages = b.messages ++ m ∷ [] }

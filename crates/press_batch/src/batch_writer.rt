@@ -1,7 +1,7 @@
 ghost use Rattle.std.specs.Prelude.{◌≡◌, ◌≤◌, true, false, length, IfOk, IfErr, OnErr, if◌then◌else◌};
 ghost use Rattle.press_wire.specs.Spelling.{is_too_long_message};
 ghost use Rattle.press_batch.specs.Held.{ReadsBack};
-ghost use Rattle.press_batch.specs.Spelling.{begun, fits, most_bytes, with_message};
+ghost use Rattle.press_batch.specs.Spelling.{report_alone, fits, most_bytes, with_message};
 
 use crate::fault::BatchFault;
 use crate::pieces::{MOST_BATCH_BYTES, message_bytes, put_piece, report_bytes};
@@ -30,9 +30,9 @@ impl Drop for BatchWriter {
 
 impl Model for BatchWriter {
     ghost use Rattle.std.specs.Prelude.{◌≤◌, length};
-    ghost use Rattle.press_batch.specs.Spelling.{Written};
+    ghost use Rattle.press_batch.specs.Spelling.{WrittenBatch};
 
-    ghost Value = { Written };
+    ghost Value = { WrittenBatch };
 
     ghost view = { λ w. record { bytes = w.bytes.items; count = w.count } };
 
@@ -43,7 +43,7 @@ impl BatchWriter {
     /// The report, with no message yet.
     #[tactic(auto, using(crate::proofs::Lengths::length_report))]
     pub fn new(alloc: Global, from: MemberId, report: &Report) -> Result<BatchWriter, BatchFault>
-        ensures begun { IfOk result (λ w. w ≡ begun from report.now) }
+        ensures begun { IfOk result (λ w. w ≡ report_alone from report.now) }
         ensures fault { IfErr result (λ fault. fault ≡ BatchFault.NoMemory) }
     {
         let bytes = report_bytes(alloc, from, report)?;

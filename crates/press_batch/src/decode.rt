@@ -2,7 +2,7 @@
 
 ghost use Rattle.std.specs.Prelude.{◌≡◌, ◌≢◌, ◌<◌, length, Err, Ok, IfOk, IsOk, IsErrOf};
 ghost use Rattle.press_text.specs.Gives.{Gives};
-ghost use Rattle.press_batch.specs.Carried.{carried};
+ghost use Rattle.press_batch.specs.Carried.{carried_by};
 ghost use Rattle.press_batch.specs.Memory.{some_behind};
 ghost use Rattle.press_batch.specs.Reading.{batch_in, read_batch, read_report};
 ghost use Rattle.press_batch.specs.Refusals.{Refuses};
@@ -37,12 +37,12 @@ pub fn decode_report(bytes: &[u8]) -> Result<(MemberId, Report), BatchFault>
 /// fault of the first field or message that fails. Memory is taken for messages alone.
 #[tactic(auto, unfolding(crate::specs::Reading::read_batch))]
 pub fn decode_batch(alloc: Global, bytes: &[u8]) -> Result<Batch, BatchFault>
-    ensures read { Gives Refuses (λ b. Ok (carried b)) result (read_batch bytes.now) }
+    ensures read { Gives Refuses (λ b. Ok (carried_by b)) result (read_batch bytes.now) }
     ensures long { most_bytes < length bytes.now → IsErrOf result BatchFault.TooLong }
     // Out of memory comes only where something comes behind the report.
     ensures memory { result ≡ Err BatchFault.NoMemory → IsOk (some_behind bytes.now) }
     // No other bytes are read as this batch.
-    ensures spelled { IfOk result (λ b. bytes.now ≡ spelled_batch (carried b)) }
+    ensures spelled { IfOk result (λ b. bytes.now ≡ spelled_batch (carried_by b)) }
 {
     if bytes.len() > MOST_BATCH_BYTES {
         return Err(BatchFault::TooLong);
@@ -52,9 +52,9 @@ pub fn decode_batch(alloc: Global, bytes: &[u8]) -> Result<Batch, BatchFault>
 
 #[tactic(auto, unfolding(crate::specs::Reading::batch_in, crate::specs::Memory::some_behind))]
 fn short_batch(alloc: Global, bytes: &[u8]) -> Result<Batch, BatchFault>
-    ensures read { Gives Refuses (λ b. Ok (carried b)) result (batch_in bytes.now) }
+    ensures read { Gives Refuses (λ b. Ok (carried_by b)) result (batch_in bytes.now) }
     ensures memory { result ≡ Err BatchFault.NoMemory → IsOk (some_behind bytes.now) }
-    ensures spelled { IfOk result (λ b. bytes.now ≡ spelled_batch (carried b)) }
+    ensures spelled { IfOk result (λ b. bytes.now ≡ spelled_batch (carried_by b)) }
 {
     let mut reader = Reader::new(bytes);
     let (from, report) = reader.head()?;

@@ -1,7 +1,7 @@
 //! From reports and batches to bytes.
 
 ghost use Rattle.std.specs.Prelude.{◌≡◌, ◌≤◌, ◌++◌, None, Ok, length, IfOk, IfErr, MatchResult, OnOk};
-ghost use Rattle.press_batch.specs.Carried.{carried};
+ghost use Rattle.press_batch.specs.Carried.{carried_by};
 ghost use Rattle.press_batch.specs.Held.{AreFormed, ReadBack};
 ghost use Rattle.press_batch.specs.Reading.{read_batch, read_report};
 ghost use Rattle.press_batch.specs.Refusals.{IsRefusal};
@@ -31,13 +31,13 @@ pub fn encode_report(alloc: Global, from: MemberId, report: &Report) -> Result<V
 /// TooLong where one ends past 1,048,576 bytes: what comes first.
 #[tactic(auto, unfolding(crate::specs::Spelling::spelled_batch))]
 pub fn encode_batch(alloc: Global, batch: &Batch) -> Result<Vec<u8>, BatchFault>
-    ensures spelled { IfOk result (λ bytes. bytes.items ≡ spelled_batch (carried batch.now)) }
+    ensures spelled { IfOk result (λ bytes. bytes.items ≡ spelled_batch (carried_by batch.now)) }
     ensures most { IfOk result (λ bytes. length bytes.items ≤ most_bytes) }
     // What is written is read as the batch, where its messages are in form.
     ensures reads { AreFormed batch.now.messages.items →
-        IfOk result (λ bytes. read_batch bytes.items ≡ Ok (carried batch.now)) }
-    ensures fault { MatchResult result (λ _. refusal (carried batch.now) ≡ None)
-        (λ fault. IsRefusal (refusal (carried batch.now)) fault) }
+        IfOk result (λ bytes. read_batch bytes.items ≡ Ok (carried_by batch.now)) }
+    ensures fault { MatchResult result (λ _. refusal (carried_by batch.now) ≡ None)
+        (λ fault. IsRefusal (refusal (carried_by batch.now)) fault) }
 {
     hold_report(batch.from, &batch.report);
     let mut writer = BatchWriter::new(alloc, batch.from, &batch.report)?;

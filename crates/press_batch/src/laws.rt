@@ -2,7 +2,7 @@ ghost use Rattle.std.specs.Prelude.{◌≡◌, ◌≤◌, ◌++◌, ℕ, List, N
 ghost use Rattle.press_wire.specs.Held.{IsBytes, IsNode};
 ghost use Rattle.press_wire.specs.Spelling.{spelled_message};
 ghost use Rattle.press_wire.specs.declared.message.Message.{Message};
-ghost use Rattle.press_batch.specs.Carried.{Carried};
+ghost use Rattle.press_batch.specs.Carried.{BatchContent};
 ghost use Rattle.press_batch.specs.Held.{AreShort, IsBatch, IsReport};
 ghost use Rattle.press_batch.specs.Reading.{read_batch, read_report};
 ghost use Rattle.press_batch.specs.Spelling.{most_bytes, refusal, spelled_batch, spelled_piece, spelled_report, with_last};
@@ -16,7 +16,7 @@ pub fn a_report_reads_back()
 
 /// Each batch of messages in form that has at most 1,048,576 bytes is read from its spelling.
 pub fn a_batch_reads_back()
-    ensures { (b : Carried) → IsBatch b → length (spelled_batch b) ≤ most_bytes →
+    ensures { (b : BatchContent) → IsBatch b → length (spelled_batch b) ≤ most_bytes →
         read_batch (spelled_batch b) ≡ Ok b }
 {}
 
@@ -30,24 +30,27 @@ pub fn reports_have_one_spelling()
 
 /// Bytes that are read as a batch are its spelling, so no two byte strings are read alike.
 pub fn batches_have_one_spelling()
-    ensures spelled { (bytes : List ℕ) (b : Carried) → IsBytes bytes → read_batch bytes ≡ Ok b →
+    ensures spelled { (bytes : List ℕ) (b : BatchContent) → IsBytes bytes →
+        read_batch bytes ≡ Ok b →
         bytes ≡ spelled_batch b }
-    ensures alone { (c d : List ℕ) (b : Carried) → IsBytes c → IsBytes d → read_batch c ≡ Ok b →
+    ensures alone { (c d : List ℕ) (b : BatchContent) → IsBytes c → IsBytes d →
+        read_batch c ≡ Ok b →
         read_batch d ≡ Ok b → c ≡ d }
 {}
 
 /// A batch is refused exactly where a message in it is too long in itself, or it has over 1,048,576
 /// bytes.
 pub fn what_is_refused_is_too_long()
-    ensures not_refused { (b : Carried) → refusal b ≡ None →
+    ensures not_refused { (b : BatchContent) → refusal b ≡ None →
         AreShort b.messages × (length (spelled_batch b) ≤ most_bytes) }
-    ensures fitting { (b : Carried) → AreShort b.messages → length (spelled_batch b) ≤ most_bytes →
+    ensures fitting { (b : BatchContent) → AreShort b.messages →
+        length (spelled_batch b) ≤ most_bytes →
         refusal b ≡ None }
 {}
 
 /// One message more is spelled behind the others, so what a `BatchWriter` wrote is the spelling of
 /// all that was put.
 pub fn a_last_message_is_spelled_last()
-    ensures { (b : Carried) (m : Message) → spelled_batch (with_last m b)
+    ensures { (b : BatchContent) (m : Message) → spelled_batch (with_last m b)
         ≡ spelled_batch b ++ spelled_piece (spelled_message m) }
 {}

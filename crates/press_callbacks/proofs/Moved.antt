@@ -15,8 +15,10 @@ use Rattle.press_callbacks.specs.declared.kit_fault.KitFault.{KitFault}
 use Rattle.press_callbacks.specs.declared.kit_fault.KitFault.TheVariants.{TwoNames}
 use Rattle.press_callbacks.specs.BuiltIns.{is_built_in}
 use Rattle.press_callbacks.specs.Kits.{has_two, has_two_names, has_many_loads, is_known, is_known_where, knows_script, knows_plugin, knows_all, kit_fault_by, callback_named, callback_loaded, loads_of_kind, most_hook_loads, most_tag_loads}
-use Rattle.press_callbacks.specs.Order.{is_before, by_name, in_order, place_by_name}
-use Rattle.press_callbacks.proofs.Halves.{both, not_true, clash, weak, behind, all_at, in_order_by_name}
+use Rattle.press_text.specs.NameOrder.{is_before}
+use Rattle.press_callbacks.specs.Order.{by_name, in_order, place_by_name}
+use Rattle.press_text.proofs.NameOrder.{both, not_true, clash, weak, behind, all_at}
+use Rattle.press_callbacks.proofs.Halves.{in_order_by_name}
 use Rattle.press_callbacks.proofs.Naturals.{all_alike}
 
 -- ---- whether a name stands twice

@@ -7,7 +7,8 @@ use Rattle.press_callbacks.specs.declared.script.Op.{Op}
 use Rattle.press_callbacks.specs.declared.plugin.Plugin.{Plugin}
 use Rattle.press_callbacks.specs.declared.plugin.Load.{Load}
 use Rattle.press_callbacks.specs.Kits.{has_two, is_known, is_known_where, knows_script, knows_plugin, knows_all, has_two_names, kit_fault_by, callback_named, callback_loaded, Refuses}
-use Rattle.press_callbacks.specs.Order.{by_name, put_by_name, place_by_name, is_before}
+use Rattle.press_text.specs.NameOrder.{is_before}
+use Rattle.press_callbacks.specs.Order.{by_name, put_by_name, place_by_name}
 use Rattle.press_callbacks.specs.BuiltIns.{is_built_in}
 use Rattle.press_callbacks.specs.declared.kit_fault.KitFault.{KitFault}
 use Rattle.press_callbacks.specs.declared.kit_fault.KitFault.TheVariants.{NoMemory, TwoNames, UnknownCallback, BadLoad}

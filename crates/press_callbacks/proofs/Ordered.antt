@@ -7,9 +7,11 @@ use Rattle.std.specs.Cmp.{IsStrictWeakOrder}
 use Rattle.std.proofs.lemmas.Cmp.{nat_list_cmp_total}
 use Rattle.std.proofs.lemmas.List.MinMax.{ranks_by}
 use Rattle.std.proofs.lemmas.List.Sorted.{sorted_far}
-use Rattle.press_callbacks.specs.Order.{is_before, in_order, place_of}
+use Rattle.press_text.specs.NameOrder.{is_before}
+use Rattle.press_callbacks.specs.Order.{in_order, place_of}
 use Rattle.press_callbacks.specs.Kits.{has_two, is_named}
-use Rattle.press_callbacks.proofs.Halves.{and, both, not_true, behind, none_behind}
+use Rattle.press_text.proofs.NameOrder.{and, both, not_true, behind}
+use Rattle.press_callbacks.proofs.Halves.{none_behind}
 
 -- ---- as a sort says it
 

@@ -3,7 +3,7 @@ use Rattle.std.proofs.Common.{◌≡◌, refl, ap, ℕ, ◌+◌, ◌-◌, ◌<�
 use Rattle.std.specs.List.{flat_map, list_all}
 use Rattle.std.proofs.lemmas.Bool.{leb-false, lt-leb}
 use Rattle.std.proofs.lemmas.List.Folds.{length-flat_map-take, list_all-map}
-use Rattle.press_text.specs.Escapes.{escaped_byte, escaped}
+use Rattle.press_text.specs.Escapes.{escaped_byte, escaped_text}
 use Rattle.press_callbacks.specs.Sizes.{left_of}
 use Rattle.press_callbacks.specs.Turns.{part_text, text_of}
 use Rattle.press_callbacks.specs.declared.script.CallIn.{CallIn}
@@ -32,8 +32,8 @@ past_parts call parts i p left room below is rest nothing =
 
 -- of bytes to escape
 pub past_bytes : (bytes : List ℕ) (i b : ℕ) (left room : ℕ) → i < length bytes → get_or bytes i 0 ≡ b
-    → left + length (escaped (take i bytes)) ≡ room → left < length (escaped_byte b) → left_of room (length (escaped bytes)) ≡ None
-past_bytes bytes i b left room below is rest more = nothing_left room (length (escaped bytes)) (past escaped_byte bytes i 0 b left room below is rest more)
+    → left + length (escaped_text (take i bytes)) ≡ room → left < length (escaped_byte b) → left_of room (length (escaped_text bytes)) ≡ None
+past_bytes bytes i b left room below is rest more = nothing_left room (length (escaped_text bytes)) (past escaped_byte bytes i 0 b left room below is rest more)
 
 -- all texts of a list of parts
 pub texts_within : (call : CallIn) (all : List (List Part)) (most : ℕ) → list_all (λ t. leb (length t) most) (map (text_of call) all) ≡ list_all (λ parts. leb (length (text_of call parts)) most) all

@@ -1,11 +1,7 @@
 -- Things with a name in the order of their names, byte by byte.
 use Rattle.std.specs.Prelude.{ℕ, suc, List, [], ◌∷◌, length, Bool, true, false, not, ◌||◌, ◌&&◌, cond, bytes_eq, insert, position, unwrap_or, Option, Some, None, option_map}
 use Rattle.std.specs.List.{list_any, list_all}
-use Rattle.std.specs.Cmp.Lexicographic.{slice_cmp}
-use Rattle.std.specs.Ordering.{nat_cmp, is_lt}
-
-abbrev pub is_before : List ℕ → List ℕ → Bool
-is_before a b = is_lt (slice_cmp nat_cmp a b)
+use Rattle.press_text.specs.NameOrder.{is_before}
 
 -- before the first of a later name, or last
 abbrev pub place_by_name : {T : Type 0} → (T → List ℕ) → T → List T → ℕ

@@ -3,7 +3,7 @@
 use Rattle.std.specs.Prelude.{ℕ, List, [], ◌∷◌, Option, Some, None, slice_get, map, length, ◌≡◌, ◌<◌, Result, Ok, bytes_eq, cond, Bool, leb}
 use Rattle.std.specs.List.{flat_map, list_all}
 use Rattle.std.specs.declared.alloc.AllocError.{AllocError}
-use Rattle.press_text.specs.Escapes.{escaped}
+use Rattle.press_text.specs.Escapes.{escaped_text}
 use Rattle.press_scan.specs.Attributes.{value_of}
 use Rattle.press_callbacks.specs.declared.script.Source.{Source}
 use Rattle.press_callbacks.specs.declared.script.Source.TheVariants.{Arg, Att, Content, Tag, Value, Last}
@@ -30,14 +30,14 @@ source_text call Last = call.last
 abbrev pub part_text : CallIn → Part → List ℕ
 part_text call (Lit t) = t
 part_text call (Raw source) = source_text call source
-part_text call (Escaped source) = escaped (source_text call source)
+part_text call (Escaped source) = escaped_text (source_text call source)
 
 abbrev pub text_of : CallIn → List Part → List ℕ
 text_of call parts = flat_map (part_text call) parts
 
 -- how many ops are passed over: n where the two texts are equal
-abbrev pub skipped : List ℕ → List ℕ → ℕ → ℕ
-skipped left right n = cond (bytes_eq left right) n 0
+abbrev pub skip_count : List ℕ → List ℕ → ℕ → ℕ
+skip_count left right n = cond (bytes_eq left right) n 0
 
 abbrev pub turn_of_op : CallIn → Op → Turn
 turn_of_op call (op.Set ps) = turn.Go (text_of call ps)
@@ -46,7 +46,7 @@ turn_of_op call (op.RemoveHook h c p) = turn.RemoveHook h c p
 turn_of_op call (op.RemoveAll h p) = turn.RemoveAll h p
 turn_of_op call (op.AddTag t c) = turn.AddTag t c
 turn_of_op call (op.RemoveTag t) = turn.RemoveTag t
-turn_of_op call (op.SkipIf l r n) = turn.Skip (skipped (text_of call l) (text_of call r) n)
+turn_of_op call (op.SkipIf l r n) = turn.Skip (skip_count (text_of call l) (text_of call r) n)
 turn_of_op call (op.Apply h v more) = turn.Apply h (text_of call v ∷ map (text_of call) more)
 turn_of_op call (op.Do h args) = turn.Do h (map (text_of call) args)
 turn_of_op call (op.Shortcodes ps) = turn.Shortcodes (text_of call ps)

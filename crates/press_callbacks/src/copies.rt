@@ -8,10 +8,10 @@ use press_text::{Copied, Every, HookName, Items, OptName};
 use std::alloc::{AllocError, Global};
 
 impl Copied for Source {
-    fn copied(&self, alloc: Global) -> Result<Source, AllocError> {
+    fn copy_in(&self, alloc: Global) -> Result<Source, AllocError> {
         match self {
             Source::Arg(n) => Ok(Source::Arg(*n)),
-            Source::Att(key) => Ok(Source::Att(key.copied(alloc)?)),
+            Source::Att(key) => Ok(Source::Att(key.copy_in(alloc)?)),
             Source::Content => Ok(Source::Content),
             Source::Tag => Ok(Source::Tag),
             Source::Value => Ok(Source::Value),
@@ -21,17 +21,17 @@ impl Copied for Source {
 }
 
 impl Copied for Part {
-    fn copied(&self, alloc: Global) -> Result<Part, AllocError> {
+    fn copy_in(&self, alloc: Global) -> Result<Part, AllocError> {
         match self {
             Part::Lit(text) => Ok(Part::Lit(text.copy(alloc)?)),
-            Part::Raw(source) => Ok(Part::Raw(source.copied(alloc)?)),
-            Part::Escaped(source) => Ok(Part::Escaped(source.copied(alloc)?)),
+            Part::Raw(source) => Ok(Part::Raw(source.copy_in(alloc)?)),
+            Part::Escaped(source) => Ok(Part::Escaped(source.copy_in(alloc)?)),
         }
     }
 }
 
 impl Copied for Ask {
-    fn copied(&self, alloc: Global) -> Result<Ask, AllocError> {
+    fn copy_in(&self, alloc: Global) -> Result<Ask, AllocError> {
         match self {
             Ask::Did(hook) => Ok(Ask::Did(hook.copy(alloc)?)),
             Ask::Doing(hook) => Ok(Ask::Doing(hook.copy(alloc)?)),
@@ -43,9 +43,9 @@ impl Copied for Ask {
 }
 
 impl Copied for Op {
-    fn copied(&self, alloc: Global) -> Result<Op, AllocError> {
+    fn copy_in(&self, alloc: Global) -> Result<Op, AllocError> {
         match self {
-            Op::Set(parts) => Ok(Op::Set(parts.copied(alloc)?)),
+            Op::Set(parts) => Ok(Op::Set(parts.copy_in(alloc)?)),
             Op::AddHook {
                 hook,
                 callback,
@@ -80,8 +80,8 @@ impl Copied for Op {
             Op::SkipIf { left, right, n } => skip_if(alloc, left, right, *n),
             Op::Apply { hook, value, more } => apply(alloc, hook, value, more),
             Op::Do { hook, args } => start(alloc, hook, args),
-            Op::Shortcodes(parts) => Ok(Op::Shortcodes(parts.copied(alloc)?)),
-            Op::Ask(ask) => Ok(Op::Ask(ask.copied(alloc)?)),
+            Op::Shortcodes(parts) => Ok(Op::Shortcodes(parts.copy_in(alloc)?)),
+            Op::Ask(ask) => Ok(Op::Ask(ask.copy_in(alloc)?)),
             Op::SetOption { name, value } => set_option(alloc, name, value),
             Op::Schedule {
                 after,
@@ -95,9 +95,9 @@ impl Copied for Op {
                 };
                 schedule(alloc, times, hook, arg)
             }
-            Op::Publish(parts) => Ok(Op::Publish(parts.copied(alloc)?)),
-            Op::Echo(parts) => Ok(Op::Echo(parts.copied(alloc)?)),
-            Op::Return(parts) => Ok(Op::Return(parts.copied(alloc)?)),
+            Op::Publish(parts) => Ok(Op::Publish(parts.copy_in(alloc)?)),
+            Op::Echo(parts) => Ok(Op::Echo(parts.copy_in(alloc)?)),
+            Op::Return(parts) => Ok(Op::Return(parts.copy_in(alloc)?)),
         }
     }
 }
@@ -105,8 +105,8 @@ impl Copied for Op {
 fn skip_if(alloc: Global, left: &Parts, right: &Parts, n: u16) -> Result<Op, AllocError>
     ensures { IfOk result (λ op. op ≡ Op.SkipIf left.now right.now n) }
 {
-    let left = left.copied(alloc)?;
-    let right = right.copied(alloc)?;
+    let left = left.copy_in(alloc)?;
+    let right = right.copy_in(alloc)?;
     Ok(Op::SkipIf { left, right, n })
 }
 
@@ -119,8 +119,8 @@ fn apply(
     ensures { IfOk result (λ op. op ≡ Op.Apply hook.now value.now more.now) }
 {
     let hook = hook.copy(alloc)?;
-    let value = value.copied(alloc)?;
-    let more = more.copied(alloc)?;
+    let value = value.copy_in(alloc)?;
+    let more = more.copy_in(alloc)?;
     Ok(Op::Apply { hook, value, more })
 }
 
@@ -128,7 +128,7 @@ fn start(alloc: Global, hook: &HookName, args: &Items<Parts>) -> Result<Op, Allo
     ensures { IfOk result (λ op. op ≡ Op.Do hook.now args.now) }
 {
     let hook = hook.copy(alloc)?;
-    let args = args.copied(alloc)?;
+    let args = args.copy_in(alloc)?;
     Ok(Op::Do { hook, args })
 }
 
@@ -136,7 +136,7 @@ fn set_option(alloc: Global, name: &OptName, value: &Parts) -> Result<Op, AllocE
     ensures { IfOk result (λ op. op ≡ Op.SetOption name.now value.now) }
 {
     let name = name.copy(alloc)?;
-    let value = value.copied(alloc)?;
+    let value = value.copy_in(alloc)?;
     Ok(Op::SetOption { name, value })
 }
 
@@ -151,7 +151,7 @@ fn schedule(alloc: Global, times: Times, hook: &HookName, arg: &Parts) -> Result
     ensures { IfOk result (λ op. op ≡ Op.Schedule times.after times.every hook.now arg.now) }
 {
     let hook = hook.copy(alloc)?;
-    let arg = arg.copied(alloc)?;
+    let arg = arg.copy_in(alloc)?;
     Ok(Op::Schedule {
         after: times.after,
         every: times.every,

@@ -2,7 +2,8 @@
 
 ghost use Rattle.std.specs.Prelude.{◌≡◌, ◌≤◌, ℕ, List, length, bytes_eq, true, false};
 ghost use Rattle.std.specs.List.Sorted.{IsPartitionPoint};
-ghost use Rattle.press_callbacks.specs.Order.{place_of, in_order, is_before};
+ghost use Rattle.press_text.specs.NameOrder.{is_before};
+ghost use Rattle.press_callbacks.specs.Order.{place_of, in_order};
 
 use crate::stored::Stored;
 use press_text::CallbackId;

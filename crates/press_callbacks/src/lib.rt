@@ -15,7 +15,6 @@ mod kit_fault;
 mod kits;
 mod known;
 mod named;
-mod pieces;
 mod plugin;
 mod same;
 mod script;
@@ -25,6 +24,7 @@ mod sources;
 mod stored;
 mod tables;
 mod turns;
+mod unread_text;
 
 pub use built_in::{check_and_publish_future_post, do_shortcode, is_built_in, is_do_shortcode};
 pub use callback::Callback;

@@ -3,7 +3,8 @@
 ghost use Rattle.std.specs.Prelude.{◌≡◌, ◌≤◌, ℕ, List, length, bytes_eq, true, false};
 ghost use Rattle.std.specs.List.Sorted.{IsPartitionPoint, IsPermutation};
 ghost use Rattle.std.specs.Ordering.{is_lt};
-ghost use Rattle.press_callbacks.specs.Order.{place_of, in_order, is_before};
+ghost use Rattle.press_text.specs.NameOrder.{is_before};
+ghost use Rattle.press_callbacks.specs.Order.{place_of, in_order};
 
 use crate::plugin::Plugin;
 use crate::stored::Stored;

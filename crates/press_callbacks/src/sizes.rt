@@ -2,7 +2,7 @@
 
 ghost use Rattle.std.specs.Prelude.{◌≡◌, length, leb};
 ghost use Rattle.std.specs.List.{list_all};
-ghost use Rattle.press_text.specs.Escapes.{escaped_byte, escaped};
+ghost use Rattle.press_text.specs.Escapes.{escaped_byte, escaped_text};
 ghost use Rattle.press_callbacks.specs.Sizes.{left_of};
 ghost use Rattle.press_callbacks.specs.Turns.{are_within, part_text, text_of, turn_of, turn_of_op};
 
@@ -79,7 +79,7 @@ fn room_behind(part: &Part, call: &CallIn, room: usize) -> Option<usize>
 
 #[tactic(auto, using(crate::proofs::Past::past_bytes))]
 fn room_behind_escape(text: &[u8], room: usize) -> Option<usize>
-    ensures { result ≡ left_of room (length (escaped text.now)) }
+    ensures { result ≡ left_of room (length (escaped_text text.now)) }
 {
     let mut left = room;
     for byte in text {

@@ -1,11 +1,11 @@
 ghost use Rattle.std.specs.Prelude.{◌≡◌, ◌<◌, ◌∷◌, ◌++◌, map, length, IfOk, IfSome, OnOk, OnErr};
-ghost use Rattle.press_text.specs.Escapes.{escaped};
-ghost use Rattle.press_callbacks.specs.Turns.{source_text, part_text, skipped, text_of, turn_of_op, turn_of, TakesMemory};
+ghost use Rattle.press_text.specs.Escapes.{escaped_text};
+ghost use Rattle.press_callbacks.specs.Turns.{source_text, part_text, skip_count, text_of, turn_of_op, turn_of, TakesMemory};
 ghost use Rattle.press_callbacks.specs.declared.script.Turn.TheVariants.{Go, Return};
 
-use crate::pieces::{Pieces, are_same};
 use crate::script::{Ask, CallIn, Op, Part, Parts, Script, Source, Turn};
 use crate::sources::source_text;
+use crate::unread_text::{UnreadText, are_same};
 use press_text::{Copied, Items, Text, Texts, esc_html};
 use std::alloc::{AllocError, Global};
 
@@ -98,7 +98,7 @@ fn op_turn(alloc: Global, op: &Op, call: &CallIn) -> Result<Turn, AllocError>
             Ok(Turn::Do { hook, texts })
         }
         Op::Shortcodes(parts) => Ok(Turn::Shortcodes(text_of(alloc, parts, call)?)),
-        Op::Ask(ask) => Ok(Turn::Ask(ask.copied(alloc)?)),
+        Op::Ask(ask) => Ok(Turn::Ask(ask.copy_in(alloc)?)),
         Op::SetOption { name, value } => Ok(Turn::SetOption {
             name: name.copy(alloc)?,
             value: text_of(alloc, value, call)?,
@@ -122,10 +122,10 @@ fn op_turn(alloc: Global, op: &Op, call: &CallIn) -> Result<Turn, AllocError>
 
 // How many ops a SkipIf passes over: those that it names where the two texts are equal.
 fn skip_count(n: u16, left: &Parts, right: &Parts, call: &CallIn) -> u16
-    ensures { result ≡ skipped (text_of call.now left.now) (text_of call.now right.now) n }
+    ensures { result ≡ skip_count (text_of call.now left.now) (text_of call.now right.now) n }
 {
-    let left = Pieces::new(call, left.as_slice());
-    let right = Pieces::new(call, right.as_slice());
+    let left = UnreadText::new(call, left.as_slice());
+    let right = UnreadText::new(call, right.as_slice());
     if are_same(left, right) { n } else { 0 }
 }
 
@@ -218,7 +218,7 @@ fn push_part(alloc: Global, text: &mut Text, part: &Part, call: &CallIn) -> Resu
 }
 
 fn escape(alloc: Global, source: &Source, call: &CallIn) -> Result<Text, AllocError>
-    ensures text { IfOk result (λ t. t ≡ escaped (source_text call.now source.now)) }
+    ensures text { IfOk result (λ t. t ≡ escaped_text (source_text call.now source.now)) }
     ensures memory { OnErr result (0 < length (source_text call.now source.now)) }
 {
     let mut raw = Text::new(alloc);

@@ -5,15 +5,15 @@ use Rattle.std.proofs.lemmas.Option.{slice_get_within}
 use Rattle.press_apply.specs.declared.command.Stamped.{Stamped}
 use Rattle.press_site.specs.declared.token.Outcome.{Outcome}
 use Rattle.press_site.specs.declared.token.Outcome.TheVariants as outcome
-use Rattle.press_client.specs.Course.{Course, GoesOn, Stands, after_taken, after_told, ended_by, first_course, held, is_drained, next_place, turned}
+use Rattle.press_client.specs.Course.{Course, GoesOn, Stands, after_taken, after_told, after_ending, first_course, on_hold, is_drained, next_place, at_next_member}
 use Rattle.press_client.specs.Delivering.{AreEndings, AreInOrder, Delivers, Ends, IsSettled, ending_of}
 use Rattle.press_client.specs.Saying.{Adds, Has, Said, Says, SaysNothing, asks, sends}
 use Rattle.press_client.specs.declared.ending.Ending.{Ending}
 use Rattle.press_client.specs.declared.ending.Ending.TheVariants.{Done, NotTaken, Refused}
-use Rattle.press_client.specs.declared.newsroom.Taken.{Taken}
-use Rattle.press_client.specs.declared.newsroom.Taken.TheVariants as taken
-use Rattle.press_client.specs.declared.newsroom.Told.{Told}
-use Rattle.press_client.specs.declared.newsroom.Told.TheVariants as told
+use Rattle.press_client.specs.declared.newsroom.FormAnswer.{FormAnswer}
+use Rattle.press_client.specs.declared.newsroom.FormAnswer.TheVariants as taken
+use Rattle.press_client.specs.declared.newsroom.OutcomeAnswer.{OutcomeAnswer}
+use Rattle.press_client.specs.declared.newsroom.OutcomeAnswer.TheVariants as told
 
 -- ---- what was said stays said
 
@@ -74,7 +74,7 @@ got_within [] i less = absurd (omega (arith, less))
 got_within (x ∷ xs) zero less = (x, refl)
 got_within (x ∷ xs) (suc i) less = got_within xs i (omega (arith, less))
 
-turned_stands : (said : List Said) (c : Course) → Stands said c → Stands said (turned c)
+turned_stands : (said : List Said) (c : Course) → Stands said c → Stands said (at_next_member c)
 turned_stands said c stands = record {
   in_order = stands.in_order;
   ended = stands.ended;
@@ -89,7 +89,7 @@ held_stands said c is_held waited stands =
     record { in_order = stands.in_order; ended = stands.ended; ahead = stands.ahead; within = stands.within; settled = stands.settled }
 
 -- something that is asked
-asked : (place : ℕ) (token : _) (told : Told) (said : List Said) (c : Course) → Stands said c → Stands (asks place token told ∷ said) c
+asked : (place : ℕ) (token : _) (told : OutcomeAnswer) (said : List Said) (c : Course) → Stands said c → Stands (asks place token told ∷ said) c
 asked place token told said c stands = record {
   in_order = stands.in_order;
   ended = endings_still (asks place token told) c.commands said c.endings stands.ended;
@@ -99,7 +99,7 @@ asked place token told said c stands = record {
 }
 
 -- the command that is next is sent
-sent : (taken : Taken) (command : Stamped) (said : List Said) (c : Course) → slice_get c.commands c.sent ≡ Some command → Stands said c → Stands (sends c.place command taken ∷ said) c
+sent : (taken : FormAnswer) (command : Stamped) (said : List Said) (c : Course) → slice_get c.commands c.sent ≡ Some command → Stands said c → Stands (sends c.place command taken ∷ said) c
 sent taken command said c is stands = record {
   in_order = ((c.sent, is, λ j earlier less at. stands.settled j earlier less at), stands.in_order);
   ended = endings_still (sends c.place command taken) c.commands said c.endings stands.ended;
@@ -151,7 +151,7 @@ settled_behind said c next last stands is ends i command at (inr (inr same)) =
     let one : next ≡ command = cc in
     inl (last, subst (λ (it : Stamped). Ends said it last) one ends)
 
-ended : (command : Stamped) (last : Ending) (said : List Said) (c : Course) → slice_get c.commands (length c.endings) ≡ Some command → Ends said command last → Stands said c → Stands said (ended_by last c)
+ended : (command : Stamped) (last : Ending) (said : List Said) (c : Course) → slice_get c.commands (length c.endings) ≡ Some command → Ends said command last → Stands said c → Stands said (after_ending last c)
 ended command last said c is ends stands =
     let longer : length (c.endings ++ last ∷ []) ≡ length c.endings + 1 = length-append c.endings (last ∷ []) in
     let room : length c.endings < length c.commands = slice_get_within c.commands (length c.endings) command is in
@@ -174,28 +174,28 @@ either : (said : List Said) (b : Bool) (one other : Course) → Stands said one 
 either said true one other stands also = stands
 either said false one other stands also = also
 
-heard : (t : Told) (command : Stamped) (said : List Said) (c : Course) → slice_get c.commands (length c.endings) ≡ Some command → Stands said c → Stands (asks c.place command.token t ∷ said) (after_told t c)
+heard : (t : OutcomeAnswer) (command : Stamped) (said : List Said) (c : Course) → slice_get c.commands (length c.endings) ≡ Some command → Stands said c → Stands (asks c.place command.token t ∷ said) (after_told t c)
 heard (told.Outcome o) command said c is stands =
     ended command (ending_of o) (asks c.place command.token (told.Outcome o) ∷ said) c is (ends_by c.place command o said) (asked c.place command.token (told.Outcome o) said c stands)
 heard told.NotYet command said c is stands =
     let now = asked c.place command.token told.NotYet said c stands in
-    either _ (nat_le 1000 c.waited) (turned c) (record c { waited = c.waited + 1 }) (turned_stands _ c now) (held_stands _ c c.is_held (c.waited + 1) now)
+    either _ (nat_le 1000 c.waited) (at_next_member c) (record c { waited = c.waited + 1 }) (turned_stands _ c now) (held_stands _ c c.is_held (c.waited + 1) now)
 heard told.Lost command said c is stands = turned_stands _ c (asked c.place command.token told.Lost said c stands)
 
 -- a refusal holds where the member has none of the commands that hasn't ended
 refused : (status : ℕ) (command : Stamped) (said : List Said) (c : Course) → slice_get c.commands c.sent ≡ Some command → Stands (sends c.place command (taken.Refused status) ∷ said) c →
-    (b : Bool) → is_drained c ≡ b → Stands (sends c.place command (taken.Refused status) ∷ said) (if b then ended_by (NotTaken status) c else held c)
+    (b : Bool) → is_drained c ≡ b → Stands (sends c.place command (taken.Refused status) ∷ said) (if b then after_ending (NotTaken status) c else on_hold c)
 refused status command said c is stands true is_true =
     let within : c.sent ≤ length c.endings = leb-true c.sent (length c.endings) is_true in
     let drained : c.sent ≡ length c.endings = omega (arith, within, stands.ahead) in
     ended command (NotTaken status) _ c (subst (λ (k : ℕ). slice_get c.commands k ≡ Some command) drained is) (c.place, inl refl) stands
 refused status command said c is stands false is_false = held_stands _ c true c.waited stands
 
-went : (t : Taken) (command : Stamped) (said : List Said) (c : Course) → slice_get c.commands c.sent ≡ Some command → Stands said c → Stands (sends c.place command t ∷ said) (after_taken t c)
+went : (t : FormAnswer) (command : Stamped) (said : List Said) (c : Course) → slice_get c.commands c.sent ≡ Some command → Stands said c → Stands (sends c.place command t ∷ said) (after_taken t c)
 went taken.Queued command said c is stands = queued command _ c is (inl refl) (sent taken.Queued command said c is stands)
 went taken.Busy command said c is stands =
     let now = sent taken.Busy command said c is stands in
-    either _ (is_drained c) (turned c) (held c) (turned_stands _ c now) (held_stands _ c true c.waited now)
+    either _ (is_drained c) (at_next_member c) (on_hold c) (turned_stands _ c now) (held_stands _ c true c.waited now)
 went (taken.Refused status) command said c is stands = refused status command said c is (sent (taken.Refused status) command said c is stands) (is_drained c) refl
 went taken.Lost command said c is stands = turned_stands _ c (sent taken.Lost command said c is stands)
 
@@ -203,25 +203,25 @@ same_either : (b : Bool) (one other : Course) (commands : List Stamped) → one.
 same_either true one other commands same also = same
 same_either false one other commands same also = also
 
-same_taken : (t : Taken) (c : Course) → (after_taken t c).commands ≡ c.commands
+same_taken : (t : FormAnswer) (c : Course) → (after_taken t c).commands ≡ c.commands
 same_taken taken.Queued c = refl
-same_taken taken.Busy c = same_either (is_drained c) (turned c) (held c) c.commands refl refl
-same_taken (taken.Refused status) c = same_either (is_drained c) (ended_by (NotTaken status) c) (held c) c.commands refl refl
+same_taken taken.Busy c = same_either (is_drained c) (at_next_member c) (on_hold c) c.commands refl refl
+same_taken (taken.Refused status) c = same_either (is_drained c) (after_ending (NotTaken status) c) (on_hold c) c.commands refl refl
 same_taken taken.Lost c = refl
 
-same_told : (t : Told) (c : Course) → (after_told t c).commands ≡ c.commands
+same_told : (t : OutcomeAnswer) (c : Course) → (after_told t c).commands ≡ c.commands
 same_told (told.Outcome o) c = refl
-same_told told.NotYet c = same_either (nat_le 1000 c.waited) (turned c) (record c { waited = c.waited + 1 }) c.commands refl refl
+same_told told.NotYet c = same_either (nat_le 1000 c.waited) (at_next_member c) (record c { waited = c.waited + 1 }) c.commands refl refl
 same_told told.Lost c = refl
 
-pub sending : (t : Taken) (command : Stamped) (x y z : Option (List Said)) (before after : Course) → slice_get before.commands before.sent ≡ Some command → Adds x y (sends before.place command t) → after ≡ after_taken t before →
+pub sending : (t : FormAnswer) (command : Stamped) (x y z : Option (List Said)) (before after : Course) → slice_get before.commands before.sent ≡ Some command → Adds x y (sends before.place command t) → after ≡ after_taken t before →
     SaysNothing y z → GoesOn x z before after
 sending t command x y z before after is adds takes nothing = (
   ap (λ (c : Course). c.commands) takes ∙ same_taken t before,
   λ said stands. (sends before.place command t ∷ [], says_then x y z (sends before.place command t ∷ []) [] adds nothing, subst (λ (c : Course). Stands (sends before.place command t ∷ said) c) (sym takes) (went t command said before is stands)),
 )
 
-pub asking : (t : Told) (command : Stamped) (x y z : Option (List Said)) (before after : Course) → slice_get before.commands (length before.endings) ≡ Some command → Adds x y (asks before.place command.token t) →
+pub asking : (t : OutcomeAnswer) (command : Stamped) (x y z : Option (List Said)) (before after : Course) → slice_get before.commands (length before.endings) ≡ Some command → Adds x y (asks before.place command.token t) →
     after ≡ after_told t before → SaysNothing y z → GoesOn x z before after
 asking t command x y z before after is adds hears nothing = (
   ap (λ (c : Course). c.commands) hears ∙ same_told t before,

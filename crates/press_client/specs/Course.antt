@@ -6,10 +6,10 @@ use Rattle.press_client.specs.declared.delivery.Next.{Next}
 use Rattle.press_client.specs.declared.delivery.Next.TheVariants as next
 use Rattle.press_client.specs.declared.ending.Ending.{Ending}
 use Rattle.press_client.specs.declared.ending.Ending.TheVariants.{NotTaken}
-use Rattle.press_client.specs.declared.newsroom.Taken.{Taken}
-use Rattle.press_client.specs.declared.newsroom.Taken.TheVariants as taken
-use Rattle.press_client.specs.declared.newsroom.Told.{Told}
-use Rattle.press_client.specs.declared.newsroom.Told.TheVariants as told
+use Rattle.press_client.specs.declared.newsroom.FormAnswer.{FormAnswer}
+use Rattle.press_client.specs.declared.newsroom.FormAnswer.TheVariants as taken
+use Rattle.press_client.specs.declared.newsroom.OutcomeAnswer.{OutcomeAnswer}
+use Rattle.press_client.specs.declared.newsroom.OutcomeAnswer.TheVariants as told
 use Rattle.press_client.specs.Delivering.{AreEndings, AreInOrder, IsSettled, ending_of}
 use Rattle.press_client.specs.Saying.{Said, Says}
 
@@ -50,43 +50,43 @@ abbrev pub next_place : Course → ℕ
 next_place c = if nat_lt (c.place + 1) c.members then c.place + 1 else 0
 
 -- the next member gets what hasn't ended anew
-abbrev pub turned : Course → Course
-turned c = record c { place = next_place c; sent = length c.endings; is_held = false; waited = 0 }
+abbrev pub at_next_member : Course → Course
+at_next_member c = record c { place = next_place c; sent = length c.endings; is_held = false; waited = 0 }
 
 -- no more goes to the member for now
-abbrev pub held : Course → Course
-held c = record c { is_held = true }
+abbrev pub on_hold : Course → Course
+on_hold c = record c { is_held = true }
 
 -- the oldest command has ended
-abbrev pub ended_by : Ending → Course → Course
-ended_by ending c = record c { endings = c.endings ++ ending ∷ []; sent = max c.sent (length c.endings + 1); is_held = false; waited = 0 }
+abbrev pub after_ending : Ending → Course → Course
+after_ending ending c = record c { endings = c.endings ++ ending ∷ []; sent = max c.sent (length c.endings + 1); is_held = false; waited = 0 }
 
 -- the member is asked again, a thousand times at most
-abbrev pub waited_on : Course → Course
-waited_on c = if nat_le 1000 c.waited then turned c else record c { waited = c.waited + 1 }
+abbrev pub after_wait : Course → Course
+after_wait c = if nat_le 1000 c.waited then at_next_member c else record c { waited = c.waited + 1 }
 
 -- A member that takes no more, or refuses a command, is asked again once all that it has have
 -- ended; one that has none is left for the next, and its refusal holds.
-abbrev pub after_taken : Taken → Course → Course
+abbrev pub after_taken : FormAnswer → Course → Course
 after_taken taken.Queued c = record c { sent = c.sent + 1 }
-after_taken taken.Busy c = if is_drained c then turned c else held c
-after_taken (taken.Refused status) c = if is_drained c then ended_by (NotTaken status) c else held c
-after_taken taken.Lost c = turned c
+after_taken taken.Busy c = if is_drained c then at_next_member c else on_hold c
+after_taken (taken.Refused status) c = if is_drained c then after_ending (NotTaken status) c else on_hold c
+after_taken taken.Lost c = at_next_member c
 
-abbrev pub after_told : Told → Course → Course
-after_told (told.Outcome outcome) c = ended_by (ending_of outcome) c
-after_told told.NotYet c = waited_on c
-after_told told.Lost c = turned c
+abbrev pub after_told : OutcomeAnswer → Course → Course
+after_told (told.Outcome outcome) c = after_ending (ending_of outcome) c
+after_told told.NotYet c = after_wait c
+after_told told.Lost c = at_next_member c
 
 -- ---- what comes next
 
-abbrev pub next_by_taken : Taken → Course → Next
+abbrev pub next_by_taken : FormAnswer → Course → Next
 next_by_taken taken.Queued c = next.On
 next_by_taken taken.Busy c = if is_drained c then next.Later else next.On
 next_by_taken (taken.Refused status) c = if is_drained c then next.Note else next.On
 next_by_taken taken.Lost c = next.Later
 
-abbrev pub next_by_told : Told → Next
+abbrev pub next_by_told : OutcomeAnswer → Next
 next_by_told (told.Outcome outcome) = next.Note
 next_by_told told.NotYet = next.Again
 next_by_told told.Lost = next.Later

@@ -8,8 +8,8 @@ use Rattle.press_site.specs.declared.token.Outcome.{Outcome}
 use Rattle.press_site.specs.declared.token.Outcome.TheVariants as outcome
 use Rattle.press_client.specs.declared.ending.Ending.{Ending}
 use Rattle.press_client.specs.declared.ending.Ending.TheVariants.{Done, NotTaken, Refused}
-use Rattle.press_client.specs.declared.newsroom.Taken.TheVariants as taken
-use Rattle.press_client.specs.declared.newsroom.Told.TheVariants as told
+use Rattle.press_client.specs.declared.newsroom.FormAnswer.TheVariants as taken
+use Rattle.press_client.specs.declared.newsroom.OutcomeAnswer.TheVariants as told
 use Rattle.press_client.specs.Saying.{Has, Said, Says, asks, sends}
 
 abbrev pub ending_of : Outcome → Ending

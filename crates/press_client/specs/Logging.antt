@@ -8,8 +8,8 @@ use Rattle.serde_json.specs.View.{items_of}
 use Rattle.press_site.specs.declared.token.Token.{Token}
 use Rattle.press_text.specs.Names.{name_fault}
 use Rattle.press_client.specs.Exporting.{command_text}
-use Rattle.press_client.specs.declared.entry.Entry.{Entry}
-use Rattle.press_client.specs.declared.entry.Entry.TheVariants.{Command, Filler}
+use Rattle.press_client.specs.declared.entry.LogEntry.{LogEntry}
+use Rattle.press_client.specs.declared.entry.LogEntry.TheVariants.{Command, Filler}
 use Rattle.press_client.specs.declared.log.Piece.{Piece}
 
 abbrev pub number_at : List ℕ → Data → Option ℕ
@@ -30,11 +30,11 @@ abbrev pub AreFields : ℕ → List ℕ → Data → Type 0
 AreFields at fields d = depth d ≤ max_depth → read (command_text at fields) ≡ Some d
 
 -- an entry without a kind is a moment alone
-abbrev pub IsEntry : Entry → Data → Type 0
+abbrev pub IsEntry : LogEntry → Data → Type 0
 IsEntry (Command token at fields) d = (number_at (codes "at") d ≡ Some at) × IsToken token d × AreFields at fields d
 IsEntry (Filler at) d = (number_at (codes "at") d ≡ Some at) × (get (codes "kind") d ≡ None)
 
-abbrev pub AreEntries : List Entry → List Data → Type 0
+abbrev pub AreEntries : List LogEntry → List Data → Type 0
 AreEntries [] [] = Unit {0}
 AreEntries [] (d ∷ ds) = ⊥
 AreEntries (e ∷ es) [] = ⊥

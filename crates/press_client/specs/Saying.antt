@@ -2,14 +2,14 @@
 use Rattle.std.specs.Prelude.{ℕ, ◌≡◌, ◌⊎◌, List, [], ◌∷◌, ◌++◌, Option, None, Some}
 use Rattle.press_apply.specs.declared.command.Stamped.{Stamped}
 use Rattle.press_site.specs.declared.token.Token.{Token}
-use Rattle.press_client.specs.declared.newsroom.Taken.{Taken}
-use Rattle.press_client.specs.declared.newsroom.Told.{Told}
+use Rattle.press_client.specs.declared.newsroom.FormAnswer.{FormAnswer}
+use Rattle.press_client.specs.declared.newsroom.OutcomeAnswer.{OutcomeAnswer}
 
 -- a command goes to the member at a place, which makes this of it; or a member is asked for the
 -- outcome under a token, and says this
 pub data Said : Type 0 where
-  sends : ℕ → Stamped → Taken → Said
-  asks : ℕ → Token → Told → Said
+  sends : ℕ → Stamped → FormAnswer → Said
+  asks : ℕ → Token → OutcomeAnswer → Said
 
 -- it was said
 abbrev pub Has : List Said → Said → Type 0

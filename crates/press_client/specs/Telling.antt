@@ -2,7 +2,7 @@
 -- (own).
 use Rattle.std.specs.Prelude.{ℕ, ◌≡◌, ◌⊎◌, ◌<◌, ◌≤◌, List, [], ◌∷◌, ◌++◌, length, take, Result, Ok, Err}
 use Rattle.press_client.specs.Exporting.{files_of}
-use Rattle.press_client.specs.declared.entry.Entry.{Entry}
+use Rattle.press_client.specs.declared.entry.LogEntry.{LogEntry}
 use Rattle.press_client.specs.declared.log.LogFault.{LogFault}
 use Rattle.press_client.specs.declared.log.LogFault.TheVariants.{NoLog, NoMemory}
 use Rattle.press_client.specs.declared.log.Piece.{Piece}
@@ -10,7 +10,7 @@ use Rattle.press_client.specs.declared.site_files.Limits.{Limits}
 use Rattle.press_client.specs.declared.site_files.SiteFile.{SiteFile}
 
 -- what a first piece and those behind it hold, the last of them in front
-abbrev pub entries_of : Piece → List Piece → List Entry
+abbrev pub entries_of : Piece → List Piece → List LogEntry
 entries_of first [] = first.entries.items
 entries_of first (piece ∷ earlier) = entries_of first earlier ++ piece.entries.items
 

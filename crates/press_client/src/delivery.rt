@@ -2,12 +2,12 @@
 //! one is away.
 
 ghost use Rattle.std.specs.Prelude.{◌≡◌, ◌<◌, ◌≤◌, IfOk, IfSome, Some, length, slice_get};
-ghost use Rattle.press_client.specs.Course.{GoesOn, after_taken, after_told, course_of, ended_by, first_course, is_drained, next_by_taken, next_by_told, turned};
+ghost use Rattle.press_client.specs.Course.{GoesOn, after_taken, after_told, course_of, after_ending, first_course, is_drained, next_by_taken, next_by_told, at_next_member};
 ghost use Rattle.press_client.specs.Delivering.{Delivers};
 ghost use Rattle.press_client.specs.Saying.{SaysNothing};
 
 use crate::ending::Ending;
-use crate::newsroom::{Newsroom, Taken, Told};
+use crate::newsroom::{FormAnswer, Newsroom, OutcomeAnswer};
 use press_apply::Stamped;
 use std::alloc::{AllocError, Global};
 
@@ -15,7 +15,7 @@ use std::alloc::{AllocError, Global};
 const AHEAD: usize = 128;
 
 // After so many answers that there is no outcome yet, another member is asked.
-const PATIENCE: u32 = 1_000;
+const MOST_ANSWERS: u32 = 1_000;
 
 // What comes next.
 #[derive(Clone, Copy, PartialEq, Eq)]
@@ -124,7 +124,7 @@ impl<'a> Delivery<'a> {
 
     // The next member gets all that hasn't ended anew.
     fn turn(&mut self)
-        ensures { course_of self.new ≡ turned (course_of self.old) }
+        ensures { course_of self.new ≡ at_next_member (course_of self.old) }
     {
         let next = self.place.saturating_add(1);
         self.place = if next < self.members { next } else { 0 };
@@ -135,7 +135,7 @@ impl<'a> Delivery<'a> {
 
     // The oldest command has ended.
     fn end(&mut self, ending: Ending) -> Result<(), AllocError>
-        ensures { IfOk result (λ _. course_of self.new ≡ ended_by ending (course_of self.old)) }
+        ensures { IfOk result (λ _. course_of self.new ≡ after_ending ending (course_of self.old)) }
     {
         self.endings.push(ending)?;
         self.sent = self.sent.max(self.endings.len());
@@ -147,8 +147,8 @@ impl<'a> Delivery<'a> {
     // The member takes no more now: it is asked again once all that it has have ended, and if it
     // has none the next one is.
     fn hold(&mut self) -> Next
-        ensures course { course_of self.new ≡ after_taken Taken.Busy (course_of self.old) }
-        ensures next { result ≡ next_by_taken Taken.Busy (course_of self.old) }
+        ensures course { course_of self.new ≡ after_taken FormAnswer.Busy (course_of self.old) }
+        ensures next { result ≡ next_by_taken FormAnswer.Busy (course_of self.old) }
     {
         if self.is_drained() {
             self.turn();
@@ -162,9 +162,9 @@ impl<'a> Delivery<'a> {
     // then it is asked again.
     fn refuse(&mut self, status: u16) -> Result<Next, AllocError>
         ensures course { IfOk result (λ _.
-            course_of self.new ≡ after_taken (Taken.Refused status) (course_of self.old)) }
+            course_of self.new ≡ after_taken (FormAnswer.Refused status) (course_of self.old)) }
         ensures next { IfOk result (λ next.
-            next ≡ next_by_taken (Taken.Refused status) (course_of self.old)) }
+            next ≡ next_by_taken (FormAnswer.Refused status) (course_of self.old)) }
     {
         if self.is_drained() {
             self.end(Ending::NotTaken(status))?;
@@ -175,22 +175,22 @@ impl<'a> Delivery<'a> {
     }
 
     // What a member made of the next command.
-    fn take(&mut self, taken: Taken) -> Result<Next, AllocError>
+    fn take(&mut self, taken: FormAnswer) -> Result<Next, AllocError>
         requires { self.old.sent < length self.old.commands.now }
         ensures course { IfOk result (λ _.
             course_of self.new ≡ after_taken taken (course_of self.old)) }
         ensures next { IfOk result (λ next. next ≡ next_by_taken taken (course_of self.old)) }
     {
         match taken {
-            Taken::Queued => {
+            FormAnswer::Queued => {
                 // There are more, so that it doesn't wrap.
                 let _ = self.commands.len();
                 self.sent += 1;
                 Ok(Next::On)
             }
-            Taken::Busy => Ok(self.hold()),
-            Taken::Refused(status) => self.refuse(status),
-            Taken::Lost => {
+            FormAnswer::Busy => Ok(self.hold()),
+            FormAnswer::Refused(status) => self.refuse(status),
+            FormAnswer::Lost => {
                 self.turn();
                 Ok(Next::Later)
             }
@@ -199,29 +199,29 @@ impl<'a> Delivery<'a> {
 
     // There is no outcome of the oldest command yet.
     fn wait(&mut self) -> Next
-        ensures course { course_of self.new ≡ after_told Told.NotYet (course_of self.old) }
-        ensures next { result ≡ next_by_told Told.NotYet }
+        ensures course { course_of self.new ≡ after_told OutcomeAnswer.NotYet (course_of self.old) }
+        ensures next { result ≡ next_by_told OutcomeAnswer.NotYet }
     {
         self.waited = self.waited.saturating_add(1);
-        if self.waited > PATIENCE {
+        if self.waited > MOST_ANSWERS {
             self.turn();
         }
         Next::Again
     }
 
     // What a member says of the oldest command.
-    fn hear(&mut self, told: Told) -> Result<Next, AllocError>
+    fn hear(&mut self, told: OutcomeAnswer) -> Result<Next, AllocError>
         ensures course { IfOk result (λ _.
             course_of self.new ≡ after_told told (course_of self.old)) }
         ensures next { IfOk result (λ next. next ≡ next_by_told told) }
     {
         match told {
-            Told::Outcome(outcome) => {
+            OutcomeAnswer::Outcome(outcome) => {
                 self.end(Ending::of(outcome))?;
                 Ok(Next::Note)
             }
-            Told::NotYet => Ok(self.wait()),
-            Told::Lost => {
+            OutcomeAnswer::NotYet => Ok(self.wait()),
+            OutcomeAnswer::Lost => {
                 self.turn();
                 Ok(Next::Later)
             }

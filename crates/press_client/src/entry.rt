@@ -3,7 +3,7 @@ use press_text::Text;
 
 /// What a node has applied, as its log tells it.
 #[derive(Debug, Drop)]
-pub enum Entry {
+pub enum LogEntry {
     /// A command: who gave it, its moment, and the text of its fields behind that of the moment, up
     /// to the end of its object.
     Command { token: Token, at: u64, fields: Text },

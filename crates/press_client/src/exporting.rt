@@ -5,7 +5,7 @@ ghost use Rattle.press_client.specs.Exporting as spec;
 ghost use Rattle.press_client.specs.Exporting.{writing_of};
 ghost use Rattle.press_client.specs.Telling.{IsExport, StopsBy};
 
-use crate::entry::Entry;
+use crate::entry::LogEntry;
 use crate::log::{LogFault, Piece};
 use crate::site_files::{Limits, SiteFile, SiteFiles};
 use std::alloc::{AllocError, Global};
@@ -22,7 +22,7 @@ pub trait Teller {
         ensures { tells self.old from result self.new };
 }
 
-fn put_all(files: &mut SiteFiles, entries: Vec<Entry>) -> Result<(), AllocError>
+fn put_all(files: &mut SiteFiles, entries: Vec<LogEntry>) -> Result<(), AllocError>
     ensures put { IfOk result (λ _. writing_of files.new
         ≡ spec.put_all files.old.limits entries.items (writing_of files.old)) }
     ensures limits { files.new.limits ≡ files.old.limits }
@@ -34,7 +34,11 @@ fn put_all(files: &mut SiteFiles, entries: Vec<Entry>) -> Result<(), AllocError>
 }
 
 // The first so many of these; returns how many are left of that.
-fn put_first(files: &mut SiteFiles, mut entries: Vec<Entry>, most: u64) -> Result<u64, AllocError>
+fn put_first(
+    files: &mut SiteFiles,
+    mut entries: Vec<LogEntry>,
+    most: u64,
+) -> Result<u64, AllocError>
     ensures put { IfOk result (λ _. writing_of files.new
         ≡ spec.put_all files.old.limits (take most entries.items) (writing_of files.old)) }
     ensures left { IfOk result (λ left. left ≡ most - length entries.items) }

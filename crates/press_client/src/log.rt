@@ -6,7 +6,7 @@ ghost use Rattle.serde_json.specs.View.{view};
 ghost use Rattle.press_client.specs.Logging.{AreEntries, AreFields, HasToken, IsEntry, IsPiece, IsToken, number_at};
 ghost use Rattle.press_client.specs.declared.log.LogFault.TheVariants.{NoLog, NoMemory};
 
-use crate::entry::Entry;
+use crate::entry::LogEntry;
 use crate::site_files::moment_front;
 use press_site::Token;
 use press_text::{Name, NameFault, Text};
@@ -39,7 +39,7 @@ impl From<AllocError> for LogFault {
 #[derive(Debug, Drop)]
 pub struct Piece {
     pub applied: u64,
-    pub entries: Vec<Entry>,
+    pub entries: Vec<LogEntry>,
 }
 
 fn number(value: &Value, key: &str) -> Result<u64, LogFault>
@@ -80,21 +80,21 @@ fn fields_in(alloc: Global, value: &Value, at: u64) -> Result<Text, LogFault>
     }
 }
 
-fn entry_in(alloc: Global, value: &Value) -> Result<Entry, LogFault>
+fn entry_in(alloc: Global, value: &Value) -> Result<LogEntry, LogFault>
     ensures { IfOk result (λ entry. IsEntry entry (view value.now)) }
 {
     let at = number(value, "at")?;
     match value.get("kind") {
-        None => Ok(Entry::Filler { at }),
+        None => Ok(LogEntry::Filler { at }),
         Some(_) => {
             let token = token_in(alloc, value)?;
             let fields = fields_in(alloc, value, at)?;
-            Ok(Entry::Command { token, at, fields })
+            Ok(LogEntry::Command { token, at, fields })
         }
     }
 }
 
-fn entries_in(alloc: Global, values: &[Value]) -> Result<Vec<Entry>, LogFault>
+fn entries_in(alloc: Global, values: &[Value]) -> Result<Vec<LogEntry>, LogFault>
     ensures { IfOk result (λ entries. AreEntries entries.items (map view values.now)) }
 {
     let mut entries = Vec::new(alloc);

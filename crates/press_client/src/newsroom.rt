@@ -9,7 +9,7 @@ use std::alloc::AllocError;
 
 /// What a member makes of a command that is sent to it.
 #[derive(Clone, Copy, Debug, PartialEq, Eq)]
-pub enum Taken {
+pub enum FormAnswer {
     /// It waits to be chosen.
     Queued,
     /// Too many wait, or the member isn't ready.
@@ -22,7 +22,7 @@ pub enum Taken {
 
 /// What a member says of the outcome of a command.
 #[derive(Clone, Copy, Debug, PartialEq, Eq)]
-pub enum Told {
+pub enum OutcomeAnswer {
     Outcome(Outcome),
     /// It has applied no such command.
     NotYet,
@@ -36,13 +36,13 @@ pub trait Newsroom {
     ghost said: { Self → Option (List Said) };
 
     /// Sends a command to the member at a place.
-    fn submit(&mut self, place: usize, command: &Stamped) -> Result<Taken, AllocError>
+    fn submit(&mut self, place: usize, command: &Stamped) -> Result<FormAnswer, AllocError>
         ensures sends { IfOk result (λ taken.
             Adds (said self.old) (said self.new) (sends place command.now taken)) }
         ensures no_memory { OnErr result (SaysNothing (said self.old) (said self.new)) };
 
     /// Asks the member at a place for the outcome of a command, by its token.
-    fn outcome(&mut self, place: usize, token: &Token) -> Result<Told, AllocError>
+    fn outcome(&mut self, place: usize, token: &Token) -> Result<OutcomeAnswer, AllocError>
         ensures asks { IfOk result (λ told.
             Adds (said self.old) (said self.new) (asks place token.now told)) }
         ensures no_memory { OnErr result (SaysNothing (said self.old) (said self.new)) };

@@ -1,26 +1,17 @@
 //! What a member's reply says.
 
 ghost use Rattle.std.specs.Prelude.{ℕ, ◌≡◌, ◌++◌, IfOk, IfSome, List, codes};
+ghost use Rattle.press_http.specs.StatusLine.{SaysStatus};
 ghost use Rattle.press_client.specs.Logging.{TellsPiece};
-ghost use Rattle.press_client.specs.Replying.{IsNumber, IsOutcome, SaysTaken, SaysTold, Spells, TellsOutcome};
+ghost use Rattle.press_client.specs.Replying.{IsNumber, IsOutcome, SaysTaken, SaysTold, TellsOutcome};
 
 use crate::log::{LogFault, Piece, piece_in};
-use crate::newsroom::{Taken, Told};
+use crate::newsroom::{FormAnswer, OutcomeAnswer};
+use press_http::status_in;
 use press_site::Outcome;
 use press_text::dec_u64;
 use std::alloc::Global;
 use std::str::from_utf8;
-
-// The length of a reply's first bytes up to its status: `HTTP/1.1 200`.
-const FRONT: usize = 12;
-
-fn status_in(reply: &[u8]) -> Option<u16>
-    ensures { IfSome result (λ status. Spells reply.now status) }
-{
-    let front = from_utf8(reply.get(..FRONT)?).ok()?;
-    let code = front.strip_prefix("HTTP/1.1 ")?;
-    u16::try_from(dec_u64(code)?).ok()
-}
 
 // What is behind the first empty line.
 fn body_in(reply: &str) -> Option<&str>
@@ -69,34 +60,34 @@ fn outcome_of_reply(reply: &[u8]) -> Option<Outcome>
 }
 
 /// What a member makes of a command, by its reply to the form.
-pub fn taken_by(reply: &[u8]) -> Taken
+pub fn taken_by(reply: &[u8]) -> FormAnswer
     ensures { SaysTaken result reply.now }
 {
     match status_in(reply) {
-        Some(202) => Taken::Queued,
-        Some(503) => Taken::Busy,
-        Some(status) if 400 <= status && status < 500 => Taken::Refused(status),
-        _ => Taken::Lost,
+        Some(202) => FormAnswer::Queued,
+        Some(503) => FormAnswer::Busy,
+        Some(status) if 400 <= status && status < 500 => FormAnswer::Refused(status),
+        _ => FormAnswer::Lost,
     }
 }
 
 /// What a member says of an outcome, by its reply to the question.
-pub fn told_by(reply: &[u8]) -> Told
+pub fn told_by(reply: &[u8]) -> OutcomeAnswer
     ensures { SaysTold result reply.now }
 {
     match status_in(reply) {
-        Some(404) => Told::NotYet,
+        Some(404) => OutcomeAnswer::NotYet,
         Some(200) => match outcome_of_reply(reply) {
-            Some(outcome) => Told::Outcome(outcome),
-            None => Told::Lost,
+            Some(outcome) => OutcomeAnswer::Outcome(outcome),
+            None => OutcomeAnswer::Lost,
         },
-        _ => Told::Lost,
+        _ => OutcomeAnswer::Lost,
     }
 }
 
 /// The piece of a log that a member tells, by its reply.
 pub fn piece_of_reply(alloc: Global, reply: &[u8]) -> Result<Piece, LogFault>
-    ensures status { IfOk result (λ _. Spells reply.now 200) }
+    ensures status { IfOk result (λ _. SaysStatus reply.now 200) }
     ensures piece { IfOk result (λ piece. TellsPiece piece reply.now) }
 {
     if status_in(reply) != Some(200) {

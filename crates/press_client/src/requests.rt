@@ -29,7 +29,7 @@ pub fn command_request(alloc: Global, host: &str, command: &Stamped) -> Result<S
 }
 
 #[tactic(auto, unfolding(crate::specs::Asking::question_bytes))]
-fn question(alloc: Global, host: &str, editor: &str, seq: u64) -> Result<String, AllocError>
+fn outcome_question(alloc: Global, host: &str, editor: &str, seq: u64) -> Result<String, AllocError>
     ensures { IfOk result (λ t. string_bytes t ≡ question_bytes host.now editor.now seq) }
 {
     format!(in alloc; "GET /result/{editor}/{seq} HTTP/1.1\r\nHost: {host}\r\n\r\n")
@@ -40,7 +40,7 @@ pub fn outcome_request(alloc: Global, host: &str, token: &Token) -> Result<Strin
     ensures { IfOk result (λ request. string_bytes request
         ≡ question_bytes host.now token.now.editor token.now.seq) }
 {
-    question(alloc, host, token.editor.as_str(), token.seq)
+    outcome_question(alloc, host, token.editor.as_str(), token.seq)
 }
 
 /// The request that asks a host what it has applied behind the first so many values.

@@ -4,7 +4,7 @@ ghost use Rattle.std.specs.Prelude.{◌≡◌, ◌<◌, ◌^◌, ◌+◌, IfOk, 
 ghost use Rattle.press_client.specs.Exporting as spec;
 ghost use Rattle.press_client.specs.Exporting.{writing_of};
 
-use crate::entry::Entry;
+use crate::entry::LogEntry;
 use press_site::Token;
 use press_text::Text;
 use std::alloc::{AllocError, Global};
@@ -220,14 +220,14 @@ impl SiteFiles {
     }
 
     /// One entry more. Without memory for it they are of no use any more.
-    pub fn put(&mut self, entry: Entry) -> Result<(), AllocError>
+    pub fn put(&mut self, entry: LogEntry) -> Result<(), AllocError>
         ensures put { IfOk result (λ _. writing_of self.new
             ≡ spec.with_entry self.old.limits entry (writing_of self.old)) }
         ensures limits { self.new.limits ≡ self.old.limits }
     {
         match entry {
-            Entry::Command { token, at, fields } => self.put_command(token, at, fields.as_str()),
-            Entry::Filler { at } => self.put_filler(at),
+            LogEntry::Command { token, at, fields } => self.put_command(token, at, fields.as_str()),
+            LogEntry::Filler { at } => self.put_filler(at),
         }
     }
 

@@ -4,7 +4,7 @@ ghost use Rattle.std.specs.Prelude.{◌<◌, ◌^◌, None};
 
 use crate::exporting::Teller;
 use crate::log::{LogFault, Piece};
-use crate::newsroom::{Newsroom, Taken, Told};
+use crate::newsroom::{FormAnswer, Newsroom, OutcomeAnswer};
 use crate::replies::{piece_of_reply, taken_by, told_by};
 use crate::requests::{command_request, log_request, outcome_request};
 use press_apply::Stamped;
@@ -19,10 +19,10 @@ use std::{io, thread};
 use thiserror::Error;
 
 // The members of a cluster are few.
-const MOST: usize = 7;
+const MOST_MEMBERS: usize = 7;
 
 // How long a member may take to be reached, and for each read and write.
-const SECONDS: u64 = 2;
+const MEMBER_SECONDS: u64 = 2;
 
 // The longest reply that is read to a command or a question, and to one for a piece of a log: 64
 // commands whose bytes are all escaped.
@@ -32,12 +32,12 @@ const LONGEST_LOG: usize = 33_554_432;
 
 // Milliseconds until an outcome is asked for again, and until the next member is asked behind a
 // loss.
-const SOON: u64 = 4;
+const SOON_MILLIS: u64 = 4;
 
-const LATER: u64 = 50;
+const LATER_MILLIS: u64 = 50;
 
 // Seconds without an outcome after which it is not worth while to go on.
-const PATIENCE: u64 = 60;
+const MOST_IDLE_SECONDS: u64 = 60;
 
 // Milliseconds from one line of progress to the next.
 const PACE: u64 = 100;
@@ -115,7 +115,7 @@ impl Drop for Sockets<'_> {
 fn ask(rt: &HostRuntime, to: SocketAddr, request: &[u8], longest: usize) -> io::Result<Vec<u8>>
     requires { longest < 2 ^ 62 }
 {
-    let limit = Duration::from_secs(SECONDS);
+    let limit = Duration::from_secs(MEMBER_SECONDS);
     let mut stream = rt.connect_timeout(to, limit)?;
     stream.set_read_timeout(Some(limit))?;
     stream.set_write_timeout(Some(limit))?;
@@ -132,7 +132,7 @@ impl<'r> Sockets<'r> {
         let mut book = AddressBook::new(rt.alloc());
         let mut hosts = Vec::new(rt.alloc());
         for part in members.split(',') {
-            if hosts.len() >= MOST || book.add(rt, part)? == Listed::Never {
+            if hosts.len() >= MOST_MEMBERS || book.add(rt, part)? == Listed::Never {
                 return Err(MembersFault::Unknown);
             }
             match hosts.push(String::from_str(rt.alloc(), part)?) {
@@ -225,19 +225,19 @@ impl Newsroom for Sockets<'_> {
     // Contracts see nothing of what goes over sockets.
     ghost said = { λ _. None };
 
-    fn submit(&mut self, place: usize, command: &Stamped) -> Result<Taken, AllocError> {
+    fn submit(&mut self, place: usize, command: &Stamped) -> Result<FormAnswer, AllocError> {
         let request = command_request(self.rt.alloc(), self.host(place), command)?;
         match self.reply(place, request.as_bytes(), LONGEST) {
             Some(reply) => Ok(taken_by(&reply)),
-            None => Ok(Taken::Lost),
+            None => Ok(FormAnswer::Lost),
         }
     }
 
-    fn outcome(&mut self, place: usize, token: &Token) -> Result<Told, AllocError> {
+    fn outcome(&mut self, place: usize, token: &Token) -> Result<OutcomeAnswer, AllocError> {
         let request = outcome_request(self.rt.alloc(), self.host(place), token)?;
         match self.reply(place, request.as_bytes(), LONGEST) {
             Some(reply) => Ok(told_by(&reply)),
-            None => Ok(Told::Lost),
+            None => Ok(OutcomeAnswer::Lost),
         }
     }
 
@@ -248,9 +248,9 @@ impl Newsroom for Sockets<'_> {
     }
 
     fn rest(&mut self, answered: bool) -> bool {
-        let millis = if answered { SOON } else { LATER };
+        let millis = if answered { SOON_MILLIS } else { LATER_MILLIS };
         thread::sleep(self.rt, Duration::from_millis(millis));
-        self.watch.look(self.rt) < self.ended.saturating_add(PATIENCE * 1_000)
+        self.watch.look(self.rt) < self.ended.saturating_add(MOST_IDLE_SECONDS * 1_000)
     }
 }
 

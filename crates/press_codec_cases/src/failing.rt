@@ -1,4 +1,4 @@
-use crate::pieces::{Failure, Pieces, Taken};
+use crate::piece_reader::{Failure, PieceReader, Taken};
 use crate::requests::line;
 use press_http::{write_fault, write_reply};
 use press_page::{ContentKind, Reply};
@@ -9,7 +9,10 @@ use press_text::Text;
 pub fn show_failing_reads(rt: &HostRuntime, name: &str, bytes: &[u8]) -> anyhow::Result<()> {
     let mut before = String::new(rt.alloc());
     for call in 0..bytes.len() / 16 + 3 {
-        let now = line(rt.alloc(), Pieces::new(bytes, 16, Failure::AtCall(call)))?;
+        let now = line(
+            rt.alloc(),
+            PieceReader::new(bytes, 16, Failure::AtCall(call)),
+        )?;
         if now != before {
             println!(rt; "{name}, where read {call} fails: {now}")?;
             before = now;

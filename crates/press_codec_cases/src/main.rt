@@ -1,6 +1,6 @@
 //! Reads files as requests, commands, messages and batches: `press_codec_cases FILE ..` prints what
-//! each asks or spells, or which fault it has. `replies` in place of a file prints replies, `writes`
-//! replies whose writes fail; after a word `fails` it is shown what comes of requests whose reads
+//! each asks or spells, or which fault it has. `replies` in place of a file prints replies,
+//! `writes` replies whose writes fail; after a word `fails` it is shown what comes of requests whose reads
 //! fail, after a word `spoils` what comes of files that are cut, lengthened, or have a number at
 //! its greatest, after a word `lengths` what comes of requests whose `Content-Length` is at a limit
 //! or past it, and after a word `times=N` or `heads=N` the files are only read, that many times,
@@ -10,7 +10,7 @@
 mod batches;
 mod failing;
 mod kind;
-mod pieces;
+mod piece_reader;
 mod replies;
 mod requests;
 mod spoiled;

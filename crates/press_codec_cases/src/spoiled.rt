@@ -1,5 +1,5 @@
 use crate::kind::Kind;
-use crate::pieces::{Failure, Pieces};
+use crate::piece_reader::{Failure, PieceReader};
 use crate::requests::read_and_route;
 use crate::wires::Spelled;
 use press_apply::Value;
@@ -56,7 +56,7 @@ fn outcome_of_batch(alloc: Global, bytes: &[u8]) -> Outcome {
 }
 
 fn outcome_of_request(alloc: Global, bytes: &[u8]) -> Outcome {
-    match read_and_route(alloc, &mut Pieces::new(bytes, 4096, Failure::Never)) {
+    match read_and_route(alloc, &mut PieceReader::new(bytes, 4096, Failure::Never)) {
         Ok(_) => Outcome::Read,
         Err(fault) => fault.status().map_or(Outcome::Closed, Outcome::Fault),
     }

@@ -1,6 +1,6 @@
 use crate::batches::spell_batch_again;
 use crate::kind::Kind;
-use crate::pieces::{Failure, Pieces};
+use crate::piece_reader::{Failure, PieceReader};
 use crate::requests::read_and_route;
 use crate::wires::Spelled;
 use httparse::spans::{EMPTY_HEADER_SPAN, parse_request};
@@ -21,7 +21,7 @@ fn once(alloc: Global, kind: Kind, bytes: &[u8]) {
         Kind::Message => spell_again::<Message>(alloc, bytes),
         Kind::Batch => spell_batch_again(alloc, bytes),
         Kind::Request => {
-            let _ = read_and_route(alloc, &mut Pieces::new(bytes, 4096, Failure::Never));
+            let _ = read_and_route(alloc, &mut PieceReader::new(bytes, 4096, Failure::Never));
         }
     }
 }

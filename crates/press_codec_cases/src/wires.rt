@@ -80,7 +80,7 @@ fn show_fronts<T: Spelled>(rt: &HostRuntime, name: &str, bytes: &[u8]) -> anyhow
 pub fn show_spelled<T: Spelled>(rt: &HostRuntime, name: &str, bytes: &[u8]) -> anyhow::Result<()> {
     let alloc = rt.alloc();
     let value = match T::read(alloc, bytes) {
-        Ok(value) => value.copied(alloc)?,
+        Ok(value) => value.copy_in(alloc)?,
         Err(fault) => {
             println!(rt; "{name}: {} {fault}", fault.number())?;
             return Ok(());

@@ -12,7 +12,7 @@ use std::alloc::Global;
 use std::collections::VecDeque;
 
 // More deliveries than follow a wake.
-const MOST: u32 = 100;
+const MOST_DELIVERIES: u32 = 100;
 
 // The only member.
 fn member() -> MemberId
@@ -72,7 +72,7 @@ fn goes_on<S: PromiseStore>(
 ) -> anyhow::Result<bool>
     requires always { Unit {0} }
 {
-    run_command(alloc, node, 2, MOST);
+    run_command(alloc, node, 2, MOST_DELIVERIES);
     let first = node.get(&Target::Result(token(alloc, 1)?))?.status;
     let second = node.get(&Target::Result(token(alloc, 2)?))?.status;
     let wanted = if has_voted { (200, 404) } else { (404, 200) };

@@ -1,5 +1,5 @@
-//! Plays stores on a SQL database: `press_crash_cases WORD ..`. A word that begins with `store` begins a
-//! scene: the words after it ask a new store over two files in memory, `sql=TEXT` before a store
+//! Plays stores on a SQL database: `press_crash_cases WORD ..`. A word that begins with `store`
+//! begins a scene: the words after it ask a new store over two files in memory, `sql=TEXT` before a store
 //! is made. One that ends with `-file` too names a file, in which such texts are run, and which a
 //! store then opens. A word that begins with `stops` has what the words after it do stopped at
 //! each call of one of the two files, and prints what is kept after each of them. `saves=N` saves

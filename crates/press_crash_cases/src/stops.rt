@@ -13,9 +13,9 @@ use sqlite_disk::{Crash, Disk};
 use std::alloc::Global;
 
 // More calls than any run below makes, and fewer.
-const MOST: u64 = 1_000;
+const MOST_CALLS: u64 = 1_000;
 
-const FEWEST: u64 = 10;
+const FEWEST_CALLS: u64 = 10;
 
 // More steps than any work below has.
 const MOST_STEPS: u32 = 100;
@@ -236,7 +236,7 @@ fn came_after<D: Crash + Drop>(
 // Stops the work at each call of one file in turn, until it ends before the stop; returns what
 // there is to say.
 fn count_stops(alloc: Global, work: &Work<'_>, rows: &[String], of_log: bool) -> Option<u64> {
-    for calls in 0..MOST {
+    for calls in 0..MOST_CALLS {
         let files = if of_log {
             fuse_files(alloc, calls, u64::MAX)
         } else {
@@ -259,7 +259,7 @@ fn show_stops(
 ) -> anyhow::Result<()> {
     let file = if of_log { "log" } else { "file" };
     match count_stops(rt.alloc(), work, rows, of_log) {
-        Some(calls) if calls < FEWEST => println!(rt; "{file}: only {calls} stops")?,
+        Some(calls) if calls < FEWEST_CALLS => println!(rt; "{file}: only {calls} stops")?,
         Some(_) => println!(rt; "{file}: stopped at each call, and nothing that was told is lost")?,
         None => println!(rt; "{file}: a stop loses what was told")?,
     }

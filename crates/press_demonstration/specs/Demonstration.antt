@@ -17,64 +17,64 @@ use Rattle.press_callbacks.specs.Kits.{Scripts, KitView, view_of}
 abbrev pub append : List ℕ → Op
 append text = Set (Raw Value ∷ Lit text ∷ [])
 
-abbrev pub appending : List ℕ → List Op
-appending text = append text ∷ []
+abbrev pub append_script : List ℕ → List Op
+append_script text = append text ∷ []
 
 abbrev pub the_title : List ℕ
 the_title = codes "the_title"
 
 -- adds d at its own priority, e above it and f below it, and appends a
-abbrev pub growing : List Op
-growing =
+abbrev pub grow_script : List Op
+grow_script =
     AddHook the_title (codes "add_d") (pos 10) 1
     ∷ (AddHook the_title (codes "add_e") (pos 11) 1 ∷ (AddHook the_title (codes "add_f") (pos 9) 1 ∷ (append (codes "a") ∷ [])))
 
 -- greets the one that the attribute `name` names
-abbrev pub greeting : List Op
-greeting = Return (Lit (codes "Hello ") ∷ (Raw (Att (Name (codes "name"))) ∷ [])) ∷ []
+abbrev pub greet_script : List Op
+greet_script = Return (Lit (codes "Hello ") ∷ (Raw (Att (Name (codes "name"))) ∷ [])) ∷ []
 
 -- has the shortcodes of its content answered, in a box
-abbrev pub boxing : List Op
-boxing = Shortcodes (Raw Content ∷ []) ∷ (Return (Lit (codes "<div>") ∷ (Raw Last ∷ (Lit (codes "</div>") ∷ []))) ∷ [])
+abbrev pub box_script : List Op
+box_script = Shortcodes (Raw Content ∷ []) ∷ (Return (Lit (codes "<div>") ∷ (Raw Last ∷ (Lit (codes "</div>") ∷ []))) ∷ [])
 
 -- runs a filter on its value, and answers what that gave
-abbrev pub running : List ℕ → List Op
-running hook = Apply hook (Raw Value ∷ []) [] ∷ (Return (Raw Last ∷ []) ∷ [])
+abbrev pub filter_script : List ℕ → List Op
+filter_script hook = Apply hook (Raw Value ∷ []) [] ∷ (Return (Raw Last ∷ []) ∷ [])
 
 -- keeps its first argument as an option
-abbrev pub noting : List Op
-noting = SetOption (codes "last_saved") (Raw (Arg 0) ∷ []) ∷ []
+abbrev pub note_script : List Op
+note_script = SetOption (codes "last_saved") (Raw (Arg 0) ∷ []) ∷ []
 
 -- the value in braces, with the tag that is its second argument
-abbrev pub marking : List Op
-marking = Set (Lit (codes "{") ∷ (Raw Value ∷ (Lit (codes "|") ∷ (Raw (Arg 1) ∷ (Lit (codes "}") ∷ []))))) ∷ []
+abbrev pub mark_script : List Op
+mark_script = Set (Lit (codes "{") ∷ (Raw Value ∷ (Lit (codes "|") ∷ (Raw (Arg 1) ∷ (Lit (codes "}") ∷ []))))) ∷ []
 
 -- the callbacks whose closures play their scripts
 abbrev pub letters : Scripts
 letters =
-    (codes "add_a", appending (codes "a"))
-    ∷ (codes "add_b", appending (codes "b"))
-    ∷ (codes "add_c", appending (codes "c"))
-    ∷ (codes "add_d", appending (codes "d"))
-    ∷ (codes "add_e", appending (codes "e"))
-    ∷ (codes "add_f", appending (codes "f"))
+    (codes "add_a", append_script (codes "a"))
+    ∷ (codes "add_b", append_script (codes "b"))
+    ∷ (codes "add_c", append_script (codes "c"))
+    ∷ (codes "add_d", append_script (codes "d"))
+    ∷ (codes "add_e", append_script (codes "e"))
+    ∷ (codes "add_f", append_script (codes "f"))
     ∷ []
 
 abbrev pub others : Scripts
 others =
-    (codes "greet", greeting)
-    ∷ (codes "box", boxing)
-    ∷ (codes "again", running the_title)
-    ∷ (codes "again_save", running (codes "title_save_pre"))
-    ∷ (codes "note", noting)
-    ∷ (codes "mark", marking)
+    (codes "greet", greet_script)
+    ∷ (codes "box", box_script)
+    ∷ (codes "again", filter_script the_title)
+    ∷ (codes "again_save", filter_script (codes "title_save_pre"))
+    ∷ (codes "note", note_script)
+    ∷ (codes "mark", mark_script)
     ∷ []
 
 abbrev pub play_scripts : Scripts
 play_scripts = letters ++ others
 
 abbrev pub scripts : Scripts
-scripts = (codes "grow", growing) ∷ play_scripts
+scripts = (codes "grow", grow_script) ∷ play_scripts
 
 abbrev pub on_hook : List ℕ → ℕ → List ℕ → Load
 on_hook hook priority callback = Hook hook (pos priority) callback 1

@@ -19,8 +19,8 @@ pub fn grow() -> CallbackId
 }
 
 /// The script of `grow`.
-pub fn growing(alloc: Global) -> Result<Script, AllocError>
-    ensures { IfOk result (λ s. s ≡ spec.growing) }
+pub fn grow_script(alloc: Global) -> Result<Script, AllocError>
+    ensures { IfOk result (λ s. s ≡ spec.grow_script) }
 {
     let mut ops = Vec::new(alloc);
     push_add(alloc, &mut ops, "add_d", 10)?;
@@ -78,7 +78,7 @@ fn add_turn(alloc: Global, callback: &str, priority: i64) -> Result<Turn, AllocE
 
 /// The turn that the closure of `grow` returns, written out.
 pub fn grow_turn(alloc: Global, input: &CallIn) -> Result<Turn, AllocError>
-    ensures { IfOk result (λ t. t ≡ turn_of spec.growing input.now) }
+    ensures { IfOk result (λ t. t ≡ turn_of spec.grow_script input.now) }
 {
     if input.turn == 0 {
         return add_turn(alloc, "add_d", 10);

@@ -33,7 +33,7 @@ pub fn played_scripts(alloc: Global) -> Result<Vec<Scripted>, AllocError>
 
 fn push_greet(alloc: Global, scripts: &mut Vec<Scripted>) -> Result<(), AllocError>
     ensures { OnOk result (spec.scripts_of scripts.new.items ≡ spec.scripts_of scripts.old.items
-        ++ (codes "greet", spec.greeting) ∷ []) }
+        ++ (codes "greet", spec.greet_script) ∷ []) }
 {
     let greet = greet(alloc)?;
     push_scripted(scripts, greet)
@@ -41,7 +41,7 @@ fn push_greet(alloc: Global, scripts: &mut Vec<Scripted>) -> Result<(), AllocErr
 
 fn push_box(alloc: Global, scripts: &mut Vec<Scripted>) -> Result<(), AllocError>
     ensures { OnOk result (spec.scripts_of scripts.new.items ≡ spec.scripts_of scripts.old.items
-        ++ (codes "box", spec.boxing) ∷ []) }
+        ++ (codes "box", spec.box_script) ∷ []) }
 {
     let of_content = box_of_content(alloc)?;
     push_scripted(scripts, of_content)
@@ -56,7 +56,7 @@ fn push_again(
     requires name { name_fault 32 name.now ≡ None }
     requires hook { name_fault 64 hook.now ≡ None }
     ensures { OnOk result (spec.scripts_of scripts.new.items ≡ spec.scripts_of scripts.old.items
-        ++ (name.now, spec.running hook.now) ∷ []) }
+        ++ (name.now, spec.filter_script hook.now) ∷ []) }
 {
     let again = again(alloc, name, hook)?;
     push_scripted(scripts, again)
@@ -64,7 +64,7 @@ fn push_again(
 
 fn push_note(alloc: Global, scripts: &mut Vec<Scripted>) -> Result<(), AllocError>
     ensures { OnOk result (spec.scripts_of scripts.new.items ≡ spec.scripts_of scripts.old.items
-        ++ (codes "note", spec.noting) ∷ []) }
+        ++ (codes "note", spec.note_script) ∷ []) }
 {
     let note = note(alloc)?;
     push_scripted(scripts, note)
@@ -72,7 +72,7 @@ fn push_note(alloc: Global, scripts: &mut Vec<Scripted>) -> Result<(), AllocErro
 
 fn push_mark(alloc: Global, scripts: &mut Vec<Scripted>) -> Result<(), AllocError>
     ensures { OnOk result (spec.scripts_of scripts.new.items ≡ spec.scripts_of scripts.old.items
-        ++ (codes "mark", spec.marking) ∷ []) }
+        ++ (codes "mark", spec.mark_script) ∷ []) }
 {
     let mark = mark(alloc)?;
     push_scripted(scripts, mark)
@@ -86,7 +86,7 @@ fn push_letter(
 ) -> Result<(), AllocError>
     requires { name_fault 32 name.now ≡ None }
     ensures { OnOk result (spec.scripts_of scripts.new.items ≡ spec.scripts_of scripts.old.items
-        ++ (name.now, spec.appending text.now) ∷ []) }
+        ++ (name.now, spec.append_script text.now) ∷ []) }
 {
     let letter = letter(alloc, name, text)?;
     push_scripted(scripts, letter)
@@ -105,10 +105,10 @@ fn again(alloc: Global, name: &str, hook: &str) -> Result<Scripted, AllocError>
     requires name { name_fault 32 name.now ≡ None }
     requires hook { name_fault 64 hook.now ≡ None }
     ensures id { IfOk result (λ s. s.id ≡ name.now) }
-    ensures script { IfOk result (λ s. s.script ≡ spec.running hook.now) }
+    ensures script { IfOk result (λ s. s.script ≡ spec.filter_script hook.now) }
 {
-    let script = running(alloc, hook)?;
-    let own = running(alloc, hook)?;
+    let script = filter_script(alloc, hook)?;
+    let own = filter_script(alloc, hook)?;
     Ok(Scripted {
         id: callback_named(name),
         script,
@@ -117,9 +117,9 @@ fn again(alloc: Global, name: &str, hook: &str) -> Result<Scripted, AllocError>
 }
 
 // Runs a filter on its value, and returns the result.
-fn running(alloc: Global, hook: &str) -> Result<Script, AllocError>
+fn filter_script(alloc: Global, hook: &str) -> Result<Script, AllocError>
     requires { name_fault 64 hook.now ≡ None }
-    ensures { IfOk result (λ s. s ≡ spec.running hook.now) }
+    ensures { IfOk result (λ s. s ≡ spec.filter_script hook.now) }
 {
     let apply = Op::Apply {
         hook: HookName::from_valid(alloc, hook)?,
@@ -132,10 +132,10 @@ fn running(alloc: Global, hook: &str) -> Result<Script, AllocError>
 
 fn note(alloc: Global) -> Result<Scripted, AllocError>
     ensures id { IfOk result (λ s. s.id ≡ codes "note") }
-    ensures script { IfOk result (λ s. s.script ≡ spec.noting) }
+    ensures script { IfOk result (λ s. s.script ≡ spec.note_script) }
 {
-    let script = noting(alloc)?;
-    let own = noting(alloc)?;
+    let script = note_script(alloc)?;
+    let own = note_script(alloc)?;
     Ok(Scripted {
         id: callback_named("note"),
         script,
@@ -144,8 +144,8 @@ fn note(alloc: Global) -> Result<Scripted, AllocError>
 }
 
 // Keeps its first argument as an option.
-fn noting(alloc: Global) -> Result<Script, AllocError>
-    ensures { IfOk result (λ s. s ≡ spec.noting) }
+fn note_script(alloc: Global) -> Result<Script, AllocError>
+    ensures { IfOk result (λ s. s ≡ spec.note_script) }
 {
     let set = Op::SetOption {
         name: last_saved(alloc)?,
@@ -156,10 +156,10 @@ fn noting(alloc: Global) -> Result<Script, AllocError>
 
 fn mark(alloc: Global) -> Result<Scripted, AllocError>
     ensures id { IfOk result (λ s. s.id ≡ codes "mark") }
-    ensures script { IfOk result (λ s. s.script ≡ spec.marking) }
+    ensures script { IfOk result (λ s. s.script ≡ spec.mark_script) }
 {
-    let script = marking(alloc)?;
-    let own = marking(alloc)?;
+    let script = mark_script(alloc)?;
+    let own = mark_script(alloc)?;
     Ok(Scripted {
         id: callback_named("mark"),
         script,
@@ -168,8 +168,8 @@ fn mark(alloc: Global) -> Result<Scripted, AllocError>
 }
 
 // Puts its value into braces, with its second argument.
-fn marking(alloc: Global) -> Result<Script, AllocError>
-    ensures { IfOk result (λ s. s ≡ spec.marking) }
+fn mark_script(alloc: Global) -> Result<Script, AllocError>
+    ensures { IfOk result (λ s. s ≡ spec.mark_script) }
 {
     let mut text = Vec::new(alloc);
     text.push(lit(alloc, "{")?)?;
@@ -188,10 +188,10 @@ fn lit(alloc: Global, text: &str) -> Result<Part, AllocError>
 
 fn greet(alloc: Global) -> Result<Scripted, AllocError>
     ensures id { IfOk result (λ s. s.id ≡ codes "greet") }
-    ensures script { IfOk result (λ s. s.script ≡ spec.greeting) }
+    ensures script { IfOk result (λ s. s.script ≡ spec.greet_script) }
 {
-    let script = greeting(alloc)?;
-    let own = greeting(alloc)?;
+    let script = greet_script(alloc)?;
+    let own = greet_script(alloc)?;
     Ok(Scripted {
         id: callback_named("greet"),
         script,
@@ -200,8 +200,8 @@ fn greet(alloc: Global) -> Result<Scripted, AllocError>
 }
 
 // Greets the one that the attribute `name` names.
-fn greeting(alloc: Global) -> Result<Script, AllocError>
-    ensures { IfOk result (λ s. s ≡ spec.greeting) }
+fn greet_script(alloc: Global) -> Result<Script, AllocError>
+    ensures { IfOk result (λ s. s ≡ spec.greet_script) }
 {
     let hello = Part::Lit(Text::from_str(alloc, "Hello ")?);
     let name = Part::Raw(Source::Att(AttKey::Name(Text::from_str(alloc, "name")?)));
@@ -211,10 +211,10 @@ fn greeting(alloc: Global) -> Result<Script, AllocError>
 
 fn box_of_content(alloc: Global) -> Result<Scripted, AllocError>
     ensures id { IfOk result (λ s. s.id ≡ codes "box") }
-    ensures script { IfOk result (λ s. s.script ≡ spec.boxing) }
+    ensures script { IfOk result (λ s. s.script ≡ spec.box_script) }
 {
-    let script = boxing(alloc)?;
-    let own = boxing(alloc)?;
+    let script = box_script(alloc)?;
+    let own = box_script(alloc)?;
     Ok(Scripted {
         id: callback_named("box"),
         script,
@@ -223,8 +223,8 @@ fn box_of_content(alloc: Global) -> Result<Scripted, AllocError>
 }
 
 // Runs the shortcodes of its content, in a box.
-fn boxing(alloc: Global) -> Result<Script, AllocError>
-    ensures { IfOk result (λ s. s ≡ spec.boxing) }
+fn box_script(alloc: Global) -> Result<Script, AllocError>
+    ensures { IfOk result (λ s. s ≡ spec.box_script) }
 {
     let content = Op::Shortcodes(Items::from_vec(vec![in alloc; Part::Raw(Source::Content)]?));
     let begin = Part::Lit(Text::from_str(alloc, "<div>")?);
@@ -236,10 +236,10 @@ fn boxing(alloc: Global) -> Result<Script, AllocError>
 fn letter(alloc: Global, name: &str, text: &str) -> Result<Scripted, AllocError>
     requires { name_fault 32 name.now ≡ None }
     ensures id { IfOk result (λ s. s.id ≡ name.now) }
-    ensures script { IfOk result (λ s. s.script ≡ spec.appending text.now) }
+    ensures script { IfOk result (λ s. s.script ≡ spec.append_script text.now) }
 {
-    let script = appending(alloc, text)?;
-    let own = appending(alloc, text)?;
+    let script = append_script(alloc, text)?;
+    let own = append_script(alloc, text)?;
     Ok(Scripted {
         id: callback_named(name),
         script,
@@ -248,8 +248,8 @@ fn letter(alloc: Global, name: &str, text: &str) -> Result<Scripted, AllocError>
 }
 
 // The script that appends a text to its value.
-fn appending(alloc: Global, text: &str) -> Result<Script, AllocError>
-    ensures { IfOk result (λ s. s ≡ spec.appending text.now) }
+fn append_script(alloc: Global, text: &str) -> Result<Script, AllocError>
+    ensures { IfOk result (λ s. s ≡ spec.append_script text.now) }
 {
     let set = append(alloc, text)?;
     Ok(Items::from_vec(vec![in alloc; set]?))

@@ -4,7 +4,7 @@ use Rattle.std.specs.Prelude.{insert, remove, unwrap_or}
 use Rattle.std.specs.List.{position_or_len}
 use Rattle.std.proofs.lemmas.Bool.Decides.{nat_tests}
 use Rattle.press_events.specs.declared.event.Event.{Event}
-use Rattle.press_events.specs.DueEvents.{NoneBefore, IsByTime, is_later, place_in, scheduled}
+use Rattle.press_events.specs.DueEvents.{NoneBefore, IsByTime, is_later, place_in, insert_event}
 
 none_weaker : (s t : ℕ) (es : List Event) → s ≤ t → NoneBefore t es → NoneBefore s es
 none_weaker s t [] h k = tt
@@ -90,10 +90,10 @@ by_time_put : (e : Event) (es : List Event) → IsByTime es → IsByTime (put e 
 by_time_put e [] h = (tt, tt)
 by_time_put e (x ∷ xs) h = by_time_put_by (is_later e.time x) e x xs refl h (by_time_put e xs h.1)
 
-pub scheduled_put : (e : Event) (es : List Event) → scheduled e es ≡ put e es
+pub scheduled_put : (e : Event) (es : List Event) → insert_event e es ≡ put e es
 scheduled_put e es =
     let at : place_in e.time es ≡ place e es = or_last (place e es) (length es) (within e es) in
     rw (at, puts e es) refl
 
-pub by_time_scheduled : (e : Event) (es : List Event) → IsByTime es → IsByTime (scheduled e es)
+pub by_time_scheduled : (e : Event) (es : List Event) → IsByTime es → IsByTime (insert_event e es)
 by_time_scheduled e es h = rw (scheduled_put e es) (by_time_put e es h)

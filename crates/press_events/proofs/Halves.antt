@@ -7,7 +7,7 @@ use Rattle.std.proofs.lemmas.Bool.{cases_lt, ltb-true, ltb-false}
 use Rattle.std.proofs.lemmas.Bool.Decides.{nat_tests}
 use Rattle.std.proofs.lemmas.List.Sums.{prefix_len_is, prefix_len_passes, prefix_len_stops}
 use Rattle.press_events.specs.declared.event.Event.{Event}
-use Rattle.press_events.specs.DueEvents.{NoneBefore, IsByTime, is_same, is_earlier, is_later, is_due, is_of, place_in, place_of, stands, cancelled, cancels, is_full_without}
+use Rattle.press_events.specs.DueEvents.{NoneBefore, IsByTime, is_same, is_earlier, is_later, is_due, is_of, place_in, place_of, stands, cancel_events, cancels, is_full_without}
 use Rattle.press_events.proofs.ByTime.{or_last}
 
 -- ---- a test that only early events pass
@@ -63,18 +63,6 @@ placed_by t es i d low high le =
 pub placed : (t : ℕ) (es : List Event) (i : ℕ) → AllWithin (λ e. up_to t e ≡ true) es 0 i → AllWithin (λ e. up_to t e ≡ false) es i (length es) → i ≤ length es → i ≡ place_in t es
 placed t [] i low high le = omega arith
 placed t (e ∷ es) i low high le = placed_by t (e ∷ es) i e low high le
-
-pub front_kept : (p : Event → Bool) (xs : List Event) (i : ℕ) → AllWithin (λ y. p y ≡ true) xs 0 i → AllWithin (λ y. p y ≡ false) xs i (length xs) → take i xs ≡ filter p xs
-front_kept p [] zero low high = refl
-front_kept p [] (suc i) low high = refl
-front_kept p (x ∷ xs) zero low high =
-    let at : p x ≡ false = high 0 x (omega arith) (omega arith) in
-    let rest : take 0 xs ≡ filter p xs = front_kept p xs 0 (λ k d a b. absurd (omega arith)) (λ k d a b. high (suc k) d (omega arith) (omega arith)) in
-    rest ∙ ap (λ c. cond c (x ∷ filter p xs) (filter p xs)) (sym at)
-front_kept p (x ∷ xs) (suc i) low high =
-    let at : p x ≡ true = low 0 x (omega arith) (omega arith) in
-    let rest : take i xs ≡ filter p xs = front_kept p xs i (λ k d a b. low (suc k) d (omega arith) (omega arith)) (λ k d a b. high (suc k) d (omega arith) (omega arith)) in
-    ap (λ zs. x ∷ zs) rest ∙ ap (λ c. cond c (x ∷ filter p xs) (filter p xs)) (sym at)
 
 -- ---- an identity's place
 
@@ -185,17 +173,17 @@ fewer : (p : Event → Bool) (es : List Event) → (nat_lt (length (filter (λ e
 fewer p [] = (refl, omega arith)
 fewer p (e ∷ es) = let h = fewer p es in kept_by (p e) (list_any p es) (length (filter (λ e. not (p e)) es)) (length es) e (filter (λ e. not (p e)) es) refl h.1 h.0
 
-pub cancels_is : (hook arg : List ℕ) (es : List Event) → nat_lt (length (cancelled hook arg es)) (length es) ≡ cancels hook arg es
+pub cancels_is : (hook arg : List ℕ) (es : List Event) → nat_lt (length (cancel_events hook arg es)) (length es) ≡ cancels hook arg es
 cancels_is hook arg es = (fewer (is_of hook arg) es).0
 
-pub fewer_left : (hook arg : List ℕ) (es : List Event) → length (cancelled hook arg es) ≤ length es
+pub fewer_left : (hook arg : List ℕ) (es : List Event) → length (cancel_events hook arg es) ≤ length es
 fewer_left hook arg es = (fewer (is_of hook arg) es).1
 
-pub told : (hook arg : List ℕ) (es : List Event) (n m : ℕ) → n ≡ length (cancelled hook arg es) → m ≡ length es → nat_lt n m ≡ cancels hook arg es
+pub told : (hook arg : List ℕ) (es : List Event) (n m : ℕ) → n ≡ length (cancel_events hook arg es) → m ≡ length es → nat_lt n m ≡ cancels hook arg es
 told hook arg es n m e f = rw (e, f) (cancels_is hook arg es)
 
 none_left : (limit n k : ℕ) → n < limit → k ≤ n → nat_le limit n ≡ nat_le limit k
 none_left limit n k h le = grind (arith, nat_tests)
 
 pub not_full : (hook arg : List ℕ) (es : List Event) (n : ℕ) → n ≡ length es → n < 4096 → nat_le 4096 n ≡ is_full_without hook arg es
-not_full hook arg es n e lt = none_left 4096 n (length (cancelled hook arg es)) lt (omega (arith, fewer_left hook arg es))
+not_full hook arg es n e lt = none_left 4096 n (length (cancel_events hook arg es)) lt (omega (arith, fewer_left hook arg es))

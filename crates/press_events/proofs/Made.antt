@@ -7,7 +7,7 @@ use Rattle.std.proofs.lemmas.List.{length-append}
 use Rattle.press_events.specs.declared.event.Event.{Event}
 use Rattle.press_events.specs.declared.fault.EventFault.{EventFault}
 use Rattle.press_events.specs.declared.fault.EventFault.TheVariants.{TooLong, TooManyEvents}
-use Rattle.press_events.specs.DueEvents.{AreShort, HasEachOnce, IsByTime, IsSchedule, NoneBefore, add_all, add_event, after_adding, is_same, scheduled, stands}
+use Rattle.press_events.specs.DueEvents.{AreShort, HasEachOnce, IsByTime, IsSchedule, NoneBefore, add_all, add_event, after_adding, is_same, insert_event, stands}
 use Rattle.press_events.proofs.ByTime.{put, scheduled_put}
 use Rattle.press_events.proofs.Once.{neither, or_false, same_flip}
 
@@ -54,7 +54,7 @@ behind xs e ys s =
     let long : length (xs ++ e ∷ ys) ≡ length xs + length (e ∷ ys) = length-append xs (e ∷ ys) in
     let room : length xs < 4096 = omega arith in
     ap (λ (r : Result (List Event × Bool) EventFault). after_adding r xs)
-    (put_by (nat_lt 256 (length e.arg)) (stands e xs) (nat_le 4096 (length xs)) (scheduled e xs) xs (not_long 256 (length e.arg) (short_of xs e ys s.short)) (new_behind xs e ys s.once) (not_full 4096 (length xs) room))
+    (put_by (nat_lt 256 (length e.arg)) (stands e xs) (nat_le 4096 (length xs)) (insert_event e xs) xs (not_long 256 (length e.arg) (short_of xs e ys s.short)) (new_behind xs e ys s.once) (not_full 4096 (length xs) room))
     ∙ scheduled_put e xs ∙ comes_last xs e ys s.by_time
 
 pub made : (es xs : List Event) → IsSchedule (xs ++ es) → add_all es xs ≡ xs ++ es

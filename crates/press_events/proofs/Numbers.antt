@@ -11,7 +11,7 @@ use Rattle.std.proofs.lemmas.List.Sorted.{IsNonDecreasingBy-insert, searched}
 use Rattle.std.proofs.lemmas.List.Sums.{sum_by-cons, sum_by-insert, sum_by-remove, get_or-le-sum_by}
 use Rattle.std.proofs.lemmas.Slice.Eq.{bytes_eq-Decides}
 use Rattle.press_events.specs.declared.event.Event.{Event}
-use Rattle.press_events.specs.DueEvents.{is_of, cancelled, cancels, stands, scheduled, put_again, place_in}
+use Rattle.press_events.specs.DueEvents.{is_of, cancel_events, cancels, stands, insert_event, put_again, place_in}
 use Rattle.press_events.specs.Marks.{Covers, IsTwice, count_of, mark, one}
 
 pub same_one : (x : ℕ) → one x x ≡ 1
@@ -117,11 +117,11 @@ covers_without es i e ms ns m lt at is c n x =
 pub covers_again : (es : List Event) (i : ℕ) (e new : Event) (ms : List ℕ) → i < length es → e ≡ get_or es i e → new.arg ≡ e.arg → Covers ms es → (b : Bool) → b ≡ not (stands new (remove es i)) → b ≡ true → Covers ms (put_again new (remove es i))
 covers_again es i e new ms lt at same c b p t x =
     let one_of : mark_one x new ≡ mark_one x (get_or es i e) = ap (λ (arg : List ℕ). one x (mark arg)) same ∙ ap (mark_one x) at in
-    let put : put_again new (remove es i) ≡ scheduled new (remove es i) = by (stands new (remove es i)) (sym p ∙ t) in
-    let more : marked x (scheduled new (remove es i)) ≡ marked x (remove es i) + mark_one x new = sum_by-insert (mark_one x) (remove es i) (place_in new.time (remove es i)) new in
+    let put : put_again new (remove es i) ≡ insert_event new (remove es i) = by (stands new (remove es i)) (sym p ∙ t) in
+    let more : marked x (insert_event new (remove es i)) ≡ marked x (remove es i) + mark_one x new = sum_by-insert (mark_one x) (remove es i) (place_in new.time (remove es i)) new in
     rw put (omega (arith, sum_by-remove (mark_one x) es i e lt, more, c x))
   where
-    by : (s : Bool) → not s ≡ true → cond s (remove es i) (scheduled new (remove es i)) ≡ scheduled new (remove es i)
+    by : (s : Bool) → not s ≡ true → cond s (remove es i) (insert_event new (remove es i)) ≡ insert_event new (remove es i)
     by true h = absurd (cc)
     by false h = refl
 
@@ -129,7 +129,7 @@ covers_again es i e new ms lt at same c b p t x =
 pub stays_out : (es : List Event) (new : Event) (b : Bool) → b ≡ not (stands new es) → b ≡ false → put_again new es ≡ es
 stays_out es new b p f = by (stands new es) (sym p ∙ f)
   where
-    by : (s : Bool) → not s ≡ false → cond s es (scheduled new es) ≡ es
+    by : (s : Bool) → not s ≡ false → cond s es (insert_event new es) ≡ es
     by true h = refl
     by false h = absurd (cc)
 
@@ -174,15 +174,15 @@ one_of_it hook arg x e h = ap (λ (a : List ℕ). one x (mark a)) (same_arg (byt
     same_arg true h = (bytes_eq-Decides e.arg arg).0 h
     same_arg false h = absurd (cc)
 
-pub lengths : (hook arg : List ℕ) (es : List Event) → length es ≡ length (cancelled hook arg es) + gone hook arg es
+pub lengths : (hook arg : List ℕ) (es : List Event) → length es ≡ length (cancel_events hook arg es) + gone hook arg es
 lengths hook arg [] = refl
 lengths hook arg (e ∷ es) = by (is_of hook arg e) (gone hook arg (e ∷ es)) (sum_by-cons (λ (e : Event). cond (is_of hook arg e) 1 0) e es) (lengths hook arg es)
   where
-    by : (b : Bool) (g : ℕ) → g ≡ cond b 1 0 + gone hook arg es → length es ≡ length (cancelled hook arg es) + gone hook arg es → suc (length es) ≡ length (cond (not b) (e ∷ cancelled hook arg es) (cancelled hook arg es)) + g
+    by : (b : Bool) (g : ℕ) → g ≡ cond b 1 0 + gone hook arg es → length es ≡ length (cancel_events hook arg es) + gone hook arg es → suc (length es) ≡ length (cond (not b) (e ∷ cancel_events hook arg es) (cancel_events hook arg es)) + g
     by true g e h = omega arith
     by false g e h = omega arith
 
-stay : (hook arg : List ℕ) (x : ℕ) (es : List Event) → marked x (cancelled hook arg es) + cond (nat_eq x (mark arg)) (gone hook arg es) 0 ≡ marked x es
+stay : (hook arg : List ℕ) (x : ℕ) (es : List Event) → marked x (cancel_events hook arg es) + cond (nat_eq x (mark arg)) (gone hook arg es) 0 ≡ marked x es
 stay hook arg x [] = by (nat_eq x (mark arg))
   where
     by : (c : Bool) → 0 + cond c 0 0 ≡ 0
@@ -192,22 +192,22 @@ stay hook arg x (e ∷ es) =
     by (is_of hook arg e) refl (nat_eq x (mark arg)) refl (gone hook arg (e ∷ es)) (sum_by-cons (λ (e : Event). cond (is_of hook arg e) 1 0) e es) (stay hook arg x es)
   where
     by : (b : Bool) → is_of hook arg e ≡ b → (c : Bool) → nat_eq x (mark arg) ≡ c → (g : ℕ) → g ≡ cond b 1 0 + gone hook arg es
-        → marked x (cancelled hook arg es) + cond c (gone hook arg es) 0 ≡ marked x es
-        → marked x (cond (not b) (e ∷ cancelled hook arg es) (cancelled hook arg es)) + cond c g 0 ≡ marked x (e ∷ es)
+        → marked x (cancel_events hook arg es) + cond c (gone hook arg es) 0 ≡ marked x es
+        → marked x (cond (not b) (e ∷ cancel_events hook arg es) (cancel_events hook arg es)) + cond c g 0 ≡ marked x (e ∷ es)
     by true i c n g s h =
         let o : mark_one x e ≡ cond c 1 0 = one_of_it hook arg x e i ∙ ap (λ t. cond t 1 0) n in
-        last c (marked x (cancelled hook arg es)) (gone hook arg es) g (marked x es) s h (mark_one x e) o ∙ sym (sum_by-cons (mark_one x) e es)
+        last c (marked x (cancel_events hook arg es)) (gone hook arg es) g (marked x es) s h (mark_one x e) o ∙ sym (sum_by-cons (mark_one x) e es)
       where
         last : (c : Bool) (k r g m : ℕ) → g ≡ 1 + r → k + cond c r 0 ≡ m → (o : ℕ) → o ≡ cond c 1 0 → k + cond c g 0 ≡ o + m
         last true k r g m s h o e = omega arith
         last false k r g m s h o e = omega arith
-    by false i c n g s h = other c (marked x (cancelled hook arg es)) (gone hook arg es) g (marked x es) s h (mark_one x e) (sum_by-cons (mark_one x) e (cancelled hook arg es)) (sum_by-cons (mark_one x) e es)
+    by false i c n g s h = other c (marked x (cancel_events hook arg es)) (gone hook arg es) g (marked x es) s h (mark_one x e) (sum_by-cons (mark_one x) e (cancel_events hook arg es)) (sum_by-cons (mark_one x) e es)
       where
         other : (c : Bool) (k r g m : ℕ) → g ≡ 0 + r → k + cond c r 0 ≡ m → (o : ℕ) {k' m' : ℕ} → k' ≡ o + k → m' ≡ o + m → k' + cond c g 0 ≡ m'
         other true k r g m s h o e f = omega arith
         other false k r g m s h o e f = omega arith
 
-pub covers_cancelled : (hook arg : List ℕ) (es : List Event) (ms ns : List ℕ) (m out : ℕ) → m ≡ mark arg → Covers ms es → length es ≡ length (cancelled hook arg es) + out → ((x : ℕ) → count_of x ns ≡ count_of x ms - cond (nat_eq x m) out 0) → Covers ns (cancelled hook arg es)
+pub covers_cancelled : (hook arg : List ℕ) (es : List Event) (ms ns : List ℕ) (m out : ℕ) → m ≡ mark arg → Covers ms es → length es ≡ length (cancel_events hook arg es) + out → ((x : ℕ) → count_of x ns ≡ count_of x ms - cond (nat_eq x m) out 0) → Covers ns (cancel_events hook arg es)
 covers_cancelled hook arg es ms ns m out e c l n x =
     let same : out ≡ gone hook arg es = omega (arith, lengths hook arg es) in
     let left : count_of x ns ≡ count_of x ms - cond (nat_eq x (mark arg)) (gone hook arg es) 0 = n x ∙ ap₂ (λ k i. count_of x ms - cond (nat_eq x i) k 0) same e in

@@ -7,7 +7,7 @@ use Rattle.std.proofs.lemmas.Slice.Eq.{bytes_eq-Decides}
 use Rattle.press_events.specs.declared.event.Event.{Event}
 use Rattle.press_events.specs.declared.fault.EventFault.{EventFault}
 use Rattle.press_events.specs.declared.fault.EventFault.TheVariants.{TooLong, TooManyEvents}
-use Rattle.press_events.specs.DueEvents.{is_same, stands, scheduled, place_in, place_of, add_event, again, taken_at, take_event, moment_next, HasEachOnce}
+use Rattle.press_events.specs.DueEvents.{is_same, stands, insert_event, place_in, place_of, add_event, again, take_event_at, take_event, moment_next, HasEachOnce}
 
 bytes_flip : (a b : List ℕ) → bytes_eq a b ≡ bytes_eq b a
 bytes_flip a b = alike (bytes_eq a b) (bytes_eq b a) refl refl
@@ -61,7 +61,7 @@ once_remove (x ∷ xs) (suc i) o = (none_remove (λ y. is_same y x) xs i o.0, on
 -- ---- scheduling
 
 once_by : (long stood full : Bool) (e : Event) (es : List Event) → stood ≡ stands e es → HasEachOnce es
-    → IfOk (let r : Result (List Event × Bool) EventFault = cond long (Err TooLong) (cond stood (Ok (es, false)) (cond full (Err TooManyEvents) (Ok (scheduled e es, true)))) in r) (λ after. HasEachOnce after.0)
+    → IfOk (let r : Result (List Event × Bool) EventFault = cond long (Err TooLong) (cond stood (Ok (es, false)) (cond full (Err TooManyEvents) (Ok (insert_event e es, true)))) in r) (λ after. HasEachOnce after.0)
 once_by true stood full e es h o = tt
 once_by false true full e es h o = o
 once_by false false true e es h o = tt
@@ -72,7 +72,7 @@ once_added e es o = once_by (nat_lt 256 (length e.arg)) (stands e es) (nat_le 40
 
 -- ---- taking
 
-put_by : (stood : Bool) (e : Event) (es : List Event) → stood ≡ stands e es → HasEachOnce es → HasEachOnce (cond stood es (scheduled e es))
+put_by : (stood : Bool) (e : Event) (es : List Event) → stood ≡ stands e es → HasEachOnce es → HasEachOnce (cond stood es (insert_event e es))
 put_by true e es h o = o
 put_by false e es h o = once_insert e es (place_in e.time es) (sym h) o
 
@@ -80,7 +80,7 @@ once_again : (time : Option ℕ) (e : Event) (es : List Event) → HasEachOnce e
 once_again None e es o = o
 once_again (Some time) e es o = put_by (stands (record e { time = time }) es) (record e { time = time }) es refl o
 
-once_at : (place : Option ℕ) (event : Event) (now : ℕ) (es : List Event) → HasEachOnce es → HasEachOnce (taken_at place event now es)
+once_at : (place : Option ℕ) (event : Event) (now : ℕ) (es : List Event) → HasEachOnce es → HasEachOnce (take_event_at place event now es)
 once_at None event now es o = o
 once_at (Some i) event now es o = let e = slice_index_or es i event in once_again (moment_next now e) e (remove es i) (once_remove es i o)
 
@@ -96,7 +96,7 @@ length_insert e (x ∷ xs) zero = omega arith
 length_insert e (x ∷ xs) (suc i) = let h = length_insert e xs i in omega arith
 
 few_by : (long stood full : Bool) (most : ℕ) (e : Event) (es : List Event) → full ≡ nat_le most (length es) → length es ≤ most
-    → IfOk (let r : Result (List Event × Bool) EventFault = cond long (Err TooLong) (cond stood (Ok (es, false)) (cond full (Err TooManyEvents) (Ok (scheduled e es, true)))) in r) (λ after. length after.0 ≤ most)
+    → IfOk (let r : Result (List Event × Bool) EventFault = cond long (Err TooLong) (cond stood (Ok (es, false)) (cond full (Err TooManyEvents) (Ok (insert_event e es, true)))) in r) (λ after. length after.0 ≤ most)
 few_by true stood full most e es h le = tt
 few_by false true full most e es h le = le
 few_by false false true most e es h le = tt

@@ -8,7 +8,7 @@ use Rattle.std.proofs.lemmas.Slice.Eq.{bytes_eq-Decides}
 use Rattle.press_events.specs.declared.event.Event.{Event}
 use Rattle.press_events.specs.declared.fault.EventFault.{EventFault}
 use Rattle.press_events.specs.declared.fault.EventFault.TheVariants.{TooLong, TooManyEvents}
-use Rattle.press_events.specs.DueEvents.{AreShort, HasEachOnce, IsSchedule, add_event, cancelled, is_of, is_same, place_in, put_again, scheduled, stands}
+use Rattle.press_events.specs.DueEvents.{AreShort, HasEachOnce, IsSchedule, add_event, cancel_events, is_of, is_same, place_in, put_again, insert_event, stands}
 use Rattle.press_events.proofs.ByTime.{by_time_filter, by_time_remove, by_time_scheduled}
 use Rattle.press_events.proofs.Halves.{fewer_left}
 use Rattle.press_events.proofs.Once.{length_insert, neither, once_insert, once_remove, or_false, same_flip}
@@ -71,7 +71,7 @@ schedule_removed es i lt s = record {
   few = let few = s.few in omega (arith, length-remove es i lt);
 }
 
-pub schedule_scheduled : (e : Event) (es : List Event) → length e.arg ≤ 256 → stands e es ≡ false → length es < 4096 → IsSchedule es → IsSchedule (scheduled e es)
+pub schedule_scheduled : (e : Event) (es : List Event) → length e.arg ≤ 256 → stands e es ≡ false → length es < 4096 → IsSchedule es → IsSchedule (insert_event e es)
 schedule_scheduled e es short new room s = record {
   by_time = by_time_scheduled e es s.by_time;
   once = once_insert e es (place_in e.time es) new s.once;
@@ -79,7 +79,7 @@ schedule_scheduled e es short new room s = record {
   few = omega (arith, length_insert e es (place_in e.time es));
 }
 
-pub schedule_cancelled : (hook arg : List ℕ) (es : List Event) → IsSchedule es → IsSchedule (cancelled hook arg es)
+pub schedule_cancelled : (hook arg : List ℕ) (es : List Event) → IsSchedule es → IsSchedule (cancel_events hook arg es)
 schedule_cancelled hook arg es s = record {
   by_time = by_time_filter (λ e. not (is_of hook arg e)) es s.by_time;
   once = once_filter (λ e. not (is_of hook arg e)) es s.once;
@@ -88,13 +88,13 @@ schedule_cancelled hook arg es s = record {
 }
 
 -- one with the argument of another that went, put in where its like doesn't stand
-pub schedule_moved : (es : List Event) (i : ℕ) (e new : Event) → i < length es → e ≡ get_or es i e → new.arg ≡ e.arg → stands new (remove es i) ≡ false → IsSchedule es → IsSchedule (scheduled new (remove es i))
+pub schedule_moved : (es : List Event) (i : ℕ) (e new : Event) → i < length es → e ≡ get_or es i e → new.arg ≡ e.arg → stands new (remove es i) ≡ false → IsSchedule es → IsSchedule (insert_event new (remove es i))
 schedule_moved es i e new lt at arg free s =
     let few = s.few in
     let short : length new.arg ≤ 256 = subst (λ (a : List ℕ). length a ≤ 256) (sym (arg ∙ ap (λ (x : Event). x.arg) at)) (short_at es i e lt s.short) in
     schedule_scheduled new (remove es i) short free (omega (arith, length-remove es i lt)) (schedule_removed es i lt s)
 
-again_by : (b : Bool) (e : Event) (es : List Event) → (b ≡ false → IsSchedule (scheduled e es)) → IsSchedule es → IsSchedule (cond b es (scheduled e es))
+again_by : (b : Bool) (e : Event) (es : List Event) → (b ≡ false → IsSchedule (insert_event e es)) → IsSchedule es → IsSchedule (cond b es (insert_event e es))
 again_by true e es put s = s
 again_by false e es put s = put refl
 
@@ -163,7 +163,7 @@ stands_elsewhere (x ∷ xs) (suc i) (suc j) d new lt within other s =
 -- ---- adding
 
 added_by : (long stood full : Bool) (e : Event) (es : List Event) → long ≡ nat_lt 256 (length e.arg) → stood ≡ stands e es → full ≡ nat_le 4096 (length es) → IsSchedule es
-    → IfOk (let r : Result (List Event × Bool) EventFault = cond long (Err TooLong) (cond stood (Ok (es, false)) (cond full (Err TooManyEvents) (Ok (scheduled e es, true)))) in r) (λ after. IsSchedule after.0)
+    → IfOk (let r : Result (List Event × Bool) EventFault = cond long (Err TooLong) (cond stood (Ok (es, false)) (cond full (Err TooManyEvents) (Ok (insert_event e es, true)))) in r) (λ after. IsSchedule after.0)
 added_by true stood full e es l t f s = tt
 added_by false true full e es l t f s = s
 added_by false false true e es l t f s = tt

@@ -10,9 +10,9 @@ use Rattle.press_text.specs.declared.every.Every.{Every}
 use Rattle.press_events.specs.declared.event.Event.{Event}
 use Rattle.press_events.specs.declared.shift.Shift.{Shift}
 use Rattle.press_events.specs.declared.shift.Shift.TheVariants.{Came, Moved}
-use Rattle.press_events.specs.DueEvents.{HasEachOnce, IsSchedule, again, cancelled, cancels, is_of, is_same, moment_next, place_of, put_again, scheduled, stands, take_event, taken_at}
+use Rattle.press_events.specs.DueEvents.{HasEachOnce, IsSchedule, again, cancel_events, cancels, is_of, is_same, moment_next, place_of, put_again, insert_event, stands, take_event, take_event_at}
 use Rattle.press_events.specs.Marks.{Covers, count_of, mark}
-use Rattle.press_events.specs.Shifts.{FitsIn, IsOnly, MayGoBack, ShiftsBack, comes_again, comes_at, comes_of, event_at, move_event, moved_beside, put_at, shift_back}
+use Rattle.press_events.specs.Shifts.{FitsIn, IsOnly, MayGoBack, ShiftsBack, comes_again, comes_at, comes_of, event_at, move_event, move_among, put_at, shift_back}
 use Rattle.press_events.proofs.Halves.{stands_is}
 use Rattle.press_events.proofs.Moments.{next_behind}
 use Rattle.press_events.proofs.Once.{none_remove}
@@ -83,23 +83,23 @@ covers_moved es i to e new ms lt at same c x =
 
 -- ---- the only one
 
-pub none_cancelled : (hook arg : List ℕ) (es : List Event) → cancels hook arg es ≡ false → cancelled hook arg es ≡ es
+pub none_cancelled : (hook arg : List ℕ) (es : List Event) → cancels hook arg es ≡ false → cancel_events hook arg es ≡ es
 none_cancelled hook arg [] n = refl
 none_cancelled hook arg (e ∷ es) n = by (is_of hook arg e) n (none_cancelled hook arg es)
   where
-    by : (b : Bool) → (b || cancels hook arg es) ≡ false → (cancels hook arg es ≡ false → cancelled hook arg es ≡ es) → cond (not b) (e ∷ cancelled hook arg es) (cancelled hook arg es) ≡ e ∷ es
+    by : (b : Bool) → (b || cancels hook arg es) ≡ false → (cancels hook arg es ≡ false → cancel_events hook arg es ≡ es) → cond (not b) (e ∷ cancel_events hook arg es) (cancel_events hook arg es) ≡ e ∷ es
     by true n rest = absurd (cc)
     by false n rest = ap (λ (xs : List Event). e ∷ xs) (rest n)
 
-one_out : (hook arg : List ℕ) (es : List Event) (i : ℕ) (d : Event) → i < length es → is_of hook arg (get_or es i d) ≡ true → marked (mark arg) es ≤ 1 → cancelled hook arg es ≡ remove es i
+one_out : (hook arg : List ℕ) (es : List Event) (i : ℕ) (d : Event) → i < length es → is_of hook arg (get_or es i d) ≡ true → marked (mark arg) es ≤ 1 → cancel_events hook arg es ≡ remove es i
 one_out hook arg [] i d lt t n = absurd (omega arith)
 one_out hook arg (e ∷ es) zero d lt t n =
     let o : mark_one (mark arg) e ≡ 1 = one_of_it hook arg (mark arg) e t ∙ same_one (mark arg) in
     let none : marked (mark arg) es ≡ 0 = omega (arith, sum_by-cons (mark_one (mark arg)) e es) in
-    ap (λ (b : Bool). cond (not b) (e ∷ cancelled hook arg es) (cancelled hook arg es)) t ∙ none_cancelled hook arg es (sym (none_has hook arg es none))
+    ap (λ (b : Bool). cond (not b) (e ∷ cancel_events hook arg es) (cancel_events hook arg es)) t ∙ none_cancelled hook arg es (sym (none_has hook arg es none))
 one_out hook arg (e ∷ es) (suc i) d lt t n = by (is_of hook arg e) refl (λ (few : marked (mark arg) es ≤ 1). one_out hook arg es i d (omega arith) t few)
   where
-    by : (b : Bool) → is_of hook arg e ≡ b → (marked (mark arg) es ≤ 1 → cancelled hook arg es ≡ remove es i) → cond (not b) (e ∷ cancelled hook arg es) (cancelled hook arg es) ≡ e ∷ remove es i
+    by : (b : Bool) → is_of hook arg e ≡ b → (marked (mark arg) es ≤ 1 → cancel_events hook arg es ≡ remove es i) → cond (not b) (e ∷ cancel_events hook arg es) (cancel_events hook arg es) ≡ e ∷ remove es i
     by true h rest =
         let o : mark_one (mark arg) e ≡ 1 = one_of_it hook arg (mark arg) e h ∙ same_one (mark arg) in
         let p : mark_one (mark arg) (get_or es i d) ≡ 1 = one_of_it hook arg (mark arg) (get_or es i d) t ∙ same_one (mark arg) in
@@ -150,10 +150,10 @@ only time hook arg es ms (Some i) is c n =
 -- ---- an event that gets another time
 
 moves_by : (es : List Event) (i time : ℕ) (every : Every) (e : Event) (b : Bool) → i < length es → e ≡ get_or es i e → b ≡ stands (record e { time = time }) (remove es i)
-    → move_event i time every es ≡ cond b None (Some (scheduled (record e { time = time; every = every }) (remove es i)))
+    → move_event i time every es ≡ cond b None (Some (insert_event (record e { time = time; every = every }) (remove es i)))
 moves_by es i time every e b lt at s =
-    ap (λ (o : Option Event). moved_beside o time every (remove es i)) (got es i e lt at)
-    ∙ ap (λ (c : Bool). cond c None (Some (scheduled (record e { time = time; every = every }) (remove es i)))) (sym s)
+    ap (λ (o : Option Event). move_among o time every (remove es i)) (got es i e lt at)
+    ∙ ap (λ (c : Bool). cond c None (Some (insert_event (record e { time = time; every = every }) (remove es i)))) (sym s)
 
 -- that there is one is known by the length, so that any default does
 pub move_stands : (es : List Event) (i time : ℕ) (every : Every) → i < length es → ((d : Event) → stands (record (get_or es i d) { time = time }) (remove es i) ≡ true) → None ≡ move_event i time every es
@@ -162,7 +162,7 @@ move_stands (x ∷ xs) i time every lt s =
     let e : Event = get_or (x ∷ xs) i x in sym (moves_by (x ∷ xs) i time every e true lt (any_default (x ∷ xs) i x e lt) (sym (s x)))
 
 pub move_free : (es : List Event) (i time : ℕ) (every : Every) (new : List Event) → i < length es → ((d : Event) → stands (record (get_or es i d) { time = time }) (remove es i) ≡ false)
-    → ((d : Event) → new ≡ scheduled (record (get_or es i d) { time = time; every = every }) (remove es i)) → Some new ≡ move_event i time every es
+    → ((d : Event) → new ≡ insert_event (record (get_or es i d) { time = time; every = every }) (remove es i)) → Some new ≡ move_event i time every es
 move_free [] i time every new lt s n = absurd (omega arith)
 move_free (x ∷ xs) i time every new lt s n =
     let e : Event = get_or (x ∷ xs) i x in
@@ -207,10 +207,10 @@ gone_at (Some t) i event es lt late c =
     let new : Event = record (get_or es i event) { time = t } in
     put_none new (remove es i) (later i t event es lt (late t refl) ∙ not_false (stands new es) c)
 
-gone_of : (place : Option ℕ) (i : ℕ) (event : Event) (now : ℕ) (es : List Event) → place ≡ Some i → i < length es → comes_of place event now es ≡ false → taken_at place event now es ≡ remove es i
+gone_of : (place : Option ℕ) (i : ℕ) (event : Event) (now : ℕ) (es : List Event) → place ≡ Some i → i < length es → comes_of place event now es ≡ false → take_event_at place event now es ≡ remove es i
 gone_of place i event now es p lt c =
     let e : Event = get_or es i event in
-    ap (λ (o : Option ℕ). taken_at o event now es) p
+    ap (λ (o : Option ℕ). take_event_at o event now es) p
     ∙ gone_at (moment_next now e) i event es lt (λ t m. next_behind e.every e.time now t m) (ap (λ (o : Option ℕ). comes_of o event now es) (sym p) ∙ c)
 
 pub gone : (i : ℕ) (event : Event) (now : ℕ) (es : List Event) → place_of event es ≡ Some i → i < length es → comes_again event now es ≡ false → take_event event now es ≡ remove es i
@@ -226,7 +226,7 @@ comes_some i time event now es p m =
 taken_some : (i time : ℕ) (event : Event) (now : ℕ) (es : List Event) → place_of event es ≡ Some i → moment_next now (get_or es i event) ≡ Some time
     → take_event event now es ≡ put_again (record (get_or es i event) { time = time }) (remove es i)
 taken_some i time event now es p m =
-    ap (λ (o : Option ℕ). taken_at o event now es) p ∙ ap (λ (o : Option ℕ). again o (get_or es i event) (remove es i)) m
+    ap (λ (o : Option ℕ). take_event_at o event now es) p ∙ ap (λ (o : Option ℕ). again o (get_or es i event) (remove es i)) m
 
 pub none_comes : (i : ℕ) (event : Event) (now : ℕ) (es : List Event) → place_of event es ≡ Some i → moment_next now (get_or es i event) ≡ None → false ≡ comes_again event now es
 none_comes i event now es p m =
@@ -250,7 +250,7 @@ module _ (i time : ℕ) (event : Event) (now : ℕ) (es : List Event) (p : place
 
   pub again_told : (r : Option Shift) (new : List Event) → option_map (λ _. new) r ≡ move_event i time e.every es → is_some r ≡ comes_again event now es
   again_told r new d =
-      told_by (stands (record e { time = time }) (remove es i)) r new (scheduled (record e { time = time }) (remove es i)) (d ∙ moves_by es i time e.every e _ lt here refl)
+      told_by (stands (record e { time = time }) (remove es i)) r new (insert_event (record e { time = time }) (remove es i)) (d ∙ moves_by es i time e.every e _ lt here refl)
       ∙ ap not free ∙ sym (comes_some i time event now es p m)
 
   after_by : (b : Bool) (r : Option Shift) (new xs ys : List Event) → option_map (λ _. new) r ≡ cond b None (Some xs) → IfSome r (λ _. new ≡ cond b ys xs)
@@ -262,7 +262,7 @@ module _ (i time : ℕ) (event : Event) (now : ℕ) (es : List Event) (p : place
   pub again_after : (r : Option Shift) (new : List Event) → option_map (λ _. new) r ≡ move_event i time e.every es → IfSome r (λ _. new ≡ take_event event now es)
   again_after r new d =
       subst (λ (xs : List Event). IfSome r (λ _. new ≡ xs)) (sym (taken_some i time event now es p m))
-      (after_by (stands (record e { time = time }) (remove es i)) r new (scheduled (record e { time = time }) (remove es i)) (remove es i) (d ∙ moves_by es i time e.every e _ lt here refl))
+      (after_by (stands (record e { time = time }) (remove es i)) r new (insert_event (record e { time = time }) (remove es i)) (remove es i) (d ∙ moves_by es i time e.every e _ lt here refl))
 
 pub back_some : (r : Option Shift) (new old : List Event) → MayGoBack r new old → IfSome r (λ s. ShiftsBack s new old)
 back_some (Some s) new old g = g

@@ -3,7 +3,7 @@ use Rattle.std.specs.Prelude.{◌≡◌, refl, ℕ, [], ◌∷◌, true, false, 
 use Rattle.press_text.specs.declared.every.Every.{Every}
 use Rattle.press_text.specs.declared.every.Every.TheVariants.{Once, Daily}
 use Rattle.press_events.specs.declared.event.Event.{Event}
-use Rattle.press_events.specs.DueEvents.{add_event, cancels, cancelled, due, moment_after, take_event}
+use Rattle.press_events.specs.DueEvents.{add_event, cancels, cancel_events, due, moment_after, take_event}
 
 abbrev event : ℕ → Every → Event
 event time every = record { time = time; hook = codes "h"; arg = codes "a"; every = every }
@@ -30,7 +30,7 @@ adds_once = refl
 cancels_first : cancels (codes "h") (codes "a") (daily 259300 ∷ []) ≡ true
 cancels_first = refl
 
-cancels_once : cancels (codes "h") (codes "a") (cancelled (codes "h") (codes "a") (daily 259300 ∷ [])) ≡ false
+cancels_once : cancels (codes "h") (codes "a") (cancel_events (codes "h") (codes "a") (daily 259300 ∷ [])) ≡ false
 cancels_once = refl
 
 -- where the event of that identity is already, the taken one goes

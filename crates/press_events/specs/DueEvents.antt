@@ -50,27 +50,27 @@ IsByTime (e ∷ es) = NoneBefore e.time es × IsByTime es
 abbrev pub place_in : ℕ → List Event → ℕ
 place_in time events = unwrap_or (position (is_later time) events) (length events)
 
-abbrev pub scheduled : Event → List Event → List Event
-scheduled e events = insert events (place_in e.time events) e
+abbrev pub insert_event : Event → List Event → List Event
+insert_event e events = insert events (place_in e.time events) e
 
 -- the events after it, and whether it was put in; or its refusal
 abbrev pub add_event : Event → List Event → Result (List Event × Bool) EventFault
 add_event e events =
     if nat_lt 256 (length e.arg) then Err TooLong else
     (if stands e events then Ok (events, false) else
-    (if nat_le 4096 (length events) then Err TooManyEvents else Ok (scheduled e events, true)))
+    (if nat_le 4096 (length events) then Err TooManyEvents else Ok (insert_event e events, true)))
 
 -- ---- cancelling takes out each event of the hook and argument
 
 abbrev pub cancels : List ℕ → List ℕ → List Event → Bool
 cancels hook arg events = list_any (is_of hook arg) events
 
-abbrev pub cancelled : List ℕ → List ℕ → List Event → List Event
-cancelled hook arg events = filter (λ e. not (is_of hook arg e)) events
+abbrev pub cancel_events : List ℕ → List ℕ → List Event → List Event
+cancel_events hook arg events = filter (λ e. not (is_of hook arg e)) events
 
 -- whether there is no room for another event once these are out
 abbrev pub is_full_without : List ℕ → List ℕ → List Event → Bool
-is_full_without hook arg events = nat_le 4096 (length (cancelled hook arg events))
+is_full_without hook arg events = nat_le 4096 (length (cancel_events hook arg events))
 
 -- ---- due events: those of a time at most now
 
@@ -104,18 +104,18 @@ abbrev pub moment_next : ℕ → Event → Option ℕ
 moment_next now e = moment_again (interval e.every) e.time now
 
 abbrev pub put_again : Event → List Event → List Event
-put_again e events = if stands e events then events else scheduled e events
+put_again e events = if stands e events then events else insert_event e events
 
 abbrev pub again : Option ℕ → Event → List Event → List Event
 again None e events = events
 again (Some time) e events = put_again (record e { time = time }) events
 
-abbrev pub taken_at : Option ℕ → Event → ℕ → List Event → List Event
-taken_at None event now events = events
-taken_at (Some i) event now events = let e = slice_index_or events i event in again (moment_next now e) e (remove events i)
+abbrev pub take_event_at : Option ℕ → Event → ℕ → List Event → List Event
+take_event_at None event now events = events
+take_event_at (Some i) event now events = let e = slice_index_or events i event in again (moment_next now e) e (remove events i)
 
 abbrev pub take_event : Event → ℕ → List Event → List Event
-take_event event now events = taken_at (place_of event events) event now events
+take_event event now events = take_event_at (place_of event events) event now events
 
 -- ---- one event of each identity
 

@@ -11,7 +11,7 @@ use Rattle.press_events.specs.declared.fault.EventFault.{EventFault}
 use Rattle.press_events.specs.declared.shift.Shift.{Shift}
 use Rattle.press_events.specs.declared.shift.Shift.TheVariants.{Came, Moved, Went, All}
 use Rattle.press_events.specs.Marks.{mark}
-use Rattle.press_events.specs.DueEvents.{IsSchedule, Refuses, cancelled, is_of, moment_next, place_of, scheduled, stands}
+use Rattle.press_events.specs.DueEvents.{IsSchedule, Refuses, cancel_events, is_of, moment_next, place_of, insert_event, stands}
 
 -- ---- the way back
 
@@ -57,13 +57,13 @@ Enters result meant old new = GivesOrStays Refuses (λ shift. Ok (new, is_some s
 
 -- ---- an event that gets another time and recurrence: None where there is none at the place, or another has the identity that it would get
 
-abbrev pub moved_beside : Option Event → ℕ → Every → List Event → Option (List Event)
-moved_beside None time every others = None
-moved_beside (Some e) time every others =
-    let new = record e { time = time; every = every } in if stands new others then None else Some (scheduled new others)
+abbrev pub move_among : Option Event → ℕ → Every → List Event → Option (List Event)
+move_among None time every others = None
+move_among (Some e) time every others =
+    let new = record e { time = time; every = every } in if stands new others then None else Some (insert_event new others)
 
 abbrev pub move_event : ℕ → ℕ → Every → List Event → Option (List Event)
-move_event place time every events = moved_beside (slice_get events place) time every (remove events place)
+move_event place time every events = move_among (slice_get events place) time every (remove events place)
 
 -- ---- whether an event comes again once it is taken
 
@@ -92,4 +92,4 @@ stands_alone time hook arg events = nat_le (count_by (λ e. nat_eq (mark arg) (m
 pub record IsOnly (hook arg : List ℕ) (place : ℕ) (events : List Event) : Type 0 where
   pub within : place < length events
   pub of_it : (d : Event) → is_of hook arg (slice_index_or events place d) ≡ true
-  pub only : cancelled hook arg events ≡ remove events place
+  pub only : cancel_events hook arg events ≡ remove events place

@@ -101,7 +101,7 @@ fn moment_after(interval: u64, time: Moment, now: Moment) -> u64
 }
 
 impl Copied for Event {
-    fn copied(&self, alloc: Global) -> Result<Event, AllocError> {
+    fn copy_in(&self, alloc: Global) -> Result<Event, AllocError> {
         Ok(Event {
             time: self.time,
             hook: self.hook.copy(alloc)?,

@@ -2,7 +2,7 @@
 
 ghost use Rattle.std.specs.Prelude.{◌≡◌, ℕ, [], ◌<◌, ◌≤◌, length, take, true, false, IfOk, IfErr, OnOk, OnErr, IfSome, IfNone, insert, remove, slice_index_or, is_some, not, option_map, vec_len, vec_capacity};
 ghost use Rattle.std.specs.List.Sorted.{IsPartitionPoint};
-ghost use Rattle.press_events.specs.DueEvents.{is_earlier, is_later, place_of, stands, place_in, HasEachOnce, IsByTime, IsSchedule, Adds, add_event, cancelled, cancels, is_full_without, due, take_event, put_again, scheduled};
+ghost use Rattle.press_events.specs.DueEvents.{is_earlier, is_later, place_of, stands, place_in, HasEachOnce, IsByTime, IsSchedule, Adds, add_event, cancel_events, cancels, is_full_without, due, take_event, put_again, insert_event};
 ghost use Rattle.press_events.specs.Shifts.{comes_again, Enters, IsOnly, MayGoBack, MayShiftBack, ShiftsBack, event_at, move_event, shift_back, stands_alone};
 ghost use Rattle.press_events.specs.declared.fault.EventFault.TheVariants.{NoMemory};
 ghost use Rattle.press_events.specs.declared.shift.Shift.TheVariants.{Moved, Went};
@@ -11,7 +11,7 @@ use crate::event::Event;
 use crate::fault::EventFault;
 use crate::marks::{Marks, mark};
 use crate::shift::Shift;
-use press_text::{Copied, Every, HookName, Items, Moment, copied_all};
+use press_text::{Copied, Every, HookName, Items, Moment, copy_all};
 use std::alloc::{AllocError, Global};
 use std::marker::Model;
 
@@ -101,7 +101,7 @@ impl Events {
         requires short { length event.arg ≤ 256 }
         requires new { stands event self.old ≡ false }
         requires room { length self.old < 4096 }
-        ensures ok { OnOk result (self.new ≡ scheduled event self.old) }
+        ensures ok { OnOk result (self.new ≡ insert_event event self.old) }
         ensures back { IfOk result (λ s. ShiftsBack s self.new self.old) }
         ensures err { IfErr result (λ f. (f ≡ NoMemory) × (self.new ≡ self.old)) }
     {
@@ -235,7 +235,7 @@ impl Events {
     /// (`wp_clear_scheduled_hook`).
     pub fn cancel(&mut self, hook: &HookName, arg: &str) -> bool
         ensures answer { result ≡ cancels hook.now arg.now self.old }
-        ensures after { self.new ≡ cancelled hook.now arg.now self.old }
+        ensures after { self.new ≡ cancel_events hook.now arg.now self.old }
     {
         let all = self.events.len();
         cancel(&mut self.events, hook, arg);
@@ -296,7 +296,7 @@ impl Events {
         requires within { place < length self.old }
         requires free { (d : Event) → stands (record (slice_index_or self.old place d)
             { time = time }) (remove self.old place) ≡ false }
-        ensures after { (d : Event) → self.new ≡ scheduled
+        ensures after { (d : Event) → self.new ≡ insert_event
             (record (slice_index_or self.old place d) { time = time; every = every })
             (remove self.old place) }
         ensures back { ShiftsBack result self.new self.old }
@@ -361,7 +361,7 @@ impl Events {
         }
         Ok(Events {
             alloc: self.alloc,
-            events: copied_all(self.alloc, self.events.as_slice())?,
+            events: copy_all(self.alloc, self.events.as_slice())?,
             marks: self.marks.copy()?,
         })
     }
@@ -374,14 +374,14 @@ fn any_of(events: &[Event], hook: &str, arg: &str) -> bool
 }
 
 fn cancel(events: &mut Vec<Event>, hook: &HookName, arg: &str)
-    ensures { events.new.items ≡ cancelled hook.now arg.now events.old.items }
+    ensures { events.new.items ≡ cancel_events hook.now arg.now events.old.items }
 {
     events.retain(|e| !e.is_of(hook.as_str(), arg));
 }
 
 // How many events are not of that hook and argument.
 fn others(events: &[Event], hook: &str, arg: &str) -> usize
-    ensures { result ≡ length (cancelled hook.now arg.now events.now) }
+    ensures { result ≡ length (cancel_events hook.now arg.now events.now) }
 {
     events.iter().filter(|e| !e.is_of(hook, arg)).count()
 }
@@ -474,7 +474,7 @@ fn put_again(events: &mut Vec<Event>, event: Event) -> bool
 fn put_over(events: &mut Vec<Event>, event: Event) -> usize
     requires order { IsByTime events.old.items }
     requires room { vec_len events.old < vec_capacity events.old }
-    ensures after { events.new.items ≡ scheduled event events.old.items }
+    ensures after { events.new.items ≡ insert_event event events.old.items }
     ensures place { result ≡ place_in event.time events.old.items }
     ensures within { result ≤ length events.old.items }
 {
@@ -503,5 +503,5 @@ fn due(alloc: Global, events: &[Event], now: Moment) -> Result<Items<Event>, All
     if end == 0 {
         return Ok(Items::new(alloc));
     }
-    Ok(Items::from_vec(copied_all(alloc, &events[..end])?))
+    Ok(Items::from_vec(copy_all(alloc, &events[..end])?))
 }

@@ -14,7 +14,7 @@ use Rattle.press_apply.specs.declared.kind.CommandKind.TheVariants as kind
 use Rattle.press_apply.specs.Kinds.{kind_named}
 use Rattle.press_fields.specs.declared.fault.FieldFault.{FieldFault}
 use Rattle.press_fields.specs.declared.fault.FieldFault.TheVariants.{BadField}
-use Rattle.press_fields.specs.Fields.{Fields, ◌>>=◌, made, or_bad, text_at, name_at, number_at, moment_at, moment_in, default}
+use Rattle.press_fields.specs.Fields.{Fields, ◌>>=◌, map_ok, or_bad, text_at, name_at, number_at, moment_at, moment_in, default}
 
 abbrev pub status_in : List ℕ → Result Status FieldFault
 status_in word = or_bad (status_named word)
@@ -42,29 +42,29 @@ draft now fields = do
   date ← date_at now fields
   Ok (record { title = title; content = content; status = status; date = date })
 
-unfoldable pub updated : ℕ → Fields → Result Command FieldFault
-updated now fields = do
+unfoldable pub update_command : ℕ → Fields → Result Command FieldFault
+update_command now fields = do
   id ← number_at (codes "id") fields
   d ← draft now fields
   Ok (command.Update id d)
 
-unfoldable pub option_set : Fields → Result Command FieldFault
-option_set fields = do
+unfoldable pub option_command : Fields → Result Command FieldFault
+option_command fields = do
   name ← name_at (codes "name") fields
   value ← text_at (codes "value") fields
   Ok (command.SetOption name value)
 
 unfoldable pub command_by : CommandKind → ℕ → Fields → Result Command FieldFault
-command_by kind.Insert now fields = made command.Insert (draft now fields)
-command_by kind.Update now fields = updated now fields
-command_by kind.Trash now fields = made command.Trash (number_at (codes "id") fields)
-command_by kind.Untrash now fields = made command.Untrash (number_at (codes "id") fields)
-command_by kind.Delete now fields = made command.Delete (number_at (codes "id") fields)
-command_by kind.SetOption now fields = option_set fields
-command_by kind.Activate now fields = made command.Activate (name_at (codes "plugin") fields)
-command_by kind.Deactivate now fields = made command.Deactivate (name_at (codes "plugin") fields)
+command_by kind.Insert now fields = map_ok command.Insert (draft now fields)
+command_by kind.Update now fields = update_command now fields
+command_by kind.Trash now fields = map_ok command.Trash (number_at (codes "id") fields)
+command_by kind.Untrash now fields = map_ok command.Untrash (number_at (codes "id") fields)
+command_by kind.Delete now fields = map_ok command.Delete (number_at (codes "id") fields)
+command_by kind.SetOption now fields = option_command fields
+command_by kind.Activate now fields = map_ok command.Activate (name_at (codes "plugin") fields)
+command_by kind.Deactivate now fields = map_ok command.Deactivate (name_at (codes "plugin") fields)
 command_by kind.Tick now fields = Ok command.Tick
-command_by kind.Profile now fields = made command.Profile (profile_at fields)
+command_by kind.Profile now fields = map_ok command.Profile (profile_at fields)
 
 abbrev pub kind_in : List ℕ → Result CommandKind FieldFault
 kind_in word = or_bad (kind_named word)

@@ -25,8 +25,8 @@ or_bad None = Err BadField
 or_bad (Some x) = Ok x
 
 -- what is made of one answer
-abbrev pub made : {A B : Type 0} → (A → B) → Result A FieldFault → Result B FieldFault
-made make meant = do
+abbrev pub map_ok : {A B : Type 0} → (A → B) → Result A FieldFault → Result B FieldFault
+map_ok make meant = do
   x ← meant
   Ok (make x)
 
@@ -34,7 +34,7 @@ made make meant = do
 
 abbrev pub read : {A B : Type 0} → (A → Option B) → Option A → Result (Option B) FieldFault
 read how None = Ok None
-read how (Some found) = made Some (or_bad (how found))
+read how (Some found) = map_ok Some (or_bad (how found))
 
 -- ---- fields that have to be there
 

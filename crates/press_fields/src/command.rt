@@ -30,9 +30,10 @@ impl<'f, F: Lookup> Reader<'f, F> {
         })
     }
 
-    #[tactic(auto, unfolding(crate::specs::Commands::updated, crate::specs::Memory::title_behind_id))]
+    #[tactic(auto, unfolding(crate::specs::Commands::update_command, crate::specs::Memory::title_behind_id))]
     fn update(&self, now: Moment) -> Result<Command, FieldFault>
-        ensures gives { Gives Refuses Ok result (spec.updated now (F.seen self.now.fields.now)) }
+        ensures gives { Gives Refuses Ok result
+            (spec.update_command now (F.seen self.now.fields.now)) }
         ensures memory { ((name : List ℕ) → F.lends self.now.fields.now name) → GrowsBehind result
             (title_behind_id (F.seen self.now.fields.now)) }
     {
@@ -42,9 +43,9 @@ impl<'f, F: Lookup> Reader<'f, F> {
         })
     }
 
-    #[tactic(auto, unfolding(crate::specs::Commands::option_set))]
+    #[tactic(auto, unfolding(crate::specs::Commands::option_command))]
     fn option_command(&self) -> Result<Command, FieldFault>
-        ensures gives { Gives Refuses Ok result (spec.option_set (F.seen self.now.fields.now)) }
+        ensures gives { Gives Refuses Ok result (spec.option_command (F.seen self.now.fields.now)) }
         ensures memory { F.lends self.now.fields.now (codes "name") → GrowsBehind result
             (name_at (codes "name") (F.seen self.now.fields.now)) }
     {
@@ -99,7 +100,7 @@ impl<'f, F: Lookup> Reader<'f, F> {
     }
 
     #[tactic(auto, unfolding(crate::specs::Commands::command_of))]
-    fn stamped(&self) -> Result<Stamped, FieldFault>
+    fn stamped_command(&self) -> Result<Stamped, FieldFault>
         ensures gives { Gives Refuses Ok result (spec.command_of (F.seen self.now.fields.now)) }
         ensures memory { F.lends self.now.fields.now (codes "editor") → GrowsBehind result
             (editor_at (F.seen self.now.fields.now)) }
@@ -120,5 +121,5 @@ pub fn read_command<F: Lookup>(alloc: Global, fields: &F) -> Result<Stamped, Fie
     ensures memory { F.lends fields.now (codes "editor") → GrowsBehind result
         (editor_at (F.seen fields.now)) }
 {
-    Reader { alloc, fields }.stamped()
+    Reader { alloc, fields }.stamped_command()
 }

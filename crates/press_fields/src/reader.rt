@@ -105,7 +105,7 @@ impl<'f, F: Lookup> Reader<'f, F> {
     {
         match self.fields.text("status")? {
             None => Ok(Status::Draft),
-            Some(word) => Status::named(word.as_str()).ok_or(FieldFault::BadField),
+            Some(word) => Status::from_word(word.as_str()).ok_or(FieldFault::BadField),
         }
     }
 
@@ -137,6 +137,6 @@ impl<'f, F: Lookup> Reader<'f, F> {
             → result ≢ Err FieldFault.NoMemory }
     {
         let word = self.word("kind")?;
-        CommandKind::named(word.as_str()).ok_or(FieldFault::BadField)
+        CommandKind::from_word(word.as_str()).ok_or(FieldFault::BadField)
     }
 }

@@ -12,8 +12,9 @@ use Rattle.press_hooks.specs.declared.entry.Entry.{Entry}
 use Rattle.press_hooks.specs.declared.group_entry.GroupEntry.{GroupEntry}
 use Rattle.press_hooks.specs.GroupEntries.{entry_at, group_entry_of, accepted_if, is_group_entry_of}
 use Rattle.press_hooks.specs.NextEntry.{is_past, first_of}
-use Rattle.press_hooks.specs.Hooked.{Grouped, with_members, group_entries, entries_of, IsEach, IsByPriority, AreGroups, IsPlaceAt, up_to, put_entry, is_of, is_named, accepted_where}
-use Rattle.press_hooks.proofs.Cuts.{each_at, each_joined, each_weaker, front_kept, all_pass, none_pass, filter_joined, map_joined, append_none, length_mapped}
+use Rattle.press_hooks.specs.Hooked.{GroupView, with_members, group_entries, entries_of, IsEach, IsByPriority, AreGroups, IsPlaceAt, up_to, put_entry, is_of, is_named, accepted_where}
+use Rattle.press_text.proofs.Parted.{front_kept}
+use Rattle.press_hooks.proofs.Cuts.{each_at, each_joined, each_weaker, all_pass, none_pass, filter_joined, map_joined, append_none, length_mapped}
 
 empty_where : {X : Type 0} (xs : List X) → length xs ≡ 0 → xs ≡ []
 empty_where [] e = refl
@@ -34,7 +35,7 @@ each_member : (P : ℤ → Type 0) (p : ℤ) (ms : List GroupEntry) → P p → 
 each_member P p [] h = tt
 each_member P p (m ∷ ms) h = (h, each_member P p ms h)
 
-pub each_entry : (P : ℤ → Type 0) (gs : List Grouped) → IsEach (λ (g : Grouped). P g.priority) gs → IsEach (λ (e : Entry). P e.priority) (entries_of gs)
+pub each_entry : (P : ℤ → Type 0) (gs : List GroupView) → IsEach (λ (g : GroupView). P g.priority) gs → IsEach (λ (e : Entry). P e.priority) (entries_of gs)
 each_entry P [] h = tt
 each_entry P (g ∷ gs) h = each_joined (λ (e : Entry). P e.priority) (group_entries g) (entries_of gs) (each_member P g.priority g.members h.0) (each_entry P gs h.1)
 
@@ -43,19 +44,19 @@ order_joined p [] ys h o = o
 order_joined p (m ∷ ms) ys h o =
     (each_joined (λ (f : Entry). int_lt f.priority p ≡ false) (map (entry_at p) ms) ys (each_member (λ q. int_lt q p ≡ false) p ms (itself p)) h, order_joined p ms ys h o)
 
-later : (p : ℤ) (gs : List Grouped) → IsEach (λ (h : Grouped). int_lt p h.priority ≡ true) gs → IsEach (λ (e : Entry). int_lt e.priority p ≡ false) (entries_of gs)
-later p gs h = each_entry (λ q. int_lt q p ≡ false) gs (each_weaker (λ (g : Grouped). int_lt p g.priority ≡ true) (λ (g : Grouped). int_lt g.priority p ≡ false) gs (λ g. not_after p g.priority) h)
+later : (p : ℤ) (gs : List GroupView) → IsEach (λ (h : GroupView). int_lt p h.priority ≡ true) gs → IsEach (λ (e : Entry). int_lt e.priority p ≡ false) (entries_of gs)
+later p gs h = each_entry (λ q. int_lt q p ≡ false) gs (each_weaker (λ (g : GroupView). int_lt p g.priority ≡ true) (λ (g : GroupView). int_lt g.priority p ≡ false) gs (λ g. not_after p g.priority) h)
 
-pub order_entries : (gs : List Grouped) → AreGroups gs → IsByPriority (entries_of gs)
+pub order_entries : (gs : List GroupView) → AreGroups gs → IsByPriority (entries_of gs)
 order_entries [] o = tt
 order_entries (g ∷ gs) o = order_joined g.priority g.members (entries_of gs) (later g.priority gs o.1) (order_entries gs o.2)
 
-pub has_member : (gs : List Grouped) (i : ℕ) (d : Grouped) → AreGroups gs → i < length gs → 0 < length (get_or gs i d).members
+pub has_member : (gs : List GroupView) (i : ℕ) (d : GroupView) → AreGroups gs → i < length gs → 0 < length (get_or gs i d).members
 has_member [] i d o lt = absurd (omega arith)
 has_member (g ∷ gs) zero d o lt = o.0
 has_member (g ∷ gs) (suc i) d o lt = let lt' : i < length gs = omega arith in has_member gs i d o.2 lt'
 
-pub order_drop : (gs : List Grouped) (i : ℕ) → AreGroups gs → AreGroups (drop i gs)
+pub order_drop : (gs : List GroupView) (i : ℕ) → AreGroups gs → AreGroups (drop i gs)
 order_drop [] zero o = tt
 order_drop [] (suc i) o = tt
 order_drop (g ∷ gs) zero o = o
@@ -71,36 +72,36 @@ later_past (Some r) p q l h = past r p q l h
     past r p q l h = grind (arith, ints)
 
 module _ (reached : Option ℤ) where
-  all_past : (g : Grouped) (gs : List Grouped) → is_past reached g.priority ≡ true → AreGroups (g ∷ gs) → IsEach (λ (h : Grouped). is_past reached h.priority ≡ true) (g ∷ gs)
-  all_past g gs h o = (h, each_weaker (λ (f : Grouped). int_lt g.priority f.priority ≡ true) (λ (f : Grouped). is_past reached f.priority ≡ true) gs (λ f l. later_past reached g.priority f.priority l h) o.1)
+  all_past : (g : GroupView) (gs : List GroupView) → is_past reached g.priority ≡ true → AreGroups (g ∷ gs) → IsEach (λ (h : GroupView). is_past reached h.priority ≡ true) (g ∷ gs)
+  all_past g gs h o = (h, each_weaker (λ (f : GroupView). int_lt g.priority f.priority ≡ true) (λ (f : GroupView). is_past reached f.priority ≡ true) gs (λ f l. later_past reached g.priority f.priority l h) o.1)
 
-  ahead_by : (b : Bool) (g : Grouped) (gs : List Grouped) → is_past reached g.priority ≡ b → AreGroups (g ∷ gs) → filter (λ (e : Entry). is_past reached e.priority) (entries_of gs) ≡ entries_of (drop (up_to reached gs) gs) →
-      filter (λ (e : Entry). is_past reached e.priority) (entries_of (g ∷ gs)) ≡ entries_of (drop (length (cond (not b) (g ∷ filter (λ (h : Grouped). not (is_past reached h.priority)) gs) (filter (λ (h : Grouped). not (is_past reached h.priority)) gs))) (g ∷ gs))
+  ahead_by : (b : Bool) (g : GroupView) (gs : List GroupView) → is_past reached g.priority ≡ b → AreGroups (g ∷ gs) → filter (λ (e : Entry). is_past reached e.priority) (entries_of gs) ≡ entries_of (drop (up_to reached gs) gs) →
+      filter (λ (e : Entry). is_past reached e.priority) (entries_of (g ∷ gs)) ≡ entries_of (drop (length (cond (not b) (g ∷ filter (λ (h : GroupView). not (is_past reached h.priority)) gs) (filter (λ (h : GroupView). not (is_past reached h.priority)) gs))) (g ∷ gs))
   ahead_by true g gs h o ih =
       let past = all_past g gs h o in
-      let none : filter (λ (f : Grouped). not (is_past reached f.priority)) gs ≡ [] = none_pass (λ (f : Grouped). not (is_past reached f.priority)) gs (each_weaker (λ (f : Grouped). is_past reached f.priority ≡ true) (λ (f : Grouped). not (is_past reached f.priority) ≡ false) gs (λ f k. ap not k) past.1) in
+      let none : filter (λ (f : GroupView). not (is_past reached f.priority)) gs ≡ [] = none_pass (λ (f : GroupView). not (is_past reached f.priority)) gs (each_weaker (λ (f : GroupView). is_past reached f.priority ≡ true) (λ (f : GroupView). not (is_past reached f.priority) ≡ false) gs (λ f k. ap not k) past.1) in
       all_pass (λ (e : Entry). is_past reached e.priority) (entries_of (g ∷ gs)) (each_entry (λ q. is_past reached q ≡ true) (g ∷ gs) past)
-      ∙ ap (λ (fs : List Grouped). entries_of (drop (length fs) (g ∷ gs))) (sym none)
+      ∙ ap (λ (fs : List GroupView). entries_of (drop (length fs) (g ∷ gs))) (sym none)
   ahead_by false g gs h o ih =
       let t : Entry → Bool = λ e. is_past reached e.priority in
       filter_joined t (group_entries g) (entries_of gs)
       ∙ (ap (λ xs. xs ++ filter t (entries_of gs)) (none_pass t (group_entries g) (each_member (λ q. is_past reached q ≡ false) g.priority g.members h)) ∙ ih)
 
-  pub ahead_entries : (gs : List Grouped) → AreGroups gs → filter (λ (e : Entry). is_past reached e.priority) (entries_of gs) ≡ entries_of (drop (up_to reached gs) gs)
+  pub ahead_entries : (gs : List GroupView) → AreGroups gs → filter (λ (e : Entry). is_past reached e.priority) (entries_of gs) ≡ entries_of (drop (up_to reached gs) gs)
   ahead_entries [] o = refl
   ahead_entries (g ∷ gs) o = ahead_by (is_past reached g.priority) g gs refl o (ahead_entries gs o.2)
 
-pub next_up_to : (gs : List Grouped) (i : ℕ) (d : Grouped) → AreGroups gs → i < length gs → up_to (Some (get_or gs i d).priority) gs ≡ i + 1
+pub next_up_to : (gs : List GroupView) (i : ℕ) (d : GroupView) → AreGroups gs → i < length gs → up_to (Some (get_or gs i d).priority) gs ≡ i + 1
 next_up_to [] i d o lt = absurd (omega arith)
 next_up_to (g ∷ gs) zero d o lt =
-    let t : Grouped → Bool = λ h. not (int_lt g.priority h.priority) in
-    let none : filter t gs ≡ [] = none_pass t gs (each_weaker (λ (h : Grouped). int_lt g.priority h.priority ≡ true) (λ (h : Grouped). t h ≡ false) gs (λ h k. ap not k) o.1) in
-    ap (λ b. length (cond (not b) (g ∷ filter t gs) (filter t gs))) (itself g.priority) ∙ ap (λ (hs : List Grouped). suc (length hs)) none
+    let t : GroupView → Bool = λ h. not (int_lt g.priority h.priority) in
+    let none : filter t gs ≡ [] = none_pass t gs (each_weaker (λ (h : GroupView). int_lt g.priority h.priority ≡ true) (λ (h : GroupView). t h ≡ false) gs (λ h k. ap not k) o.1) in
+    ap (λ b. length (cond (not b) (g ∷ filter t gs) (filter t gs))) (itself g.priority) ∙ ap (λ (hs : List GroupView). suc (length hs)) none
 next_up_to (g ∷ gs) (suc i) d o lt =
     let lt' : i < length gs = omega arith in
     let p : ℤ = (get_or gs i d).priority in
-    let t : Grouped → Bool = λ h. not (int_lt p h.priority) in
-    let less : int_lt g.priority p ≡ true = each_at (λ (h : Grouped). int_lt g.priority h.priority ≡ true) gs i d o.1 lt' in
+    let t : GroupView → Bool = λ h. not (int_lt p h.priority) in
+    let less : int_lt g.priority p ≡ true = each_at (λ (h : GroupView). int_lt g.priority h.priority ≡ true) gs i d o.1 lt' in
     let k : suc (i + 1) ≡ suc i + 1 = omega arith in
     ap (λ b. length (cond (not b) (g ∷ filter t gs) (filter t gs))) (not_after g.priority p less) ∙ (ap suc (next_up_to gs i d o.2 lt') ∙ k)
 
@@ -110,18 +111,18 @@ first_member : (p : ℤ) (ms : List GroupEntry) (ys : List Entry) → 0 < length
 first_member p [] ys h = absurd (omega arith)
 first_member p (m ∷ ms) ys h = refl
 
-pub first_priority : (g : Grouped) (gs : List Grouped) → AreGroups (g ∷ gs) → option_map (λ (e : Entry). e.priority) (first_of (entries_of (g ∷ gs))) ≡ Some g.priority
+pub first_priority : (g : GroupView) (gs : List GroupView) → AreGroups (g ∷ gs) → option_map (λ (e : Entry). e.priority) (first_of (entries_of (g ∷ gs))) ≡ Some g.priority
 first_priority g gs o = first_member g.priority g.members (entries_of gs) o.0
 
 eq_itself : (p : ℤ) → int_eq p p ≡ true
 eq_itself p = grind (arith, ints)
 
-pub first_entries : (g : Grouped) (gs : List Grouped) → AreGroups (g ∷ gs) → filter (λ (e : Entry). int_eq e.priority g.priority) (entries_of (g ∷ gs)) ≡ group_entries g
+pub first_entries : (g : GroupView) (gs : List GroupView) → AreGroups (g ∷ gs) → filter (λ (e : Entry). int_eq e.priority g.priority) (entries_of (g ∷ gs)) ≡ group_entries g
 first_entries g gs o =
     let t : Entry → Bool = λ e. int_eq e.priority g.priority in
     filter_joined t (group_entries g) (entries_of gs)
     ∙ (ap (λ xs. xs ++ filter t (entries_of gs)) (all_pass t (group_entries g) (each_member (λ q. int_eq q g.priority ≡ true) g.priority g.members (eq_itself g.priority)))
-    ∙ (ap (λ ys. group_entries g ++ ys) (none_pass t (entries_of gs) (each_entry (λ q. int_eq q g.priority ≡ false) gs (each_weaker (λ (h : Grouped). int_lt g.priority h.priority ≡ true) (λ (h : Grouped). int_eq h.priority g.priority ≡ false) gs (λ h. unlike g.priority h.priority) o.1)))
+    ∙ (ap (λ ys. group_entries g ++ ys) (none_pass t (entries_of gs) (each_entry (λ q. int_eq q g.priority ≡ false) gs (each_weaker (λ (h : GroupView). int_lt g.priority h.priority ≡ true) (λ (h : GroupView). int_eq h.priority g.priority ≡ false) gs (λ h. unlike g.priority h.priority) o.1)))
     ∙ append_none (group_entries g)))
 
 -- ---- the binary search
@@ -166,19 +167,19 @@ rank_less a b n Greater l e = top (int_cmp a n)
     top Equal = omega arith
     top Greater = omega arith
 
-rising : (p : ℤ) (gs : List Grouped) → AreGroups gs → IsNonDecreasingBy (λ (g : Grouped). ordering_index (int_cmp g.priority p)) gs
+rising : (p : ℤ) (gs : List GroupView) → AreGroups gs → IsNonDecreasingBy (λ (g : GroupView). ordering_index (int_cmp g.priority p)) gs
 rising p [] o i j d le lt = absurd (omega arith)
 rising p (g ∷ gs) o zero zero d le lt = omega arith
 rising p (g ∷ gs) o zero (suc j) d le lt =
     let lt' : j < length gs = omega arith in
-    rank_less g.priority (get_or gs j d).priority p (int_cmp (get_or gs j d).priority p) (each_at (λ (h : Grouped). int_lt g.priority h.priority ≡ true) gs j d o.1 lt') refl
+    rank_less g.priority (get_or gs j d).priority p (int_cmp (get_or gs j d).priority p) (each_at (λ (h : GroupView). int_lt g.priority h.priority ≡ true) gs j d o.1 lt') refl
 rising p (g ∷ gs) o (suc i) zero d le lt = absurd (omega arith)
 rising p (g ∷ gs) o (suc i) (suc j) d le lt =
     let le' : i ≤ j = omega arith in
     let lt' : j < length gs = omega arith in
     rising p gs o.2 i j d le' lt'
 
-pub placed_at : (p : ℤ) (gs : List Grouped) (r : Result ℕ ℕ) → AreGroups gs → IsSearchInRange r (length gs) → IsBinarySearchResult (λ (g : Grouped). int_cmp g.priority p) gs r → IsPlaceAt p gs r
+pub placed_at : (p : ℤ) (gs : List GroupView) (r : Result ℕ ℕ) → AreGroups gs → IsSearchInRange r (length gs) → IsBinarySearchResult (λ (g : GroupView). int_cmp g.priority p) gs r → IsPlaceAt p gs r
 placed_at p gs (Ok i) o within at = (within, at)
 placed_at p gs (Err i) o within at = (within, at (rising p gs o))
 
@@ -189,28 +190,28 @@ not_past_both a b p h k = by (int_lt p b) refl k
     by true e k = cc
     by false e k = let l : int_lt p a ≡ false = grind (arith, ints) in ap not l
 
-pub parted_up_to : (p : ℤ) (gs : List Grouped) → AreGroups gs → IsPartitionedBy (λ (g : Grouped). not (int_lt p g.priority)) gs
+pub parted_up_to : (p : ℤ) (gs : List GroupView) → AreGroups gs → IsPartitionedBy (λ (g : GroupView). not (int_lt p g.priority)) gs
 parted_up_to p [] o i j d le lt k = absurd (omega arith)
 parted_up_to p (g ∷ gs) o zero zero d le lt k = k
 parted_up_to p (g ∷ gs) o zero (suc j) d le lt k =
     let lt' : j < length gs = omega arith in
-    not_past_both g.priority (get_or gs j d).priority p (each_at (λ (h : Grouped). int_lt g.priority h.priority ≡ true) gs j d o.1 lt') k
+    not_past_both g.priority (get_or gs j d).priority p (each_at (λ (h : GroupView). int_lt g.priority h.priority ≡ true) gs j d o.1 lt') k
 parted_up_to p (g ∷ gs) o (suc i) zero d le lt k = absurd (omega arith)
 parted_up_to p (g ∷ gs) o (suc i) (suc j) d le lt k =
     let le' : i ≤ j = omega arith in
     let lt' : j < length gs = omega arith in
     parted_up_to p gs o.2 i j d le' lt' k
 
-pub none_counted : (gs : List Grouped) → 0 ≡ up_to None gs
+pub none_counted : (gs : List GroupView) → 0 ≡ up_to None gs
 none_counted [] = refl
 none_counted (g ∷ gs) = none_counted gs
 
-pub counted : (p : ℤ) (gs : List Grouped) (i : ℕ) → i ≤ length gs → IsPartitionPoint (λ (g : Grouped). not (int_lt p g.priority) ≡ true) (λ (g : Grouped). not (int_lt p g.priority) ≡ false) gs i → i ≡ up_to (Some p) gs
-counted p gs i le parts = sym (length-take-le i gs le) ∙ ap (λ hs. length hs) (front_kept (λ (g : Grouped). not (int_lt p g.priority)) gs i parts.0 parts.1)
+pub counted : (p : ℤ) (gs : List GroupView) (i : ℕ) → i ≤ length gs → IsPartitionPoint (λ (g : GroupView). not (int_lt p g.priority) ≡ true) (λ (g : GroupView). not (int_lt p g.priority) ≡ false) gs i → i ≡ up_to (Some p) gs
+counted p gs i le parts = sym (length-take-le i gs le) ∙ ap (λ hs. length hs) (front_kept (λ (g : GroupView). not (int_lt p g.priority)) gs i parts.0 parts.1)
 
 -- ---- the entries of a priority
 
-apart : (p : ℤ) (gs : List Grouped) (i : ℕ) → AllWithin (λ (g : Grouped). int_cmp g.priority p ≡ Less) gs 0 i → AllWithin (λ (g : Grouped). int_cmp g.priority p ≡ Greater) gs i (length gs) → IsEach (λ (g : Grouped). int_eq g.priority p ≡ false) gs
+apart : (p : ℤ) (gs : List GroupView) (i : ℕ) → AllWithin (λ (g : GroupView). int_cmp g.priority p ≡ Less) gs 0 i → AllWithin (λ (g : GroupView). int_cmp g.priority p ≡ Greater) gs i (length gs) → IsEach (λ (g : GroupView). int_eq g.priority p ≡ false) gs
 apart p [] i low high = tt
 apart p (g ∷ gs) zero low high =
     let at : int_lt p g.priority ≡ true = cmp_greater g.priority p (high 0 g (omega arith) (omega arith)) in
@@ -220,17 +221,17 @@ apart p (g ∷ gs) (suc i) low high =
     let differ : int_eq g.priority p ≡ false = grind (arith, ints) in
     (differ, apart p gs i (λ k d a b. low (suc k) d (omega arith) (omega arith)) (λ k d a b. high (suc k) d (omega arith) (omega arith)))
 
-pub at_missing : (p : ℤ) (gs : List Grouped) (i : ℕ) → IsPartitionPoint (λ (g : Grouped). int_cmp g.priority p ≡ Less) (λ (g : Grouped). int_cmp g.priority p ≡ Greater) gs i → filter (λ (e : Entry). int_eq e.priority p) (entries_of gs) ≡ []
+pub at_missing : (p : ℤ) (gs : List GroupView) (i : ℕ) → IsPartitionPoint (λ (g : GroupView). int_cmp g.priority p ≡ Less) (λ (g : GroupView). int_cmp g.priority p ≡ Greater) gs i → filter (λ (e : Entry). int_eq e.priority p) (entries_of gs) ≡ []
 at_missing p gs i parts = none_pass (λ (e : Entry). int_eq e.priority p) (entries_of gs) (each_entry (λ q. int_eq q p ≡ false) gs (apart p gs i parts.0 parts.1))
 
 -- a group before one of that priority
-before_one : (p : ℤ) (g : Grouped) (gs : List Grouped) (i : ℕ) → IsEach (λ (h : Grouped). int_lt g.priority h.priority ≡ true) gs → i < length gs → HoldsAt (λ (h : Grouped). int_cmp h.priority p ≡ Equal) gs i → int_lt g.priority p ≡ true
-before_one p g gs i o lt at = subst (λ q. int_lt g.priority q ≡ true) (cmp_equal (get_or gs i g).priority p (at g)) (each_at (λ (h : Grouped). int_lt g.priority h.priority ≡ true) gs i g o lt)
+before_one : (p : ℤ) (g : GroupView) (gs : List GroupView) (i : ℕ) → IsEach (λ (h : GroupView). int_lt g.priority h.priority ≡ true) gs → i < length gs → HoldsAt (λ (h : GroupView). int_cmp h.priority p ≡ Equal) gs i → int_lt g.priority p ≡ true
+before_one p g gs i o lt at = subst (λ q. int_lt g.priority q ≡ true) (cmp_equal (get_or gs i g).priority p (at g)) (each_at (λ (h : GroupView). int_lt g.priority h.priority ≡ true) gs i g o lt)
 
 less_unlike : (p q : ℤ) → int_lt p q ≡ true → int_eq p q ≡ false
 less_unlike p q h = grind (arith, ints)
 
-pub at_found : (p : ℤ) (gs : List Grouped) (i : ℕ) (d : Grouped) → AreGroups gs → i < length gs → HoldsAt (λ (g : Grouped). int_cmp g.priority p ≡ Equal) gs i → filter (λ (e : Entry). int_eq e.priority p) (entries_of gs) ≡ group_entries (get_or gs i d)
+pub at_found : (p : ℤ) (gs : List GroupView) (i : ℕ) (d : GroupView) → AreGroups gs → i < length gs → HoldsAt (λ (g : GroupView). int_cmp g.priority p ≡ Equal) gs i → filter (λ (e : Entry). int_eq e.priority p) (entries_of gs) ≡ group_entries (get_or gs i d)
 at_found p [] i d o lt at = absurd (omega arith)
 at_found p (g ∷ gs) zero d o lt at =
     ap (λ q. filter (λ (e : Entry). int_eq e.priority q) (entries_of (g ∷ gs))) (sym (cmp_equal g.priority p (at g))) ∙ first_entries g gs o
@@ -246,10 +247,10 @@ any_member : (c : List ℕ) (p : ℤ) (ms : List GroupEntry) → list_any (λ (m
 any_member c p [] = refl
 any_member c p (m ∷ ms) = ap (λ b. bytes_eq m.callback c || b) (any_member c p ms)
 
-pub has_found : (p : ℤ) (c : List ℕ) (gs : List Grouped) (i : ℕ) (g : Grouped) {b : Bool} → AreGroups gs → i < length gs → HoldsAt (λ (h : Grouped). int_cmp h.priority p ≡ Equal) gs i → g ≡ get_or gs i g → b ≡ list_any (λ (m : GroupEntry). bytes_eq m.callback c) g.members → b ≡ list_any (λ (e : Entry). bytes_eq e.callback c) (filter (λ (e : Entry). int_eq e.priority p) (entries_of gs))
+pub has_found : (p : ℤ) (c : List ℕ) (gs : List GroupView) (i : ℕ) (g : GroupView) {b : Bool} → AreGroups gs → i < length gs → HoldsAt (λ (h : GroupView). int_cmp h.priority p ≡ Equal) gs i → g ≡ get_or gs i g → b ≡ list_any (λ (m : GroupEntry). bytes_eq m.callback c) g.members → b ≡ list_any (λ (e : Entry). bytes_eq e.callback c) (filter (λ (e : Entry). int_eq e.priority p) (entries_of gs))
 has_found p c gs i g o lt at is h =
     h ∙ (any_member c g.priority g.members
-    ∙ (ap (λ (x : Grouped). list_any (λ (e : Entry). bytes_eq e.callback c) (group_entries x)) is ∙ ap (list_any (λ (e : Entry). bytes_eq e.callback c)) (sym (at_found p gs i g o lt at))))
+    ∙ (ap (λ (x : GroupView). list_any (λ (e : Entry). bytes_eq e.callback c) (group_entries x)) is ∙ ap (list_any (λ (e : Entry). bytes_eq e.callback c)) (sym (at_found p gs i g o lt at))))
 
 -- ---- the first entry of a callback
 
@@ -261,32 +262,32 @@ find_joined c p (m ∷ ms) ys k = by (bytes_eq m.callback c) _ (find_joined c p 
     by true o ih = refl
     by false o ih = ih
 
-pub find_entries : (c : List ℕ) (gs : List Grouped) → option_map (λ (g : Grouped). g.priority) (find (λ (g : Grouped). list_any (λ (m : GroupEntry). bytes_eq m.callback c) g.members) gs) ≡ option_map (λ (e : Entry). e.priority) (find (λ (e : Entry). bytes_eq e.callback c) (entries_of gs))
+pub find_entries : (c : List ℕ) (gs : List GroupView) → option_map (λ (g : GroupView). g.priority) (find (λ (g : GroupView). list_any (λ (m : GroupEntry). bytes_eq m.callback c) g.members) gs) ≡ option_map (λ (e : Entry). e.priority) (find (λ (e : Entry). bytes_eq e.callback c) (entries_of gs))
 find_entries c [] = refl
 find_entries c (g ∷ gs) = mapped (list_any (λ (m : GroupEntry). bytes_eq m.callback c) g.members) _ ∙ find_joined c g.priority g.members (entries_of gs) (find_entries c gs)
   where
-    mapped : (b : Bool) (o : Option Grouped) → option_map (λ (h : Grouped). h.priority) (cond b (Some g) o) ≡ cond b (Some g.priority) (option_map (λ (h : Grouped). h.priority) o)
+    mapped : (b : Bool) (o : Option GroupView) → option_map (λ (h : GroupView). h.priority) (cond b (Some g) o) ≡ cond b (Some g.priority) (option_map (λ (h : GroupView). h.priority) o)
     mapped true o = refl
     mapped false o = refl
 
 -- ---- an edit of the group named, which leaves the entries of other priorities as they are
 
-behind_others : (p : ℤ) (g : Grouped) (gs : List Grouped) → g.priority ≡ p → IsEach (λ (h : Grouped). int_lt g.priority h.priority ≡ true) gs → IsEach (λ (h : Grouped). int_lt p h.priority ≡ true) gs
-behind_others p g gs e o = subst (λ q. IsEach (λ (h : Grouped). int_lt q h.priority ≡ true) gs) e o
+behind_others : (p : ℤ) (g : GroupView) (gs : List GroupView) → g.priority ≡ p → IsEach (λ (h : GroupView). int_lt g.priority h.priority ≡ true) gs → IsEach (λ (h : GroupView). int_lt p h.priority ≡ true) gs
+behind_others p g gs e o = subst (λ q. IsEach (λ (h : GroupView). int_lt q h.priority ≡ true) gs) e o
 
 module _ (p : ℤ) (f : List Entry → List Entry) (joins : (xs ys : List Entry) → f (xs ++ ys) ≡ f xs ++ f ys) (none : f [] ≡ [])
-    (skips : (g : Grouped) → int_eq g.priority p ≡ false → f (group_entries g) ≡ group_entries g) where
-  pub others_same : (gs : List Grouped) → IsEach (λ (g : Grouped). int_eq g.priority p ≡ false) gs → f (entries_of gs) ≡ entries_of gs
+    (skips : (g : GroupView) → int_eq g.priority p ≡ false → f (group_entries g) ≡ group_entries g) where
+  pub others_same : (gs : List GroupView) → IsEach (λ (g : GroupView). int_eq g.priority p ≡ false) gs → f (entries_of gs) ≡ entries_of gs
   others_same [] o = none
   others_same (g ∷ gs) o =
       joins (group_entries g) (entries_of gs)
       ∙ (ap (λ xs. xs ++ f (entries_of gs)) (skips g o.0) ∙ ap (λ ys. group_entries g ++ ys) (others_same gs o.1))
 
-  pub edited : (gs : List Grouped) (i : ℕ) (d g' : Grouped) → AreGroups gs → i < length gs → HoldsAt (λ (g : Grouped). int_cmp g.priority p ≡ Equal) gs i → group_entries g' ≡ f (group_entries (get_or gs i d)) → entries_of (set gs i g') ≡ f (entries_of gs)
+  pub edited : (gs : List GroupView) (i : ℕ) (d g' : GroupView) → AreGroups gs → i < length gs → HoldsAt (λ (g : GroupView). int_cmp g.priority p ≡ Equal) gs i → group_entries g' ≡ f (group_entries (get_or gs i d)) → entries_of (set gs i g') ≡ f (entries_of gs)
   edited [] i d g' o lt at e = absurd (omega arith)
   edited (g ∷ gs) zero d g' o lt at e =
       let behind = behind_others p g gs (cmp_equal g.priority p (at g)) o.1 in
-      let rest : f (entries_of gs) ≡ entries_of gs = others_same gs (each_weaker (λ (h : Grouped). int_lt p h.priority ≡ true) (λ (h : Grouped). int_eq h.priority p ≡ false) gs (λ h. unlike p h.priority) behind) in
+      let rest : f (entries_of gs) ≡ entries_of gs = others_same gs (each_weaker (λ (h : GroupView). int_lt p h.priority ≡ true) (λ (h : GroupView). int_eq h.priority p ≡ false) gs (λ h. unlike p h.priority) behind) in
       ap (λ xs. xs ++ entries_of gs) e ∙ (ap (λ ys. f (group_entries g) ++ ys) (sym rest) ∙ sym (joins (group_entries g) (entries_of gs)))
   edited (g ∷ gs) (suc i) d g' o lt at e =
       let lt' : i < length gs = omega arith in
@@ -296,68 +297,68 @@ module _ (p : ℤ) (f : List Entry → List Entry) (joins : (xs ys : List Entry)
 
 -- ---- the order of groups after an edit
 
-order_set_each : (P : ℤ → Type 0) (gs : List Grouped) (i : ℕ) (d g' : Grouped) → i < length gs → g'.priority ≡ (get_or gs i d).priority → IsEach (λ (g : Grouped). P g.priority) gs → IsEach (λ (g : Grouped). P g.priority) (set gs i g')
+order_set_each : (P : ℤ → Type 0) (gs : List GroupView) (i : ℕ) (d g' : GroupView) → i < length gs → g'.priority ≡ (get_or gs i d).priority → IsEach (λ (g : GroupView). P g.priority) gs → IsEach (λ (g : GroupView). P g.priority) (set gs i g')
 order_set_each P [] i d g' lt e o = absurd (omega arith)
 order_set_each P (g ∷ gs) zero d g' lt e o = (subst P (sym e) o.0, o.1)
 order_set_each P (g ∷ gs) (suc i) d g' lt e o = let lt' : i < length gs = omega arith in (o.0, order_set_each P gs i d g' lt' e o.1)
 
-pub order_set : (gs : List Grouped) (i : ℕ) (d g' : Grouped) → i < length gs → g'.priority ≡ (get_or gs i d).priority → 0 < length g'.members → AreGroups gs → AreGroups (set gs i g')
+pub order_set : (gs : List GroupView) (i : ℕ) (d g' : GroupView) → i < length gs → g'.priority ≡ (get_or gs i d).priority → 0 < length g'.members → AreGroups gs → AreGroups (set gs i g')
 order_set [] i d g' lt e m o = absurd (omega arith)
-order_set (g ∷ gs) zero d g' lt e m o = (m, subst (λ p. IsEach (λ (h : Grouped). int_lt p h.priority ≡ true) gs) (sym e) o.1, o.2)
+order_set (g ∷ gs) zero d g' lt e m o = (m, subst (λ p. IsEach (λ (h : GroupView). int_lt p h.priority ≡ true) gs) (sym e) o.1, o.2)
 order_set (g ∷ gs) (suc i) d g' lt e m o =
     let lt' : i < length gs = omega arith in
     (o.0, order_set_each (λ p. int_lt g.priority p ≡ true) gs i d g' lt' e o.1, order_set gs i d g' lt' e m o.2)
 
-each_removed : (P : Grouped → Type 0) (gs : List Grouped) (i : ℕ) → IsEach P gs → IsEach P (remove gs i)
+each_removed : (P : GroupView → Type 0) (gs : List GroupView) (i : ℕ) → IsEach P gs → IsEach P (remove gs i)
 each_removed P [] zero o = tt
 each_removed P [] (suc i) o = tt
 each_removed P (g ∷ gs) zero o = o.1
 each_removed P (g ∷ gs) (suc i) o = (o.0, each_removed P gs i o.1)
 
-order_remove : (gs : List Grouped) (i : ℕ) → AreGroups gs → AreGroups (remove gs i)
+order_remove : (gs : List GroupView) (i : ℕ) → AreGroups gs → AreGroups (remove gs i)
 order_remove [] zero o = tt
 order_remove [] (suc i) o = tt
 order_remove (g ∷ gs) zero o = o.2
-order_remove (g ∷ gs) (suc i) o = (o.0, each_removed (λ (h : Grouped). int_lt g.priority h.priority ≡ true) gs i o.1, order_remove gs i o.2)
+order_remove (g ∷ gs) (suc i) o = (o.0, each_removed (λ (h : GroupView). int_lt g.priority h.priority ≡ true) gs i o.1, order_remove gs i o.2)
 
-remove_set : (gs : List Grouped) (i : ℕ) (g' : Grouped) → remove (set gs i g') i ≡ remove gs i
+remove_set : (gs : List GroupView) (i : ℕ) (g' : GroupView) → remove (set gs i g') i ≡ remove gs i
 remove_set [] zero g' = refl
 remove_set [] (suc i) g' = refl
 remove_set (g ∷ gs) zero g' = refl
 remove_set (g ∷ gs) (suc i) g' = ap (λ hs. g ∷ hs) (remove_set gs i g')
 
-pub order_dropped : (gs : List Grouped) (i : ℕ) (g' : Grouped) → AreGroups gs → AreGroups (remove (set gs i g') i)
+pub order_dropped : (gs : List GroupView) (i : ℕ) (g' : GroupView) → AreGroups gs → AreGroups (remove (set gs i g') i)
 order_dropped gs i g' o = subst AreGroups (sym (remove_set gs i g')) (order_remove gs i o)
 
 -- a group without a member has no entry
-pub empty_removed : (gs : List Grouped) (i : ℕ) (g g' : Grouped) → i < length gs → g ≡ get_or (set gs i g') i g → length g.members ≡ 0 → entries_of (remove (set gs i g') i) ≡ entries_of (set gs i g')
+pub empty_removed : (gs : List GroupView) (i : ℕ) (g g' : GroupView) → i < length gs → g ≡ get_or (set gs i g') i g → length g.members ≡ 0 → entries_of (remove (set gs i g') i) ≡ entries_of (set gs i g')
 empty_removed [] i g g' lt is e = absurd (omega arith)
 empty_removed (h ∷ gs) zero g g' lt is e =
-    let same : length g'.members ≡ 0 = ap (λ (f : Grouped). length f.members) (sym is) ∙ e in
+    let same : length g'.members ≡ 0 = ap (λ (f : GroupView). length f.members) (sym is) ∙ e in
     ap (λ ms. map (entry_at g'.priority) ms ++ entries_of gs) (sym (empty_where g'.members same))
 empty_removed (h ∷ gs) (suc i) g g' lt is e = let lt' : i < length gs = omega arith in ap (λ ys. group_entries h ++ ys) (empty_removed gs i g g' lt' is e)
 
-pub order_removed : (gs : List Grouped) (i : ℕ) (d g g' : Grouped) (ms : List GroupEntry) → AreGroups gs → i < length gs → g ≡ get_or (set gs i g') i g → (length g.members ≡ 0 → ⊥) → d ≡ get_or gs i d → g' ≡ with_members ms d → AreGroups (set gs i g')
+pub order_removed : (gs : List GroupView) (i : ℕ) (d g g' : GroupView) (ms : List GroupEntry) → AreGroups gs → i < length gs → g ≡ get_or (set gs i g') i g → (length g.members ≡ 0 → ⊥) → d ≡ get_or gs i d → g' ≡ with_members ms d → AreGroups (set gs i g')
 order_removed gs i d g g' ms o lt is some x k =
     let same : g ≡ g' = is ∙ get_or-set_same gs i g' g lt in
-    let filled : 0 < length g'.members = positive (length g'.members) (λ e. some (ap (λ (f : Grouped). length f.members) same ∙ e)) in
-    order_set gs i d g' lt (ap (λ (f : Grouped). f.priority) k ∙ ap (λ (f : Grouped). f.priority) x) filled o
+    let filled : 0 < length g'.members = positive (length g'.members) (λ e. some (ap (λ (f : GroupView). length f.members) same ∙ e)) in
+    order_set gs i d g' lt (ap (λ (f : GroupView). f.priority) k ∙ ap (λ (f : GroupView). f.priority) x) filled o
   where
     positive : (n : ℕ) → (n ≡ 0 → ⊥) → 0 < n
     positive zero h = absurd (h refl)
     positive (suc n) h = omega arith
 
-each_inserted : (P : Grouped → Type 0) (x : Grouped) (gs : List Grouped) (i : ℕ) → P x → IsEach P gs → IsEach P (insert gs i x)
+each_inserted : (P : GroupView → Type 0) (x : GroupView) (gs : List GroupView) (i : ℕ) → P x → IsEach P gs → IsEach P (insert gs i x)
 each_inserted P x [] zero a o = (a, tt)
 each_inserted P x [] (suc i) a o = (a, tt)
 each_inserted P x (g ∷ gs) zero a o = (a, o)
 each_inserted P x (g ∷ gs) (suc i) a o = (o.0, each_inserted P x gs i a o.1)
 
-all_behind : (p : ℤ) (gs : List Grouped) → AllWithin (λ (g : Grouped). int_cmp g.priority p ≡ Greater) gs 0 (length gs) → IsEach (λ (g : Grouped). int_lt p g.priority ≡ true) gs
+all_behind : (p : ℤ) (gs : List GroupView) → AllWithin (λ (g : GroupView). int_cmp g.priority p ≡ Greater) gs 0 (length gs) → IsEach (λ (g : GroupView). int_lt p g.priority ≡ true) gs
 all_behind p [] high = tt
 all_behind p (g ∷ gs) high = (cmp_greater g.priority p (high 0 g (omega arith) (omega arith)), all_behind p gs (λ k d a b. high (suc k) d (omega arith) (omega arith)))
 
-pub order_insert : (x : Grouped) (gs : List Grouped) (i : ℕ) → 0 < length x.members → i ≤ length gs → AllWithin (λ (g : Grouped). int_cmp g.priority x.priority ≡ Less) gs 0 i → AllWithin (λ (g : Grouped). int_cmp g.priority x.priority ≡ Greater) gs i (length gs) → AreGroups gs → AreGroups (insert gs i x)
+pub order_insert : (x : GroupView) (gs : List GroupView) (i : ℕ) → 0 < length x.members → i ≤ length gs → AllWithin (λ (g : GroupView). int_cmp g.priority x.priority ≡ Less) gs 0 i → AllWithin (λ (g : GroupView). int_cmp g.priority x.priority ≡ Greater) gs i (length gs) → AreGroups gs → AreGroups (insert gs i x)
 order_insert x [] zero m le low high o = (m, tt, tt)
 order_insert x [] (suc i) m le low high o = absurd (omega arith)
 order_insert x (g ∷ gs) zero m le low high o = (m, all_behind x.priority (g ∷ gs) high, o)
@@ -365,7 +366,7 @@ order_insert x (g ∷ gs) (suc i) m le low high o =
     let at : int_lt g.priority x.priority ≡ true = cmp_less g.priority x.priority (low 0 g (omega arith) (omega arith)) in
     let le' : i ≤ length gs = omega arith in (
       o.0,
-      each_inserted (λ (h : Grouped). int_lt g.priority h.priority ≡ true) x gs i at o.1,
+      each_inserted (λ (h : GroupView). int_lt g.priority h.priority ≡ true) x gs i at o.1,
       order_insert x gs i m le' (λ k d a b. low (suc k) d (omega arith) (omega arith)) (λ k d a b. high (suc k) d (omega arith) (omega arith)) o.2,
     )
 
@@ -379,7 +380,7 @@ put_first : (e : Entry) (ys : List Entry) → IsEach (λ (f : Entry). int_lt e.p
 put_first e [] h = refl
 put_first e (y ∷ ys) h = ap (λ c. cond c (e ∷ y ∷ ys) (y ∷ put_entry e ys)) h.0
 
-pub put_found : (e : Entry) (gs : List Grouped) (i : ℕ) (d g' : Grouped) → AreGroups gs → i < length gs → HoldsAt (λ (g : Grouped). int_cmp g.priority e.priority ≡ Equal) gs i → group_entries g' ≡ group_entries (get_or gs i d) ++ e ∷ [] → entries_of (set gs i g') ≡ put_entry e (entries_of gs)
+pub put_found : (e : Entry) (gs : List GroupView) (i : ℕ) (d g' : GroupView) → AreGroups gs → i < length gs → HoldsAt (λ (g : GroupView). int_cmp g.priority e.priority ≡ Equal) gs i → group_entries g' ≡ group_entries (get_or gs i d) ++ e ∷ [] → entries_of (set gs i g') ≡ put_entry e (entries_of gs)
 put_found e [] i d g' o lt at k = absurd (omega arith)
 put_found e (g ∷ gs) zero d g' o lt at k =
     let same : g.priority ≡ e.priority = cmp_equal g.priority e.priority (at g) in
@@ -395,7 +396,7 @@ put_found e (g ∷ gs) (suc i) d g' o lt at k =
     ap (λ ys. group_entries g ++ ys) (put_found e gs i d g' o.2 lt' (λ h. at h) k)
     ∙ sym (put_behind e (group_entries g) (entries_of gs) (each_member (λ q. int_lt e.priority q ≡ false) g.priority g.members (not_after g.priority e.priority less)))
 
-pub put_missing : (e : Entry) (x : Grouped) (gs : List Grouped) (i : ℕ) → group_entries x ≡ e ∷ [] → i ≤ length gs → AllWithin (λ (g : Grouped). int_cmp g.priority e.priority ≡ Less) gs 0 i → AllWithin (λ (g : Grouped). int_cmp g.priority e.priority ≡ Greater) gs i (length gs) → entries_of (insert gs i x) ≡ put_entry e (entries_of gs)
+pub put_missing : (e : Entry) (x : GroupView) (gs : List GroupView) (i : ℕ) → group_entries x ≡ e ∷ [] → i ≤ length gs → AllWithin (λ (g : GroupView). int_cmp g.priority e.priority ≡ Less) gs 0 i → AllWithin (λ (g : GroupView). int_cmp g.priority e.priority ≡ Greater) gs i (length gs) → entries_of (insert gs i x) ≡ put_entry e (entries_of gs)
 put_missing e x [] zero k le low high = ap (λ xs. xs ++ []) k
 put_missing e x [] (suc i) k le low high = absurd (omega arith)
 put_missing e x (g ∷ gs) zero k le low high =
@@ -406,11 +407,11 @@ put_missing e x (g ∷ gs) (suc i) k le low high =
     ap (λ ys. group_entries g ++ ys) (put_missing e x gs i k le' (λ j d a b. low (suc j) d (omega arith) (omega arith)) (λ j d a b. high (suc j) d (omega arith) (omega arith)))
     ∙ sym (put_behind e (group_entries g) (entries_of gs) (each_member (λ q. int_lt e.priority q ≡ false) g.priority g.members (not_after g.priority e.priority less)))
 
-pub group_put : (e : Entry) (gs : List Grouped) (i : ℕ) (d g' : Grouped) → AreGroups gs → i < length gs → HoldsAt (λ (g : Grouped). int_cmp g.priority e.priority ≡ Equal) gs i → d ≡ get_or gs i d → g' ≡ with_members (d.members ++ group_entry_of e ∷ []) d → entries_of (set gs i g') ≡ put_entry e (entries_of gs)
+pub group_put : (e : Entry) (gs : List GroupView) (i : ℕ) (d g' : GroupView) → AreGroups gs → i < length gs → HoldsAt (λ (g : GroupView). int_cmp g.priority e.priority ≡ Equal) gs i → d ≡ get_or gs i d → g' ≡ with_members (d.members ++ group_entry_of e ∷ []) d → entries_of (set gs i g') ≡ put_entry e (entries_of gs)
 group_put e gs i d g' o lt at x k =
     let same : (get_or gs i d).priority ≡ e.priority = cmp_equal (get_or gs i d).priority e.priority (at d) in
     let more : group_entries g' ≡ group_entries (get_or gs i d) ++ e ∷ [] =
-    ap group_entries (k ∙ ap (λ (g : Grouped). with_members (g.members ++ group_entry_of e ∷ []) g) x)
+    ap group_entries (k ∙ ap (λ (g : GroupView). with_members (g.members ++ group_entry_of e ∷ []) g) x)
     ∙ (map_joined (entry_at (get_or gs i d).priority) (get_or gs i d).members (group_entry_of e ∷ []) ∙ ap (λ p. group_entries (get_or gs i d) ++ entry_at p (group_entry_of e) ∷ []) same) in
     put_found e gs i d g' o lt at more
 
@@ -418,21 +419,21 @@ length_more : {X : Type 0} (xs : List X) (x : X) → 0 < length (xs ++ x ∷ [])
 length_more [] x = omega arith
 length_more (y ∷ ys) x = omega arith
 
-pub order_put : (e : Entry) (gs : List Grouped) (i : ℕ) (d g' : Grouped) → AreGroups gs → i < length gs → d ≡ get_or gs i d → g' ≡ with_members (d.members ++ group_entry_of e ∷ []) d → AreGroups (set gs i g')
+pub order_put : (e : Entry) (gs : List GroupView) (i : ℕ) (d g' : GroupView) → AreGroups gs → i < length gs → d ≡ get_or gs i d → g' ≡ with_members (d.members ++ group_entry_of e ∷ []) d → AreGroups (set gs i g')
 order_put e gs i d g' o lt x k =
     let some : 0 < length g'.members = rw k (length_more d.members (group_entry_of e)) in
-    order_set gs i d g' lt (ap (λ (g : Grouped). g.priority) k ∙ ap (λ (g : Grouped). g.priority) x) some o
+    order_set gs i d g' lt (ap (λ (g : GroupView). g.priority) k ∙ ap (λ (g : GroupView). g.priority) x) some o
 
-abbrev new_group : Entry → Grouped
+abbrev new_group : Entry → GroupView
 new_group e = record { priority = e.priority; members = group_entry_of e ∷ [] }
 
-pub new_put : (e : Entry) (x : Grouped) (gs : List Grouped) (i : ℕ) → x ≡ new_group e → i ≤ length gs → IsPartitionPoint (λ (g : Grouped). int_cmp g.priority e.priority ≡ Less) (λ (g : Grouped). int_cmp g.priority e.priority ≡ Greater) gs i → entries_of (insert gs i x) ≡ put_entry e (entries_of gs)
+pub new_put : (e : Entry) (x : GroupView) (gs : List GroupView) (i : ℕ) → x ≡ new_group e → i ≤ length gs → IsPartitionPoint (λ (g : GroupView). int_cmp g.priority e.priority ≡ Less) (λ (g : GroupView). int_cmp g.priority e.priority ≡ Greater) gs i → entries_of (insert gs i x) ≡ put_entry e (entries_of gs)
 new_put e x gs i k le parts = put_missing e x gs i (ap group_entries k) le parts.0 parts.1
 
-pub order_new : (e : Entry) (x : Grouped) (gs : List Grouped) (i : ℕ) → x ≡ new_group e → i ≤ length gs → IsPartitionPoint (λ (g : Grouped). int_cmp g.priority e.priority ≡ Less) (λ (g : Grouped). int_cmp g.priority e.priority ≡ Greater) gs i → AreGroups gs → AreGroups (insert gs i x)
+pub order_new : (e : Entry) (x : GroupView) (gs : List GroupView) (i : ℕ) → x ≡ new_group e → i ≤ length gs → IsPartitionPoint (λ (g : GroupView). int_cmp g.priority e.priority ≡ Less) (λ (g : GroupView). int_cmp g.priority e.priority ≡ Greater) gs i → AreGroups gs → AreGroups (insert gs i x)
 order_new e x gs i k le parts o =
     let one : 0 < length (new_group e).members = omega arith in
-    subst (λ (y : Grouped). AreGroups (insert gs i y)) (sym k) (order_insert (new_group e) gs i one le parts.0 parts.1 o)
+    subst (λ (y : GroupView). AreGroups (insert gs i y)) (sym k) (order_insert (new_group e) gs i one le parts.0 parts.1 o)
 
 -- ---- the entry named with its `accepted`
 
@@ -445,29 +446,29 @@ module _ (p : ℤ) (c : List ℕ) (a : ℕ) where
       by true s k = rw k refl
       by false s k = rw k refl
 
-  skipped_group : (g : Grouped) → int_eq g.priority p ≡ false → map (accepted_where p c a) (group_entries g) ≡ group_entries g
+  skipped_group : (g : GroupView) → int_eq g.priority p ≡ false → map (accepted_where p c a) (group_entries g) ≡ group_entries g
   skipped_group g k = skipped g.members
     where
       skipped : (ms : List GroupEntry) → map (accepted_where p c a) (map (entry_at g.priority) ms) ≡ map (entry_at g.priority) ms
       skipped [] = refl
       skipped (m ∷ ms) = ap₂ (λ (e : Entry) es. e ∷ es) (ap (λ w. cond (w && bytes_eq m.callback c) (let e : Entry = entry_at g.priority m in record e { accepted = a }) (entry_at g.priority m)) k) (skipped ms)
 
-  pub accepted_found : (gs : List Grouped) (i : ℕ) (d g' : Grouped) → AreGroups gs → i < length gs → HoldsAt (λ (g : Grouped). int_cmp g.priority p ≡ Equal) gs i → d ≡ get_or gs i d → g' ≡ with_members (map (accepted_if c a) d.members) d → entries_of (set gs i g') ≡ map (accepted_where p c a) (entries_of gs)
+  pub accepted_found : (gs : List GroupView) (i : ℕ) (d g' : GroupView) → AreGroups gs → i < length gs → HoldsAt (λ (g : GroupView). int_cmp g.priority p ≡ Equal) gs i → d ≡ get_or gs i d → g' ≡ with_members (map (accepted_if c a) d.members) d → entries_of (set gs i g') ≡ map (accepted_where p c a) (entries_of gs)
   accepted_found gs i d g' o lt at x k =
-      let old : Grouped = get_or gs i d in
+      let old : GroupView = get_or gs i d in
       let same : int_eq old.priority p ≡ true = subst (λ q. int_eq q p ≡ true) (sym (cmp_equal old.priority p (at d))) (eq_itself p) in
-      let group : group_entries g' ≡ map (accepted_where p c a) (group_entries old) = ap group_entries (k ∙ ap (λ (g : Grouped). with_members (map (accepted_if c a) g.members) g) x) ∙ accepted_group old.priority old.members same in
+      let group : group_entries g' ≡ map (accepted_where p c a) (group_entries old) = ap group_entries (k ∙ ap (λ (g : GroupView). with_members (map (accepted_if c a) g.members) g) x) ∙ accepted_group old.priority old.members same in
       edited p (map (accepted_where p c a)) (map_joined (accepted_where p c a)) refl skipped_group gs i d g' o lt at group
 
-  pub accepted_missing : (gs : List Grouped) (i : ℕ) → IsPartitionPoint (λ (g : Grouped). int_cmp g.priority p ≡ Less) (λ (g : Grouped). int_cmp g.priority p ≡ Greater) gs i → entries_of gs ≡ map (accepted_where p c a) (entries_of gs)
+  pub accepted_missing : (gs : List GroupView) (i : ℕ) → IsPartitionPoint (λ (g : GroupView). int_cmp g.priority p ≡ Less) (λ (g : GroupView). int_cmp g.priority p ≡ Greater) gs i → entries_of gs ≡ map (accepted_where p c a) (entries_of gs)
   accepted_missing gs i parts = sym (others_same p (map (accepted_where p c a)) (map_joined (accepted_where p c a)) refl skipped_group gs (apart p gs i parts.0 parts.1))
 
-  pub order_accepted : (gs : List Grouped) (i : ℕ) (d g' : Grouped) → AreGroups gs → i < length gs → d ≡ get_or gs i d → g' ≡ with_members (map (accepted_if c a) d.members) d → AreGroups (set gs i g')
+  pub order_accepted : (gs : List GroupView) (i : ℕ) (d g' : GroupView) → AreGroups gs → i < length gs → d ≡ get_or gs i d → g' ≡ with_members (map (accepted_if c a) d.members) d → AreGroups (set gs i g')
   order_accepted gs i d g' o lt x k =
       let some : 0 < length (get_or gs i d).members = has_member gs i d o lt in
-      let long : length g'.members ≡ length (get_or gs i d).members = ap (λ (g : Grouped). length g.members) k ∙ (length_mapped (accepted_if c a) d.members ∙ ap (λ (g : Grouped). length g.members) x) in
+      let long : length g'.members ≡ length (get_or gs i d).members = ap (λ (g : GroupView). length g.members) k ∙ (length_mapped (accepted_if c a) d.members ∙ ap (λ (g : GroupView). length g.members) x) in
       let some' : 0 < length g'.members = omega arith in
-      order_set gs i d g' lt (ap (λ (g : Grouped). g.priority) k ∙ ap (λ (g : Grouped). g.priority) x) some' o
+      order_set gs i d g' lt (ap (λ (g : GroupView). g.priority) k ∙ ap (λ (g : GroupView). g.priority) x) some' o
 
 -- ---- without the entries named
 
@@ -491,37 +492,37 @@ module _ (p : ℤ) (c : Option (List ℕ)) where
       by true ih = ih
       by false ih = ap (λ es. entry_at q m ∷ es) ih
 
-  kept_group : (g : Grouped) → int_eq g.priority p ≡ false → filter (λ (e : Entry). not (is_named (Some p) c e)) (group_entries g) ≡ group_entries g
+  kept_group : (g : GroupView) → int_eq g.priority p ≡ false → filter (λ (e : Entry). not (is_named (Some p) c e)) (group_entries g) ≡ group_entries g
   kept_group g k = all_pass (λ (e : Entry). not (is_named (Some p) c e)) (group_entries g) (kept g.members)
     where
       kept : (ms : List GroupEntry) → IsEach (λ (e : Entry). not (is_named (Some p) c e) ≡ true) (map (entry_at g.priority) ms)
       kept [] = tt
       kept (m ∷ ms) = (ap (λ b. not (b && is_of c (entry_at g.priority m))) k, kept ms)
 
-  pub removed_found : (gs : List Grouped) (i : ℕ) (d g' : Grouped) → AreGroups gs → i < length gs → HoldsAt (λ (g : Grouped). int_cmp g.priority p ≡ Equal) gs i → d ≡ get_or gs i d → g' ≡ with_members (filter (λ (m : GroupEntry). not (is_group_entry_of c m)) d.members) d → entries_of (set gs i g') ≡ filter (λ (e : Entry). not (is_named (Some p) c e)) (entries_of gs)
+  pub removed_found : (gs : List GroupView) (i : ℕ) (d g' : GroupView) → AreGroups gs → i < length gs → HoldsAt (λ (g : GroupView). int_cmp g.priority p ≡ Equal) gs i → d ≡ get_or gs i d → g' ≡ with_members (filter (λ (m : GroupEntry). not (is_group_entry_of c m)) d.members) d → entries_of (set gs i g') ≡ filter (λ (e : Entry). not (is_named (Some p) c e)) (entries_of gs)
   removed_found gs i d g' o lt at x k =
-      let old : Grouped = get_or gs i d in
+      let old : GroupView = get_or gs i d in
       let f : List Entry → List Entry = filter (λ (e : Entry). not (is_named (Some p) c e)) in
       let same : int_eq old.priority p ≡ true = subst (λ q. int_eq q p ≡ true) (sym (cmp_equal old.priority p (at d))) (eq_itself p) in
-      let group : group_entries g' ≡ f (group_entries old) = ap group_entries (k ∙ ap (λ (g : Grouped). with_members (filter (λ (m : GroupEntry). not (is_group_entry_of c m)) g.members) g) x) ∙ gone_group old.priority old.members same in
+      let group : group_entries g' ≡ f (group_entries old) = ap group_entries (k ∙ ap (λ (g : GroupView). with_members (filter (λ (m : GroupEntry). not (is_group_entry_of c m)) g.members) g) x) ∙ gone_group old.priority old.members same in
       edited p f (filter_joined (λ (e : Entry). not (is_named (Some p) c e))) refl kept_group gs i d g' o lt at group
 
-  pub removed_missing : (gs : List Grouped) (i : ℕ) → IsPartitionPoint (λ (g : Grouped). int_cmp g.priority p ≡ Less) (λ (g : Grouped). int_cmp g.priority p ≡ Greater) gs i → entries_of gs ≡ filter (λ (e : Entry). not (is_named (Some p) c e)) (entries_of gs)
+  pub removed_missing : (gs : List GroupView) (i : ℕ) → IsPartitionPoint (λ (g : GroupView). int_cmp g.priority p ≡ Less) (λ (g : GroupView). int_cmp g.priority p ≡ Greater) gs i → entries_of gs ≡ filter (λ (e : Entry). not (is_named (Some p) c e)) (entries_of gs)
   removed_missing gs i parts = sym (others_same p (filter (λ (e : Entry). not (is_named (Some p) c e))) (filter_joined (λ (e : Entry). not (is_named (Some p) c e))) refl kept_group gs (apart p gs i parts.0 parts.1))
 
 -- ---- how many entries there are
 
-length_entries : (g : Grouped) (gs : List Grouped) → length (entries_of (g ∷ gs)) ≡ length g.members + length (entries_of gs)
+length_entries : (g : GroupView) (gs : List GroupView) → length (entries_of (g ∷ gs)) ≡ length g.members + length (entries_of gs)
 length_entries g gs = length-append (group_entries g) (entries_of gs) ∙ ap (λ k. k + length (entries_of gs)) (length_mapped (entry_at g.priority) g.members)
 
-pub length_set : (gs : List Grouped) (i : ℕ) (d g' : Grouped) → i < length gs → length (entries_of (set gs i g')) + length (get_or gs i d).members ≡ length (entries_of gs) + length g'.members
+pub length_set : (gs : List GroupView) (i : ℕ) (d g' : GroupView) → i < length gs → length (entries_of (set gs i g')) + length (get_or gs i d).members ≡ length (entries_of gs) + length g'.members
 length_set [] i d g' lt = absurd (omega arith)
 length_set (g ∷ gs) zero d g' lt = let a = length_entries g gs in let b = length_entries g' gs in omega arith
 length_set (g ∷ gs) (suc i) d g' lt =
     let lt' : i < length gs = omega arith in
     let a = length_entries g gs in let b = length_entries g (set gs i g') in let r = length_set gs i d g' lt' in omega arith
 
-pub length_ahead : (gs : List Grouped) (i : ℕ) (d : Grouped) → i < length gs → length (entries_of (drop i gs)) ≡ length (get_or gs i d).members + length (entries_of (drop (i + 1) gs))
+pub length_ahead : (gs : List GroupView) (i : ℕ) (d : GroupView) → i < length gs → length (entries_of (drop i gs)) ≡ length (get_or gs i d).members + length (entries_of (drop (i + 1) gs))
 length_ahead [] i d lt = absurd (omega arith)
 length_ahead (g ∷ gs) zero d lt = length_entries g gs
 length_ahead (g ∷ gs) (suc i) d lt = let lt' : i < length gs = omega arith in let k : suc i + 1 ≡ suc (i + 1) = omega arith in rw k (length_ahead gs i d lt')

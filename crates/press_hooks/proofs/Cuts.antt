@@ -1,7 +1,6 @@
 -- Filters of lists.
-use Rattle.std.proofs.Common.{◌≡◌, refl, sym, ◌∙◌, ap, ℕ, zero, suc, ◌<◌, Bool, true, false, not, cond, List, [], ◌∷◌, ◌++◌, map, filter, length, get_or, take, arith}
+use Rattle.std.proofs.Common.{◌≡◌, refl, ◌∙◌, ap, ℕ, zero, suc, ◌<◌, Bool, true, false, cond, List, [], ◌∷◌, ◌++◌, map, filter, length, get_or, arith}
 use Rattle.std.specs.Prelude.{◌&&◌}
-use Rattle.std.specs.List.{AllWithin}
 use Rattle.press_hooks.specs.Hooked.{IsEach}
 
 -- ---- filters
@@ -41,28 +40,6 @@ each_filter P t (x ∷ xs) h = each_kept P x (filter t xs) (t x) h.0 (each_filte
 pub each_weaker : {X : Type 0} (P Q : X → Type 0) (xs : List X) → ((x : X) → P x → Q x) → IsEach P xs → IsEach Q xs
 each_weaker P Q [] w h = tt
 each_weaker P Q (x ∷ xs) w h = (w x h.0, each_weaker P Q xs w h.1)
-
--- ---- a list cut in two
-
-pub front_kept : {X : Type 0} (p : X → Bool) (xs : List X) (i : ℕ) → AllWithin (λ y. p y ≡ true) xs 0 i → AllWithin (λ y. p y ≡ false) xs i (length xs) → take i xs ≡ filter p xs
-front_kept p [] zero low high = refl
-front_kept p [] (suc i) low high = refl
-front_kept p (x ∷ xs) zero low high =
-    let at : p x ≡ false = high 0 x (omega arith) (omega arith) in
-    let rest : take 0 xs ≡ filter p xs = front_kept p xs 0 (λ k d a b. absurd (omega arith)) (λ k d a b. high (suc k) d (omega arith) (omega arith)) in
-    rest ∙ ap (λ c. cond c (x ∷ filter p xs) (filter p xs)) (sym at)
-front_kept p (x ∷ xs) (suc i) low high =
-    let at : p x ≡ true = low 0 x (omega arith) (omega arith) in
-    let rest : take i xs ≡ filter p xs = front_kept p xs i (λ k d a b. low (suc k) d (omega arith) (omega arith)) (λ k d a b. high (suc k) d (omega arith) (omega arith)) in
-    ap (λ zs. x ∷ zs) rest ∙ ap (λ c. cond c (x ∷ filter p xs) (filter p xs)) (sym at)
-
-pub not_true : (b : Bool) → not b ≡ true → b ≡ false
-not_true true e = cc
-not_true false e = refl
-
-pub not_false : (b : Bool) → not b ≡ false → b ≡ true
-not_false true e = refl
-not_false false e = cc
 
 -- ---- all or none of a list
 

@@ -13,7 +13,7 @@ use Rattle.std.proofs.lemmas.Slice.Eq.{bytes_eq-Decides}
 use Rattle.press_hooks.specs.declared.row.Row.{Row}
 use Rattle.press_hooks.specs.declared.entry.Entry.{Entry}
 use Rattle.press_hooks.specs.HookRows.{is_of_hook, stands_after, put_row, accepted_as}
-use Rattle.press_hooks.specs.Hooked.{Hooked, hook_entries, row_of, hook_rows, table_rows, groups_named, KeepsOthers, IsEach, IsByName, IsPlaceOf, put_entry, accepted_where, is_named, is_row_named}
+use Rattle.press_hooks.specs.Hooked.{HookView, hook_entries, row_of, hook_rows, table_rows, groups_named, KeepsOthers, IsEach, IsByName, IsPlaceOf, put_entry, accepted_where, is_named, is_row_named}
 use Rattle.press_hooks.proofs.Cuts.{each_at, length_mapped, filter_joined, map_joined, append_none}
 use Rattle.press_hooks.proofs.Numbers.{put_before, put_is}
 
@@ -47,32 +47,32 @@ no_rows_kept n name [] e = refl
 no_rows_kept n name (x ∷ xs) e = ap (λ c. cond c (row_of name x ∷ filter (is_of_hook n) (map (row_of name) xs)) (filter (is_of_hook n) (map (row_of name) xs))) e ∙ no_rows_kept n name xs e
 
 -- none of these hooks is of the name
-others_none : (n : List ℕ) (hs : List Hooked) → IsEach (λ (h : Hooked). bytes_eq h.name n ≡ false) hs → filter (is_of_hook n) (table_rows hs) ≡ []
+others_none : (n : List ℕ) (hs : List HookView) → IsEach (λ (h : HookView). bytes_eq h.name n ≡ false) hs → filter (is_of_hook n) (table_rows hs) ≡ []
 others_none n [] o = refl
 others_none n (h ∷ hs) o =
     filter_joined (is_of_hook n) (hook_rows h) (table_rows hs)
     ∙ (ap (λ xs. xs ++ filter (is_of_hook n) (table_rows hs)) (no_rows_kept n h.name (hook_entries h) o.0) ∙ others_none n hs o.1)
 
 -- hooks behind one of that name are of other names
-behind_others : (n : List ℕ) (h : Hooked) (hs : List Hooked) → slice_cmp nat_cmp h.name n ≡ Equal → IsEach (λ (g : Hooked). slice_cmp nat_cmp h.name g.name ≡ Less) hs → IsEach (λ (g : Hooked). slice_cmp nat_cmp g.name n ≡ Greater) hs
+behind_others : (n : List ℕ) (h : HookView) (hs : List HookView) → slice_cmp nat_cmp h.name n ≡ Equal → IsEach (λ (g : HookView). slice_cmp nat_cmp h.name g.name ≡ Less) hs → IsEach (λ (g : HookView). slice_cmp nat_cmp g.name n ≡ Greater) hs
 behind_others n h [] e o = tt
 behind_others n h (g ∷ gs) e o =
     let same : h.name ≡ n = equal h.name n e in
     let less : slice_cmp nat_cmp n g.name ≡ Less = ap (λ m. slice_cmp nat_cmp m g.name) (sym same) ∙ o.0 in
     (turned n g.name Less less, behind_others n h gs e o.1)
 
-unlike_greater : (n : List ℕ) (hs : List Hooked) → IsEach (λ (g : Hooked). slice_cmp nat_cmp g.name n ≡ Greater) hs → IsEach (λ (g : Hooked). bytes_eq g.name n ≡ false) hs
+unlike_greater : (n : List ℕ) (hs : List HookView) → IsEach (λ (g : HookView). slice_cmp nat_cmp g.name n ≡ Greater) hs → IsEach (λ (g : HookView). bytes_eq g.name n ≡ false) hs
 unlike_greater n [] o = tt
 unlike_greater n (g ∷ gs) o = (same_where g.name n Greater o.0, unlike_greater n gs o.1)
 
 -- a hook before one of that name is of another
-before_one : (n : List ℕ) (h : Hooked) (hs : List Hooked) (i : ℕ) → IsEach (λ (g : Hooked). slice_cmp nat_cmp h.name g.name ≡ Less) hs → i < length hs → HoldsAt (λ (g : Hooked). slice_cmp nat_cmp g.name n ≡ Equal) hs i → slice_cmp nat_cmp h.name n ≡ Less
+before_one : (n : List ℕ) (h : HookView) (hs : List HookView) (i : ℕ) → IsEach (λ (g : HookView). slice_cmp nat_cmp h.name g.name ≡ Less) hs → i < length hs → HoldsAt (λ (g : HookView). slice_cmp nat_cmp g.name n ≡ Equal) hs i → slice_cmp nat_cmp h.name n ≡ Less
 before_one n h hs i o lt at =
-    let here : slice_cmp nat_cmp h.name (get_or hs i h).name ≡ Less = each_at (λ (g : Hooked). slice_cmp nat_cmp h.name g.name ≡ Less) hs i h o lt in
+    let here : slice_cmp nat_cmp h.name (get_or hs i h).name ≡ Less = each_at (λ (g : HookView). slice_cmp nat_cmp h.name g.name ≡ Less) hs i h o lt in
     let same : (get_or hs i h).name ≡ n = equal (get_or hs i h).name n (at h) in
     ap (slice_cmp nat_cmp h.name) (sym same) ∙ here
 
-pub found_rows : (n : List ℕ) (hs : List Hooked) (i : ℕ) (d : Hooked) → IsByName hs → i < length hs → HoldsAt (λ (g : Hooked). slice_cmp nat_cmp g.name n ≡ Equal) hs i → filter (is_of_hook n) (table_rows hs) ≡ map (row_of n) (hook_entries (get_or hs i d))
+pub found_rows : (n : List ℕ) (hs : List HookView) (i : ℕ) (d : HookView) → IsByName hs → i < length hs → HoldsAt (λ (g : HookView). slice_cmp nat_cmp g.name n ≡ Equal) hs i → filter (is_of_hook n) (table_rows hs) ≡ map (row_of n) (hook_entries (get_or hs i d))
 found_rows n [] i d o lt at = absurd (omega arith)
 found_rows n (h ∷ hs) zero d o lt at =
     let e : slice_cmp nat_cmp h.name n ≡ Equal = at h in
@@ -87,7 +87,7 @@ found_rows n (h ∷ hs) (suc i) d o lt at =
     ∙ (ap (λ xs. xs ++ filter (is_of_hook n) (table_rows hs)) (no_rows_kept n h.name (hook_entries h) (same_where h.name n Less less))
     ∙ found_rows n hs i d o.1 lt' (λ g. at g))
 
-split_unlike : (n : List ℕ) (hs : List Hooked) (i : ℕ) → AllWithin (λ (g : Hooked). slice_cmp nat_cmp g.name n ≡ Less) hs 0 i → AllWithin (λ (g : Hooked). slice_cmp nat_cmp g.name n ≡ Greater) hs i (length hs) → IsEach (λ (g : Hooked). bytes_eq g.name n ≡ false) hs
+split_unlike : (n : List ℕ) (hs : List HookView) (i : ℕ) → AllWithin (λ (g : HookView). slice_cmp nat_cmp g.name n ≡ Less) hs 0 i → AllWithin (λ (g : HookView). slice_cmp nat_cmp g.name n ≡ Greater) hs i (length hs) → IsEach (λ (g : HookView). bytes_eq g.name n ≡ false) hs
 split_unlike n [] i low high = tt
 split_unlike n (h ∷ hs) zero low high =
     let at : slice_cmp nat_cmp h.name n ≡ Greater = high 0 h (omega arith) (omega arith) in
@@ -96,7 +96,7 @@ split_unlike n (h ∷ hs) (suc i) low high =
     let at : slice_cmp nat_cmp h.name n ≡ Less = low 0 h (omega arith) (omega arith) in
     (same_where h.name n Less at, split_unlike n hs i (λ k d a b. low (suc k) d (omega arith) (omega arith)) (λ k d a b. high (suc k) d (omega arith) (omega arith)))
 
-pub missing_rows : (n : List ℕ) (hs : List Hooked) (i : ℕ) → IsPartitionPoint (λ (g : Hooked). slice_cmp nat_cmp g.name n ≡ Less) (λ (g : Hooked). slice_cmp nat_cmp g.name n ≡ Greater) hs i → filter (is_of_hook n) (table_rows hs) ≡ []
+pub missing_rows : (n : List ℕ) (hs : List HookView) (i : ℕ) → IsPartitionPoint (λ (g : HookView). slice_cmp nat_cmp g.name n ≡ Less) (λ (g : HookView). slice_cmp nat_cmp g.name n ≡ Greater) hs i → filter (is_of_hook n) (table_rows hs) ≡ []
 missing_rows n hs i p = others_none n hs (split_unlike n hs i p.0 p.1)
 
 -- ---- the binary search
@@ -111,12 +111,12 @@ rank_less a b n Greater l e = top (slice_cmp nat_cmp a n)
     top Equal = omega arith
     top Greater = omega arith
 
-pub rising : (n : List ℕ) (hs : List Hooked) → IsByName hs → IsNonDecreasingBy (λ (g : Hooked). ordering_index (slice_cmp nat_cmp g.name n)) hs
+pub rising : (n : List ℕ) (hs : List HookView) → IsByName hs → IsNonDecreasingBy (λ (g : HookView). ordering_index (slice_cmp nat_cmp g.name n)) hs
 rising n [] o i j d le lt = absurd (omega arith)
 rising n (h ∷ hs) o zero zero d le lt = omega arith
 rising n (h ∷ hs) o zero (suc j) d le lt =
     let lt' : j < length hs = omega arith in
-    rank_less h.name (get_or hs j d).name n (slice_cmp nat_cmp (get_or hs j d).name n) (each_at (λ (g : Hooked). slice_cmp nat_cmp h.name g.name ≡ Less) hs j d o.0 lt') refl
+    rank_less h.name (get_or hs j d).name n (slice_cmp nat_cmp (get_or hs j d).name n) (each_at (λ (g : HookView). slice_cmp nat_cmp h.name g.name ≡ Less) hs j d o.0 lt') refl
 rising n (h ∷ hs) o (suc i) zero d le lt = absurd (omega arith)
 rising n (h ∷ hs) o (suc i) (suc j) d le lt =
     let le' : i ≤ j = omega arith in
@@ -126,14 +126,14 @@ rising n (h ∷ hs) o (suc i) (suc j) d le lt =
 -- ---- an edit of the hook named, which leaves the rows of others as they are
 
 module _ (n : List ℕ) (f : List Row → List Row) (joins : (xs ys : List Row) → f (xs ++ ys) ≡ f xs ++ f ys) (none : f [] ≡ [])
-    (skips : (h : Hooked) → bytes_eq h.name n ≡ false → f (hook_rows h) ≡ hook_rows h) where
-  pub others_same : (hs : List Hooked) → IsEach (λ (h : Hooked). bytes_eq h.name n ≡ false) hs → f (table_rows hs) ≡ table_rows hs
+    (skips : (h : HookView) → bytes_eq h.name n ≡ false → f (hook_rows h) ≡ hook_rows h) where
+  pub others_same : (hs : List HookView) → IsEach (λ (h : HookView). bytes_eq h.name n ≡ false) hs → f (table_rows hs) ≡ table_rows hs
   others_same [] o = none
   others_same (h ∷ hs) o =
       joins (hook_rows h) (table_rows hs)
       ∙ (ap (λ xs. xs ++ f (table_rows hs)) (skips h o.0) ∙ ap (λ ys. hook_rows h ++ ys) (others_same hs o.1))
 
-  pub edited : (hs : List Hooked) (i : ℕ) (d h' : Hooked) → IsByName hs → i < length hs → HoldsAt (λ (g : Hooked). slice_cmp nat_cmp g.name n ≡ Equal) hs i → hook_rows h' ≡ f (hook_rows (get_or hs i d)) → table_rows (set hs i h') ≡ f (table_rows hs)
+  pub edited : (hs : List HookView) (i : ℕ) (d h' : HookView) → IsByName hs → i < length hs → HoldsAt (λ (g : HookView). slice_cmp nat_cmp g.name n ≡ Equal) hs i → hook_rows h' ≡ f (hook_rows (get_or hs i d)) → table_rows (set hs i h') ≡ f (table_rows hs)
   edited [] i d h' o lt at e = absurd (omega arith)
   edited (h ∷ hs) zero d h' o lt at e =
       let rest : f (table_rows hs) ≡ table_rows hs = others_same hs (unlike_greater n hs (behind_others n h hs (at h) o.0)) in
@@ -146,54 +146,54 @@ module _ (n : List ℕ) (f : List Row → List Row) (joins : (xs ys : List Row) 
 
 -- ---- names in order after an edit
 
-order_set_each : (P : List ℕ → Type 0) (hs : List Hooked) (i : ℕ) (d h' : Hooked) → i < length hs → h'.name ≡ (get_or hs i d).name → IsEach (λ (g : Hooked). P g.name) hs → IsEach (λ (g : Hooked). P g.name) (set hs i h')
+order_set_each : (P : List ℕ → Type 0) (hs : List HookView) (i : ℕ) (d h' : HookView) → i < length hs → h'.name ≡ (get_or hs i d).name → IsEach (λ (g : HookView). P g.name) hs → IsEach (λ (g : HookView). P g.name) (set hs i h')
 order_set_each P [] i d h' lt e o = absurd (omega arith)
 order_set_each P (h ∷ hs) zero d h' lt e o = (subst P (sym e) o.0, o.1)
 order_set_each P (h ∷ hs) (suc i) d h' lt e o = let lt' : i < length hs = omega arith in (o.0, order_set_each P hs i d h' lt' e o.1)
 
-pub order_set : (hs : List Hooked) (i : ℕ) (d h' : Hooked) → i < length hs → h'.name ≡ (get_or hs i d).name → IsByName hs → IsByName (set hs i h')
+pub order_set : (hs : List HookView) (i : ℕ) (d h' : HookView) → i < length hs → h'.name ≡ (get_or hs i d).name → IsByName hs → IsByName (set hs i h')
 order_set [] i d h' lt e o = absurd (omega arith)
-order_set (h ∷ hs) zero d h' lt e o = (subst (λ m. IsEach (λ (g : Hooked). slice_cmp nat_cmp m g.name ≡ Less) hs) (sym e) o.0, o.1)
+order_set (h ∷ hs) zero d h' lt e o = (subst (λ m. IsEach (λ (g : HookView). slice_cmp nat_cmp m g.name ≡ Less) hs) (sym e) o.0, o.1)
 order_set (h ∷ hs) (suc i) d h' lt e o =
     let lt' : i < length hs = omega arith in
     (order_set_each (λ m. slice_cmp nat_cmp h.name m ≡ Less) hs i d h' lt' e o.0, order_set hs i d h' lt' e o.1)
 
-each_removed : (P : Hooked → Type 0) (hs : List Hooked) (i : ℕ) → IsEach P hs → IsEach P (remove hs i)
+each_removed : (P : HookView → Type 0) (hs : List HookView) (i : ℕ) → IsEach P hs → IsEach P (remove hs i)
 each_removed P [] zero o = tt
 each_removed P [] (suc i) o = tt
 each_removed P (h ∷ hs) zero o = o.1
 each_removed P (h ∷ hs) (suc i) o = (o.0, each_removed P hs i o.1)
 
-pub order_remove : (hs : List Hooked) (i : ℕ) → IsByName hs → IsByName (remove hs i)
+pub order_remove : (hs : List HookView) (i : ℕ) → IsByName hs → IsByName (remove hs i)
 order_remove [] zero o = tt
 order_remove [] (suc i) o = tt
 order_remove (h ∷ hs) zero o = o.1
-order_remove (h ∷ hs) (suc i) o = (each_removed (λ (g : Hooked). slice_cmp nat_cmp h.name g.name ≡ Less) hs i o.0, order_remove hs i o.1)
+order_remove (h ∷ hs) (suc i) o = (each_removed (λ (g : HookView). slice_cmp nat_cmp h.name g.name ≡ Less) hs i o.0, order_remove hs i o.1)
 
 -- a hook without an entry has no row
-pub removed_rows : (hs : List Hooked) (i : ℕ) (d : Hooked) → i < length hs → (hook_entries (get_or hs i d)) ≡ [] → table_rows (remove hs i) ≡ table_rows hs
+pub removed_rows : (hs : List HookView) (i : ℕ) (d : HookView) → i < length hs → (hook_entries (get_or hs i d)) ≡ [] → table_rows (remove hs i) ≡ table_rows hs
 removed_rows [] i d lt e = absurd (omega arith)
 removed_rows (h ∷ hs) zero d lt e = ap (λ es. map (row_of h.name) es ++ table_rows hs) (sym e)
 removed_rows (h ∷ hs) (suc i) d lt e = let lt' : i < length hs = omega arith in ap (λ ys. hook_rows h ++ ys) (removed_rows hs i d lt' e)
 
-each_inserted : (P : Hooked → Type 0) (x : Hooked) (hs : List Hooked) (i : ℕ) → P x → IsEach P hs → IsEach P (insert hs i x)
+each_inserted : (P : HookView → Type 0) (x : HookView) (hs : List HookView) (i : ℕ) → P x → IsEach P hs → IsEach P (insert hs i x)
 each_inserted P x [] zero a o = (a, tt)
 each_inserted P x [] (suc i) a o = (a, tt)
 each_inserted P x (h ∷ hs) zero a o = (a, o)
 each_inserted P x (h ∷ hs) (suc i) a o = (o.0, each_inserted P x hs i a o.1)
 
-all_behind : (x : Hooked) (hs : List Hooked) → AllWithin (λ (g : Hooked). slice_cmp nat_cmp g.name x.name ≡ Greater) hs 0 (length hs) → IsEach (λ (g : Hooked). slice_cmp nat_cmp x.name g.name ≡ Less) hs
+all_behind : (x : HookView) (hs : List HookView) → AllWithin (λ (g : HookView). slice_cmp nat_cmp g.name x.name ≡ Greater) hs 0 (length hs) → IsEach (λ (g : HookView). slice_cmp nat_cmp x.name g.name ≡ Less) hs
 all_behind x [] high = tt
 all_behind x (h ∷ hs) high = (turned h.name x.name Greater (high 0 h (omega arith) (omega arith)), all_behind x hs (λ k d a b. high (suc k) d (omega arith) (omega arith)))
 
-pub order_insert : (x : Hooked) (hs : List Hooked) (i : ℕ) → i ≤ length hs → AllWithin (λ (g : Hooked). slice_cmp nat_cmp g.name x.name ≡ Less) hs 0 i → AllWithin (λ (g : Hooked). slice_cmp nat_cmp g.name x.name ≡ Greater) hs i (length hs) → IsByName hs → IsByName (insert hs i x)
+pub order_insert : (x : HookView) (hs : List HookView) (i : ℕ) → i ≤ length hs → AllWithin (λ (g : HookView). slice_cmp nat_cmp g.name x.name ≡ Less) hs 0 i → AllWithin (λ (g : HookView). slice_cmp nat_cmp g.name x.name ≡ Greater) hs i (length hs) → IsByName hs → IsByName (insert hs i x)
 order_insert x [] zero le low high o = (tt, tt)
 order_insert x [] (suc i) le low high o = absurd (omega arith)
 order_insert x (h ∷ hs) zero le low high o = (all_behind x (h ∷ hs) high, o)
 order_insert x (h ∷ hs) (suc i) le low high o =
     let at : slice_cmp nat_cmp h.name x.name ≡ Less = low 0 h (omega arith) (omega arith) in
     let le' : i ≤ length hs = omega arith in (
-      each_inserted (λ (g : Hooked). slice_cmp nat_cmp h.name g.name ≡ Less) x hs i at o.0,
+      each_inserted (λ (g : HookView). slice_cmp nat_cmp h.name g.name ≡ Less) x hs i at o.0,
       order_insert x hs i le' (λ k d a b. low (suc k) d (omega arith) (omega arith)) (λ k d a b. high (suc k) d (omega arith) (omega arith)) o.1,
     )
 
@@ -217,7 +217,7 @@ put_first_by n r name (e ∷ es) ys k ih =
     let rows : List Row = map (row_of name) es ++ ys in
     ap (λ c. cond c (r ∷ row_of name e ∷ rows) (row_of name e ∷ put_before (stands_after n r.priority) r rows)) (after_where n name r.priority e.priority Less k e refl)
 
-put_first : (n : List ℕ) (r : Row) (hs : List Hooked) → IsEach (λ (h : Hooked). slice_cmp nat_cmp n h.name ≡ Less) hs → put_before (stands_after n r.priority) r (table_rows hs) ≡ r ∷ table_rows hs
+put_first : (n : List ℕ) (r : Row) (hs : List HookView) → IsEach (λ (h : HookView). slice_cmp nat_cmp n h.name ≡ Less) hs → put_before (stands_after n r.priority) r (table_rows hs) ≡ r ∷ table_rows hs
 put_first n r [] o = refl
 put_first n r (h ∷ hs) o = put_first_by n r h.name (hook_entries h) (table_rows hs) o.0 (put_first n r hs o.1)
 
@@ -233,7 +233,7 @@ put_among n e (f ∷ fs) ys ih =
     ap (λ c. cond c (row_of n e ∷ row_of n f ∷ rows) (row_of n f ∷ put_before (stands_after n e.priority) (row_of n e) rows)) (after_where n n e.priority f.priority Equal (tied_itself nat_list_cmp_total n) f refl)
     ∙ put_among_by n e f fs (put_entry e fs) ys (put_before (stands_after n e.priority) (row_of n e) rows) (int_lt e.priority f.priority) (put_among n e fs ys ih)
 
-found_put : (n : List ℕ) (e : Entry) (hs : List Hooked) (i : ℕ) (d h' : Hooked) → IsByName hs → i < length hs → HoldsAt (λ (g : Hooked). slice_cmp nat_cmp g.name n ≡ Equal) hs i → hook_rows h' ≡ map (row_of n) (put_entry e (hook_entries (get_or hs i d))) → table_rows (set hs i h') ≡ put_before (stands_after n e.priority) (row_of n e) (table_rows hs)
+found_put : (n : List ℕ) (e : Entry) (hs : List HookView) (i : ℕ) (d h' : HookView) → IsByName hs → i < length hs → HoldsAt (λ (g : HookView). slice_cmp nat_cmp g.name n ≡ Equal) hs i → hook_rows h' ≡ map (row_of n) (put_entry e (hook_entries (get_or hs i d))) → table_rows (set hs i h') ≡ put_before (stands_after n e.priority) (row_of n e) (table_rows hs)
 found_put n e [] i d h' o lt at k = absurd (omega arith)
 found_put n e (h ∷ hs) zero d h' o lt at k =
     let same : h.name ≡ n = equal h.name n (at h) in
@@ -241,7 +241,7 @@ found_put n e (h ∷ hs) zero d h' o lt at k =
     ap (λ xs. xs ++ table_rows hs) k
     ∙ (sym (put_among n e (hook_entries h) (table_rows hs) first) ∙ ap (λ m. put_before (stands_after n e.priority) (row_of n e) (map (row_of m) (hook_entries h) ++ table_rows hs)) (sym same))
   where
-    all_turned : (gs : List Hooked) → IsEach (λ (g : Hooked). slice_cmp nat_cmp g.name n ≡ Greater) gs → IsEach (λ (g : Hooked). slice_cmp nat_cmp n g.name ≡ Less) gs
+    all_turned : (gs : List HookView) → IsEach (λ (g : HookView). slice_cmp nat_cmp g.name n ≡ Greater) gs → IsEach (λ (g : HookView). slice_cmp nat_cmp n g.name ≡ Less) gs
     all_turned [] q = tt
     all_turned (g ∷ gs) q = (turned g.name n Greater q.0, all_turned gs q.1)
 found_put n e (h ∷ hs) (suc i) d h' o lt at k =
@@ -249,7 +249,7 @@ found_put n e (h ∷ hs) (suc i) d h' o lt at k =
     let less : slice_cmp nat_cmp h.name n ≡ Less = before_one n h hs i o.0 lt' (λ g. at g) in
     ap (λ ys. hook_rows h ++ ys) (found_put n e hs i d h' o.1 lt' (λ g. at g) k) ∙ sym (put_behind n (row_of n e) h.name (hook_entries h) (table_rows hs) (turned h.name n Less less))
 
-missing_put : (e : Entry) (x : Hooked) (hs : List Hooked) (i : ℕ) → (hook_entries x) ≡ e ∷ [] → i ≤ length hs → AllWithin (λ (g : Hooked). slice_cmp nat_cmp g.name x.name ≡ Less) hs 0 i → AllWithin (λ (g : Hooked). slice_cmp nat_cmp g.name x.name ≡ Greater) hs i (length hs) → table_rows (insert hs i x) ≡ put_before (stands_after x.name e.priority) (row_of x.name e) (table_rows hs)
+missing_put : (e : Entry) (x : HookView) (hs : List HookView) (i : ℕ) → (hook_entries x) ≡ e ∷ [] → i ≤ length hs → AllWithin (λ (g : HookView). slice_cmp nat_cmp g.name x.name ≡ Less) hs 0 i → AllWithin (λ (g : HookView). slice_cmp nat_cmp g.name x.name ≡ Greater) hs i (length hs) → table_rows (insert hs i x) ≡ put_before (stands_after x.name e.priority) (row_of x.name e) (table_rows hs)
 missing_put e x [] zero k le low high = ap (λ es. map (row_of x.name) es ++ []) k
 missing_put e x [] (suc i) k le low high = absurd (omega arith)
 missing_put e x (h ∷ hs) zero k le low high =
@@ -261,25 +261,25 @@ missing_put e x (h ∷ hs) (suc i) k le low high =
     ap (λ ys. hook_rows h ++ ys) rest ∙ sym (put_behind x.name (row_of x.name e) h.name (hook_entries h) (table_rows hs) (turned h.name x.name Less at))
 
 -- the rows of a changed hook, which keeps its name
-changed_rows : (n : List ℕ) (hs : List Hooked) (i : ℕ) (d h' : Hooked) (es : List Entry → List Entry) → HoldsAt (λ (g : Hooked). slice_cmp nat_cmp g.name n ≡ Equal) hs i → d ≡ get_or hs i d → h'.name ≡ d.name → hook_entries h' ≡ es (hook_entries d) → hook_rows h' ≡ map (row_of n) (es (hook_entries (get_or hs i d)))
+changed_rows : (n : List ℕ) (hs : List HookView) (i : ℕ) (d h' : HookView) (es : List Entry → List Entry) → HoldsAt (λ (g : HookView). slice_cmp nat_cmp g.name n ≡ Equal) hs i → d ≡ get_or hs i d → h'.name ≡ d.name → hook_entries h' ≡ es (hook_entries d) → hook_rows h' ≡ map (row_of n) (es (hook_entries (get_or hs i d)))
 changed_rows n hs i d h' es at x k e =
-    let name : h'.name ≡ n = k ∙ (ap (λ (g : Hooked). g.name) x ∙ equal (get_or hs i d).name n (at d)) in
-    ap (λ m. map (row_of m) (hook_entries h')) name ∙ ap (map (row_of n)) (e ∙ ap (λ (g : Hooked). es (hook_entries g)) x)
+    let name : h'.name ≡ n = k ∙ (ap (λ (g : HookView). g.name) x ∙ equal (get_or hs i d).name n (at d)) in
+    ap (λ m. map (row_of m) (hook_entries h')) name ∙ ap (map (row_of n)) (e ∙ ap (λ (g : HookView). es (hook_entries g)) x)
 
-pub put_found : (n : List ℕ) (e : Entry) (hs : List Hooked) (i : ℕ) (d h' : Hooked) → IsByName hs → i < length hs → HoldsAt (λ (g : Hooked). slice_cmp nat_cmp g.name n ≡ Equal) hs i → d ≡ get_or hs i d → h'.name ≡ d.name → hook_entries h' ≡ put_entry e (hook_entries d) → table_rows (set hs i h') ≡ put_row (row_of n e) (table_rows hs)
+pub put_found : (n : List ℕ) (e : Entry) (hs : List HookView) (i : ℕ) (d h' : HookView) → IsByName hs → i < length hs → HoldsAt (λ (g : HookView). slice_cmp nat_cmp g.name n ≡ Equal) hs i → d ≡ get_or hs i d → h'.name ≡ d.name → hook_entries h' ≡ put_entry e (hook_entries d) → table_rows (set hs i h') ≡ put_row (row_of n e) (table_rows hs)
 put_found n e hs i d h' o lt at x k es =
     found_put n e hs i d h' o lt at (changed_rows n hs i d h' (put_entry e) at x k es) ∙ sym (put_is (row_of n e) (table_rows hs))
 
-parts_of : (n m : List ℕ) (hs : List Hooked) (i : ℕ) → m ≡ n → IsPartitionPoint (λ (g : Hooked). slice_cmp nat_cmp g.name n ≡ Less) (λ (g : Hooked). slice_cmp nat_cmp g.name n ≡ Greater) hs i → IsPartitionPoint (λ (g : Hooked). slice_cmp nat_cmp g.name m ≡ Less) (λ (g : Hooked). slice_cmp nat_cmp g.name m ≡ Greater) hs i
-parts_of n m hs i k p = subst (λ l. IsPartitionPoint (λ (g : Hooked). slice_cmp nat_cmp g.name l ≡ Less) (λ (g : Hooked). slice_cmp nat_cmp g.name l ≡ Greater) hs i) (sym k) p
+parts_of : (n m : List ℕ) (hs : List HookView) (i : ℕ) → m ≡ n → IsPartitionPoint (λ (g : HookView). slice_cmp nat_cmp g.name n ≡ Less) (λ (g : HookView). slice_cmp nat_cmp g.name n ≡ Greater) hs i → IsPartitionPoint (λ (g : HookView). slice_cmp nat_cmp g.name m ≡ Less) (λ (g : HookView). slice_cmp nat_cmp g.name m ≡ Greater) hs i
+parts_of n m hs i k p = subst (λ l. IsPartitionPoint (λ (g : HookView). slice_cmp nat_cmp g.name l ≡ Less) (λ (g : HookView). slice_cmp nat_cmp g.name l ≡ Greater) hs i) (sym k) p
 
-pub put_missing : (n : List ℕ) (e : Entry) (x : Hooked) (hs : List Hooked) (i : ℕ) → x.name ≡ n → hook_entries x ≡ e ∷ [] → i ≤ length hs → IsPartitionPoint (λ (g : Hooked). slice_cmp nat_cmp g.name n ≡ Less) (λ (g : Hooked). slice_cmp nat_cmp g.name n ≡ Greater) hs i → table_rows (insert hs i x) ≡ put_row (row_of n e) (table_rows hs)
+pub put_missing : (n : List ℕ) (e : Entry) (x : HookView) (hs : List HookView) (i : ℕ) → x.name ≡ n → hook_entries x ≡ e ∷ [] → i ≤ length hs → IsPartitionPoint (λ (g : HookView). slice_cmp nat_cmp g.name n ≡ Less) (λ (g : HookView). slice_cmp nat_cmp g.name n ≡ Greater) hs i → table_rows (insert hs i x) ≡ put_row (row_of n e) (table_rows hs)
 put_missing n e x hs i k es le p =
     let parts = parts_of n x.name hs i k p in
     missing_put e x hs i es le parts.0 parts.1
     ∙ (ap (λ m. put_before (stands_after m e.priority) (row_of m e) (table_rows hs)) k ∙ sym (put_is (row_of n e) (table_rows hs)))
 
-pub order_missing : (n : List ℕ) (x : Hooked) (hs : List Hooked) (i : ℕ) → x.name ≡ n → i ≤ length hs → IsPartitionPoint (λ (g : Hooked). slice_cmp nat_cmp g.name n ≡ Less) (λ (g : Hooked). slice_cmp nat_cmp g.name n ≡ Greater) hs i → IsByName hs → IsByName (insert hs i x)
+pub order_missing : (n : List ℕ) (x : HookView) (hs : List HookView) (i : ℕ) → x.name ≡ n → i ≤ length hs → IsPartitionPoint (λ (g : HookView). slice_cmp nat_cmp g.name n ≡ Less) (λ (g : HookView). slice_cmp nat_cmp g.name n ≡ Greater) hs i → IsByName hs → IsByName (insert hs i x)
 order_missing n x hs i k le p o = let parts = parts_of n x.name hs i k p in order_insert x hs i le parts.0 parts.1 o
 
 -- ---- the row named with its `accepted`
@@ -298,14 +298,14 @@ module _ (n : List ℕ) (p : ℤ) (c : List ℕ) (a : ℕ) where
   skipped_rows name (e ∷ es) k =
       ap₂ (λ r rs. r ∷ rs) (ap (λ w. elim (w && is_named (Some p) (Some c) e) [ true ↦ (let r : Row = row_of name e in record r { accepted = a }) | false ↦ row_of name e ]) k) (skipped_rows name es k)
 
-  pub accepted_found : (hs : List Hooked) (i : ℕ) (d h' : Hooked) → IsByName hs → i < length hs → HoldsAt (λ (g : Hooked). slice_cmp nat_cmp g.name n ≡ Equal) hs i → d ≡ get_or hs i d → h'.name ≡ d.name → hook_entries h' ≡ map (accepted_where p c a) (hook_entries d) → table_rows (set hs i h') ≡ map (accepted_as n p c a) (table_rows hs)
+  pub accepted_found : (hs : List HookView) (i : ℕ) (d h' : HookView) → IsByName hs → i < length hs → HoldsAt (λ (g : HookView). slice_cmp nat_cmp g.name n ≡ Equal) hs i → d ≡ get_or hs i d → h'.name ≡ d.name → hook_entries h' ≡ map (accepted_where p c a) (hook_entries d) → table_rows (set hs i h') ≡ map (accepted_as n p c a) (table_rows hs)
   accepted_found hs i d h' o lt at x k es =
       let same : (get_or hs i d).name ≡ n = equal (get_or hs i d).name n (at d) in
       let old : List Entry = hook_entries (get_or hs i d) in
       let rows : hook_rows h' ≡ map (accepted_as n p c a) (hook_rows (get_or hs i d)) = changed_rows n hs i d h' (map (accepted_where p c a)) at x k es ∙ (accepted_rows old ∙ ap (λ m. map (accepted_as n p c a) (map (row_of m) old)) (sym same)) in
       edited n (map (accepted_as n p c a)) (map_joined (accepted_as n p c a)) refl (λ h e. skipped_rows h.name (hook_entries h) e) hs i d h' o lt at rows
 
-  pub accepted_missing : (hs : List Hooked) (i : ℕ) → IsPartitionPoint (λ (g : Hooked). slice_cmp nat_cmp g.name n ≡ Less) (λ (g : Hooked). slice_cmp nat_cmp g.name n ≡ Greater) hs i → table_rows hs ≡ map (accepted_as n p c a) (table_rows hs)
+  pub accepted_missing : (hs : List HookView) (i : ℕ) → IsPartitionPoint (λ (g : HookView). slice_cmp nat_cmp g.name n ≡ Less) (λ (g : HookView). slice_cmp nat_cmp g.name n ≡ Greater) hs i → table_rows hs ≡ map (accepted_as n p c a) (table_rows hs)
   accepted_missing hs i q = sym (others_same n (map (accepted_as n p c a)) (map_joined (accepted_as n p c a)) refl (λ h e. skipped_rows h.name (hook_entries h) e) hs (split_unlike n hs i q.0 q.1))
 
 -- ---- without the rows named
@@ -325,7 +325,7 @@ module _ (n : List ℕ) (p : Option ℤ) (c : Option (List ℕ)) where
       let rows : List Row = filter (λ (r : Row). not (is_row_named n p c r)) (map (row_of name) es) in
       ap (λ w. cond (not (w && is_named p c e)) (row_of name e ∷ rows) rows) k ∙ ap (λ rs. row_of name e ∷ rs) (kept_others name es k)
 
-  pub removed_found : (hs : List Hooked) (i : ℕ) (d h' : Hooked) → IsByName hs → i < length hs → HoldsAt (λ (g : Hooked). slice_cmp nat_cmp g.name n ≡ Equal) hs i → d ≡ get_or hs i d → h'.name ≡ d.name → hook_entries h' ≡ filter (λ (e : Entry). not (is_named p c e)) (hook_entries d) → table_rows (set hs i h') ≡ filter (λ (r : Row). not (is_row_named n p c r)) (table_rows hs)
+  pub removed_found : (hs : List HookView) (i : ℕ) (d h' : HookView) → IsByName hs → i < length hs → HoldsAt (λ (g : HookView). slice_cmp nat_cmp g.name n ≡ Equal) hs i → d ≡ get_or hs i d → h'.name ≡ d.name → hook_entries h' ≡ filter (λ (e : Entry). not (is_named p c e)) (hook_entries d) → table_rows (set hs i h') ≡ filter (λ (r : Row). not (is_row_named n p c r)) (table_rows hs)
   removed_found hs i d h' o lt at x k es =
       let same : (get_or hs i d).name ≡ n = equal (get_or hs i d).name n (at d) in
       let old : List Entry = hook_entries (get_or hs i d) in
@@ -333,7 +333,7 @@ module _ (n : List ℕ) (p : Option ℤ) (c : Option (List ℕ)) where
       let rows : hook_rows h' ≡ f (hook_rows (get_or hs i d)) = changed_rows n hs i d h' (filter (λ (e : Entry). not (is_named p c e))) at x k es ∙ (gone_rows old ∙ ap (λ m. f (map (row_of m) old)) (sym same)) in
       edited n f (filter_joined (λ (r : Row). not (is_row_named n p c r))) refl (λ h e. kept_others h.name (hook_entries h) e) hs i d h' o lt at rows
 
-  pub removed_missing : (hs : List Hooked) (i : ℕ) → IsPartitionPoint (λ (g : Hooked). slice_cmp nat_cmp g.name n ≡ Less) (λ (g : Hooked). slice_cmp nat_cmp g.name n ≡ Greater) hs i → table_rows hs ≡ filter (λ (r : Row). not (is_row_named n p c r)) (table_rows hs)
+  pub removed_missing : (hs : List HookView) (i : ℕ) → IsPartitionPoint (λ (g : HookView). slice_cmp nat_cmp g.name n ≡ Less) (λ (g : HookView). slice_cmp nat_cmp g.name n ≡ Greater) hs i → table_rows hs ≡ filter (λ (r : Row). not (is_row_named n p c r)) (table_rows hs)
   removed_missing hs i q = sym (others_same n (filter (λ (r : Row). not (is_row_named n p c r))) (filter_joined (λ (r : Row). not (is_row_named n p c r))) refl (λ h e. kept_others h.name (hook_entries h) e) hs (split_unlike n hs i q.0 q.1))
 
 -- ---- without a hook
@@ -344,7 +344,7 @@ all_gone n (e ∷ es) =
     let rows : List Row = filter (λ (r : Row). not (is_row_named n None None r)) (map (row_of n) es) in
     ap (λ w. cond (not (w && true)) (row_of n e ∷ rows) rows) (same_where n n Equal (tied_itself nat_list_cmp_total n)) ∙ all_gone n es
 
-pub hook_removed : (n : List ℕ) (hs : List Hooked) (i : ℕ) → IsByName hs → i < length hs → HoldsAt (λ (g : Hooked). slice_cmp nat_cmp g.name n ≡ Equal) hs i → table_rows (remove hs i) ≡ filter (λ (r : Row). not (is_row_named n None None r)) (table_rows hs)
+pub hook_removed : (n : List ℕ) (hs : List HookView) (i : ℕ) → IsByName hs → i < length hs → HoldsAt (λ (g : HookView). slice_cmp nat_cmp g.name n ≡ Equal) hs i → table_rows (remove hs i) ≡ filter (λ (r : Row). not (is_row_named n None None r)) (table_rows hs)
 hook_removed n [] i o lt at = absurd (omega arith)
 hook_removed n (h ∷ hs) zero o lt at =
     let f : List Row → List Row = filter (λ (r : Row). not (is_row_named n None None r)) in
@@ -361,10 +361,10 @@ hook_removed n (h ∷ hs) (suc i) o lt at =
 
 -- ---- how many rows there are
 
-length_rows : (h : Hooked) (hs : List Hooked) → length (table_rows (h ∷ hs)) ≡ length (hook_entries h) + length (table_rows hs)
+length_rows : (h : HookView) (hs : List HookView) → length (table_rows (h ∷ hs)) ≡ length (hook_entries h) + length (table_rows hs)
 length_rows h hs = length-append (hook_rows h) (table_rows hs) ∙ ap (λ k. k + length (table_rows hs)) (length_mapped (row_of h.name) (hook_entries h))
 
-pub length_set : (hs : List Hooked) (i : ℕ) (d h' : Hooked) → i < length hs → length (table_rows (set hs i h')) + length (hook_entries (get_or hs i d)) ≡ length (table_rows hs) + length (hook_entries h')
+pub length_set : (hs : List HookView) (i : ℕ) (d h' : HookView) → i < length hs → length (table_rows (set hs i h')) + length (hook_entries (get_or hs i d)) ≡ length (table_rows hs) + length (hook_entries h')
 length_set [] i d h' lt = absurd (omega arith)
 length_set (h ∷ hs) zero d h' lt = let a = length_rows h hs in let b = length_rows h' hs in omega arith
 length_set (h ∷ hs) (suc i) d h' lt =
@@ -373,19 +373,19 @@ length_set (h ∷ hs) (suc i) d h' lt =
 
 -- ---- what the binary search answers
 
-pub placed : (n : List ℕ) (hs : List Hooked) (r : Result ℕ ℕ) → IsByName hs → IsSearchInRange r (length hs) → IsBinarySearchResult (λ (g : Hooked). slice_cmp nat_cmp g.name n) hs r → IsPlaceOf n hs r
+pub placed : (n : List ℕ) (hs : List HookView) (r : Result ℕ ℕ) → IsByName hs → IsSearchInRange r (length hs) → IsBinarySearchResult (λ (g : HookView). slice_cmp nat_cmp g.name n) hs r → IsPlaceOf n hs r
 placed n hs (Ok i) o within at = (within, at)
 placed n hs (Err i) o within at = (within, at (rising n hs o))
 
 -- without a hook, whose rows are as many as its entries
-pub length_removed : (hs : List Hooked) (i : ℕ) (d : Hooked) → i < length hs → length (hook_entries (get_or hs i d)) + length (table_rows (remove hs i)) ≡ length (table_rows hs)
+pub length_removed : (hs : List HookView) (i : ℕ) (d : HookView) → i < length hs → length (hook_entries (get_or hs i d)) + length (table_rows (remove hs i)) ≡ length (table_rows hs)
 length_removed [] i d lt = absurd (omega arith)
 length_removed (h ∷ hs) zero d lt = sym (length_rows h hs)
 length_removed (h ∷ hs) (suc i) d lt =
     let lt' : i < length hs = omega arith in
     let a = length_rows h hs in let b = length_rows h (remove hs i) in let r = length_removed hs i d lt' in omega arith
 
-pub length_within : (hs : List Hooked) (i : ℕ) (d : Hooked) → i < length hs → length (hook_entries (get_or hs i d)) ≤ length (table_rows hs)
+pub length_within : (hs : List HookView) (i : ℕ) (d : HookView) → i < length hs → length (hook_entries (get_or hs i d)) ≤ length (table_rows hs)
 length_within hs i d lt = let e = length_removed hs i d lt in omega arith
 
 pub empty_where : {X : Type 0} (xs : List X) → length xs ≡ 0 → xs ≡ []
@@ -405,13 +405,13 @@ length_put r rows = ap length (put_is r rows) ∙ length_before (stands_after r.
 
 -- ---- the groups of a hook by its name
 
-first_named : (n : List ℕ) (h : Hooked) (hs : List Hooked) → bytes_eq h.name n ≡ true → groups_named n (h ∷ hs) ≡ h.groups
+first_named : (n : List ℕ) (h : HookView) (hs : List HookView) → bytes_eq h.name n ≡ true → groups_named n (h ∷ hs) ≡ h.groups
 first_named n h hs e = ap (λ c. cond c h.groups (groups_named n hs)) e
 
-pub next_named : (n : List ℕ) (h : Hooked) (hs : List Hooked) → bytes_eq h.name n ≡ false → groups_named n (h ∷ hs) ≡ groups_named n hs
+pub next_named : (n : List ℕ) (h : HookView) (hs : List HookView) → bytes_eq h.name n ≡ false → groups_named n (h ∷ hs) ≡ groups_named n hs
 next_named n h hs e = ap (λ c. cond c h.groups (groups_named n hs)) e
 
-pub found_named : (n : List ℕ) (hs : List Hooked) (i : ℕ) (d : Hooked) → IsByName hs → i < length hs → HoldsAt (λ (g : Hooked). slice_cmp nat_cmp g.name n ≡ Equal) hs i → (get_or hs i d).groups ≡ groups_named n hs
+pub found_named : (n : List ℕ) (hs : List HookView) (i : ℕ) (d : HookView) → IsByName hs → i < length hs → HoldsAt (λ (g : HookView). slice_cmp nat_cmp g.name n ≡ Equal) hs i → (get_or hs i d).groups ≡ groups_named n hs
 found_named n [] i d o lt at = absurd (omega arith)
 found_named n (h ∷ hs) zero d o lt at = sym (first_named n h hs (same_where h.name n Equal (at h)))
 found_named n (h ∷ hs) (suc i) d o lt at =
@@ -420,16 +420,16 @@ found_named n (h ∷ hs) (suc i) d o lt at =
     found_named n hs i d o.1 lt' (λ g. at g) ∙ sym (next_named n h hs (same_where h.name n Less less))
 
 -- where a hook of that name is met, that is where it stands
-pub stands_at : (n : List ℕ) (hs : List Hooked) (i : ℕ) (h : Hooked) → i < length hs → h ≡ get_or hs i h → bytes_eq h.name n ≡ true → HoldsAt (λ (g : Hooked). slice_cmp nat_cmp g.name n ≡ Equal) hs i
+pub stands_at : (n : List ℕ) (hs : List HookView) (i : ℕ) (h : HookView) → i < length hs → h ≡ get_or hs i h → bytes_eq h.name n ≡ true → HoldsAt (λ (g : HookView). slice_cmp nat_cmp g.name n ≡ Equal) hs i
 stands_at n [] i h lt is e = absurd (omega (arith, lt))
-stands_at n (x ∷ xs) zero h lt is e = λ d. subst (λ (g : Hooked). slice_cmp nat_cmp g.name n ≡ Equal) is (tied h.name n e)
+stands_at n (x ∷ xs) zero h lt is e = λ d. subst (λ (g : HookView). slice_cmp nat_cmp g.name n ≡ Equal) is (tied h.name n e)
 stands_at n (x ∷ xs) (suc i) h lt is e = λ d. let lt' : i < length xs = omega (arith, lt) in stands_at n xs i h lt' is e d
 
-unlike_named : (n : List ℕ) (hs : List Hooked) → IsEach (λ (h : Hooked). bytes_eq h.name n ≡ false) hs → groups_named n hs ≡ []
+unlike_named : (n : List ℕ) (hs : List HookView) → IsEach (λ (h : HookView). bytes_eq h.name n ≡ false) hs → groups_named n hs ≡ []
 unlike_named n [] o = refl
 unlike_named n (h ∷ hs) o = next_named n h hs o.0 ∙ unlike_named n hs o.1
 
-pub missing_named : (n : List ℕ) (hs : List Hooked) (i : ℕ) → IsPartitionPoint (λ (g : Hooked). slice_cmp nat_cmp g.name n ≡ Less) (λ (g : Hooked). slice_cmp nat_cmp g.name n ≡ Greater) hs i → [] ≡ groups_named n hs
+pub missing_named : (n : List ℕ) (hs : List HookView) (i : ℕ) → IsPartitionPoint (λ (g : HookView). slice_cmp nat_cmp g.name n ≡ Less) (λ (g : HookView). slice_cmp nat_cmp g.name n ≡ Greater) hs i → [] ≡ groups_named n hs
 missing_named n hs i p = sym (unlike_named n hs (split_unlike n hs i p.0 p.1))
 
 -- a hook of the one name is not of the other
@@ -440,24 +440,24 @@ turned_unlike n m l k e = by (bytes_eq l m) refl
     by false w = refl
     by true w = let same : m ≡ n = sym ((bytes_eq-Decides l m).0 w) ∙ k in absurd (true≢false (sym ((bytes_eq-Decides m n).1 same) ∙ e))
 
-set_named : (m : List ℕ) (hs : List Hooked) (i : ℕ) (d h' : Hooked) → i < length hs → bytes_eq h'.name m ≡ false → bytes_eq (get_or hs i d).name m ≡ false → groups_named m (set hs i h') ≡ groups_named m hs
+set_named : (m : List ℕ) (hs : List HookView) (i : ℕ) (d h' : HookView) → i < length hs → bytes_eq h'.name m ≡ false → bytes_eq (get_or hs i d).name m ≡ false → groups_named m (set hs i h') ≡ groups_named m hs
 set_named m [] i d h' lt a b = absurd (omega arith)
 set_named m (h ∷ hs) zero d h' lt a b = next_named m h' hs a ∙ sym (next_named m h hs b)
 set_named m (h ∷ hs) (suc i) d h' lt a b = let lt' : i < length hs = omega arith in ap (cond (bytes_eq h.name m) h.groups) (set_named m hs i d h' lt' a b)
 
-insert_named : (m : List ℕ) (hs : List Hooked) (i : ℕ) (x : Hooked) → bytes_eq x.name m ≡ false → groups_named m (insert hs i x) ≡ groups_named m hs
+insert_named : (m : List ℕ) (hs : List HookView) (i : ℕ) (x : HookView) → bytes_eq x.name m ≡ false → groups_named m (insert hs i x) ≡ groups_named m hs
 insert_named m [] zero x a = next_named m x [] a
 insert_named m [] (suc i) x a = next_named m x [] a
 insert_named m (h ∷ hs) zero x a = next_named m x (h ∷ hs) a
 insert_named m (h ∷ hs) (suc i) x a = ap (cond (bytes_eq h.name m) h.groups) (insert_named m hs i x a)
 
-remove_named : (m : List ℕ) (hs : List Hooked) (i : ℕ) (d : Hooked) → i < length hs → bytes_eq (get_or hs i d).name m ≡ false → groups_named m (remove hs i) ≡ groups_named m hs
+remove_named : (m : List ℕ) (hs : List HookView) (i : ℕ) (d : HookView) → i < length hs → bytes_eq (get_or hs i d).name m ≡ false → groups_named m (remove hs i) ≡ groups_named m hs
 remove_named m [] i d lt b = absurd (omega arith)
 remove_named m (h ∷ hs) zero d lt b = sym (next_named m h hs b)
 remove_named m (h ∷ hs) (suc i) d lt b = let lt' : i < length hs = omega arith in ap (cond (bytes_eq h.name m) h.groups) (remove_named m hs i d lt' b)
 
 -- a hook without a group is as none
-empty_named : (m : List ℕ) (hs : List Hooked) (i : ℕ) (d : Hooked) → IsByName hs → i < length hs → (get_or hs i d).groups ≡ [] → groups_named m (remove hs i) ≡ groups_named m hs
+empty_named : (m : List ℕ) (hs : List HookView) (i : ℕ) (d : HookView) → IsByName hs → i < length hs → (get_or hs i d).groups ≡ [] → groups_named m (remove hs i) ≡ groups_named m hs
 empty_named m [] i d o lt e = absurd (omega arith)
 empty_named m (h ∷ hs) zero d o lt e = by (bytes_eq h.name m) refl
   where
@@ -465,19 +465,19 @@ empty_named m (h ∷ hs) zero d o lt e = by (bytes_eq h.name m) refl
     by false k = refl
     by true k =
         let same : h.name ≡ m = (bytes_eq-Decides h.name m).0 k in
-        unlike_named m hs (unlike_greater m hs (subst (λ l. IsEach (λ (g : Hooked). slice_cmp nat_cmp g.name l ≡ Greater) hs) same (behind_others h.name h hs (tied_itself nat_list_cmp_total h.name) o.0))) ∙ sym e
+        unlike_named m hs (unlike_greater m hs (subst (λ l. IsEach (λ (g : HookView). slice_cmp nat_cmp g.name l ≡ Greater) hs) same (behind_others h.name h hs (tied_itself nat_list_cmp_total h.name) o.0))) ∙ sym e
 empty_named m (h ∷ hs) (suc i) d o lt e = let lt' : i < length hs = omega arith in ap (cond (bytes_eq h.name m) h.groups) (empty_named m hs i d o.1 lt' e)
 
-pub groups_same : (hs : List Hooked) (i : ℕ) (d : Hooked) → IsByName hs → i < length hs → (get_or hs i d).groups ≡ [] → (m : List ℕ) → groups_named m (remove hs i) ≡ groups_named m hs
+pub groups_same : (hs : List HookView) (i : ℕ) (d : HookView) → IsByName hs → i < length hs → (get_or hs i d).groups ≡ [] → (m : List ℕ) → groups_named m (remove hs i) ≡ groups_named m hs
 groups_same hs i d o lt e = λ m. empty_named m hs i d o lt e
 
-pub others_set : (n : List ℕ) (hs : List Hooked) (i : ℕ) (d h' : Hooked) → i < length hs → HoldsAt (λ (g : Hooked). slice_cmp nat_cmp g.name n ≡ Equal) hs i → d ≡ get_or hs i d → h'.name ≡ d.name → KeepsOthers n hs (set hs i h')
+pub others_set : (n : List ℕ) (hs : List HookView) (i : ℕ) (d h' : HookView) → i < length hs → HoldsAt (λ (g : HookView). slice_cmp nat_cmp g.name n ≡ Equal) hs i → d ≡ get_or hs i d → h'.name ≡ d.name → KeepsOthers n hs (set hs i h')
 others_set n hs i d h' lt at x k = λ m e.
     let name : (get_or hs i d).name ≡ n = equal (get_or hs i d).name n (at d) in
-    set_named m hs i d h' lt (turned_unlike n m h'.name (k ∙ (ap (λ (g : Hooked). g.name) x ∙ name)) e) (turned_unlike n m (get_or hs i d).name name e)
+    set_named m hs i d h' lt (turned_unlike n m h'.name (k ∙ (ap (λ (g : HookView). g.name) x ∙ name)) e) (turned_unlike n m (get_or hs i d).name name e)
 
-pub others_insert : (n : List ℕ) (hs : List Hooked) (i : ℕ) (x : Hooked) → x.name ≡ n → KeepsOthers n hs (insert hs i x)
+pub others_insert : (n : List ℕ) (hs : List HookView) (i : ℕ) (x : HookView) → x.name ≡ n → KeepsOthers n hs (insert hs i x)
 others_insert n hs i x k = λ m e. insert_named m hs i x (turned_unlike n m x.name k e)
 
-pub others_remove : (n : List ℕ) (hs : List Hooked) (i : ℕ) (d : Hooked) → i < length hs → HoldsAt (λ (g : Hooked). slice_cmp nat_cmp g.name n ≡ Equal) hs i → KeepsOthers n hs (remove hs i)
+pub others_remove : (n : List ℕ) (hs : List HookView) (i : ℕ) (d : HookView) → i < length hs → HoldsAt (λ (g : HookView). slice_cmp nat_cmp g.name n ≡ Equal) hs i → KeepsOthers n hs (remove hs i)
 others_remove n hs i d lt at = λ m e. remove_named m hs i d lt (turned_unlike n m (get_or hs i d).name (equal (get_or hs i d).name n (at d)) e)

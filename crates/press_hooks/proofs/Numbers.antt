@@ -10,7 +10,7 @@ use Rattle.std.proofs.lemmas.Slice.Eq.{bytes_eq-Decides}
 use Rattle.press_hooks.specs.declared.row.Row.{Row}
 use Rattle.press_hooks.specs.HookRows.{is_row, most_rows, accepted_as, adds_row, put_row, stands_after, is_at, is_at_any, is_of_callback, least_priority, least_with, lesser, priority_of, is_of_hook, has_rows, entry_of}
 use Rattle.press_hooks.specs.NextEntry.{entries_at, is_ahead}
-use Rattle.press_hooks.specs.Numbered.{NumberedRow, Numbered, rows_of, numbered_stands, numbered_has_room, numbered_accept, numbered_put, number_cmp, key_cmp, put_sorted, sorted_by, in_order, rows_in_order, numbered_entries, Edit, Add, Remove, RemoveAll, numbered_edit, ordered_edit, numbered_after, ordered_after, Agrees}
+use Rattle.press_hooks.specs.Numbered.{NumberedRow, NumberedTable, rows_of, numbered_stands, numbered_has_room, numbered_accept, numbered_put, number_cmp, key_cmp, put_sorted, sorted_by, in_order, rows_in_order, numbered_entries, Edit, Add, Remove, RemoveAll, numbered_edit, ordered_edit, numbered_after, ordered_after, Agrees}
 use Rattle.press_hooks.proofs.NumbersSort.{Every, every_weaker, Every-map, Every-filter, every_passes, Every-sorted_by, sorting_keeps, sorted_by-map, sorted_by-filter, sorted_same}
 
 -- ---- the rows of a set in order, and the rows of the set
@@ -171,30 +171,30 @@ put_rows new (x ∷ xs) h =
     let zs : List Row = put_before (stands_after new.row.hook new.row.priority) new.row (rows_of xs) in
     put_rows_by (is_lt (key_cmp new x)) new x xs zs (put_rows new xs h.1) ∙ ap (λ b. cond b (new.row ∷ x.row ∷ rows_of xs) (x.row ∷ zs)) (stands_after_is new x h.0)
 
-abbrev Numbers : Numbered → Type 0
+abbrev Numbers : NumberedTable → Type 0
 Numbers n = Every (λ (e : NumberedRow). e.number < n.counter) n.rows
 
-put_in_order : (r : Row) (n : Numbered) → Numbers n → rows_in_order (numbered_put r n) ≡ put_row r (rows_in_order n)
+put_in_order : (r : Row) (n : NumberedTable) → Numbers n → rows_in_order (numbered_put r n) ≡ put_row r (rows_in_order n)
 put_in_order r n h =
     let new : NumberedRow = record { number = n.counter; row = r } in
     put_rows new (in_order n.rows) (Every-sorted_by key_cmp (λ (e : NumberedRow). e.number < n.counter) n.rows h) ∙ sym (put_is r (rows_in_order n))
 
-add_by : (s t : Bool) (hook callback : List ℕ) (priority : ℤ) (accepted : ℕ) (n : Numbered) → Numbers n →
+add_by : (s t : Bool) (hook callback : List ℕ) (priority : ℤ) (accepted : ℕ) (n : NumberedTable) → Numbers n →
     let r : Row = record { hook = hook; priority = priority; callback = callback; accepted = accepted } in
     rows_in_order (cond s (numbered_accept hook callback priority accepted n) (cond t (numbered_put r n) n)) ≡ cond s (map (accepted_as hook priority callback accepted) (rows_in_order n)) (cond t (put_row r (rows_in_order n)) (rows_in_order n))
 add_by true t hook callback priority accepted n h = accepted_in_order hook priority callback accepted n.rows
 add_by false true hook callback priority accepted n h = put_in_order (record { hook = hook; priority = priority; callback = callback; accepted = accepted }) n h
 add_by false false hook callback priority accepted n h = refl
 
-stands_same : (hook callback : List ℕ) (priority : ℤ) (n : Numbered) → numbered_stands hook callback priority n ≡ list_any (is_row hook priority callback) (rows_in_order n)
+stands_same : (hook callback : List ℕ) (priority : ℤ) (n : NumberedTable) → numbered_stands hook callback priority n ≡ list_any (is_row hook priority callback) (rows_in_order n)
 stands_same hook callback priority n = any_in_order (is_row hook priority callback) n.rows
 
-room_same : (n : Numbered) → numbered_has_room n ≡ ltb (length (rows_in_order n)) most_rows
+room_same : (n : NumberedTable) → numbered_has_room n ≡ ltb (length (rows_in_order n)) most_rows
 room_same n = ap (λ k. ltb k most_rows) (length_in_order n.rows)
 
 -- ---- each edit
 
-rows_step : (e : Edit) (n : Numbered) → Numbers n → rows_in_order (numbered_edit e n) ≡ ordered_edit e (rows_in_order n)
+rows_step : (e : Edit) (n : NumberedTable) → Numbers n → rows_in_order (numbered_edit e n) ≡ ordered_edit e (rows_in_order n)
 rows_step (Add hook callback priority accepted) n h =
     let rows : List Row = rows_in_order n in
     let r : Row = record { hook = hook; priority = priority; callback = callback; accepted = accepted } in
@@ -203,13 +203,13 @@ rows_step (Add hook callback priority accepted) n h =
 rows_step (Remove hook callback priority) n h = filter_in_order (λ r. not (is_row hook priority callback r)) n.rows
 rows_step (RemoveAll hook priority) n h = filter_in_order (λ r. not (is_at_any hook priority r)) n.rows
 
-numbers_by : (s t : Bool) (hook callback : List ℕ) (priority : ℤ) (accepted : ℕ) (n : Numbered) (r : Row) → Numbers n → Numbers (cond s (numbered_accept hook callback priority accepted n) (cond t (numbered_put r n) n))
+numbers_by : (s t : Bool) (hook callback : List ℕ) (priority : ℤ) (accepted : ℕ) (n : NumberedTable) (r : Row) → Numbers n → Numbers (cond s (numbered_accept hook callback priority accepted n) (cond t (numbered_put r n) n))
 numbers_by true t hook callback priority accepted n r h = Every-map (λ (e : NumberedRow). e.number < n.counter) (accepted_row hook priority callback accepted) (λ e k. k) n.rows h
 numbers_by false true hook callback priority accepted n r h =
     (omega arith, every_weaker (λ (e : NumberedRow). e.number < n.counter) (λ (e : NumberedRow). e.number < n.counter + 1) (λ e k. omega arith) n.rows h)
 numbers_by false false hook callback priority accepted n r h = h
 
-numbers_step : (e : Edit) (n : Numbered) → Numbers n → Numbers (numbered_edit e n)
+numbers_step : (e : Edit) (n : NumberedTable) → Numbers n → Numbers (numbered_edit e n)
 numbers_step (Add hook callback priority accepted) n h = numbers_by (numbered_stands hook callback priority n) (numbered_has_room n) hook callback priority accepted n (record { hook = hook; priority = priority; callback = callback; accepted = accepted }) h
 numbers_step (Remove hook callback priority) n h = Every-filter (λ (e : NumberedRow). e.number < n.counter) (λ (e : NumberedRow). not (is_row hook priority callback e.row)) n.rows h
 numbers_step (RemoveAll hook priority) n h = Every-filter (λ (e : NumberedRow). e.number < n.counter) (λ (e : NumberedRow). not (is_at_any hook priority e.row)) n.rows h
@@ -237,7 +237,7 @@ module _ (hook : List ℕ) (priority : ℤ) where
       (λ i. ordering_then (slice_cmp nat_cmp (hook_is a.row h i) (hook_is b.row k i)) (ordering_then (int_cmp (priority_is a.row h i) (priority_is b.row k i)) (number_cmp a b)))
       ∙ (λ i. ordering_then (tied_itself nat_list_cmp_total hook i) (ordering_then (tied_itself int_cmp_total priority i) (number_cmp a b)))
 
-  entries_same : (n : Numbered) → numbered_entries hook priority n ≡ entries_at (rows_in_order n) hook priority
+  entries_same : (n : NumberedTable) → numbered_entries hook priority n ≡ entries_at (rows_in_order n) hook priority
   entries_same n =
       let at : NumberedRow → Bool = λ (e : NumberedRow). is_at hook priority e.row in
       let some : List NumberedRow = filter at n.rows in
@@ -248,7 +248,7 @@ module _ (hook : List ℕ) (priority : ℤ) where
 
 pub numbers_agree : (edits : List Edit) → Agrees edits
 numbers_agree edits =
-    let n : Numbered = numbered_after edits in
+    let n : NumberedTable = numbered_after edits in
     let e : rows_in_order n ≡ ordered_after edits = same_rows edits in
     record {
       rows = e;

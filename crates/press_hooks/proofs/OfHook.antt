@@ -9,7 +9,7 @@ use Rattle.press_hooks.specs.declared.entry.Entry.{Entry}
 use Rattle.press_hooks.specs.declared.group_entry.GroupEntry.{GroupEntry}
 use Rattle.press_hooks.specs.declared.open_run.OpenRun.{OpenRun}
 use Rattle.press_hooks.specs.HookRows.{is_row, is_of_hook, lesser, least_priority, priority_of, has_rows, entry_of}
-use Rattle.press_hooks.specs.NextEntry.{entries_at, is_past, is_ahead, next_priority, first_of, moved_to, refilled, refilled_by, is_done}
+use Rattle.press_hooks.specs.NextEntry.{entries_at, is_past, is_ahead, next_priority, first_of, run_at_priority, refilled_run, refilled_by, is_done}
 use Rattle.press_hooks.specs.GroupEntries.{entry_at}
 use Rattle.press_hooks.specs.Hooked.{row_of, IsEach, IsByPriority}
 use Rattle.press_hooks.proofs.Cuts.{filter_two, filter_alike}
@@ -146,17 +146,17 @@ module _ (rows : List Row) (run : OpenRun) (es ahead : List Entry) (h : filter (
   pub next_is : next_priority rows run ≡ option_map (λ (e : Entry). e.priority) (first_of ahead)
   next_is = ahead_is run.hook rows es h o run.reached ∙ ap (λ xs. option_map (λ (e : Entry). e.priority) (first_of xs)) (sym a)
 
-  pub ended : option_map (λ (e : Entry). e.priority) (first_of ahead) ≡ None → refilled rows run ≡ run
-  ended none = ap (refilled_by rows run) done ∙ ap (moved_to rows run) (next_is ∙ none)
+  pub ended : option_map (λ (e : Entry). e.priority) (first_of ahead) ≡ None → refilled_run rows run ≡ run
+  ended none = ap (refilled_by rows run) done ∙ ap (run_at_priority rows run) (next_is ∙ none)
 
-  pub moved : (p : ℤ) → option_map (λ (e : Entry). e.priority) (first_of ahead) ≡ Some p → refilled rows run ≡ record { hook = run.hook; reached = Some p; rest = filter (λ (e : Entry). int_eq e.priority p) ahead }
+  pub moved : (p : ℤ) → option_map (λ (e : Entry). e.priority) (first_of ahead) ≡ Some p → refilled_run rows run ≡ record { hook = run.hook; reached = Some p; rest = filter (λ (e : Entry). int_eq e.priority p) ahead }
   moved p some =
       let past : is_past run.reached p ≡ true = first_past (is_past run.reached) es p (ap (λ xs. option_map (λ (e : Entry). e.priority) (first_of xs)) (sym a) ∙ some) in
       let group : entries_at rows run.hook p ≡ filter (λ (e : Entry). int_eq e.priority p) ahead =
       at_is run.hook rows es h p ∙ (sym (group_ahead (is_past run.reached) es p past) ∙ ap (filter (λ (e : Entry). int_eq e.priority p)) (sym a)) in
-      ap (refilled_by rows run) done ∙ (ap (moved_to rows run) (next_is ∙ some) ∙ moved_with p group)
+      ap (refilled_by rows run) done ∙ (ap (run_at_priority rows run) (next_is ∙ some) ∙ moved_with p group)
     where
-      moved_with : (q : ℤ) {g : List Entry} → entries_at rows run.hook q ≡ g → moved_to rows run (Some q) ≡ record { hook = run.hook; reached = Some q; rest = g }
+      moved_with : (q : ℤ) {g : List Entry} → entries_at rows run.hook q ≡ g → run_at_priority rows run (Some q) ≡ record { hook = run.hook; reached = Some q; rest = g }
       moved_with q e = ap (λ g. let r : OpenRun = record { hook = run.hook; reached = Some q; rest = g } in r) e
 
 pub done_empty : (es : List Entry) → is_done es ≡ true → es ≡ []
@@ -167,7 +167,7 @@ unmoved_by : (rows : List Row) (run : OpenRun) (es : List Entry) → is_done es 
 unmoved_by rows run [] e = cc
 unmoved_by rows run (x ∷ xs) e = refl
 
-pub unmoved : (rows : List Row) (run : OpenRun) → is_done run.rest ≡ false → run ≡ refilled rows run
+pub unmoved : (rows : List Row) (run : OpenRun) → is_done run.rest ≡ false → run ≡ refilled_run rows run
 unmoved rows run e = unmoved_by rows run run.rest e
 
 done_drop : (p : ℤ) (ms : List GroupEntry) (i : ℕ) → i ≡ length ms → is_done (map (entry_at p) (drop i ms)) ≡ true

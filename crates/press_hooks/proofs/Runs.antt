@@ -7,11 +7,11 @@ use Rattle.std.proofs.lemmas.Bool.{eqb-true}
 use Rattle.press_hooks.specs.declared.row.Row.{Row}
 use Rattle.press_hooks.specs.declared.open_run.OpenRun.{OpenRun}
 use Rattle.press_hooks.specs.declared.open_run.PlacedRun.{PlacedRun}
-use Rattle.press_hooks.specs.Hooked.{Hooked, IsEach, KeepsOthers, groups_named, table_rows, up_to}
-use Rattle.press_hooks.specs.Placed.{IsInPlace, mended, open_runs_of}
+use Rattle.press_hooks.specs.Hooked.{HookView, IsEach, KeepsOthers, groups_named, table_rows, up_to}
+use Rattle.press_hooks.specs.Placed.{IsInPlace, mend_cursor, open_runs_of}
 use Rattle.press_hooks.proofs.Cuts.{length_mapped}
 use Rattle.press_hooks.proofs.ByPriority.{none_counted}
-use Rattle.press_hooks.specs.NextEntry.{Table, with_rows, begun, is_innermost, next_entry, next_run, entry_next, run_advanced, runs_next}
+use Rattle.press_hooks.specs.NextEntry.{Table, with_rows, new_run, is_innermost, next_entry, next_run, entry_next, run_advanced, runs_next}
 use Rattle.press_hooks.proofs.Lists.{reverse-last, reverse-set_last}
 
 pub innermost_length : (i : ℕ) (runs : List OpenRun) → is_innermost i runs ≡ true → length runs ≡ i + 1
@@ -71,17 +71,17 @@ each_set P [] (suc i) y p h = tt
 each_set P (x ∷ xs) zero y p h = (p, h.1)
 each_set P (x ∷ xs) (suc i) y p h = (h.0, each_set P xs i y p h.1)
 
-pub begun_placed : (hs : List Hooked) (hook : List ℕ) (r : PlacedRun) → r.run ≡ begun hook → r.cursor ≡ 0 → IsInPlace hs r
+pub begun_placed : (hs : List HookView) (hook : List ℕ) (r : PlacedRun) → r.run ≡ new_run hook → r.cursor ≡ 0 → IsInPlace hs r
 begun_placed hs hook r e k = k ∙ (none_counted (groups_named hook hs) ∙ ap (λ (x : OpenRun). up_to x.reached (groups_named x.hook hs)) (sym e))
 
 -- ---- cursors after an edit of a hook
 
-module _ (n : List ℕ) (old new : List Hooked) (keeps : KeepsOthers n old new) where
+module _ (n : List ℕ) (old new : List HookView) (keeps : KeepsOthers n old new) where
   mended_one : (r : PlacedRun) (b : Bool) → bytes_eq r.run.hook n ≡ b → IsInPlace old r → IsInPlace new (cond b (record r { cursor = up_to r.run.reached (groups_named r.run.hook new) }) r)
   mended_one r true e at = refl
   mended_one r false e at = at ∙ ap (up_to r.run.reached) (sym (keeps r.run.hook e))
 
-  pub all_mended : (runs : List PlacedRun) → IsEach (IsInPlace old) runs → IsEach (IsInPlace new) (map (mended n new) runs)
+  pub all_mended : (runs : List PlacedRun) → IsEach (IsInPlace old) runs → IsEach (IsInPlace new) (map (mend_cursor n new) runs)
   all_mended [] at = tt
   all_mended (r ∷ rs) at = (mended_one r (bytes_eq r.run.hook n) refl at.0, all_mended rs at.1)
 
@@ -89,11 +89,11 @@ run_kept : (r : PlacedRun) (k : ℕ) (b : Bool) → (let x : PlacedRun = cond b 
 run_kept r k true = refl
 run_kept r k false = refl
 
-runs_kept : (n : List ℕ) (hs : List Hooked) (runs : List PlacedRun) → map (λ (r : PlacedRun). r.run) (map (mended n hs) runs) ≡ map (λ (r : PlacedRun). r.run) runs
+runs_kept : (n : List ℕ) (hs : List HookView) (runs : List PlacedRun) → map (λ (r : PlacedRun). r.run) (map (mend_cursor n hs) runs) ≡ map (λ (r : PlacedRun). r.run) runs
 runs_kept n hs [] = refl
 runs_kept n hs (r ∷ rs) = ap₂ (λ (x : OpenRun) xs. x ∷ xs) (run_kept r (up_to r.run.reached (groups_named r.run.hook hs)) (bytes_eq r.run.hook n)) (runs_kept n hs rs)
 
-pub edited_view : (n : List ℕ) (old new : List Hooked) (runs after : List PlacedRun) (t : Table) (f : List Row → List Row) → shown (table_rows old) (open_runs_of runs) ≡ t → after ≡ map (mended n new) runs → table_rows new ≡ f (table_rows old) → shown (table_rows new) (open_runs_of after) ≡ with_rows (f t.rows) t
+pub edited_view : (n : List ℕ) (old new : List HookView) (runs after : List PlacedRun) (t : Table) (f : List Row → List Row) → shown (table_rows old) (open_runs_of runs) ≡ t → after ≡ map (mend_cursor n new) runs → table_rows new ≡ f (table_rows old) → shown (table_rows new) (open_runs_of after) ≡ with_rows (f t.rows) t
 edited_view n old new runs after t f v e k =
     ap (λ (xs : List PlacedRun). shown (table_rows new) (open_runs_of xs)) e
     ∙ (ap (λ xs. shown (table_rows new) (reverse xs)) (runs_kept n new runs)

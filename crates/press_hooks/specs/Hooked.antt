@@ -12,34 +12,34 @@ use Rattle.press_hooks.specs.GroupEntries.{entry_at}
 use Rattle.press_hooks.specs.NextEntry.{is_past}
 
 -- the entries of a priority
-pub record Grouped : Type 0 where
+pub record GroupView : Type 0 where
   pub priority : ℤ
   pub members : List GroupEntry
 
-abbrev pub with_members : List GroupEntry → Grouped → Grouped
+abbrev pub with_members : List GroupEntry → GroupView → GroupView
 with_members members g = record g { members = members }
 
-abbrev pub group_entries : Grouped → List Entry
+abbrev pub group_entries : GroupView → List Entry
 group_entries g = map (entry_at g.priority) g.members
 
-abbrev pub entries_of : List Grouped → List Entry
+abbrev pub entries_of : List GroupView → List Entry
 entries_of [] = []
 entries_of (g ∷ gs) = group_entries g ++ entries_of gs
 
-pub record Hooked : Type 0 where
+pub record HookView : Type 0 where
   pub name : List ℕ
-  pub groups : List Grouped
+  pub groups : List GroupView
 
-abbrev pub hook_entries : Hooked → List Entry
+abbrev pub hook_entries : HookView → List Entry
 hook_entries h = entries_of h.groups
 
 abbrev pub row_of : List ℕ → Entry → Row
 row_of hook e = record { hook = hook; priority = e.priority; callback = e.callback; accepted = e.accepted }
 
-abbrev pub hook_rows : Hooked → List Row
+abbrev pub hook_rows : HookView → List Row
 hook_rows h = map (row_of h.name) (hook_entries h)
 
-abbrev pub table_rows : List Hooked → List Row
+abbrev pub table_rows : List HookView → List Row
 table_rows [] = []
 table_rows (h ∷ hs) = hook_rows h ++ table_rows hs
 
@@ -53,38 +53,38 @@ IsByPriority [] = Unit {0}
 IsByPriority (e ∷ es) = IsEach (λ (f : Entry). int_lt f.priority e.priority ≡ false) es × IsByPriority es
 
 -- each group has a member, and a lesser priority than those behind it
-abbrev pub AreGroups : List Grouped → Type 0
+abbrev pub AreGroups : List GroupView → Type 0
 AreGroups [] = Unit {0}
-AreGroups (g ∷ gs) = (0 < length g.members) × IsEach (λ (h : Grouped). int_lt g.priority h.priority ≡ true) gs × AreGroups gs
+AreGroups (g ∷ gs) = (0 < length g.members) × IsEach (λ (h : GroupView). int_lt g.priority h.priority ≡ true) gs × AreGroups gs
 
 -- where the group of that priority is, or else the place between the lesser ones and the greater ones
-abbrev pub IsPlaceAt : ℤ → List Grouped → Result ℕ ℕ → Type 0
+abbrev pub IsPlaceAt : ℤ → List GroupView → Result ℕ ℕ → Type 0
 IsPlaceAt p gs r =
-    MatchResult r (λ i. (i < length gs) × HoldsAt (λ (g : Grouped). int_cmp g.priority p ≡ Equal) gs i)
-    (λ i. (i ≤ length gs) × IsPartitionPoint (λ (g : Grouped). int_cmp g.priority p ≡ Less) (λ (g : Grouped). int_cmp g.priority p ≡ Greater) gs i)
+    MatchResult r (λ i. (i < length gs) × HoldsAt (λ (g : GroupView). int_cmp g.priority p ≡ Equal) gs i)
+    (λ i. (i ≤ length gs) × IsPartitionPoint (λ (g : GroupView). int_cmp g.priority p ≡ Less) (λ (g : GroupView). int_cmp g.priority p ≡ Greater) gs i)
 
 -- how many groups are at priorities not greater than the one reached
-abbrev pub up_to : Option ℤ → List Grouped → ℕ
-up_to reached gs = length (filter (λ (g : Grouped). not (is_past reached g.priority)) gs)
+abbrev pub up_to : Option ℤ → List GroupView → ℕ
+up_to reached gs = length (filter (λ (g : GroupView). not (is_past reached g.priority)) gs)
 
 -- each name is before those behind it
-abbrev pub IsByName : List Hooked → Type 0
+abbrev pub IsByName : List HookView → Type 0
 IsByName [] = Unit {0}
-IsByName (h ∷ hs) = IsEach (λ (g : Hooked). slice_cmp nat_cmp h.name g.name ≡ Less) hs × IsByName hs
+IsByName (h ∷ hs) = IsEach (λ (g : HookView). slice_cmp nat_cmp h.name g.name ≡ Less) hs × IsByName hs
 
 -- where the hook of that name is, or else the place between the names before it and those after it
-abbrev pub IsPlaceOf : List ℕ → List Hooked → Result ℕ ℕ → Type 0
+abbrev pub IsPlaceOf : List ℕ → List HookView → Result ℕ ℕ → Type 0
 IsPlaceOf hook hs r =
-    MatchResult r (λ i. (i < length hs) × HoldsAt (λ (h : Hooked). slice_cmp nat_cmp h.name hook ≡ Equal) hs i)
-    (λ i. (i ≤ length hs) × IsPartitionPoint (λ (h : Hooked). slice_cmp nat_cmp h.name hook ≡ Less) (λ (h : Hooked). slice_cmp nat_cmp h.name hook ≡ Greater) hs i)
+    MatchResult r (λ i. (i < length hs) × HoldsAt (λ (h : HookView). slice_cmp nat_cmp h.name hook ≡ Equal) hs i)
+    (λ i. (i ≤ length hs) × IsPartitionPoint (λ (h : HookView). slice_cmp nat_cmp h.name hook ≡ Less) (λ (h : HookView). slice_cmp nat_cmp h.name hook ≡ Greater) hs i)
 
 -- the groups of the hook of that name
-abbrev pub groups_named : List ℕ → List Hooked → List Grouped
+abbrev pub groups_named : List ℕ → List HookView → List GroupView
 groups_named name [] = []
 groups_named name (h ∷ hs) = cond (bytes_eq h.name name) h.groups (groups_named name hs)
 
 -- the groups of other hooks are as they were
-abbrev pub KeepsOthers : List ℕ → List Hooked → List Hooked → Type 0
+abbrev pub KeepsOthers : List ℕ → List HookView → List HookView → Type 0
 KeepsOthers name old new = (other : List ℕ) → bytes_eq other name ≡ false → groups_named other new ≡ groups_named other old
 
 -- whether an entry is of the priority and of the callback, where these are named

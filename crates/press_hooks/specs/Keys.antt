@@ -3,12 +3,12 @@ use Rattle.std.specs.Prelude.{◌≡◌, ℕ, List, ◌++◌, ◌*◌, IsTrue, b
 use Rattle.std.specs.Cmp.Lexicographic.{bytes_decides}
 use Rattle.std.specs.Hash as fed
 use Rattle.std.proofs.Common.{ap}
-use Rattle.press_text.specs.Padded.{eight, number, padded}
+use Rattle.press_text.specs.Padded.{eight, number, padded_name}
 use Rattle.press_hooks.specs.declared.group_entry.GroupEntry.{GroupEntry}
 
 -- the number that eight bytes of a name spell, zeros behind it up to 32
 abbrev word : List ℕ → ℕ → ℕ
-word name i = number 0 (eight (8 * i) (padded name))
+word name i = number 0 (eight (8 * i) (padded_name name))
 
 -- what a callback gives to a hasher
 abbrev pub writes : List ℕ → fed.HashWrites

@@ -8,16 +8,16 @@ use Rattle.press_hooks.specs.declared.open_run.OpenRun.{OpenRun}
 use Rattle.press_hooks.specs.HookRows.{is_of_hook, is_at, least_priority, entry_of}
 
 -- a run that begins
-abbrev pub begun : List ℕ → OpenRun
-begun hook = record { hook = hook; reached = None; rest = [] }
+abbrev pub new_run : List ℕ → OpenRun
+new_run hook = record { hook = hook; reached = None; rest = [] }
 
 abbrev pub entries_at : List Row → List ℕ → ℤ → List Entry
 entries_at rows hook p = map entry_of (filter (is_at hook p) rows)
 
 -- the run at its next priority, where there is one
-abbrev pub moved_to : List Row → OpenRun → Option ℤ → OpenRun
-moved_to rows run None = run
-moved_to rows run (Some p) = record { hook = run.hook; reached = Some p; rest = entries_at rows run.hook p }
+abbrev pub run_at_priority : List Row → OpenRun → Option ℤ → OpenRun
+run_at_priority rows run None = run
+run_at_priority rows run (Some p) = record { hook = run.hook; reached = Some p; rest = entries_at rows run.hook p }
 
 abbrev pub is_past : Option ℤ → ℤ → Bool
 is_past None p = true
@@ -31,12 +31,12 @@ abbrev pub next_priority : List Row → OpenRun → Option ℤ
 next_priority rows run = least_priority (is_ahead run.hook run.reached) rows
 
 abbrev pub refilled_by : List Row → OpenRun → List Entry → OpenRun
-refilled_by rows run [] = moved_to rows run (next_priority rows run)
+refilled_by rows run [] = run_at_priority rows run (next_priority rows run)
 refilled_by rows run (e ∷ es) = run
 
 -- the run with entries to hand out, where there are any
-abbrev pub refilled : List Row → OpenRun → OpenRun
-refilled rows run = refilled_by rows run run.rest
+abbrev pub refilled_run : List Row → OpenRun → OpenRun
+refilled_run rows run = refilled_by rows run run.rest
 
 abbrev pub first_of : List Entry → Option Entry
 first_of [] = None
@@ -44,14 +44,14 @@ first_of (e ∷ es) = Some e
 
 -- the next entry of a run, and the run after it
 abbrev pub next_entry : List Row → OpenRun → Option Entry
-next_entry rows run = first_of (refilled rows run).rest
+next_entry rows run = first_of (refilled_run rows run).rest
 
 abbrev pub without_first : List Entry → List Entry
 without_first [] = []
 without_first (e ∷ es) = es
 
 abbrev pub next_run : List Row → OpenRun → OpenRun
-next_run rows run = let r = refilled rows run in record r { rest = without_first r.rest }
+next_run rows run = let r = refilled_run rows run in record r { rest = without_first r.rest }
 
 abbrev pub is_done : List Entry → Bool
 is_done [] = true
@@ -78,7 +78,7 @@ is_innermost id [] = false
 is_innermost id (r ∷ rs) = nat_eq id (length rs)
 
 abbrev pub run_begun : List ℕ → Table → Table
-run_begun hook t = record t { open_runs = begun hook ∷ t.open_runs }
+run_begun hook t = record t { open_runs = new_run hook ∷ t.open_runs }
 
 abbrev pub without_innermost : List OpenRun → List OpenRun
 without_innermost [] = []

@@ -18,7 +18,7 @@ pub record NumberedRow : Type 0 where
   pub row : Row
 
 -- the rows are a set: they are listed in whatever order, a new one in front
-pub record Numbered : Type 0 where
+pub record NumberedTable : Type 0 where
   pub rows : List NumberedRow
   pub counter : ℕ
 
@@ -28,30 +28,30 @@ rows_of rows = map (λ (e : NumberedRow). e.row) rows
 -- ---- the edits
 
 -- whether a row of the hook, priority and callback exists, which is also what a remove of it returns
-abbrev pub numbered_stands : List ℕ → List ℕ → ℤ → Numbered → Bool
+abbrev pub numbered_stands : List ℕ → List ℕ → ℤ → NumberedTable → Bool
 numbered_stands hook callback priority n = list_any (λ (e : NumberedRow). is_row hook priority callback e.row) n.rows
 
-abbrev pub numbered_has_room : Numbered → Bool
+abbrev pub numbered_has_room : NumberedTable → Bool
 numbered_has_room n = ltb (length n.rows) most_rows
 
 -- the row named with this `accepted`, and each other one as it is
-abbrev pub numbered_accept : List ℕ → List ℕ → ℤ → ℕ → Numbered → Numbered
+abbrev pub numbered_accept : List ℕ → List ℕ → ℤ → ℕ → NumberedTable → NumberedTable
 numbered_accept hook callback priority accepted n = record n { rows = map (λ (e : NumberedRow). record e { row = accepted_as hook priority callback accepted e.row }) n.rows }
 
 -- a row more, whose number is the counter
-abbrev pub numbered_put : Row → Numbered → Numbered
+abbrev pub numbered_put : Row → NumberedTable → NumberedTable
 numbered_put r n = record { rows = record { number = n.counter; row = r } ∷ n.rows; counter = n.counter + 1 }
 
-abbrev pub numbered_add : List ℕ → List ℕ → ℤ → ℕ → Numbered → Numbered
+abbrev pub numbered_add : List ℕ → List ℕ → ℤ → ℕ → NumberedTable → NumberedTable
 numbered_add hook callback priority accepted n =
     cond (numbered_stands hook callback priority n) (numbered_accept hook callback priority accepted n)
     (cond (numbered_has_room n) (numbered_put (record { hook = hook; priority = priority; callback = callback; accepted = accepted }) n) n)
 
-abbrev pub numbered_remove : List ℕ → List ℕ → ℤ → Numbered → Numbered
+abbrev pub numbered_remove : List ℕ → List ℕ → ℤ → NumberedTable → NumberedTable
 numbered_remove hook callback priority n = record n { rows = filter (λ (e : NumberedRow). not (is_row hook priority callback e.row)) n.rows }
 
 -- at that priority, or at every one
-abbrev pub numbered_remove_all : List ℕ → Option ℤ → Numbered → Numbered
+abbrev pub numbered_remove_all : List ℕ → Option ℤ → NumberedTable → NumberedTable
 numbered_remove_all hook priority n = record n { rows = filter (λ (e : NumberedRow). not (is_at_any hook priority e.row)) n.rows }
 
 -- ---- the order of hook, priority and number
@@ -75,29 +75,29 @@ abbrev pub in_order : List NumberedRow → List NumberedRow
 in_order rows = sorted_by key_cmp rows
 
 -- the rows of the set by hook, priority and number
-abbrev pub rows_in_order : Numbered → List Row
+abbrev pub rows_in_order : NumberedTable → List Row
 rows_in_order n = rows_of (in_order n.rows)
 
 -- ---- the answers, each of the set as it is listed
 
 -- what an add answers: whether the row then exists
-abbrev pub numbered_adds : List ℕ → List ℕ → ℤ → Numbered → Bool
+abbrev pub numbered_adds : List ℕ → List ℕ → ℤ → NumberedTable → Bool
 numbered_adds hook callback priority n = numbered_stands hook callback priority n || numbered_has_room n
 
 -- has: the least priority with that hook and callback
-abbrev pub numbered_priority_of : List ℕ → List ℕ → Numbered → Option ℤ
+abbrev pub numbered_priority_of : List ℕ → List ℕ → NumberedTable → Option ℤ
 numbered_priority_of hook callback n = least_priority (is_of_callback hook callback) (rows_of n.rows)
 
 -- whether the hook has a row
-abbrev pub numbered_has_rows : List ℕ → Numbered → Bool
+abbrev pub numbered_has_rows : List ℕ → NumberedTable → Bool
 numbered_has_rows hook n = list_any (λ (e : NumberedRow). is_of_hook hook e.row) n.rows
 
 -- the least priority of the hook greater than the one that a run has reached
-abbrev pub numbered_ahead : List ℕ → Option ℤ → Numbered → Option ℤ
+abbrev pub numbered_ahead : List ℕ → Option ℤ → NumberedTable → Option ℤ
 numbered_ahead hook reached n = least_priority (is_ahead hook reached) (rows_of n.rows)
 
 -- the entries of the hook at the priority, in order of number
-abbrev pub numbered_entries : List ℕ → ℤ → Numbered → List Entry
+abbrev pub numbered_entries : List ℕ → ℤ → NumberedTable → List Entry
 numbered_entries hook priority n = map entry_of (rows_of (sorted_by number_cmp (filter (λ (e : NumberedRow). is_at hook priority e.row) n.rows)))
 
 -- ---- after the same edits both forms answer the same
@@ -107,7 +107,7 @@ pub data Edit : Type 0 where
   Remove : (hook callback : List ℕ) (priority : ℤ) → Edit
   RemoveAll : (hook : List ℕ) (priority : Option ℤ) → Edit
 
-abbrev pub numbered_edit : Edit → Numbered → Numbered
+abbrev pub numbered_edit : Edit → NumberedTable → NumberedTable
 numbered_edit (Add hook callback priority accepted) n = numbered_add hook callback priority accepted n
 numbered_edit (Remove hook callback priority) n = numbered_remove hook callback priority n
 numbered_edit (RemoveAll hook priority) n = numbered_remove_all hook priority n
@@ -118,7 +118,7 @@ ordered_edit (Remove hook callback priority) rows = remove_row hook callback pri
 ordered_edit (RemoveAll hook priority) rows = remove_rows hook priority rows
 
 -- the table after edits from no rows on: the first edit of the list is made last
-abbrev pub numbered_after : List Edit → Numbered
+abbrev pub numbered_after : List Edit → NumberedTable
 numbered_after [] = record { rows = []; counter = 0 }
 numbered_after (e ∷ es) = numbered_edit e (numbered_after es)
 

@@ -31,10 +31,10 @@ impl Drop for Group {
 }
 
 impl Model for Group {
-    ghost use Rattle.press_hooks.specs.Hooked.{Grouped};
+    ghost use Rattle.press_hooks.specs.Hooked.{GroupView};
     ghost use Rattle.press_hooks.specs.Keys.{group_entries_in};
 
-    ghost Value = { Grouped };
+    ghost Value = { GroupView };
 
     ghost view = { λ g. record { priority = g.priority; members = group_entries_in g.members.entries } };
 }
@@ -131,7 +131,7 @@ impl Group {
 
 impl Copied for Group {
     // A map copies itself by the allocator that it has.
-    fn copied(&self, _alloc: Global) -> Result<Group, AllocError> {
+    fn copy_in(&self, _alloc: Global) -> Result<Group, AllocError> {
         Ok(Group {
             priority: self.priority,
             members: self.members.clone()?,

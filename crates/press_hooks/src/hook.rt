@@ -6,7 +6,7 @@ ghost use Rattle.press_hooks.specs.Hooked.{hook_entries, AreGroups, has_entry, i
 use crate::entry::Entry;
 use crate::group::Group;
 use crate::groups;
-use press_text::{CallbackId, Copied, HookName, copied_all};
+use press_text::{CallbackId, Copied, HookName, copy_all};
 use std::alloc::{AllocError, Global};
 use std::cmp::Ordering;
 use std::marker::Model;
@@ -25,9 +25,9 @@ impl Drop for Hook {
 }
 
 impl Model for Hook {
-    ghost use Rattle.press_hooks.specs.Hooked.{Hooked, AreGroups};
+    ghost use Rattle.press_hooks.specs.Hooked.{HookView, AreGroups};
 
-    ghost Value = { Hooked };
+    ghost Value = { HookView };
 
     ghost view = { λ h. record { name = h.name; groups = h.groups.items } };
 
@@ -101,9 +101,9 @@ impl Hook {
 }
 
 impl Copied for Hook {
-    fn copied(&self, alloc: Global) -> Result<Hook, AllocError> {
+    fn copy_in(&self, alloc: Global) -> Result<Hook, AllocError> {
         let name = self.name.copy(alloc)?;
-        let groups = copied_all(alloc, self.groups.as_slice())?;
+        let groups = copy_all(alloc, self.groups.as_slice())?;
         Ok(Hook { name, groups })
     }
 }

@@ -7,7 +7,7 @@ use crate::entry::Entry;
 use crate::group::Group;
 use crate::hook::Hook;
 use crate::{groups, hooks};
-use press_text::{CallbackId, HookName, copied_all};
+use press_text::{CallbackId, HookName, copy_all};
 use std::alloc::{AllocError, Global};
 use std::marker::Model;
 
@@ -29,9 +29,9 @@ impl Drop for HookList {
 
 impl Model for HookList {
     ghost use Rattle.std.specs.Prelude.{◌≡◌, List, length};
-    ghost use Rattle.press_hooks.specs.Hooked.{Hooked, IsByName, table_rows};
+    ghost use Rattle.press_hooks.specs.Hooked.{HookView, IsByName, table_rows};
 
-    ghost Value = { List Hooked };
+    ghost Value = { List HookView };
 
     ghost view = { λ r. r.hooks.items };
 
@@ -52,7 +52,7 @@ impl HookList {
     pub fn copy(&self, alloc: Global) -> Result<HookList, AllocError>
         ensures { IfOk result (λ r. r ≡ self.now) }
     {
-        let hooks = copied_all(alloc, self.hooks.as_slice())?;
+        let hooks = copy_all(alloc, self.hooks.as_slice())?;
         Ok(HookList {
             hooks,
             count: self.count,

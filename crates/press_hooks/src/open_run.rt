@@ -1,7 +1,7 @@
 ghost use Rattle.std.specs.Prelude.{◌≡◌, [], true, map, IfOk, OnOk, OnErr, IsTrue};
-ghost use Rattle.press_hooks.specs.NextEntry.{begun, refilled, next_entry, next_run, first_of, without_first, is_done, moves_on};
+ghost use Rattle.press_hooks.specs.NextEntry.{new_run, refilled_run, next_entry, next_run, first_of, without_first, is_done, moves_on};
 ghost use Rattle.press_hooks.specs.Hooked.{group_entries, table_rows};
-ghost use Rattle.press_hooks.specs.Placed.{at_group, one_taken, IsInPlace, mended};
+ghost use Rattle.press_hooks.specs.Placed.{at_group, without_next_entry, IsInPlace, mend_cursor};
 
 use crate::entry::Entry;
 use crate::group::Group;
@@ -64,7 +64,7 @@ impl Drop for OpenRun {
 impl OpenRun {
     /// A run that has reached no priority yet.
     pub fn begin(alloc: Global, hook: &HookName) -> Result<OpenRun, AllocError>
-        ensures { IfOk result (λ r. r ≡ begun hook.now) }
+        ensures { IfOk result (λ r. r ≡ new_run hook.now) }
     {
         Ok(OpenRun {
             hook: hook.copy(alloc)?,
@@ -94,7 +94,7 @@ impl OpenRun {
     /// Removes the first entry of the rest.
     pub(crate) fn take_next(&mut self) -> Option<Entry>
         ensures given { result ≡ first_of self.old.rest }
-        ensures after { self.new ≡ one_taken self.old }
+        ensures after { self.new ≡ without_next_entry self.old }
     {
         self.rest.take_first()
     }
@@ -170,7 +170,7 @@ impl Drop for PlacedRun {
 impl PlacedRun {
     /// A run that has reached no priority yet, of a hook that stands at that place or not.
     pub fn begin(alloc: Global, hook: &HookName, place: usize) -> Result<PlacedRun, AllocError>
-        ensures run { IfOk result (λ r. r.run ≡ begun hook.now) }
+        ensures run { IfOk result (λ r. r.run ≡ new_run hook.now) }
         ensures cursor { IfOk result (λ r. r.cursor ≡ 0) }
     {
         let run = OpenRun::begin(alloc, hook)?;
@@ -198,7 +198,8 @@ impl PlacedRun {
     // Gets to the next group where the last one is done.
     fn fill(&mut self, rows: &HookList) -> Result<(), AllocError>
         requires { IsInPlace rows.now self.old }
-        ensures filled { OnOk result (self.new.run ≡ refilled (table_rows rows.now) self.old.run) }
+        ensures filled { OnOk result (self.new.run
+            ≡ refilled_run (table_rows rows.now) self.old.run) }
         ensures place { IsInPlace rows.now self.new }
         ensures refused { OnErr result (self.new ≡ self.old) }
         ensures memory { OnErr result (IsTrue (moves_on (table_rows rows.now) self.old.run)) }
@@ -212,7 +213,8 @@ impl PlacedRun {
     fn move_on(&mut self, rows: &HookList) -> Result<(), AllocError>
         requires done { is_done self.old.run.rest ≡ true }
         requires place { IsInPlace rows.now self.old }
-        ensures moved { OnOk result (self.new.run ≡ refilled (table_rows rows.now) self.old.run) }
+        ensures moved { OnOk result (self.new.run
+            ≡ refilled_run (table_rows rows.now) self.old.run) }
         ensures place { IsInPlace rows.now self.new }
         ensures refused { OnErr result (self.new ≡ self.old) }
         ensures memory { OnErr result (IsTrue (moves_on (table_rows rows.now) self.old.run)) }
@@ -227,7 +229,7 @@ impl PlacedRun {
 
     // Counts the cursor of a run of that hook anew.
     fn mend(&mut self, hook: &HookName, rows: &HookList)
-        ensures { self.new ≡ mended hook.now rows.now self.old }
+        ensures { self.new ≡ mend_cursor hook.now rows.now self.old }
     {
         if self.run.hook.is(hook) {
             self.cursor = count_up_to(rows.groups_of(&self.run.hook), self.run.reached);
@@ -237,7 +239,7 @@ impl PlacedRun {
 
 /// Counts the cursors of the hook's runs anew after an edit of its rows.
 pub(crate) fn mend_all(runs: &mut Vec<PlacedRun>, hook: &HookName, rows: &HookList)
-    ensures { runs.new.items ≡ map (mended hook.now rows.now) runs.old.items }
+    ensures { runs.new.items ≡ map (mend_cursor hook.now rows.now) runs.old.items }
 {
     for run in runs.iter_mut() {
         run.mend(hook, rows);

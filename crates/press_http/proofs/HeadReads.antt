@@ -6,15 +6,15 @@ use Rattle.httparse.specs.declared.spans.RequestSpans.{RequestSpans}
 use Rattle.press_http.specs.declared.fault.HttpFault.{HttpFault}
 use Rattle.press_http.specs.declared.fault.HttpFault.TheVariants as fault
 use Rattle.press_http.specs.Heads.{IsUnfinished, Looks, Misses, RefusesHead, WantsHead}
-use Rattle.press_http.specs.Reads.{came, seen_by}
+use Rattle.press_http.specs.Reads.{bytes_of_read, seen_by}
 use Rattle.press_http.specs.Requests.{EndsBy}
 use Rattle.press_http.proofs.Joined.{failed}
 
 pub missed : (e : HttpFault) (reads : List (Option (List ℕ))) (read left : Option (List ℕ)) → WantsHead (seen_by reads) → Misses e read
     → RefusesHead e (seen_by (read ∷ reads)) left × EndsBy e (read ∷ reads)
-missed fault.NoMemory reads read left wants m = (omega (arith, m, length-append (seen_by reads) (came read)), tt)
+missed fault.NoMemory reads read left wants m = (omega (arith, m, length-append (seen_by reads) (bytes_of_read read)), tt)
 missed fault.ReadFault reads read left wants m =
-    (subst (λ (seen : List ℕ). WantsHead seen) (sym (ap (λ (r : Option (List ℕ)). seen_by reads ++ came r) m ∙ append-nil (seen_by reads))) wants, failed read reads m)
+    (subst (λ (seen : List ℕ). WantsHead seen) (sym (ap (λ (r : Option (List ℕ)). seen_by reads ++ bytes_of_read r) m ∙ append-nil (seen_by reads))) wants, failed read reads m)
 missed fault.Ended reads read left wants m = absurd m
 missed fault.WriteFault reads read left wants m = absurd m
 missed fault.BadHead reads read left wants m = absurd m

@@ -3,18 +3,18 @@ use Rattle.std.proofs.Common.{◌≡◌, ℕ, ◌<◌, List, [], ◌∷◌, ◌+
 use Rattle.std.specs.Prelude.{Option, Result, Ok, Err, MatchResult}
 use Rattle.press_http.specs.declared.fault.HttpFault.{HttpFault}
 use Rattle.press_http.specs.declared.fault.HttpFault.TheVariants as fault
-use Rattle.press_http.specs.Reads.{came, seen_by, HasFailed, HasEnded, MayGoOn, Reads}
+use Rattle.press_http.specs.Reads.{bytes_of_read, seen_by, HasFailed, HasEnded, MayGoOn, Reads}
 use Rattle.press_http.specs.declared.start.Start.{Start}
 use Rattle.press_http.specs.Requests.{EndsBy, IsStart, Refuses}
 
 -- ---- one more
 
-pub goes_on : (read : Option (List ℕ)) (earlier : List (Option (List ℕ))) → read ≡ Some (came read) → 0 < length (came read) → MayGoOn (read ∷ earlier)
+pub goes_on : (read : Option (List ℕ)) (earlier : List (Option (List ℕ))) → read ≡ Some (bytes_of_read read) → 0 < length (bytes_of_read read) → MayGoOn (read ∷ earlier)
 goes_on None earlier gave some = let none : None ≡ Some [] = gave in cc
 goes_on (Some []) earlier gave some = let no : ⊥ = omega (arith, some) in absurd no
 goes_on (Some (b ∷ bytes)) earlier gave some = tt
 
-pub ended : (read : Option (List ℕ)) (earlier : List (Option (List ℕ))) → read ≡ Some (came read) → length (came read) ≡ 0 → HasEnded (read ∷ earlier)
+pub ended : (read : Option (List ℕ)) (earlier : List (Option (List ℕ))) → read ≡ Some (bytes_of_read read) → length (bytes_of_read read) ≡ 0 → HasEnded (read ∷ earlier)
 ended None earlier gave none = let there : None ≡ Some [] = gave in cc
 ended (Some []) earlier gave none = tt
 ended (Some (b ∷ bytes)) earlier gave none = let no : ⊥ = omega (arith, none) in absurd no
@@ -27,7 +27,7 @@ failed (Some bytes) earlier none = let there : Some bytes ≡ None = none in cc
 
 pub seen_join : (later earlier : List (Option (List ℕ))) → seen_by (later ++ earlier) ≡ seen_by earlier ++ seen_by later
 seen_join [] earlier = sym (append-nil (seen_by earlier))
-seen_join (read ∷ later) earlier = ap (λ (l : List ℕ). l ++ came read) (seen_join later earlier) ∙ append_assoc (seen_by earlier) (seen_by later) (came read)
+seen_join (read ∷ later) earlier = ap (λ (l : List ℕ). l ++ bytes_of_read read) (seen_join later earlier) ∙ append_assoc (seen_by earlier) (seen_by later) (bytes_of_read read)
 
 go_join : (later earlier : List (Option (List ℕ))) → MayGoOn later → MayGoOn earlier → MayGoOn (later ++ earlier)
 go_join [] earlier p q = q

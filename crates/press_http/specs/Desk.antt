@@ -11,8 +11,8 @@ use Rattle.press_http.specs.declared.desk.DeskEndpoint.{DeskEndpoint}
 use Rattle.press_http.specs.declared.desk.DeskEndpoint.TheVariants as endpoint
 use Rattle.press_http.specs.declared.desk.DeskRequest.{DeskRequest}
 use Rattle.press_http.specs.declared.desk.DeskRequest.TheVariants as request
-use Rattle.press_http.specs.Forms.{first_named, LacksPlainly}
-use Rattle.press_http.specs.Meanings.{◌>>=◌, made}
+use Rattle.press_http.specs.Forms.{first_value, LacksPlainly}
+use Rattle.press_http.specs.Meanings.{◌>>=◌, map_ok}
 use Rattle.press_http.specs.Routes.{behind, or_missing, path_of, place_in, query_of, with_route}
 
 unfoldable pub desk_table : RowsOf (RouteOf DeskEndpoint)
@@ -26,8 +26,8 @@ desk_table =
 unfoldable pub desk_place_at : List ℕ → Result DeskEndpoint HttpFault
 desk_place_at path = place_in (first desk_table path)
 
-abbrev pub desk_allowed : List ℕ → DeskEndpoint → Result DeskEndpoint HttpFault
-desk_allowed method at = if bytes_eq method (codes "GET") then Ok at else Err NotAllowed
+abbrev pub desk_or_not_allowed : List ℕ → DeskEndpoint → Result DeskEndpoint HttpFault
+desk_or_not_allowed method at = if bytes_eq method (codes "GET") then Ok at else Err NotAllowed
 
 -- a number that a query gives, or this one
 abbrev pub number_by : ℕ → Option (List ℕ) → Result ℕ HttpFault
@@ -35,7 +35,7 @@ number_by otherwise None = Ok otherwise
 number_by otherwise (Some text) = or_missing (decimal_in text)
 
 abbrev pub number_of : List ℕ → ℕ → List ℕ → Result ℕ HttpFault
-number_of name otherwise query = number_by otherwise (first_named name query)
+number_of name otherwise query = number_by otherwise (first_value name query)
 
 -- those with ids below `before`, and `count` of them
 unfoldable pub posts_of : List ℕ → Result DeskRequest HttpFault
@@ -48,17 +48,17 @@ abbrev pub id_in : List ℕ → Result ℕ HttpFault
 id_in path = or_missing (decimal_in (behind 3 path))
 
 unfoldable pub desk_at : DeskEndpoint → List ℕ → Result DeskRequest HttpFault
-desk_at endpoint.Log t = made request.Log (number_of (codes "from") 0 (query_of t))
+desk_at endpoint.Log t = map_ok request.Log (number_of (codes "from") 0 (query_of t))
 desk_at endpoint.Posts t = posts_of (query_of t)
-desk_at endpoint.Post t = made (λ id. request.Show (desk.Post id)) (id_in (path_of t))
-desk_at endpoint.Preview t = made (λ id. request.Show (desk.Preview id)) (id_in (path_of t))
+desk_at endpoint.Post t = map_ok (λ id. request.Show (desk.Post id)) (id_in (path_of t))
+desk_at endpoint.Preview t = map_ok (λ id. request.Show (desk.Preview id)) (id_in (path_of t))
 desk_at endpoint.Site t = Ok (request.Show desk.Site)
 
 -- by method and target
-unfoldable pub desk_asked : List ℕ → List ℕ → Result DeskRequest HttpFault
-desk_asked method t = do
+unfoldable pub desk_request_of : List ℕ → List ℕ → Result DeskRequest HttpFault
+desk_request_of method t = do
   found ← desk_place_at (path_of t)
-  served ← desk_allowed method found
+  served ← desk_or_not_allowed method found
   desk_at served t
 
 -- ---- memory
@@ -76,4 +76,4 @@ TakesMemory endpoint.Site t = ⊥
 
 -- its path is served by its method, and that takes some
 abbrev pub MayTakeMemory : List ℕ → List ℕ → Type 0
-MayTakeMemory method t = (at : DeskEndpoint) × ((desk_place_at (path_of t) >>= desk_allowed method) ≡ Ok at) × TakesMemory at t
+MayTakeMemory method t = (at : DeskEndpoint) × ((desk_place_at (path_of t) >>= desk_or_not_allowed method) ≡ Ok at) × TakesMemory at t

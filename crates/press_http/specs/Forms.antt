@@ -14,24 +14,24 @@ use Rattle.press_http.specs.declared.fault.HttpFault.TheVariants.{BadForm}
 -- ---- fields
 
 -- what a name or a value stands for; U+FFFD for what isn't UTF-8
-abbrev pub shown : List ℕ → List ℕ
-shown bytes = utf8_lossy (decode bytes)
+abbrev pub decoded_text : List ℕ → List ℕ
+decoded_text bytes = utf8_lossy (decode bytes)
 
 abbrev pub first_in : List ℕ → List (List ℕ × List ℕ) → Option (List ℕ)
 first_in name [] = None
-first_in name (pair ∷ pairs) = if bytes_eq (shown pair.0) name then Some (shown pair.1) else first_in name pairs
+first_in name (pair ∷ pairs) = if bytes_eq (decoded_text pair.0) name then Some (decoded_text pair.1) else first_in name pairs
 
 -- the value of the first field of that name
-unfoldable pub first_named : List ℕ → List ℕ → Option (List ℕ)
-first_named name form = first_in name (raw_pairs form)
+unfoldable pub first_value : List ℕ → List ℕ → Option (List ℕ)
+first_value name form = first_in name (raw_pairs form)
 
 -- every name is written as it is, without `+` and `%`, and none is the one that is looked for: that is found out without memory
 abbrev pub LacksPlainly : List ℕ → List ℕ → Type 0
-LacksPlainly name form = All (λ pair. IsPlainText pair.0) (raw_pairs form) × (first_named name form ≡ None)
+LacksPlainly name form = All (λ pair. IsPlainText pair.0) (raw_pairs form) × (first_value name form ≡ None)
 
 -- numbers are written in decimal
 abbrev pub fields_of : List ℕ → Fields
-fields_of form = record { text = λ name. Ok (first_named name form); number = λ name. read decimal_in (first_named name form) }
+fields_of form = record { text = λ name. Ok (first_value name form); number = λ name. read decimal_in (first_value name form) }
 
 -- ---- commands
 

@@ -8,7 +8,7 @@ use Rattle.httparse.specs.Grammar.{RequestHead, print_request, ReadsRequest, Has
 use Rattle.httparse.specs.Spans.{IsRequestAt, IsRequestWithin, RequestExceeds}
 use Rattle.press_http.specs.declared.fault.HttpFault.{HttpFault}
 use Rattle.press_http.specs.declared.fault.HttpFault.TheVariants as fault
-use Rattle.press_http.specs.Reads.{came}
+use Rattle.press_http.specs.Reads.{bytes_of_read}
 
 abbrev pub most_fields : ℕ
 most_fields = 32
@@ -77,7 +77,7 @@ Looks seen headers (Err e) = LooksBad e seen
 
 -- why one read gave no bytes to keep: there was no memory for those that came, or it failed
 abbrev pub Misses : HttpFault → Option (List ℕ) → Type 0
-Misses fault.NoMemory read = 0 < length (came read)
+Misses fault.NoMemory read = 0 < length (bytes_of_read read)
 Misses fault.ReadFault read = read ≡ None
 Misses fault.Ended read = ⊥
 Misses fault.WriteFault read = ⊥

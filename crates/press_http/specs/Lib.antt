@@ -8,3 +8,4 @@ pub mod Reads
 pub mod Replies
 pub mod Requests
 pub mod Routes
+pub mod StatusLine

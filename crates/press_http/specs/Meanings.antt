@@ -13,8 +13,8 @@ or_fault e None = Err e
 or_fault e (Some x) = Ok x
 
 -- what is made of one answer
-abbrev pub made : {A B : Type 0} → (A → B) → Result A HttpFault → Result B HttpFault
-made make meant = do
+abbrev pub map_ok : {A B : Type 0} → (A → B) → Result A HttpFault → Result B HttpFault
+map_ok make meant = do
   x ← meant
   Ok (make x)
 

@@ -3,9 +3,9 @@ use Rattle.std.specs.Prelude.{◌≡◌, ℕ, List, [], ◌∷◌, ◌++◌, Opt
 use Rattle.std.specs.Io.KnownBytes.{Consumes, Keeps}
 
 -- the bytes that a read gave; one that failed gave none
-abbrev pub came : Option (List ℕ) → List ℕ
-came None = []
-came (Some bytes) = bytes
+abbrev pub bytes_of_read : Option (List ℕ) → List ℕ
+bytes_of_read None = []
+bytes_of_read (Some bytes) = bytes
 
 -- what such a read does to bytes that are known
 abbrev pub Took : Option (List ℕ) → Option (List ℕ) → Option (List ℕ) → Type 0
@@ -15,7 +15,7 @@ Took old (Some bytes) new = Consumes old new bytes
 -- all that reads gave, the last of them first
 abbrev pub seen_by : List (Option (List ℕ)) → List ℕ
 seen_by [] = []
-seen_by (read ∷ earlier) = seen_by earlier ++ came read
+seen_by (read ∷ earlier) = seen_by earlier ++ bytes_of_read read
 
 -- the last one failed
 abbrev pub HasFailed : List (Option (List ℕ)) → Type 0

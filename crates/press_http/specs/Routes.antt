@@ -23,8 +23,8 @@ use Rattle.press_http.specs.declared.asked.Asked.{Asked}
 use Rattle.press_http.specs.declared.asked.Asked.TheVariants.{Page, Command, Peer}
 use Rattle.press_http.specs.declared.endpoint.Endpoint.{Endpoint}
 use Rattle.press_http.specs.declared.endpoint.Endpoint.TheVariants as endpoint
-use Rattle.press_http.specs.Forms.{first_named, command_in, LacksPlainly}
-use Rattle.press_http.specs.Meanings.{◌>>=◌, or_fault, made}
+use Rattle.press_http.specs.Forms.{first_value, command_in, LacksPlainly}
+use Rattle.press_http.specs.Meanings.{◌>>=◌, or_fault, map_ok}
 
 -- ---- the target
 
@@ -72,18 +72,18 @@ method_at endpoint.Outcome = codes "GET"
 method_at endpoint.Commands = codes "POST"
 method_at endpoint.Peers = codes "POST"
 
-abbrev pub allowed : List ℕ → Endpoint → Result Endpoint HttpFault
-allowed method at = if bytes_eq method (method_at at) then Ok at else Err NotAllowed
+abbrev pub or_not_allowed : List ℕ → Endpoint → Result Endpoint HttpFault
+or_not_allowed method at = if bytes_eq method (method_at at) then Ok at else Err NotAllowed
 
 -- ---- pages
 
 -- the front page, or the post that `p` names
 abbrev pub front_by : Option (List ℕ) → Result Target HttpFault
 front_by None = Ok target.Front
-front_by (Some id) = made target.Post (or_missing (decimal_in id))
+front_by (Some id) = map_ok target.Post (or_missing (decimal_in id))
 
 abbrev pub front_of : List ℕ → Result Target HttpFault
-front_of query = front_by (first_named (codes "p") query)
+front_of query = front_by (first_value (codes "p") query)
 
 -- what follows the first so many slashes
 unfoldable pub behind : ℕ → List ℕ → List ℕ
@@ -91,7 +91,7 @@ behind zero path = path
 behind (suc n) path = behind n (after_first (λ b. b == 47) path)
 
 abbrev pub post_of : List ℕ → Result Target HttpFault
-post_of path = made target.Json (or_missing (decimal_in (behind 5 path)))
+post_of path = map_ok target.Json (or_missing (decimal_in (behind 5 path)))
 
 abbrev pub name_in : List ℕ → Option (List ℕ)
 name_in bytes = if is_name 32 bytes then Some bytes else None
@@ -111,7 +111,7 @@ token_in text = do
   Ok (record { editor = editor; seq = seq })
 
 abbrev pub outcome_of : List ℕ → Result Target HttpFault
-outcome_of path = made target.Result (token_in (behind 2 path))
+outcome_of path = map_ok target.Result (token_in (behind 2 path))
 
 -- ---- messages
 
@@ -125,17 +125,17 @@ message_in body = or_bad_peer (read_message body)
 -- ---- requests
 
 unfoldable pub asked_at : Endpoint → List ℕ → List ℕ → Result Asked HttpFault
-asked_at endpoint.Front t body = made Page (front_of (query_of t))
-asked_at endpoint.Post t body = made Page (post_of (path_of t))
-asked_at endpoint.Outcome t body = made Page (outcome_of (path_of t))
-asked_at endpoint.Commands t body = made Command (command_in body)
-asked_at endpoint.Peers t body = made Peer (message_in body)
+asked_at endpoint.Front t body = map_ok Page (front_of (query_of t))
+asked_at endpoint.Post t body = map_ok Page (post_of (path_of t))
+asked_at endpoint.Outcome t body = map_ok Page (outcome_of (path_of t))
+asked_at endpoint.Commands t body = map_ok Command (command_in body)
+asked_at endpoint.Peers t body = map_ok Peer (message_in body)
 
 -- by method, target and body
-unfoldable pub asked : List ℕ → List ℕ → List ℕ → Result Asked HttpFault
-asked method t body = do
+unfoldable pub asked_by_request : List ℕ → List ℕ → List ℕ → Result Asked HttpFault
+asked_by_request method t body = do
   found ← place_at (path_of t)
-  served ← allowed method found
+  served ← or_not_allowed method found
   asked_at served t body
 
 -- ---- memory
@@ -150,4 +150,4 @@ TakesMemory endpoint.Peers t body = IsOk (editor_of_message body)
 
 -- whether what a request carries may take memory: where its path is served by its method, and that takes some
 abbrev pub MayTakeMemory : List ℕ → List ℕ → List ℕ → Type 0
-MayTakeMemory method t body = (at : Endpoint) × ((place_at (path_of t) >>= allowed method) ≡ Ok at) × TakesMemory at t body
+MayTakeMemory method t body = (at : Endpoint) × ((place_at (path_of t) >>= or_not_allowed method) ≡ Ok at) × TakesMemory at t body

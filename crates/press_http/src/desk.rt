@@ -12,12 +12,9 @@ use crate::form::first_value;
 use crate::request::Request;
 use crate::routing::{behind, path, query};
 use matchit::Router;
-use press_page::Desk;
+use press_page::{Desk, MOST_POSTS};
 use press_text::dec_u64;
 use std::alloc::{AllocError, Global};
-
-// As many as one list has at most.
-const MOST: u64 = 100;
 
 /// What a path of editors is for.
 #[derive(Clone, Copy, Debug, PartialEq, Eq)]
@@ -52,7 +49,7 @@ fn table(alloc: Global) -> Result<Router<DeskEndpoint>, AllocError>
 }
 
 fn check_method(method: &str, place: DeskEndpoint) -> Result<DeskEndpoint, HttpFault>
-    ensures place { Gives Refuses Ok result (spec.desk_allowed method.now place) }
+    ensures place { Gives Refuses Ok result (spec.desk_or_not_allowed method.now place) }
     ensures memory { result ≢ Err HttpFault.NoMemory }
 {
     if method == "GET" {
@@ -83,7 +80,7 @@ fn posts(alloc: Global, query: &str) -> Result<DeskRequest, HttpFault>
     ensures memory { spec.LacksBoth query.now → result ≢ Err HttpFault.NoMemory }
 {
     let before = number(alloc, query, "before", u64::MAX)?;
-    let count = number(alloc, query, "count", MOST)?;
+    let count = number(alloc, query, "count", MOST_POSTS)?;
     Ok(DeskRequest::Show(Desk::Posts { before, count }))
 }
 
@@ -140,10 +137,10 @@ impl DeskRoutes {
     /// path that is not one of these, or whose id or number doesn't read; NotAllowed for another
     /// method than GET. Only a field of a query that may be the one that is looked for takes
     /// memory.
-    #[tactic(auto, unfolding(crate::specs::Desk::desk_asked))]
+    #[tactic(auto, unfolding(crate::specs::Desk::desk_request_of))]
     pub fn route(&self, alloc: Global, request: &Request) -> Result<DeskRequest, HttpFault>
         ensures asked { Gives Refuses Ok result
-            (spec.desk_asked request.now.method request.now.target) }
+            (spec.desk_request_of request.now.method request.now.target) }
         ensures memory { result ≡ Err HttpFault.NoMemory →
             spec.MayTakeMemory request.now.method request.now.target }
     {

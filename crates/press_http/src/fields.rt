@@ -11,8 +11,8 @@ use crate::fault::HttpFault;
 use httparse::spans::HeaderSpan;
 use std::str::from_utf8;
 
-// How long a body may be.
-const LONGEST_FORM: u64 = 65_536;
+/// How long the body of a form may be.
+pub const LONGEST_FORM: u64 = 65_536;
 
 // How long that of a message from another node may be, which may have 16 votes.
 const LONGEST_PEER: u64 = 524_288;

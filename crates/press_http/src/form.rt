@@ -14,14 +14,14 @@ use std::alloc::{AllocError, Global};
 use std::borrow::CowStr;
 
 /// The value of the first field of that name.
-#[tactic(auto, unfolding(crate::specs::Forms::first_named))]
+#[tactic(auto, unfolding(crate::specs::Forms::first_value))]
 pub fn first_value<'f>(
     alloc: Global,
     form: &'f [u8],
     name: &str,
 ) -> Result<Option<CowStr<'f>>, AllocError>
     ensures value { IfOk result (λ found. option_map cow_str_bytes found
-        ≡ spec.first_named name.now form.now) }
+        ≡ spec.first_value name.now form.now) }
     ensures memory { spec.LacksPlainly name.now form.now → result ≡ Ok None }
 {
     let mut pairs = form_urlencoded::raw_pairs(form);

@@ -149,7 +149,7 @@ fn asked_at(alloc: Global, place: Endpoint, target: &str, body: &[u8]) -> Result
 }
 
 fn check_method(method: &str, place: Endpoint) -> Result<Endpoint, HttpFault>
-    ensures place { Gives Refuses Ok result (spec.allowed method.now place) }
+    ensures place { Gives Refuses Ok result (spec.or_not_allowed method.now place) }
     ensures memory { result ≢ Err HttpFault.NoMemory }
 {
     if method == place.method() {
@@ -163,9 +163,10 @@ impl Routes {
     /// What a request asks for: by its path, then its method, then what it carries. NotFound for a
     /// path that is not served, or whose id, editor or number doesn't read; NotAllowed for another
     /// method; BadForm and BadPeer for what a command or a message can't be read from.
-    #[tactic(auto, unfolding(crate::specs::Routes::asked))]
+    #[tactic(auto, unfolding(crate::specs::Routes::asked_by_request))]
     pub fn route(&self, alloc: Global, request: &Request) -> Result<Asked, HttpFault>
-        ensures asked { Gives Refuses Ok result (spec.asked request.now.method request.now.target
+        ensures asked { Gives Refuses Ok result (spec.asked_by_request
+            request.now.method request.now.target
             request.now.body) }
         ensures memory { result ≡ Err HttpFault.NoMemory → spec.MayTakeMemory
             request.now.method request.now.target request.now.body }
@@ -179,7 +180,8 @@ impl Routes {
 
 /// The same by a table of its own, which takes memory.
 pub fn route(alloc: Global, request: &Request) -> Result<Asked, HttpFault>
-    ensures { Gives Refuses Ok result (spec.asked request.now.method request.now.target
+    ensures { Gives Refuses Ok result (spec.asked_by_request
+        request.now.method request.now.target
         request.now.body) }
 {
     Routes::new(alloc)?.route(alloc, request)

@@ -3,7 +3,7 @@
 ghost use Rattle.std.specs.Prelude.{◌≡◌, ℕ, ◌<◌, ◌≤◌, List, ◌++◌, length, Option, Some, MatchResult};
 ghost use Rattle.std.specs.Io.KnownBytes.{Consumes, IsAtEnd};
 ghost use Rattle.press_http.specs.Heads.{Misses};
-ghost use Rattle.press_http.specs.Reads.{came};
+ghost use Rattle.press_http.specs.Reads.{bytes_of_read};
 
 use crate::fault::HttpFault;
 use crate::pieces::Pieces;
@@ -19,11 +19,11 @@ pub fn read_some<R: Pieces>(
 ) -> Result<usize, HttpFault>
     requires { 0 < room }
     ensures { (read : Option (List ℕ)) × R.gives reader.old read reader.new
-        × Consumes (R.left reader.old) (R.left reader.new) (came read)
-        × (length (came read) ≤ room)
+        × Consumes (R.left reader.old) (R.left reader.new) (bytes_of_read read)
+        × (length (bytes_of_read read) ≤ room)
         × MatchResult result
-        (λ n. (read ≡ Some (came read)) × (n ≡ length (came read))
-        × (out.new.items ≡ out.old.items ++ came read)
+        (λ n. (read ≡ Some (bytes_of_read read)) × (n ≡ length (bytes_of_read read))
+        × (out.new.items ≡ out.old.items ++ bytes_of_read read)
         × (n ≡ 0 → IsAtEnd (R.left reader.new)))
         (λ e. Misses e read) }
 {

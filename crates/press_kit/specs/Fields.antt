@@ -17,8 +17,8 @@ or_bad at None = Err at
 or_bad at (Some x) = Ok x
 
 -- what is made of one field
-abbrev pub made : {A B : Type 0} → (A → B) → Result A Place → Result B Place
-made make field = do
+abbrev pub map_ok : {A B : Type 0} → (A → B) → Result A Place → Result B Place
+map_ok make field = do
   x ← field
   Ok (make x)
 

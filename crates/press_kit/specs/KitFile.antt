@@ -25,7 +25,7 @@ use Rattle.press_kit.specs.declared.op_kind.OpKind.{OpKind}
 use Rattle.press_kit.specs.declared.op_kind.OpKind.TheVariants as kind
 use Rattle.press_kit.specs.declared.kit_parts.Scripted.{Scripted}
 use Rattle.press_kit.specs.declared.kit_parts.KitParts.{KitParts}
-use Rattle.press_kit.specs.Fields.{◌>>=◌, or_bad, only, text_at, name_at, number_in, number_at, below, default, signed_in, made, has_only, priority_at, accepted_at, list_in, few_in, list_at, each}
+use Rattle.press_kit.specs.Fields.{◌>>=◌, or_bad, only, text_at, name_at, number_in, number_at, below, default, signed_in, map_ok, has_only, priority_at, accepted_at, list_in, few_in, list_at, each}
 use Rattle.press_kit.specs.Ops.{kind_of, keys_of}
 
 -- ---- files
@@ -136,55 +136,55 @@ any_priority_at at d = or_bad at (default None some_signed (get (codes "priority
 abbrev pub skip_at : Place → Data → Result ℕ Place
 skip_at at d = or_bad at (option_and_then (below (2 ^ 16)) (option_and_then number_in (get (codes "skip") d)))
 
-unfoldable pub hook_added : Place → Data → Result Op Place
-hook_added at d = do
+unfoldable pub add_hook_op : Place → Data → Result Op Place
+add_hook_op at d = do
   hook ← hook_at at d
   callback ← callback_at at d
   priority ← priority_at at d
   accepted ← accepted_at at d
   Ok (op.AddHook hook callback priority accepted)
 
-unfoldable pub hook_removed : Place → Data → Result Op Place
-hook_removed at d = do
+unfoldable pub remove_hook_op : Place → Data → Result Op Place
+remove_hook_op at d = do
   hook ← hook_at at d
   callback ← callback_at at d
   priority ← priority_at at d
   Ok (op.RemoveHook hook callback priority)
 
-unfoldable pub hooks_removed : Place → Data → Result Op Place
-hooks_removed at d = do
+unfoldable pub remove_all_op : Place → Data → Result Op Place
+remove_all_op at d = do
   hook ← hook_at at d
   priority ← any_priority_at at d
   Ok (op.RemoveAll hook priority)
 
-unfoldable pub tag_added : Place → Data → Result Op Place
-tag_added at d = do
+unfoldable pub add_tag_op : Place → Data → Result Op Place
+add_tag_op at d = do
   tag ← text_at at (codes "tag") d
   callback ← callback_at at d
   Ok (op.AddTag tag callback)
 
-unfoldable pub skipped : Place → Data → Result Op Place
-skipped at d = do
+unfoldable pub skip_op : Place → Data → Result Op Place
+skip_op at d = do
   left ← parts_at at (codes "left") d
   right ← parts_at at (codes "right") d
   n ← skip_at at d
   Ok (op.SkipIf left right n)
 
-unfoldable pub filtered : Place → Data → Result Op Place
-filtered at d = do
+unfoldable pub apply_op : Place → Data → Result Op Place
+apply_op at d = do
   hook ← hook_at at d
   value ← parts_at at (codes "value") d
   more ← texts_at (most_args - 1) at (codes "more") d
   Ok (op.Apply hook value more)
 
-unfoldable pub done : Place → Data → Result Op Place
-done at d = do
+unfoldable pub do_op : Place → Data → Result Op Place
+do_op at d = do
   hook ← hook_at at d
   args ← texts_at most_args at (codes "args") d
   Ok (op.Do hook args)
 
-unfoldable pub hook_asked : Place → Data → Result Op Place
-hook_asked at d = do
+unfoldable pub has_hook_op : Place → Data → Result Op Place
+has_hook_op at d = do
   hook ← hook_at at d
   callback ← callback_at at d
   Ok (op.Ask (ask.Has hook callback))
@@ -204,41 +204,41 @@ every_in d = option_and_then every_of (as_str d)
 abbrev pub every_at : Place → Data → Result Every Place
 every_at at d = or_bad at (default Once every_in (get (codes "every") d))
 
-unfoldable pub scheduled : Place → Data → Result Op Place
-scheduled at d = do
+unfoldable pub schedule_op : Place → Data → Result Op Place
+schedule_op at d = do
   after ← number_at at (codes "after") d
   every ← every_at at d
   hook ← hook_at at d
   arg ← parts_at at (codes "arg") d
   Ok (op.Schedule after every hook arg)
 
-unfoldable pub option_set : Place → Data → Result Op Place
-option_set at d = do
+unfoldable pub set_option_op : Place → Data → Result Op Place
+set_option_op at d = do
   name ← name_at 32 at (codes "name") d
   value ← parts_at at (codes "value") d
   Ok (op.SetOption name value)
 
 unfoldable pub op_by : OpKind → Place → Data → Result Op Place
-op_by kind.Set at d = made op.Set (parts_at at (codes "text") d)
-op_by kind.AddHook at d = hook_added at d
-op_by kind.RemoveHook at d = hook_removed at d
-op_by kind.RemoveAll at d = hooks_removed at d
-op_by kind.AddTag at d = tag_added at d
-op_by kind.RemoveTag at d = made op.RemoveTag (text_at at (codes "tag") d)
-op_by kind.SkipIf at d = skipped at d
-op_by kind.Apply at d = filtered at d
-op_by kind.Do at d = done at d
-op_by kind.Shortcodes at d = made op.Shortcodes (parts_at at (codes "text") d)
-op_by kind.Did at d = made (λ hook. op.Ask (ask.Did hook)) (hook_at at d)
-op_by kind.Doing at d = made (λ hook. op.Ask (ask.Doing hook)) (hook_at at d)
-op_by kind.HasHook at d = hook_asked at d
-op_by kind.HasTag at d = made (λ tag. op.Ask (ask.Tag tag)) (text_at at (codes "tag") d)
-op_by kind.ReadOption at d = made (λ name. op.Ask (ask.Option name)) (name_at 32 at (codes "name") d)
-op_by kind.SetOption at d = option_set at d
-op_by kind.Schedule at d = scheduled at d
-op_by kind.Publish at d = made op.Publish (parts_at at (codes "post") d)
-op_by kind.Echo at d = made op.Echo (parts_at at (codes "text") d)
-op_by kind.Return at d = made op.Return (parts_at at (codes "text") d)
+op_by kind.Set at d = map_ok op.Set (parts_at at (codes "text") d)
+op_by kind.AddHook at d = add_hook_op at d
+op_by kind.RemoveHook at d = remove_hook_op at d
+op_by kind.RemoveAll at d = remove_all_op at d
+op_by kind.AddTag at d = add_tag_op at d
+op_by kind.RemoveTag at d = map_ok op.RemoveTag (text_at at (codes "tag") d)
+op_by kind.SkipIf at d = skip_op at d
+op_by kind.Apply at d = apply_op at d
+op_by kind.Do at d = do_op at d
+op_by kind.Shortcodes at d = map_ok op.Shortcodes (parts_at at (codes "text") d)
+op_by kind.Did at d = map_ok (λ hook. op.Ask (ask.Did hook)) (hook_at at d)
+op_by kind.Doing at d = map_ok (λ hook. op.Ask (ask.Doing hook)) (hook_at at d)
+op_by kind.HasHook at d = has_hook_op at d
+op_by kind.HasTag at d = map_ok (λ tag. op.Ask (ask.Tag tag)) (text_at at (codes "tag") d)
+op_by kind.ReadOption at d = map_ok (λ name. op.Ask (ask.Option name)) (name_at 32 at (codes "name") d)
+op_by kind.SetOption at d = set_option_op at d
+op_by kind.Schedule at d = schedule_op at d
+op_by kind.Publish at d = map_ok op.Publish (parts_at at (codes "post") d)
+op_by kind.Echo at d = map_ok op.Echo (parts_at at (codes "text") d)
+op_by kind.Return at d = map_ok op.Return (parts_at at (codes "text") d)
 
 unfoldable pub op_of : Place → Data → Result Op Place
 op_of at d = do
@@ -267,8 +267,8 @@ hook_load_keys = codes "hook" ∷ codes "callback" ∷ codes "priority" ∷ code
 abbrev pub tag_load_keys : List (List ℕ)
 tag_load_keys = codes "tag" ∷ codes "callback" ∷ []
 
-unfoldable pub hook_loaded : Place → Data → Result Load Place
-hook_loaded at d = do
+unfoldable pub hook_load : Place → Data → Result Load Place
+hook_load at d = do
   whole ← only at hook_load_keys d
   hook ← hook_at at whole
   callback ← callback_at at whole
@@ -276,8 +276,8 @@ hook_loaded at d = do
   accepted ← accepted_at at whole
   Ok (load.Hook hook priority callback accepted)
 
-unfoldable pub tag_loaded : Place → Data → Result Load Place
-tag_loaded at d = do
+unfoldable pub tag_load : Place → Data → Result Load Place
+tag_load at d = do
   whole ← only at tag_load_keys d
   tag ← name_at 32 at (codes "tag") whole
   callback ← callback_at at whole
@@ -285,7 +285,7 @@ tag_loaded at d = do
 
 -- on a hook, or else under a tag
 abbrev pub load_of : Place → Data → Result Load Place
-load_of at d = if is_some (get (codes "hook") d) then hook_loaded at d else tag_loaded at d
+load_of at d = if is_some (get (codes "hook") d) then hook_load at d else tag_load at d
 
 abbrev pub plugin_keys : List (List ℕ)
 plugin_keys = codes "name" ∷ codes "load" ∷ []

@@ -24,24 +24,24 @@ item_of Steps n = Step n
 item_of (Step s) n = Step s
 
 -- `name[n]`, with what follows it
-abbrev pub numbered : List ℕ → ℕ → List ℕ → List ℕ
-numbered name n rest = name ++ (codes "[" ++ (decimal n ++ (codes "]" ++ rest)))
+abbrev pub indexed_name : List ℕ → ℕ → List ℕ → List ℕ
+indexed_name name n rest = name ++ (codes "[" ++ (decimal n ++ (codes "]" ++ rest)))
 
 abbrev pub place_text : Place → List ℕ
 place_text File = codes "file"
 place_text Callbacks = codes "callbacks"
-place_text (Callback n) = numbered (codes "callbacks") n []
-place_text (Op c o) = numbered (codes "callbacks") c (numbered (codes ".script") o [])
+place_text (Callback n) = indexed_name (codes "callbacks") n []
+place_text (Op c o) = indexed_name (codes "callbacks") c (indexed_name (codes ".script") o [])
 place_text Plugins = codes "plugins"
-place_text (Plugin n) = numbered (codes "plugins") n []
-place_text (Load p l) = numbered (codes "plugins") p (numbered (codes ".load") l [])
+place_text (Plugin n) = indexed_name (codes "plugins") n []
+place_text (Load p l) = indexed_name (codes "plugins") p (indexed_name (codes ".load") l [])
 place_text Active = codes "active"
-place_text (ActiveName n) = numbered (codes "active") n []
+place_text (ActiveName n) = indexed_name (codes "active") n []
 place_text Commands = codes "commands"
-place_text (Command n) = numbered (codes "commands") n []
+place_text (Command n) = indexed_name (codes "commands") n []
 place_text Pages = codes "pages"
-place_text (Page n) = numbered (codes "pages") n []
+place_text (Page n) = indexed_name (codes "pages") n []
 place_text Plays = codes "plays"
-place_text (Play n) = numbered (codes "plays") n []
+place_text (Play n) = indexed_name (codes "plays") n []
 place_text Steps = codes "steps"
-place_text (Step n) = numbered (codes "steps") n []
+place_text (Step n) = indexed_name (codes "steps") n []

@@ -45,7 +45,7 @@ impl<'v> Lookup for Fields<'v> {
 
 impl<'v> Fields<'v> {
     #[tactic(auto, unfolding(crate::specs::SiteFile::command_of))]
-    fn stamped(&self) -> Result<Stamped, KitFileFault>
+    fn stamped_command(&self) -> Result<Stamped, KitFileFault>
         ensures gives { Gives Refuses Ok result (spec.command_of self.now.at
             (view self.now.value.now)) }
         ensures memory { GrowsBehind result (editor_at self.now.at
@@ -63,6 +63,6 @@ impl Listed for Stamped {
     ghost read = { spec.command_of };
 
     fn read(alloc: Global, at: Place, value: &Value) -> Result<Stamped, KitFileFault> {
-        Fields { alloc, at, value }.stamped()
+        Fields { alloc, at, value }.stamped_command()
     }
 }

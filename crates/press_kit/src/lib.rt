@@ -26,4 +26,4 @@ pub use kit_parts::{KitParts, Scripted, read_kit_file};
 pub use listed::{Listed, each};
 pub use place::Place;
 pub use play_file::{Play, PlayFile, PlayKind, read_play_file};
-pub use site_file::read_site_file;
+pub use site_file::{COMMAND_LIMIT, read_site_file};

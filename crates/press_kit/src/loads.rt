@@ -17,10 +17,10 @@ use serde_json::Value;
 use std::alloc::Global;
 
 impl<'v> Fields<'v> {
-    #[tactic(auto, unfolding(crate::specs::KitFile::hook_loaded, crate::specs::Memory::hook_of_load))]
+    #[tactic(auto, unfolding(crate::specs::KitFile::hook_load, crate::specs::Memory::hook_of_load))]
     fn hook_load(&self) -> Result<Load, KitFileFault>
         ensures gives { Gives Refuses Ok result
-            (spec.hook_loaded self.now.at (view self.now.value.now)) }
+            (spec.hook_load self.now.at (view self.now.value.now)) }
         ensures memory { GrowsBehind result (hook_of_load self.now.at (view self.now.value.now)) }
     {
         self.has_only(&["hook", "callback", "priority", "accepted"])?;
@@ -34,10 +34,10 @@ impl<'v> Fields<'v> {
         })
     }
 
-    #[tactic(auto, unfolding(crate::specs::KitFile::tag_loaded, crate::specs::Memory::tag_of_load))]
+    #[tactic(auto, unfolding(crate::specs::KitFile::tag_load, crate::specs::Memory::tag_of_load))]
     fn tag_load(&self) -> Result<Load, KitFileFault>
         ensures gives { Gives Refuses Ok result
-            (spec.tag_loaded self.now.at (view self.now.value.now)) }
+            (spec.tag_load self.now.at (view self.now.value.now)) }
         ensures memory { GrowsBehind result (tag_of_load self.now.at (view self.now.value.now)) }
     {
         self.has_only(&["tag", "callback"])?;

@@ -28,7 +28,7 @@ pub(crate) enum OpKind {
 
 impl OpKind {
     /// The kind of that name.
-    pub fn named(name: &str) -> Option<OpKind>
+    pub fn from_name(name: &str) -> Option<OpKind>
         ensures { result ≡ kind_of name.now }
     {
         OpKind::edit_named(name).or(OpKind::question_named(name).or(OpKind::change_named(name).or(

@@ -91,9 +91,9 @@ impl<'v> Fields<'v> {
         }
     }
 
-    #[tactic(auto, unfolding(crate::specs::KitFile::scheduled))]
+    #[tactic(auto, unfolding(crate::specs::KitFile::schedule_op))]
     fn schedule(&self) -> Result<Op, KitFileFault>
-        ensures { Gives Refuses Ok result (spec.scheduled self.now.at (view self.now.value.now)) }
+        ensures { Gives Refuses Ok result (spec.schedule_op self.now.at (view self.now.value.now)) }
     {
         Ok(Op::Schedule {
             after: self.number("after")?,
@@ -103,9 +103,10 @@ impl<'v> Fields<'v> {
         })
     }
 
-    #[tactic(auto, unfolding(crate::specs::KitFile::option_set))]
+    #[tactic(auto, unfolding(crate::specs::KitFile::set_option_op))]
     fn set_option(&self) -> Result<Op, KitFileFault>
-        ensures { Gives Refuses Ok result (spec.option_set self.now.at (view self.now.value.now)) }
+        ensures { Gives Refuses Ok result
+            (spec.set_option_op self.now.at (view self.now.value.now)) }
     {
         Ok(Op::SetOption {
             name: self.option("name")?,
@@ -113,9 +114,9 @@ impl<'v> Fields<'v> {
         })
     }
 
-    #[tactic(auto, unfolding(crate::specs::KitFile::hook_added))]
+    #[tactic(auto, unfolding(crate::specs::KitFile::add_hook_op))]
     fn add_hook(&self) -> Result<Op, KitFileFault>
-        ensures { Gives Refuses Ok result (spec.hook_added self.now.at (view self.now.value.now)) }
+        ensures { Gives Refuses Ok result (spec.add_hook_op self.now.at (view self.now.value.now)) }
     {
         Ok(Op::AddHook {
             hook: self.hook("hook")?,
@@ -125,9 +126,9 @@ impl<'v> Fields<'v> {
         })
     }
 
-    #[tactic(auto, unfolding(crate::specs::KitFile::hook_removed))]
+    #[tactic(auto, unfolding(crate::specs::KitFile::remove_hook_op))]
     fn remove_hook(&self) -> Result<Op, KitFileFault>
-        ensures { Gives Refuses Ok result (spec.hook_removed self.now.at
+        ensures { Gives Refuses Ok result (spec.remove_hook_op self.now.at
             (view self.now.value.now)) }
     {
         Ok(Op::RemoveHook {
@@ -137,9 +138,9 @@ impl<'v> Fields<'v> {
         })
     }
 
-    #[tactic(auto, unfolding(crate::specs::KitFile::hooks_removed))]
+    #[tactic(auto, unfolding(crate::specs::KitFile::remove_all_op))]
     fn remove_all(&self) -> Result<Op, KitFileFault>
-        ensures { Gives Refuses Ok result (spec.hooks_removed self.now.at
+        ensures { Gives Refuses Ok result (spec.remove_all_op self.now.at
             (view self.now.value.now)) }
     {
         Ok(Op::RemoveAll {
@@ -148,9 +149,9 @@ impl<'v> Fields<'v> {
         })
     }
 
-    #[tactic(auto, unfolding(crate::specs::KitFile::tag_added))]
+    #[tactic(auto, unfolding(crate::specs::KitFile::add_tag_op))]
     fn add_tag(&self) -> Result<Op, KitFileFault>
-        ensures { Gives Refuses Ok result (spec.tag_added self.now.at (view self.now.value.now)) }
+        ensures { Gives Refuses Ok result (spec.add_tag_op self.now.at (view self.now.value.now)) }
     {
         Ok(Op::AddTag {
             tag: self.text("tag")?,
@@ -158,9 +159,9 @@ impl<'v> Fields<'v> {
         })
     }
 
-    #[tactic(auto, unfolding(crate::specs::KitFile::skipped))]
+    #[tactic(auto, unfolding(crate::specs::KitFile::skip_op))]
     fn skip_if(&self) -> Result<Op, KitFileFault>
-        ensures { Gives Refuses Ok result (spec.skipped self.now.at (view self.now.value.now)) }
+        ensures { Gives Refuses Ok result (spec.skip_op self.now.at (view self.now.value.now)) }
     {
         Ok(Op::SkipIf {
             left: self.parts("left")?,
@@ -169,9 +170,9 @@ impl<'v> Fields<'v> {
         })
     }
 
-    #[tactic(auto, unfolding(crate::specs::KitFile::filtered))]
+    #[tactic(auto, unfolding(crate::specs::KitFile::apply_op))]
     fn apply(&self) -> Result<Op, KitFileFault>
-        ensures { Gives Refuses Ok result (spec.filtered self.now.at (view self.now.value.now)) }
+        ensures { Gives Refuses Ok result (spec.apply_op self.now.at (view self.now.value.now)) }
     {
         Ok(Op::Apply {
             hook: self.hook("hook")?,
@@ -180,9 +181,9 @@ impl<'v> Fields<'v> {
         })
     }
 
-    #[tactic(auto, unfolding(crate::specs::KitFile::done))]
+    #[tactic(auto, unfolding(crate::specs::KitFile::do_op))]
     fn start(&self) -> Result<Op, KitFileFault>
-        ensures { Gives Refuses Ok result (spec.done self.now.at (view self.now.value.now)) }
+        ensures { Gives Refuses Ok result (spec.do_op self.now.at (view self.now.value.now)) }
     {
         Ok(Op::Do {
             hook: self.hook("hook")?,
@@ -190,9 +191,9 @@ impl<'v> Fields<'v> {
         })
     }
 
-    #[tactic(auto, unfolding(crate::specs::KitFile::hook_asked))]
+    #[tactic(auto, unfolding(crate::specs::KitFile::has_hook_op))]
     fn has_hook(&self) -> Result<Op, KitFileFault>
-        ensures { Gives Refuses Ok result (spec.hook_asked self.now.at (view self.now.value.now)) }
+        ensures { Gives Refuses Ok result (spec.has_hook_op self.now.at (view self.now.value.now)) }
     {
         let hook = self.hook("hook")?;
         let callback = self.callback("callback")?;
@@ -235,7 +236,7 @@ impl<'v> Fields<'v> {
     {
         match self.value.get("op").and_then(Value::as_str) {
             None => None,
-            Some(name) => OpKind::named(name),
+            Some(name) => OpKind::from_name(name),
         }
     }
 

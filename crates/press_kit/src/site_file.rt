@@ -19,8 +19,8 @@ use press_text::Items;
 use serde_json::Value;
 use std::alloc::Global;
 
-// The most commands that a list may have.
-const COMMAND_LIMIT: usize = 100_000;
+/// The most commands that a list may have.
+pub const COMMAND_LIMIT: usize = 100_000;
 
 // The values, if there are not too many.
 fn few(values: &[Value]) -> Option<&[Value]>

@@ -5,8 +5,8 @@ use Rattle.std.proofs.lemmas.Bool.{cases_lt, cond-true, false_from_ne_true, true
 use Rattle.std.proofs.lemmas.List.{get_or_past, length-set}
 use Rattle.press_wire.specs.declared.vote.Vote.{Vote}
 use Rattle.press_learner.specs.Chosen.{chosen_next, has_gap}
-use Rattle.press_learner.specs.InRing.{HasNoOther, HasOther, HasRoom, IsAlike, emptied, has_place, kept_in, place_of, placed}
-use Rattle.press_learner.specs.Kept.{Kept, IsWindow, IsInPlace, advanced, kept_with, new_learner, vote_at}
+use Rattle.press_learner.specs.InRing.{HasNoOther, HasOther, HasRoom, IsAlike, without_slot_votes, has_place, kept_in, place_of, vote_in_ring}
+use Rattle.press_learner.specs.Kept.{KeptVotes, IsWindow, IsInPlace, after_next_slot, kept_with, new_learner, vote_at}
 use Rattle.press_learner.proofs.Rings.{IsPlace, advanced_in, alike_in, length_emptied, none_in, place_from, place_parts, put_in, votes_at, within_room}
 use Rattle.press_learner.proofs.Settled.{in_window, none_at_first}
 use Rattle.press_learner.proofs.Window.{advanced_window, gap_of_vote, gap_vote, kept_window, new_window}
@@ -24,28 +24,28 @@ module _ (n : ℕ) (ring : List (Option Vote)) (none : ring ≡ []) where
   pub none_chosen_yet : chosen_next (kept_in n 0 ring) ≡ None
   none_chosen_yet = ap chosen_next new_seen ∙ none_at_first n
 
-module _ (n a : ℕ) (ring : List (Option Vote)) (k : Kept) (is : kept_in n a ring ≡ k) where
+module _ (n a : ℕ) (ring : List (Option Vote)) (k : KeptVotes) (is : kept_in n a ring ≡ k) where
   same_members : n ≡ k.members
-  same_members = ap (λ (x : Kept). x.members) is
+  same_members = ap (λ (x : KeptVotes). x.members) is
 
   same_applied : a ≡ k.applied
-  same_applied = ap (λ (x : Kept). x.applied) is
+  same_applied = ap (λ (x : KeptVotes). x.applied) is
 
   -- the member's kept vote, where there is a place for it
-  seen_at : (slot member : ℕ) → vote_at k slot member ≡ cond (has_place n a slot member) (placed ring slot member) None
-  seen_at slot member = ap (λ (x : Kept). vote_at x slot member) (sym is) ∙ votes_at n a ring slot member
+  seen_at : (slot member : ℕ) → vote_at k slot member ≡ cond (has_place n a slot member) (vote_in_ring ring slot member) None
+  seen_at slot member = ap (λ (x : KeptVotes). vote_at x slot member) (sym is) ∙ votes_at n a ring slot member
 
-  pub vote_seen : (xs : List (Option Vote)) → xs ≡ ring → (slot member : ℕ) (b : Bool) → b ≡ has_place k.members k.applied slot member → b ≡ true → placed xs slot member ≡ vote_at k slot member
-  vote_seen xs same slot member b e t = ap (λ (ys : List (Option Vote)). placed ys slot member) same ∙ sym (seen_at slot member ∙ cond-true _ _ _ (ap (λ x. has_place x a slot member) same_members ∙ ap (λ x. has_place k.members x slot member) same_applied ∙ sym e ∙ t))
+  pub vote_seen : (xs : List (Option Vote)) → xs ≡ ring → (slot member : ℕ) (b : Bool) → b ≡ has_place k.members k.applied slot member → b ≡ true → vote_in_ring xs slot member ≡ vote_at k slot member
+  vote_seen xs same slot member b e t = ap (λ (ys : List (Option Vote)). vote_in_ring ys slot member) same ∙ sym (seen_at slot member ∙ cond-true _ _ _ (ap (λ x. has_place x a slot member) same_members ∙ ap (λ x. has_place k.members x slot member) same_applied ∙ sym e ∙ t))
 
   pub none_seen : (slot member : ℕ) (b : Bool) → b ≡ has_place k.members k.applied slot member → b ≡ false → None ≡ vote_at k slot member
-  none_seen slot member b e f = sym (seen_at slot member ∙ ap (λ t. cond t (placed ring slot member) None) (ap (λ x. has_place x a slot member) same_members ∙ ap (λ x. has_place k.members x slot member) same_applied ∙ sym e ∙ f))
+  none_seen slot member b e f = sym (seen_at slot member ∙ ap (λ t. cond t (vote_in_ring ring slot member) None) (ap (λ x. has_place x a slot member) same_members ∙ ap (λ x. has_place k.members x slot member) same_applied ∙ sym e ∙ f))
 
   -- where there is no room yet, no vote is kept
   pub none_kept : (slot member : ℕ) → ring ≡ [] → vote_at k slot member ≡ None
-  none_kept slot member none = seen_at slot member ∙ ap (λ (xs : List (Option Vote)). cond (has_place n a slot member) (placed xs slot member) None) none ∙ go (has_place n a slot member)
+  none_kept slot member none = seen_at slot member ∙ ap (λ (xs : List (Option Vote)). cond (has_place n a slot member) (vote_in_ring xs slot member) None) none ∙ go (has_place n a slot member)
     where
-      go : (t : Bool) → cond t (placed [] slot member) None ≡ None
+      go : (t : Bool) → cond t (vote_in_ring [] slot member) None ≡ None
       go true = refl
       go false = refl
 
@@ -66,7 +66,7 @@ module _ (n a : ℕ) (ring : List (Option Vote)) (k : Kept) (is : kept_in n a ri
           ap (λ (xs : List (Option Vote)). kept_in n a xs) is_set
           ∙ ap (λ votes. record { members = n; votes = votes; applied = a }) (put_in n a more slot from vote is_place l)
           ∙ ap (λ votes. kept_with (record { members = n; votes = votes; applied = a }) from slot vote) (alike_in n a ring more h)
-          ∙ ap (λ (x : Kept). kept_with x from slot vote) is
+          ∙ ap (λ (x : KeptVotes). kept_with x from slot vote) is
 
       pub put_window : IsWindow k → IsWindow (kept_in n a full)
       put_window w = subst IsWindow (sym put_seen) (kept_window k from slot vote w p)
@@ -76,12 +76,12 @@ module _ (n a : ℕ) (ring : List (Option Vote)) (k : Kept) (is : kept_in n a ri
 
   -- ---- a slot more is applied
 
-  module _ (more : List (Option Vote)) (h : more ≡ emptied n (a + 1) ring) where
-    pub advanced_seen : kept_in n (a + 1) more ≡ advanced k
+  module _ (more : List (Option Vote)) (h : more ≡ without_slot_votes n (a + 1) ring) where
+    pub advanced_seen : kept_in n (a + 1) more ≡ after_next_slot k
     advanced_seen =
         ap (λ (xs : List (Option Vote)). kept_in n (a + 1) xs) h
         ∙ ap (λ votes. record { members = n; votes = votes; applied = a + 1 }) (advanced_in n a ring)
-        ∙ ap advanced is
+        ∙ ap after_next_slot is
 
     pub window_after : IsWindow k → IsWindow (kept_in n (a + 1) more)
     window_after w = subst IsWindow (sym advanced_seen) (advanced_window k w)
@@ -116,7 +116,7 @@ module _ (n a : ℕ) (ring : List (Option Vote)) (k : Kept) (is : kept_in n a ri
       let v = gap_vote k h in
       go v.0 v.1 v.2 (has_place n a v.0 v.1) refl (ap is_some (sym (seen_at v.0 v.1)) ∙ v.3))
     where
-      go : (s m : ℕ) → k.applied + 1 < s → (t : Bool) → has_place n a s m ≡ t → IsSome (cond t (placed ring s m) None) → ⊥
+      go : (s m : ℕ) → k.applied + 1 < s → (t : Bool) → has_place n a s m ≡ t → IsSome (cond t (vote_in_ring ring s m) None) → ⊥
       go s m later true e some =
           let p = place_parts n a s m e in
           true≢false (sym some ∙ ap is_some (none (place_of s m) (λ same. omega (arith, later, same_applied, p.1))))

@@ -1,9 +1,10 @@
 //! The votes that a node keeps.
 
 ghost use Rattle.std.specs.Prelude.{◌≡◌, ◌<◌, ◌≤◌, ◌*◌, nat_lt, IsTrue, IsSome, IfSome, OnOk, OnErr, None, option_copied};
-ghost use Rattle.press_learner.specs.Chosen.{has_ballot, ballot_count, won, chosen_next, has_gap};
+ghost use Rattle.press_learner.specs.Chosen.{has_ballot, ballot_count, majority_value, chosen_next, has_gap};
 ghost use Rattle.press_learner.specs.InRing.{has_place};
-ghost use Rattle.press_learner.specs.Kept.{IsInPlace, IsWindow, KeepsNone, new_learner, vote_at, is_in_window, is_news, kept_with, with_vote, advanced, next_slot};
+ghost use Rattle.press_learner.specs.Kept.{IsInPlace, IsWindow, KeepsNone, new_learner, vote_at, is_in_window, is_news, kept_with, with_vote, after_next_slot, next_slot};
+ghost use Rattle.press_wire.specs.Ranges.{last_slot, most_members};
 
 use crate::ring::{WINDOW, empty_slot, has_other, make_room, put_vote, vote_in};
 use press_apply::Value;
@@ -38,15 +39,16 @@ impl Model for Learner {
     ghost use Rattle.std.specs.Prelude.{◌≤◌};
     ghost use Rattle.press_learner.specs.Codes.{kept_code};
     ghost use Rattle.press_learner.specs.InRing.{HasRoom, kept_in};
-    ghost use Rattle.press_learner.specs.Kept.{Kept, IsWindow};
+    ghost use Rattle.press_learner.specs.Kept.{KeptVotes, IsWindow};
+    ghost use Rattle.press_wire.specs.Ranges.{last_slot, most_members};
 
-    ghost Value = { Kept };
+    ghost Value = { KeptVotes };
 
     ghost coded = { kept_code (Prim.hlevel codes) };
 
     ghost view = { λ a. kept_in a.members a.applied a.ring.items };
 
-    ghost invariant = { λ a. (a.members ≤ 7) × (a.applied ≤ 1000000)
+    ghost invariant = { λ a. (a.members ≤ most_members) × (a.applied ≤ last_slot)
         × IsWindow (kept_in a.members a.applied a.ring.items)
         × HasRoom a.members a.ring.items };
 }
@@ -54,7 +56,7 @@ impl Model for Learner {
 impl Learner {
     /// A learner of a cluster with that many members, which has no votes yet and takes no memory.
     pub fn new(alloc: Global, members: u8) -> Learner
-        requires { members ≤ 7 }
+        requires { members ≤ most_members }
         ensures value { result ≡ new_learner members }
         ensures none { chosen_next result ≡ None }
     {
@@ -69,7 +71,7 @@ impl Learner {
     /// How many slots are applied.
     pub fn applied(&self) -> u64
         ensures value { result ≡ self.now.applied }
-        ensures range { result ≤ 1000000 }
+        ensures range { result ≤ last_slot }
         ensures window { IsWindow self.now }
     {
         u64::from(self.applied)
@@ -108,7 +110,7 @@ impl Learner {
 
     fn count(&self, slot: u32, ballot: Ballot) -> usize
         ensures count { result ≡ ballot_count self.now slot ballot }
-        ensures small { result ≤ 7 }
+        ensures small { result ≤ most_members }
     {
         (1..self.members + 1)
             .filter(|member| self.has_ballot(slot, *member, ballot))
@@ -121,8 +123,9 @@ impl Learner {
         usize::from(self.members) < 2 * self.count(slot, ballot)
     }
 
-    fn won(&self, slot: u32, member: u8) -> Option<&Value>
-        ensures { option_copied result ≡ won self.now slot (vote_at self.now slot member) }
+    fn majority_value(&self, slot: u32, member: u8) -> Option<&Value>
+        ensures { option_copied result ≡ majority_value self.now slot
+            (vote_at self.now slot member) }
     {
         let vote = self.vote(slot, member)?;
         if self.is_majority(slot, vote.ballot) {
@@ -135,10 +138,10 @@ impl Learner {
     /// applied.
     pub fn next_chosen(&self) -> Option<&Value>
         ensures value { option_copied result ≡ chosen_next self.now }
-        ensures last { IsSome result → self.now.applied < 1000000 }
+        ensures last { IsSome result → self.now.applied < last_slot }
     {
         for i in 0..self.members {
-            match self.won(self.applied + 1, i + 1) {
+            match self.majority_value(self.applied + 1, i + 1) {
                 Some(value) => return Some(value),
                 None => {}
             }
@@ -188,7 +191,7 @@ impl Learner {
     /// Counts the next slot as applied, and drops the votes for it.
     pub fn advance(&mut self)
         requires { IsSome (chosen_next self.old) }
-        ensures { self.new ≡ advanced self.old }
+        ensures { self.new ≡ after_next_slot self.old }
     {
         let slot = self.applied + 1;
         empty_slot(&mut self.ring, slot, self.members);

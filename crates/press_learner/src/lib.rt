@@ -8,3 +8,4 @@ mod ring;
 
 pub use laws::{chosen_by_majority, none_is_chosen_after_64, only_votes_that_came_are_kept};
 pub use learner::Learner;
+pub use ring::WINDOW;

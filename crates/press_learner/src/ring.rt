@@ -1,12 +1,13 @@
 //! The places of the kept votes: each member has 64, in which the slots of the window come round.
 
 ghost use Rattle.std.specs.Prelude.{◌≡◌, ◌*◌, ◌<◌, length, replicate, slice_set, IfOk, OnOk, OnErr, MatchBool, None, Some, [], option_copied};
-ghost use Rattle.press_learner.specs.InRing.{HasRoom, HasOther, IsAlike, HasNoOther, emptied, place_of, placed};
+ghost use Rattle.press_learner.specs.InRing.{HasRoom, HasOther, IsAlike, HasNoOther, without_slot_votes, place_of, vote_in_ring};
 
 use press_wire::Vote;
 use std::alloc::{AllocError, Global};
 
-pub(crate) const WINDOW: u32 = 64;
+/// For how many slots votes are kept.
+pub const WINDOW: u32 = 64;
 
 const PLACES: usize = WINDOW as usize;
 
@@ -48,7 +49,7 @@ pub(crate) fn make_room(
 }
 
 pub(crate) fn vote_in(ring: &[Option<Vote>], slot: u32, member: u8) -> Option<&Vote>
-    ensures { option_copied result ≡ placed ring.now slot member }
+    ensures { option_copied result ≡ vote_in_ring ring.now slot member }
 {
     match ring.get(place_of(slot, member)) {
         Some(vote) => vote.as_ref(),
@@ -67,7 +68,7 @@ pub(crate) fn put_vote(ring: &mut Vec<Option<Vote>>, slot: u32, member: u8, vote
 #[tactic(auto, using(crate::proofs::Rings::emptied_none, crate::proofs::Rings::emptied_more, crate::proofs::Rings::emptied_past))]
 pub(crate) fn empty_slot(ring: &mut Vec<Option<Vote>>, slot: u32, members: u8)
     requires { members < 255 }
-    ensures { ring.new.items ≡ emptied members slot ring.old.items }
+    ensures { ring.new.items ≡ without_slot_votes members slot ring.old.items }
 {
     for i in 0..members {
         let place = place_of(slot, i + 1);

@@ -3,8 +3,8 @@ use Rattle.std.proofs.Common.{◌≡◌, ◌∙◌, ℕ, List, [], ◌++◌, Opt
 use Rattle.std.proofs.Math.Seq.{take-length}
 use Rattle.press_kit.specs.declared.kit_parts.KitParts.{KitParts}
 use Rattle.press_kit.specs.declared.place.Place.{Place}
-use Rattle.press_lint.specs.Files.{Message, file_front, tell_named, sharer, slips_from, message_from, message_about, turn_parts}
-use Rattle.press_lint.specs.Joints.{File, alone, share_in}
+use Rattle.press_lint.specs.Files.{FileMessage, file_front, tell_named, sharer, slips_from, message_from, message_about, turn_parts}
+use Rattle.press_lint.specs.Joints.{File, joint_of_one, share_in}
 use Rattle.press_lint.specs.Mistakes.{tell_mistake}
 use Rattle.press_lint.specs.Slips.{along, callback_slips, plugin_slips, slips}
 use Rattle.press_lint.specs.Told.{name_at}
@@ -15,7 +15,7 @@ use Rattle.press_lint.specs.declared.mistake.Why.TheVariants.{SameName, BuiltInN
 abbrev pub mistake_by : Place → Why → Mistake
 mistake_by at why = record { at = at; why = why }
 
-abbrev pub message : File → List ℕ → Message
+abbrev pub message : File → List ℕ → FileMessage
 message file text = record { file = file.name; text = text }
 
 unshared : (at : Place) (name : Option (List ℕ)) (kit : KitParts) → tell_named at name [] kit ≡ []
@@ -23,7 +23,7 @@ unfolding sharer
 unshared at None kit = refl
 unshared at (Some name) kit = refl
 
-pub tell_alone : (file : File) (kit : KitParts) (at : Place) (why : Why) → message_about (alone file kit) (mistake_by at why) ≡ message file (tell_mistake kit (mistake_by at why))
+pub tell_alone : (file : File) (kit : KitParts) (at : Place) (why : Why) → message_about (joint_of_one file kit) (mistake_by at why) ≡ message file (tell_mistake kit (mistake_by at why))
 unfolding message_from sharer
 tell_alone file kit at SameName =
     let text = tell_mistake kit (mistake_by at SameName) in
@@ -32,7 +32,7 @@ tell_alone file kit at BuiltInName = ap (message file) (append-nil (tell_mistake
 tell_alone file kit at (Unknown id) = ap (message file) (append-nil (tell_mistake kit (mistake_by at (Unknown id))))
 tell_alone file kit at (TooMany sort) = ap (message file) (append-nil (tell_mistake kit (mistake_by at (TooMany sort))))
 
-pub alone_slips : (before : List ℕ) (file : File) (kit : KitParts) → slips_from before (alone file kit).shares kit ≡ slips (file_front before file.name) kit []
+pub alone_slips : (before : List ℕ) (file : File) (kit : KitParts) → slips_from before (joint_of_one file kit).shares kit ≡ slips (file_front before file.name) kit []
 unfolding slips_from
 alone_slips before file kit =
     let front = file_front before file.name in

@@ -5,7 +5,7 @@ use Rattle.std.proofs.lemmas.List.{length-drop, take_all}
 use Rattle.press_kit.specs.KitFile.{kit_in}
 use Rattle.press_kit.specs.declared.kit_parts.KitParts.{KitParts}
 use Rattle.press_kit.specs.declared.place.Place.{Place}
-use Rattle.press_lint.specs.Files.{Message, file_front, first_slips, has_name, tell_own, sharer, side_before, slips_from, tell_at, message_from, turn_parts}
+use Rattle.press_lint.specs.Files.{FileMessage, file_front, first_slips, has_name, tell_own, sharer, side_before, slips_from, tell_at, message_from, turn_parts}
 use Rattle.press_lint.specs.Joints.{File, Joint, Share as Part, file_of, files_of, read_behind, share_of, with_file}
 use Rattle.press_lint.specs.declared.joint.NamedFile.{NamedFile}
 use Rattle.press_lint.specs.declared.joint.Share.{Share}
@@ -26,7 +26,7 @@ behind_is xs n =
     take_all (length xs - n) (drop n xs) long
 
 -- a message that is of no file
-abbrev pub of_nobody : List ℕ → Message
+abbrev pub of_nobody : List ℕ → FileMessage
 of_nobody text = record { file = []; text = text }
 
 module _ (files : List NamedFile) (total : Result Joint (File × Place)) (joint : Joint) (i : ℕ) where
@@ -82,21 +82,21 @@ module _ (shares : List Share) (kit : KitParts) (i : ℕ) where
       let one : sharer at name (rest i) kit ≡ None = rw (done share_of shares i le) refl in
       sym one ∙ so_far
 
-  pub tells_own : (m : Mistake) (at own : Place) (d : Share) (total : Message) → i < length shares
+  pub tells_own : (m : Mistake) (at own : Place) (d : Share) (total : FileMessage) → i < length shares
       → side_before (rest (i + 1)) (here d) at ≡ Own own → message_from m at (rest i) kit ≡ total → tell_own m (here d) (rest (i + 1)) kit own ≡ total
   unfolding message_from
   tells_own m at own d total lt side so_far =
       let one : message_from m at (rest i) kit ≡ tell_own m (here d) (rest (i + 1)) kit own = rw (found d lt, side) refl in
       sym one ∙ so_far
 
-  pub tells_behind : (m : Mistake) (at behind : Place) (d : Share) (total : Message) → i < length shares
+  pub tells_behind : (m : Mistake) (at behind : Place) (d : Share) (total : FileMessage) → i < length shares
       → side_before (rest (i + 1)) (here d) at ≡ Behind behind → message_from m at (rest i) kit ≡ total → message_from m behind (rest (i + 1)) (turn_parts (here d) kit) ≡ total
   unfolding message_from
   tells_behind m at behind d total lt side so_far =
       let one : message_from m at (rest i) kit ≡ message_from m behind (rest (i + 1)) (turn_parts (here d) kit) = rw (found d lt, side) refl in
       sym one ∙ so_far
 
-  pub tells_nobody : (m : Mistake) (at : Place) (total : Message) → length shares ≤ i → message_from m at (rest i) kit ≡ total → of_nobody (tell_at kit m at) ≡ total
+  pub tells_nobody : (m : Mistake) (at : Place) (total : FileMessage) → length shares ≤ i → message_from m at (rest i) kit ≡ total → of_nobody (tell_at kit m at) ≡ total
   unfolding message_from
   tells_nobody m at total le so_far =
       let one : message_from m at (rest i) kit ≡ of_nobody (tell_at kit m at) = rw (done share_of shares i le) refl in

@@ -121,8 +121,8 @@ abbrev pub quoted_word : Option (List ℕ) → List ℕ
 quoted_word None = []
 quoted_word (Some word) = codes " \"" ++ (word ++ codes "\"")
 
-abbrev pub shown : List ℕ → List ℕ
-shown word = quoted_word (name_in 32 word)
+abbrev pub quoted_if_name : List ℕ → List ℕ
+quoted_if_name word = quoted_word (name_in 32 word)
 
 abbrev pub tell_unfit : Option (List ℕ) → List ℕ
 tell_unfit (Some told) = told
@@ -133,7 +133,7 @@ tell_missing (Some key) otherwise = codes "lacks \"" ++ (key ++ codes "\"")
 tell_missing None otherwise = otherwise
 
 abbrev pub tell_unknown : Option (List ℕ) → List ℕ → List ℕ
-tell_unknown (Some key) otherwise = codes "unknown key" ++ shown key
+tell_unknown (Some key) otherwise = codes "unknown key" ++ quoted_if_name key
 tell_unknown None otherwise = otherwise
 
 abbrev pub tell_members : Place → List (List ℕ) → Data → Option Members → List ℕ
@@ -143,7 +143,7 @@ tell_members at keys item (Some ms) =
 
 abbrev pub tell_op : Option (List ℕ) → List ℕ
 tell_op None = codes "no op"
-tell_op (Some word) = codes "unknown op" ++ shown word
+tell_op (Some word) = codes "unknown op" ++ quoted_if_name word
 
 abbrev pub why_bad : Place → Data → Option (List (List ℕ)) → List ℕ
 why_bad at item None = tell_op (option_and_then as_str (get (codes "op") item))

@@ -19,7 +19,7 @@ use Rattle.press_lint.specs.declared.mistake.Mistake.{Mistake}
 use Rattle.press_lint.specs.declared.mistake.Sort.{Sort}
 use Rattle.press_lint.specs.declared.mistake.Why.{Why}
 use Rattle.press_lint.specs.declared.mistake.Why.TheVariants.{SameName, BuiltInName, Unknown, TooMany}
-use Rattle.press_lint.specs.declared.telling.Message as told
+use Rattle.press_lint.specs.declared.telling.FileMessage as told
 use Rattle.press_lint.specs.declared.turning.Side.{Side}
 use Rattle.press_lint.specs.declared.turning.Side.TheVariants.{Own, Behind}
 
@@ -33,15 +33,15 @@ turn_parts s kit = record {
 }
 
 -- an item among the first so many, or counted from behind them
-abbrev pub counted : ℕ → (ℕ → Place) → ℕ → Side
-counted many at n = if nat_lt n many then Own (at n) else Behind (at (n - many))
+abbrev pub side_by_count : ℕ → (ℕ → Place) → ℕ → Side
+side_by_count many at n = if nat_lt n many then Own (at n) else Behind (at (n - many))
 
 -- a place in a first share, or counted from behind it
 abbrev pub side_of : Share → Place → Side
-side_of s (place.Callback n) = counted s.callbacks (λ c. place.Callback c) n
-side_of s (place.Op n o) = counted s.callbacks (λ c. place.Op c o) n
-side_of s (place.Plugin n) = counted s.plugins (λ p. place.Plugin p) n
-side_of s (place.Load n l) = counted s.plugins (λ p. place.Load p l) n
+side_of s (place.Callback n) = side_by_count s.callbacks (λ c. place.Callback c) n
+side_of s (place.Op n o) = side_by_count s.callbacks (λ c. place.Op c o) n
+side_of s (place.Plugin n) = side_by_count s.plugins (λ p. place.Plugin p) n
+side_of s (place.Load n l) = side_by_count s.plugins (λ p. place.Load p l) n
 side_of s place.File = Own place.File
 side_of s place.Callbacks = Own place.Callbacks
 side_of s place.Plugins = Own place.Plugins
@@ -102,14 +102,14 @@ tell_also (TooMany sort) at s ss kit = []
 -- ---- the message about a mistake
 
 -- the plugin with whose loads there are more of a sort than are left
-abbrev pub past : Sort → ℕ → ℕ → List Plugin → ℕ
-past sort n left [] = n
-past sort n left (p ∷ ps) = if nat_lt left (count_by (is_of sort) p.load) then n else past sort (n + 1) (left - count_by (is_of sort) p.load) ps
+abbrev pub plugin_past_limit : Sort → ℕ → ℕ → List Plugin → ℕ
+plugin_past_limit sort n left [] = n
+plugin_past_limit sort n left (p ∷ ps) = if nat_lt left (count_by (is_of sort) p.load) then n else plugin_past_limit sort (n + 1) (left - count_by (is_of sort) p.load) ps
 
 -- by what the file of a mistake is found: too many loads are those of the file that goes past what
 -- a kit may have
 abbrev pub sought_at : KitParts → Why → Place → Place
-sought_at kit (TooMany sort) at = place.Plugin (past sort 0 (most_of sort) kit.plugins)
+sought_at kit (TooMany sort) at = place.Plugin (plugin_past_limit sort 0 (most_of sort) kit.plugins)
 sought_at kit SameName at = at
 sought_at kit BuiltInName at = at
 sought_at kit (Unknown id) at = at
@@ -122,11 +122,11 @@ shown_by BuiltInName whole at = at
 shown_by (Unknown id) whole at = at
 
 -- the message about a mistake, with its file
-pub record Message : Type 0 where
+pub record FileMessage : Type 0 where
   pub file : List ℕ
   pub text : List ℕ
 
-abbrev pub message_of : told.Message → Message
+abbrev pub message_of : told.FileMessage → FileMessage
 message_of m = record { file = m.file.now; text = string_bytes m.text }
 
 abbrev pub tell_at : KitParts → Mistake → Place → List ℕ
@@ -137,19 +137,19 @@ abbrev pub side_before : List Share → Share → Place → Side
 side_before [] s at = Own at
 side_before (next ∷ ss) s at = side_of s at
 
-abbrev pub message_by : Side → (Place → Message) → (Place → Message) → Message
+abbrev pub message_by : Side → (Place → FileMessage) → (Place → FileMessage) → FileMessage
 message_by (Own at) own behind = own at
 message_by (Behind at) own behind = behind at
 
-abbrev pub tell_own : Mistake → Share → List Share → KitParts → Place → Message
+abbrev pub tell_own : Mistake → Share → List Share → KitParts → Place → FileMessage
 tell_own m s ss kit at = record { file = s.file; text = tell_at kit m at ++ tell_also m.why at s ss kit }
 
 -- share after share; of no file the message is that of the kit
-unfoldable pub message_from : Mistake → Place → List Share → KitParts → Message
+unfoldable pub message_from : Mistake → Place → List Share → KitParts → FileMessage
 message_from m at [] kit = record { file = []; text = tell_at kit m at }
 message_from m at (s ∷ ss) kit = message_by (side_before ss s at) (tell_own m s ss kit) (λ rest. message_from m rest ss (turn_parts s kit))
 
-abbrev pub message_about : Joint → Mistake → Message
+abbrev pub message_about : Joint → Mistake → FileMessage
 message_about joint m = message_from m (sought_at joint.kit m.why m.at) joint.shares joint.kit
 
 -- ---- slips

@@ -31,8 +31,8 @@ pub record Joint : Type 0 where
   pub kit : KitParts
   pub shares : List Share
 
-abbrev pub nothing : Joint
-nothing = record { kit = no_parts; shares = [] }
+abbrev pub empty_joint : Joint
+empty_joint = record { kit = no_parts; shares = [] }
 
 abbrev pub share_in : File → KitParts → Share
 share_in file kit = record { file = file.name; callbacks = length kit.callbacks; plugins = length kit.plugins }
@@ -42,8 +42,8 @@ abbrev pub with_file : Joint → File → KitParts → Joint
 with_file joint file kit = record { kit = join joint.kit kit; shares = joint.shares ++ share_in file kit ∷ [] }
 
 -- of one file
-abbrev pub alone : File → KitParts → Joint
-alone file kit = with_file nothing file kit
+abbrev pub joint_of_one : File → KitParts → Joint
+joint_of_one file kit = with_file empty_joint file kit
 
 -- what follows a file that gives a kit; else it is bad at a place
 abbrev pub read_then : File → Result KitParts Place → (KitParts → Result Joint (File × Place)) → Result Joint (File × Place)
@@ -56,7 +56,7 @@ read_behind joint [] = Ok joint
 read_behind joint (file ∷ files) = read_then file (kit_in file.bytes) (λ kit. read_behind (with_file joint file kit) files)
 
 abbrev pub read_together : List File → Result Joint (File × Place)
-read_together files = read_behind nothing files
+read_together files = read_behind empty_joint files
 
 -- ---- as they are in memory
 

@@ -12,7 +12,7 @@ use Rattle.press_callbacks.specs.declared.script.Source.{Source}
 use Rattle.press_callbacks.specs.declared.script.Source.TheVariants.{Arg, Att, Content, Tag, Value, Last}
 use Rattle.press_scan.specs.declared.att_key.AttKey.{AttKey}
 use Rattle.press_scan.specs.declared.att_key.AttKey.TheVariants.{Name, Place}
-use Rattle.press_lint.specs.Bad.{shown}
+use Rattle.press_lint.specs.Bad.{quoted_if_name}
 
 -- ---- of a callback that gets at most so many arguments, where it is put anywhere
 
@@ -54,28 +54,28 @@ unread_texts most [] = None
 unread_texts most (text ∷ texts) = or_other (unread_text most text) (unread_texts most texts)
 
 -- the first of a step
-abbrev pub unread : Option ℕ → Op → Option Source
-unread most (op.Set text) = unread_text most text
-unread most (op.SkipIf left right n) = or_other (unread_text most left) (unread_text most right)
-unread most (op.Apply hook value more) = or_other (unread_text most value) (unread_texts most more)
-unread most (op.Do hook args) = unread_texts most args
-unread most (op.Shortcodes text) = unread_text most text
-unread most (op.SetOption name value) = unread_text most value
-unread most (op.Schedule after every hook arg) = unread_text most arg
-unread most (op.Publish post) = unread_text most post
-unread most (op.Echo text) = unread_text most text
-unread most (op.Return text) = unread_text most text
-unread most (op.AddHook h c p a) = None
-unread most (op.RemoveHook h c p) = None
-unread most (op.RemoveAll h p) = None
-unread most (op.AddTag tag c) = None
-unread most (op.RemoveTag tag) = None
-unread most (op.Ask ask) = None
+abbrev pub unread_source : Option ℕ → Op → Option Source
+unread_source most (op.Set text) = unread_text most text
+unread_source most (op.SkipIf left right n) = or_other (unread_text most left) (unread_text most right)
+unread_source most (op.Apply hook value more) = or_other (unread_text most value) (unread_texts most more)
+unread_source most (op.Do hook args) = unread_texts most args
+unread_source most (op.Shortcodes text) = unread_text most text
+unread_source most (op.SetOption name value) = unread_text most value
+unread_source most (op.Schedule after every hook arg) = unread_text most arg
+unread_source most (op.Publish post) = unread_text most post
+unread_source most (op.Echo text) = unread_text most text
+unread_source most (op.Return text) = unread_text most text
+unread_source most (op.AddHook h c p a) = None
+unread_source most (op.RemoveHook h c p) = None
+unread_source most (op.RemoveAll h p) = None
+unread_source most (op.AddTag tag c) = None
+unread_source most (op.RemoveTag tag) = None
+unread_source most (op.Ask ask) = None
 
 -- ---- the message
 
 abbrev pub tell_key : AttKey → List ℕ
-tell_key (Name name) = codes "reads no attribute by a name with capitals" ++ shown name
+tell_key (Name name) = codes "reads no attribute by a name with capitals" ++ quoted_if_name name
 tell_key (Place n) = []
 
 abbrev pub tell_argument : ℕ → List ℕ

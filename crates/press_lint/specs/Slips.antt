@@ -18,7 +18,7 @@ use Rattle.press_kit.specs.declared.place.Place.TheVariants as place
 use Rattle.press_callbacks.specs.declared.script.Source.{Source}
 use Rattle.press_lint.specs.Accepts.{most_accepted}
 use Rattle.press_lint.specs.Pages.{runs_on_pages}
-use Rattle.press_lint.specs.Reads.{unread, tell_unread}
+use Rattle.press_lint.specs.Reads.{unread_source, tell_unread}
 use Rattle.press_lint.specs.Runs.{is_run_by}
 use Rattle.press_lint.specs.Spots.{is_put_at, spot}
 use Rattle.press_lint.specs.Told.{place_in}
@@ -94,8 +94,8 @@ past_end = codes "skips past the end of its script"
 abbrev pub no_skip : List ℕ
 no_skip = codes "skips nothing"
 
-abbrev pub unrun : List ℕ → List ℕ
-unrun hook = codes "puts a callback on a hook that nothing runs: \"" ++ (hook ++ codes "\"")
+abbrev pub tell_unrun : List ℕ → List ℕ
+tell_unrun hook = codes "puts a callback on a hook that nothing runs: \"" ++ (hook ++ codes "\"")
 
 abbrev pub no_change : List ℕ
 no_change = codes "changes the site, and its callback runs on pages alone, where nothing changes"
@@ -113,7 +113,7 @@ along tells n (x ∷ xs) = tells n x xs ++ along tells (n + 1) xs
 
 module _ (front : List ℕ) (kit : KitParts) (plays : List Play) where
   abbrev pub hook_slip : Place → List ℕ → List ℕ
-  hook_slip at hook = if is_run kit.callbacks plays hook then [] else slip front kit at (unrun hook)
+  hook_slip at hook = if is_run kit.callbacks plays hook then [] else slip front kit at (tell_unrun hook)
 
   abbrev pub removal_slip : Place → List ℕ → List ℕ → ℤ → List ℕ
   removal_slip at hook callback priority =
@@ -150,7 +150,7 @@ module _ (front : List ℕ) (kit : KitParts) (plays : List Play) where
 
   -- all of a step, whose callback gets at most so many arguments
   abbrev pub step_slips : Option ℕ → Place → Op → List Op → List ℕ
-  step_slips most at op behind = op_slip at op behind ++ unread_slip at (unread most op)
+  step_slips most at op behind = op_slip at op behind ++ unread_slip at (unread_source most op)
 
   -- a step that would change the site, in a callback that pages alone run
   abbrev pub change_slip : Place → Op → List ℕ
@@ -197,11 +197,11 @@ module _ (front : List ℕ) (kit : KitParts) (plays : List Play) where
   slips = along callback_slips 0 kit.callbacks ++ along plugin_slips 0 kit.plugins
 
 -- an active plugin that a kit lacks
-abbrev pub lacking : List ℕ → ℕ → List ℕ → List ℕ
-lacking front n name = front ++ (codes "active[" ++ (decimal n ++ (codes "]: names a plugin that is not in the kit: \"" ++ (name ++ codes "\"\n"))))
+abbrev pub lacking_slip : List ℕ → ℕ → List ℕ → List ℕ
+lacking_slip front n name = front ++ (codes "active[" ++ (decimal n ++ (codes "]: names a plugin that is not in the kit: \"" ++ (name ++ codes "\"\n"))))
 
 abbrev pub active_slip : List ℕ → KitParts → ℕ → List ℕ → List ℕ
-active_slip front kit n name = if is_named (λ (p : Plugin). p.name) kit.plugins name then [] else lacking front n name
+active_slip front kit n name = if is_named (λ (p : Plugin). p.name) kit.plugins name then [] else lacking_slip front n name
 
 abbrev pub active_slips : List ℕ → KitParts → List (List ℕ) → List ℕ
 active_slips front kit active = along (λ n name behind. active_slip front kit n name) 0 active

@@ -9,13 +9,13 @@ use Rattle.press_kit.specs.declared.place.Place.{Place}
 use Rattle.press_kit.specs.declared.place.Place.TheVariants.{File, Callbacks, Callback, Op, Plugins, Plugin as OnePlugin, Load, Active, ActiveName, Commands, Command, Pages, Page, Plays, Play, Steps, Step}
 
 -- ` "name"`, where there is one
-abbrev pub quoted : Option (List ℕ) → List ℕ
-quoted None = []
-quoted (Some name) = codes " \"" ++ (name ++ codes "\"")
+abbrev pub quoted_name : Option (List ℕ) → List ℕ
+quoted_name None = []
+quoted_name (Some name) = codes " \"" ++ (name ++ codes "\"")
 
 -- `list[n] "name": `, with what follows it
 abbrev pub tell_item : List ℕ → ℕ → Option (List ℕ) → List ℕ → List ℕ
-tell_item list n name rest = list ++ (codes "[" ++ (decimal n ++ (codes "]" ++ (quoted name ++ (codes ": " ++ rest)))))
+tell_item list n name rest = list ++ (codes "[" ++ (decimal n ++ (codes "]" ++ (quoted_name name ++ (codes ": " ++ rest)))))
 
 -- `script[n] `
 abbrev pub within : List ℕ → ℕ → List ℕ

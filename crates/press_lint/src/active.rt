@@ -18,8 +18,9 @@ struct Search<'k> {
 }
 
 impl Search<'_> {
-    fn lacking(&self, n: usize, name: &Name) -> Result<String, AllocError>
-        ensures { IfOk result (λ t. string_bytes t ≡ spec.lacking self.now.front.now n name.now) }
+    fn lacking_slip(&self, n: usize, name: &Name) -> Result<String, AllocError>
+        ensures { IfOk result (λ t. string_bytes t
+            ≡ spec.lacking_slip self.now.front.now n name.now) }
     {
         let (front, name) = (self.front, name.as_str());
         format!(in self.alloc;
@@ -34,7 +35,7 @@ impl Search<'_> {
         if self.installed.has(name.as_str().as_bytes()) {
             return Ok(String::new(self.alloc));
         }
-        self.lacking(n, name)
+        self.lacking_slip(n, name)
     }
 
     fn push_active(&self, out: &mut String, active: &[Name]) -> Result<(), AllocError>

@@ -93,7 +93,7 @@ fn name_where(kit: &Value, at: Place) -> Option<&str>
 
 /// A word of the file after a text, if it could be a name.
 pub fn quote_name(alloc: Global, text: &str, word: &str) -> Result<String, AllocError>
-    ensures { IfOk result (λ t. string_bytes t ≡ text.now ++ spec.shown word.now) }
+    ensures { IfOk result (λ t. string_bytes t ≡ text.now ++ spec.quoted_if_name word.now) }
 {
     match name_in(word) {
         Some(word) => format!(in alloc; "{text} \"{word}\""),

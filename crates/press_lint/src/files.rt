@@ -3,7 +3,7 @@
 ghost use Rattle.std.specs.Prelude.{◌≡◌, ℕ, List, [], IfErr, IfOk, Ok, map, string_bytes};
 ghost use Rattle.press_lint.specs.Files as spec;
 ghost use Rattle.press_kit.specs.declared.kit_parts.KitParts.{KitParts as KitRead};
-ghost use Rattle.press_lint.specs.Joints.{File as FileRead, alone, files_of, joint_of, read_together, share_of};
+ghost use Rattle.press_lint.specs.Joints.{File as FileRead, joint_of_one, files_of, joint_of, read_together, share_of};
 ghost use Rattle.press_lint.specs.Mistakes.{tell_mistake};
 ghost use Rattle.press_lint.specs.Slips.{slips as slips_of};
 ghost use Rattle.press_lint.specs.declared.mistake.Mistake.{Mistake as Found};
@@ -12,7 +12,7 @@ ghost use Rattle.press_lint.specs.declared.files.FilesFault.TheVariants.{NoMemor
 use crate::joint::{Joint, NamedFile, Share, read_files};
 use crate::mistakes::mistake_in;
 use crate::slipping::first_slips;
-use crate::telling::{Message, message_about};
+use crate::telling::{FileMessage, message_about};
 use crate::turning::turn_parts;
 use press_kit::KitParts;
 use std::alloc::{AllocError, AllocFailed, Global};
@@ -93,7 +93,7 @@ fn lint_joint<'f>(alloc: Global, before: &str, joint: Joint<'f>) -> Result<Strin
     if let Some(mistake) = mistake_in(alloc, &parts)? {
         let number = mistake.why.number();
         return match message_about(alloc, &shares, parts, &mistake) {
-            Ok(Message { file, text }) => Err(FilesFault::Refused { file, number, text }),
+            Ok(FileMessage { file, text }) => Err(FilesFault::Refused { file, number, text }),
             Err(_) => Err(FilesFault::NoMemory),
         };
     }
@@ -123,9 +123,9 @@ pub fn lint_files<'f>(
 /// lines of the slips.
 pub fn one_file_is_told_as_alone()
     ensures mistakes { (file : FileRead) → (kit : KitRead) → (m : Found)
-        → spec.message_about (alone file kit) m
+        → spec.message_about (joint_of_one file kit) m
         ≡ record { file = file.name; text = tell_mistake kit m } }
     ensures slips { (before : List ℕ) → (file : FileRead) → (kit : KitRead)
-        → spec.slips_from before (alone file kit).shares kit
+        → spec.slips_from before (joint_of_one file kit).shares kit
         ≡ slips_of (spec.file_front before file.name) kit [] }
 {}

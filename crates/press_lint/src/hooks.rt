@@ -13,7 +13,7 @@ use crate::run::Run;
 use crate::spots::spots_in;
 use press_callbacks::Op;
 use press_kit::{KitParts, Play, Scripted};
-use press_text::HookName;
+use press_text::{HookName, MOST_NAME};
 use std::alloc::{AllocError, Global};
 
 const ENGINE: [&str; 19] = [
@@ -39,9 +39,6 @@ const ENGINE: [&str; 19] = [
 ];
 
 const STATUSES: [&str; 6] = ["publish", "future", "draft", "pending", "private", "trash"];
-
-// The most bytes of the name of an option.
-const LONGEST_OPTION: usize = 32;
 
 fn is_text(bytes: &[u8], text: &str) -> bool
     ensures { result ≡ bytes_eq bytes.now text.now }
@@ -120,7 +117,7 @@ fn is_change(hook: &[u8], change: &str) -> bool
     ensures { result ≡ spec.is_change hook.now change.now }
 {
     match behind(change, hook) {
-        Some(name) => !name.is_empty() && name.len() <= LONGEST_OPTION,
+        Some(name) => !name.is_empty() && name.len() <= MOST_NAME,
         None => false,
     }
 }

@@ -44,7 +44,7 @@ fn share_in<'f>(file: &NamedFile<'f>, parts: &KitParts) -> Share<'f>
 
 impl<'f> Joint<'f> {
     fn new(alloc: Global) -> Joint<'f>
-        ensures { spec.joint_of result ≡ spec.nothing }
+        ensures { spec.joint_of result ≡ spec.empty_joint }
     {
         Joint {
             parts: no_parts(alloc),

@@ -50,8 +50,8 @@ fn most_of(sort: Sort) -> usize
 
 /// The number of the plugin with whose loads there are more of a sort than a kit may have, or how
 /// many plugins there are.
-pub fn past(plugins: &[Plugin], sort: Sort) -> usize
-    ensures { result ≡ files.past sort 0 (spec.most_of sort) plugins.now }
+pub fn plugin_past_limit(plugins: &[Plugin], sort: Sort) -> usize
+    ensures { result ≡ files.plugin_past_limit sort 0 (spec.most_of sort) plugins.now }
 {
     let mut left = most_of(sort);
     for n in 0..plugins.len() {

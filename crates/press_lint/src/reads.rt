@@ -111,8 +111,8 @@ fn unread_all<'k>(most: Option<u32>, text: &'k Parts, more: &'k [Parts]) -> Opti
 
 /// The first thing that a step reads and that is never there. Its callback gets at most so many
 /// arguments, where it is put anywhere.
-pub fn unread(most: Option<u32>, op: &Op) -> Option<&Source>
-    ensures { option_map (λ s. s.now) result ≡ spec.unread most op.now }
+pub fn unread_source(most: Option<u32>, op: &Op) -> Option<&Source>
+    ensures { option_map (λ s. s.now) result ≡ spec.unread_source most op.now }
 {
     match op {
         Op::Set(text) | Op::Shortcodes(text) | Op::Publish(text) => {

@@ -14,7 +14,7 @@ use crate::hooks::{hooks_that_run, is_run};
 use crate::joint::Share;
 use crate::name_set::NameSet;
 use crate::pages::strays_in;
-use crate::reads::{tell_unread, unread};
+use crate::reads::{tell_unread, unread_source};
 use crate::run::Run;
 use crate::spots::spot;
 use crate::told::{place_in, text_of};
@@ -56,9 +56,9 @@ impl Look<'_> {
         format!(in self.alloc; "{front}{place}{what}\n")
     }
 
-    fn unrun(&self, at: Place, hook: &HookName) -> Result<String, AllocError>
+    fn unrun_slip(&self, at: Place, hook: &HookName) -> Result<String, AllocError>
         ensures { IfOk result (λ t. string_bytes t
-            ≡ spec.slip self.now.front.now self.now.run.kit.now at (spec.unrun hook.now)) }
+            ≡ spec.slip self.now.front.now self.now.run.kit.now at (spec.tell_unrun hook.now)) }
     {
         let hook = hook.as_str();
         let what = format!(in self.alloc;
@@ -75,7 +75,7 @@ impl Look<'_> {
         if is_run(&self.run, hook) {
             return Ok(String::new(self.alloc));
         }
-        self.unrun(at, hook)
+        self.unrun_slip(at, hook)
     }
 
     fn tell_removal(&self, hook: &str, callback: &str, priority: i64) -> Result<String, AllocError>
@@ -193,7 +193,7 @@ impl Look<'_> {
             most at op.now behind.now) }
     {
         let mut lines = self.op_slip(at, op, behind)?;
-        let reading = self.unread_slip(at, unread(most, op))?;
+        let reading = self.unread_slip(at, unread_source(most, op))?;
         lines.push_str(reading.as_str())?;
         Ok(lines)
     }

@@ -8,7 +8,7 @@ ghost use Rattle.press_lint.specs.Joints.{share_of};
 ghost use Rattle.press_lint.specs.Told.{name_at as told_name};
 
 use crate::joint::Share;
-use crate::loads::past;
+use crate::loads::plugin_past_limit;
 use crate::mistake::{Mistake, Why};
 use crate::mistakes::Titled;
 use crate::told::name_at;
@@ -60,7 +60,7 @@ fn tell_sharer(alloc: Global, file: Option<&str>) -> Result<String, AllocError>
 
 /// A message about a kit of several files, with the file that it is about.
 #[derive(Debug, Drop)]
-pub struct Message<'f> {
+pub struct FileMessage<'f> {
     pub file: &'f str,
     pub text: String,
 }
@@ -78,7 +78,8 @@ impl<'f> First<'_, 'f> {
     fn tell_named(self, alloc: Global, at: Place) -> Result<String, AllocError>
         ensures { IfOk result (λ t. string_bytes t
             ≡ spec.tell_named at (told_name self.entry.parts at)
-            (map share_of self.entry.behind.now) (spec.turn_parts (share_of self.entry.share.now) self.entry.parts)) }
+            (map share_of self.entry.behind.now)
+            (spec.turn_parts (share_of self.entry.share.now) self.entry.parts)) }
     {
         let First {
             share,
@@ -105,7 +106,12 @@ impl<'f> First<'_, 'f> {
     }
 
     // The message about a mistake that is at this place of the share.
-    fn tell(self, alloc: Global, mistake: &Mistake, at: Place) -> Result<Message<'f>, AllocError>
+    fn tell(
+        self,
+        alloc: Global,
+        mistake: &Mistake,
+        at: Place,
+    ) -> Result<FileMessage<'f>, AllocError>
         ensures { IfOk result (λ m. spec.message_of m
             ≡ spec.tell_own mistake.now (share_of self.entry.share.now)
             (map share_of self.entry.behind.now) self.entry.parts at) }
@@ -114,7 +120,7 @@ impl<'f> First<'_, 'f> {
         let mut text = tell_at(alloc, &self.parts, mistake, at)?;
         let also = self.tell_also(alloc, mistake.why, at)?;
         text.push_str(also.as_str())?;
-        Ok(Message { file, text })
+        Ok(FileMessage { file, text })
     }
 }
 
@@ -139,7 +145,7 @@ fn sought_at(parts: &KitParts, mistake: &Mistake) -> Place
     ensures { result ≡ spec.sought_at parts.now mistake.now.why mistake.now.at }
 {
     match mistake.why {
-        Why::TooMany(sort) => Place::Plugin(past(parts.plugins.as_slice(), sort)),
+        Why::TooMany(sort) => Place::Plugin(plugin_past_limit(parts.plugins.as_slice(), sort)),
         Why::SameName | Why::BuiltInName | Why::Unknown(_) => mistake.at,
     }
 }
@@ -160,7 +166,7 @@ pub fn message_about<'f>(
     shares: &[Share<'f>],
     parts: KitParts,
     mistake: &Mistake,
-) -> Result<Message<'f>, AllocError>
+) -> Result<FileMessage<'f>, AllocError>
     ensures { IfOk result (λ m. spec.message_of m ≡ spec.message_about
         (record { kit = parts; shares = map share_of shares.now }) mistake.now) }
 {
@@ -184,5 +190,5 @@ pub fn message_about<'f>(
         }
     }
     let text = tell_at(alloc, &parts, mistake, at)?;
-    Ok(Message { file: "", text })
+    Ok(FileMessage { file: "", text })
 }

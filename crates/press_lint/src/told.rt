@@ -53,7 +53,8 @@ pub fn name_at(kit: &KitParts, at: Place) -> Option<&str>
 }
 
 fn quote(alloc: Global, name: Option<&str>) -> Result<String, AllocError>
-    ensures { IfOk result (λ t. string_bytes t ≡ spec.quoted (option_map (λ t. t.now) name.entry)) }
+    ensures { IfOk result (λ t. string_bytes t
+        ≡ spec.quoted_name (option_map (λ t. t.now) name.entry)) }
 {
     match name {
         Some(name) => format!(in alloc; " \"{name}\""),

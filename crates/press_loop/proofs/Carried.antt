@@ -1,16 +1,11 @@
 -- What a loop writes, by how the schedule was read and how its transcript was written; and its
 -- nodes.
-use Rattle.std.proofs.Common.{ℕ, ◌+◌, ◌≡◌, ◌≢◌, ◌≤◌, List, [], ◌∷◌, length, map, take, zero, suc, Option, None, Some, Result, Ok, Err, IfErr, refl, sym, subst, ap, ◌∙◌, append-nil, arith}
-use Rattle.std.proofs.lemmas.List.{length-map}
+use Rattle.std.proofs.Common.{ℕ, ◌≡◌, ◌≢◌, List, [], Option, None, Some, Result, Ok, Err, IfErr, refl, sym, subst, append-nil}
 use Rattle.std.specs.Io.KnownBytes.{Appends}
-use Rattle.press_callbacks.specs.Kits.{KitView}
 use Rattle.press_kit.specs.declared.place.Place.{Place}
 use Rattle.press_text.specs.Streams.{AppendsFront}
 use Rattle.press_world.specs.ReadingFiles.{ReadsAs, Refuses}
 use Rattle.press_world.specs.Replays.{WritesLines}
-use Rattle.press_world.specs.Seats.{Static}
-use Rattle.press_world.specs.Starts.{AreKit, statics_from}
-use Rattle.press_world.specs.Whole.{HaveKit}
 use Rattle.press_world.specs.declared.replay_fault.ReplayFault.{ReplayFault}
 use Rattle.press_world.specs.declared.replay_fault.ReplayFault.TheVariants.{NoMemory, ReadFault, WriteFault, BadSchedule}
 use Rattle.press_world.specs.declared.step.Step.{Step}
@@ -50,34 +45,3 @@ module _ (reads : List ℕ → Result (ℕ × List Step) Place) (shows : ℕ × 
       go BadSchedule (Ok schedule) h = let q : Ok schedule ≡ Err h.0 = h.1 in cc
       go BadSchedule (Err place) h = refl
       go WriteFault m h = absurd h
-
--- the first of kits that are alike are alike
-pub first_alike : (kit : KitView) (n : ℕ) (kits : List KitView) → AreKit kit kits → AreKit kit (take n kits)
-first_alike kit zero [] h = tt
-first_alike kit (suc n) [] h = tt
-first_alike kit zero (k ∷ kits) h = tt
-first_alike kit (suc n) (k ∷ kits) h = (h.0, first_alike kit n kits h.1)
-
-pub map_take : {X Y : Type 0} (f : X → Y) (n : ℕ) (xs : List X) → map f (take n xs) ≡ take n (map f xs)
-map_take f zero [] = refl
-map_take f (suc n) [] = refl
-map_take f zero (x ∷ xs) = refl
-map_take f (suc n) (x ∷ xs) = ap (λ ys. f x ∷ ys) (map_take f n xs)
-
-pub length_take : {X : Type 0} (n : ℕ) (xs : List X) → n ≤ length xs → length (take n xs) ≡ n
-length_take zero [] h = refl
-length_take (suc n) [] h = absurd (omega arith)
-length_take zero (x ∷ xs) h = refl
-length_take (suc n) (x ∷ xs) h = ap suc (length_take n xs (omega arith))
-
-pub length_statics : (id n : ℕ) (kits : List KitView) → length (statics_from id n kits) ≡ length kits
-length_statics id n [] = refl
-length_statics id n (k ∷ kits) = ap suc (length_statics (id + 1) n kits)
-
-pub statics_have : (kit : KitView) (id n : ℕ) (kits : List KitView) → AreKit kit kits → HaveKit kit (statics_from id n kits)
-statics_have kit id n [] h = tt
-statics_have kit id n (k ∷ kits) h = (h.0, statics_have kit (id + 1) n kits h.1)
-
--- what doesn't change of the members tells that they are as many
-pub same_count : {X : Type 0} (g : X → Static) (old new : List X) → map g new ≡ map g old → length new ≡ length old
-same_count g old new e = sym (length-map new g) ∙ ap length e ∙ length-map old g

@@ -4,7 +4,8 @@ use Rattle.std.proofs.Math.Seq.{take-nil}
 use Rattle.std.proofs.lemmas.List.{append_assoc, length-append, take-append-drop}
 use Rattle.std.specs.Cmp.Lexicographic.{bytes_decides}
 use Rattle.std.specs.Str.{bytes_eq}
-use Rattle.press_loop.specs.Carrying.{front_length, with_more}
+use Rattle.press_http.specs.StatusLine.{front_length}
+use Rattle.press_loop.specs.Carrying.{with_more}
 
 take_both : (k : ℕ) (xs ys : List ℕ) → take k (xs ++ ys) ≡ take k xs ++ take (k - length (take k xs)) ys
 take_both zero xs ys = refl

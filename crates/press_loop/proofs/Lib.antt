@@ -1,4 +1,2 @@
 pub mod Carried
-pub mod Fronts
 pub mod Heard
-pub mod Onward

@@ -1,10 +1,10 @@
 -- What a connection carries between the two ends that the program holds, where the bytes of its
 -- streams are known (own); of a reply the front up to its status is kept: the version, a space and
 -- three digits (RFC 9112, 4).
-use Rattle.std.specs.Prelude.{◌≡◌, ℕ, ◌-◌, List, [], ◌++◌, drop, length, take, codes, Option, None, Some, Result, MatchResult}
+use Rattle.std.specs.Prelude.{◌≡◌, ℕ, ◌-◌, List, [], ◌++◌, drop, length, take, Option, None, Some, Result, MatchResult}
 use Rattle.std.specs.Io.KnownBytes.{Appends, Consumes, Keeps}
-use Rattle.press_text.specs.Decimals.{decimal_in}
 use Rattle.press_text.specs.Streams.{AppendsFront}
+use Rattle.press_http.specs.StatusLine.{SaysStatus, front_length}
 
 -- ---- requests
 
@@ -27,10 +27,6 @@ Brings old new bytes result = MatchResult result (λ n. Consumes old new (take n
 abbrev pub Gives : {E : Type 0} → Option (List ℕ) → Option (List ℕ) → List ℕ → Result ℕ E → Type 0
 Gives old new bytes result = MatchResult result (λ n. Appends old new (take n bytes)) (λ _. AppendsFront old new bytes)
 
--- how many bytes a status line has up to its status
-abbrev pub front_length : ℕ
-front_length = 12
-
 -- what is kept of a reply, of which these bytes came next, as far as there is room
 abbrev pub with_more : List ℕ → List ℕ → List ℕ
 with_more front bytes = front ++ take (front_length - length front) bytes
@@ -39,12 +35,7 @@ with_more front bytes = front ++ take (front_length - length front) bytes
 abbrev pub Hears : Option (List ℕ) → Option (List ℕ) → List ℕ → List ℕ → (List ℕ → Type 0) → Type 0
 Hears old new front front' AreThese = (bytes : List ℕ) × Consumes old new bytes × (front' ≡ with_more front bytes) × AreThese bytes
 
--- The front of a reply spells its status.
-abbrev pub Spells : List ℕ → ℕ → Type 0
-Spells front status =
-    (digits : List ℕ) × (front ≡ codes "HTTP/1.1 " ++ digits) × (length front ≡ front_length) × (decimal_in digits ≡ Some status)
-
 -- A client that got this front of a reply was told this status; none where it got nothing.
 abbrev pub Tells : List ℕ → Option ℕ → Type 0
 Tells front None = front ≡ []
-Tells front (Some status) = Spells front status
+Tells front (Some status) = SaysStatus front status

@@ -11,7 +11,7 @@ use Rattle.press_page.specs.declared.reply.Target.TheVariants as target
 use Rattle.press_wire.specs.Spelling.{is_too_long_message, spelled_message}
 use Rattle.press_wire.specs.declared.message.Message.{Message}
 use Rattle.press_world.specs.Refusing.{message_numbered}
-use Rattle.press_world.specs.Stored.{Stored}
+use Rattle.press_world.specs.Stored.{StoredWorld}
 use Rattle.press_world.specs.declared.step.Step.{Step}
 use Rattle.press_world.specs.declared.step.Step.TheVariants.{Submit, Wake, Deliver, Restart, Get}
 
@@ -54,7 +54,7 @@ abbrev pub sent_bytes : Option Message → Option (List ℕ)
 sent_bytes None = None
 sent_bytes (Some message) = message_bytes message
 
-abbrev pub request_of : ℕ → Stored → Step → Option (List ℕ)
+abbrev pub request_of : ℕ → StoredWorld → Step → Option (List ℕ)
 request_of nodes s (Submit node command cut) = if is_node nodes node then command_bytes (form_of command) else None
 request_of nodes s (Get node target) = if is_node nodes node then Some (get_bytes (path_of target)) else None
 request_of nodes s (Deliver number cut) = sent_bytes (message_numbered s number)

@@ -3,18 +3,17 @@
 ghost use Rattle.std.specs.Prelude.{◌≡◌, ◌≢◌, true, IfErr, IfOk, IfSome};
 ghost use Rattle.std.specs.Io.KnownBytes.{Appends};
 ghost use Rattle.press_http.specs.Replies.{fixed_reply, reply_bytes};
-ghost use Rattle.press_node.specs.Serving.{queued_reply, status_of_node, taken_reply};
+ghost use Rattle.press_node.specs.Serving.{status_of_node};
 ghost use Rattle.press_loop.specs.Responses.{bytes_of, reply_for, reply_to, status_to, without_page};
 
 use crate::alike::is_sent;
 use press_apply::{Stamped, same_values_are_equal};
 use press_http::{Asked, HttpFault, read_request, route, write_fault, write_reply};
-use press_node::NodeFault;
-use press_page::{ContentKind, Reply, Target};
-use press_text::Text;
+use press_node::{NodeFault, queued_reply, taken_reply};
+use press_page::{Reply, Target};
 use press_wire::Message;
 use press_world::{Played, ReplayFault, Step, World, WorldFault};
-use std::alloc::{AllocError, Global};
+use std::alloc::Global;
 use std::io::{Read, Write};
 
 // A connection that fails, or carries something else, ends the run as a failed read does.
@@ -106,36 +105,14 @@ pub fn step_from<R: Read>(
     made.ok_or(ReplayFault::ReadFault)
 }
 
-// The reply that a command waits to be chosen.
-fn queue_reply(alloc: Global) -> Result<Reply, AllocError>
-    ensures { IfOk result (λ reply. reply ≡ queued_reply) }
-{
-    Ok(Reply {
-        status: 202,
-        kind: ContentKind::Json,
-        body: Text::from_str(alloc, "{\"queued\":true}")?,
-    })
-}
-
-// The reply that a message was taken.
-fn message_reply(alloc: Global) -> Reply
-    ensures { result ≡ taken_reply }
-{
-    Reply {
-        status: 200,
-        kind: ContentKind::Text,
-        body: Text::new(alloc),
-    }
-}
-
 // The reply to a step that asks for no page.
-fn reply_without_page(alloc: Global, step: &Step) -> Result<Reply, AllocError>
-    ensures { IfOk result (λ reply. reply ≡ without_page step.now) }
+fn reply_without_page(alloc: Global, step: &Step) -> Reply
+    ensures { result ≡ without_page step.now }
 {
     match step {
-        Step::Submit { .. } => queue_reply(alloc),
+        Step::Submit { .. } => queued_reply(alloc),
         Step::Wake { .. } | Step::Deliver { .. } | Step::Restart { .. } | Step::Get { .. } => {
-            Ok(message_reply(alloc))
+            taken_reply(alloc)
         }
     }
 }
@@ -171,7 +148,7 @@ fn tell_done<W: Write>(
 {
     match &played.reply {
         Some(page) => tell(alloc, writer, page),
-        None => tell(alloc, writer, &reply_without_page(alloc, step)?),
+        None => tell(alloc, writer, &reply_without_page(alloc, step)),
     }
 }
 

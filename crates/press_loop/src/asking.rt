@@ -7,13 +7,11 @@ ghost use Rattle.press_loop.specs.Requests.{command_bytes, get_bytes, head_of_po
 
 use press_apply::Stamped;
 use press_forms::form_of;
+use press_http::LONGEST_FORM;
 use press_page::Target;
 use press_wire::{Message, WireFault, encode_msg};
 use press_world::{Step, World};
 use std::alloc::{AllocError, Global};
-
-// The most bytes that a form may have.
-const LONGEST_FORM: usize = 65_536;
 
 const FORM: &str = "application/x-www-form-urlencoded";
 
@@ -72,7 +70,7 @@ fn command_request(alloc: Global, stamped: &Stamped) -> Result<Option<Vec<u8>>, 
         ≡ command_bytes (form_of stamped.now)) }
 {
     let form = form_of(alloc, stamped)?;
-    if form.len() > LONGEST_FORM {
+    if form.len() as u64 > LONGEST_FORM {
         return Ok(None);
     }
     Ok(Some(post(alloc, "/command", FORM, form.as_bytes())?))

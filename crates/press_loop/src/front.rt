@@ -1,30 +1,28 @@
 //! The first bytes of a reply.
 
 ghost use Rattle.std.specs.Prelude.{◌≡◌, ◌↔◌, [], IfSome, IsTrue};
-ghost use Rattle.press_loop.specs.Carrying.{with_more, Spells};
+ghost use Rattle.press_http.specs.StatusLine.{SaysStatus};
+ghost use Rattle.press_loop.specs.Carrying.{with_more};
 
-use press_text::dec_u64;
+use press_http::{FRONT_LEN, status_in};
 use std::marker::Model;
-use std::str::from_utf8;
-
-// The length of a reply's first bytes up to its status: `HTTP/1.1 200`.
-const FRONT: usize = 12;
 
 /// What is kept of a reply: its first bytes, up to the status. Contracts see it as their list.
 #[derive(Drop)]
 pub struct Front {
-    bytes: [u8; FRONT],
+    bytes: [u8; FRONT_LEN],
     count: usize,
 }
 
 impl Model for Front {
     ghost use Rattle.std.specs.Prelude.{ℕ, ◌≤◌, List, take};
+    ghost use Rattle.press_http.specs.StatusLine.{front_length};
 
     ghost Value = { List ℕ };
 
     ghost view = { λ f. take f.count f.bytes };
 
-    ghost invariant = { λ f. f.count ≤ 12 };
+    ghost invariant = { λ f. f.count ≤ front_length };
 }
 
 impl Front {
@@ -33,7 +31,7 @@ impl Front {
         ensures { result ≡ [] }
     {
         Front {
-            bytes: [0; FRONT],
+            bytes: [0; FRONT_LEN],
             count: 0,
         }
     }
@@ -42,7 +40,7 @@ impl Front {
     pub fn keep(&mut self, bytes: &[u8])
         ensures { self.new ≡ with_more self.old bytes.now }
     {
-        let count = bytes.len().min(FRONT - self.count);
+        let count = bytes.len().min(FRONT_LEN - self.count);
         self.bytes[self.count..self.count + count].copy_from_slice(&bytes[..count]);
         self.count += count;
     }
@@ -56,13 +54,8 @@ impl Front {
 
     /// The status of the reply; None where what came isn't the front of one.
     pub fn status(&self) -> Option<u16>
-        ensures { IfSome result (λ status. Spells self.now status) }
+        ensures { IfSome result (λ status. SaysStatus self.now status) }
     {
-        if self.count < FRONT {
-            return None;
-        }
-        let front = from_utf8(&self.bytes).ok()?;
-        let code = front.strip_prefix("HTTP/1.1 ")?;
-        u16::try_from(dec_u64(code)?).ok()
+        status_in(&self.bytes[..self.count])
     }
 }

@@ -15,6 +15,7 @@ ghost use Rattle.press_world.specs.Whole.{HaveKit};
 ghost use Rattle.press_loop.specs.Carrying.{Tells};
 ghost use Rattle.press_loop.specs.Loops.{Loops};
 ghost use Rattle.press_loop.specs.Responses.{status_to};
+ghost use Rattle.press_wire.specs.Ranges.{most_members};
 
 use crate::answering::{answer, step_from};
 use crate::asking::request_of;
@@ -171,7 +172,7 @@ fn loop_new<Rt: AllocGlobal + Net, W: Write>(
     writer: &mut W,
 ) -> Result<(), ReplayFault>
     requires some { 1 ≤ length kits.items }
-    requires few { length kits.items ≤ 7 }
+    requires few { length kits.items ≤ most_members }
     requires alike { (kit : KitView) × AreKit kit (views_of kits.items) }
     ensures lines { (kit : KitView) → AreKit kit (views_of kits.items) →
         WritesLines (transcript kit (length kits.items, steps.now))
@@ -202,7 +203,7 @@ pub fn loop_over<Rt: AllocGlobal + Net, R: Read, W: Write>(
     reader: &mut R,
     writer: &mut W,
 ) -> Result<(), ReplayFault>
-    requires few { length kits.items ≤ 7 }
+    requires few { length kits.items ≤ most_members }
     requires alike { (kit : KitView) × AreKit kit (views_of kits.items) }
     ensures took { TakesAtMost (R.remaining reader.old) (R.remaining reader.new) (file_limit + 1) }
     ensures loops { (kit : KitView) → AreKit kit (views_of kits.items) →

@@ -8,12 +8,12 @@ use Rattle.press_wire.specs.declared.message.Message.{Message}
 use Rattle.press_acceptor.specs.Seen.{Call, Seen}
 use Rattle.press_acceptor.specs.StoreMap.{StoreMap, Save}
 use Rattle.press_acceptor.specs.Trace.{IsMember}
-use Rattle.press_acceptor.specs.Turned.{TurnedBy, moved}
+use Rattle.press_acceptor.specs.Turned.{TurnedBy, store_move}
 use Rattle.press_acceptor.specs.declared.fault.StoreFault.{StoreFault}
 use Rattle.press_node.specs.EventPlans.{event_calls}
-use Rattle.press_node.specs.NodeEvent.{Running}
+use Rattle.press_node.specs.NodeEvent.{RunningNode}
 use Rattle.press_node.specs.Nodes.{IsPlayed, NodeMove}
-use Rattle.press_node.specs.Plays.{Plays, PlaysUp, PlaysWhere, state_moved}
+use Rattle.press_node.specs.Plays.{Plays, PlaysUp, PlaysWhere, state_move}
 use Rattle.press_node.specs.Refusals.{refusal_up}
 use Rattle.press_node.specs.States.{NodeState, Up, count_where, running_in}
 use Rattle.press_node.specs.declared.event.Event.{Event}
@@ -89,23 +89,23 @@ rest_sent sent own a = λ m h. a m (in_rest own m h)
 -- ---- a store that is honest after an event was so before
 
 module _ {S : Type 0} (seen : S → Seen) (s t : S) (honest : (seen t).is_honest) where
-  turned_back : (calls : List Call) (takes : StoreMap → Type 0) (save : StoreMap → Option Save) (f : Option StoreFault) → TurnedBy calls takes save (moved seen s t) f → (seen s).is_honest
+  turned_back : (calls : List Call) (takes : StoreMap → Type 0) (save : StoreMap → Option Save) (f : Option StoreFault) → TurnedBy calls takes save (store_move seen s t) f → (seen s).is_honest
   turned_back [] takes save f h = subst (λ x. (seen x).is_honest) h.0 honest
   turned_back (c ∷ cs) takes save f h = h.honest honest
 
-  pub honest_back : (old new : NodeState) (e : Event) (o : Result (List Message) NodeFault) → Plays (moved seen s t) (state_moved old new) e o → (seen s).is_honest
+  pub honest_back : (old new : NodeState) (e : Event) (o : Result (List Message) NodeFault) → Plays (store_move seen s t) (state_move old new) e o → (seen s).is_honest
   honest_back old new e o p = go (running_in old) p
     where
       same : t ≡ s → (seen s).is_honest
       same q = subst (λ x. (seen x).is_honest) q honest
 
-      up : (node : Running) (r : Option NodeFault) (o : Result (List Message) NodeFault) → PlaysUp r node (moved seen s t) (state_moved old new) e o → (seen s).is_honest
+      up : (node : RunningNode) (r : Option NodeFault) (o : Result (List Message) NodeFault) → PlaysUp r node (store_move seen s t) (state_move old new) e o → (seen s).is_honest
       up node (Some f) o h = same h.2
       up node None (Ok out) h = turned_back (event_calls old.members old.id node e) _ _ None h.turned
       up node None (Err fault) (inl h) = turned_back (event_calls old.members old.id node e) _ _ (Some h.by) h.turned
       up node None (Err fault) (inr h) = h.turned.honest honest
 
-      go : (r : Option Running) → PlaysWhere r (moved seen s t) (state_moved old new) e o → (seen s).is_honest
+      go : (r : Option RunningNode) → PlaysWhere r (store_move seen s t) (state_move old new) e o → (seen s).is_honest
       go None h = same h.2
       go (Some node) h = up node (refusal_up node e) o h
 
@@ -197,7 +197,7 @@ own_sent id sent own kept Heard e o next front a = with_kept (λ m. m.to == id) 
 own_sent id sent own kept Due e o next front a = with_kept (λ m. m.to == id) sent (out_of o) kept own front a
 
 module _ {S N : Type 0} (seen : S → Seen) (node_moves : N → N → NodeMove) (store : N → S) (state : N → NodeState)
-    (is : (a b : N) (e : Event) (o : Result (List Message) NodeFault) → (node_moves a b).plays e o → IsPlayed (state a) (state b) (Plays (moved seen (store a) (store b)) (state_moved (state a) (state b)) e o))
+    (is : (a b : N) (e : Event) (o : Result (List Message) NodeFault) → (node_moves a b).plays e o → IsPlayed (state a) (state b) (Plays (store_move seen (store a) (store b)) (state_move (state a) (state b)) e o))
     (n index : ℕ) (member : IsMember n (index + 1)) (heard : List Message) where
   abbrev id : ℕ
   id = index + 1
@@ -288,7 +288,7 @@ module _ {S N : Type 0} (seen : S → Seen) (node_moves : N → N → NodeMove) 
 -- ---- inputs
 
 module _ {S N : Type 0} (seen : S → Seen) (node_moves : N → N → NodeMove) (store : N → S) (state : N → NodeState)
-    (is : (a b : N) (e : Event) (o : Result (List Message) NodeFault) → (node_moves a b).plays e o → IsPlayed (state a) (state b) (Plays (moved seen (store a) (store b)) (state_moved (state a) (state b)) e o)) where
+    (is : (a b : N) (e : Event) (o : Result (List Message) NodeFault) → (node_moves a b).plays e o → IsPlayed (state a) (state b) (Plays (store_move seen (store a) (store b)) (state_move (state a) (state b)) e o)) where
   pub its_moves : (i : Input) (old new : View N) (result : Result Outputs AllocError) → Acts node_moves i old new result → AreItsMoves seen store state i old new result
   its_moves i old new result acts = λ index w own few among honest.
       let t = acts.turned in

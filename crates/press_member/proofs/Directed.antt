@@ -5,11 +5,11 @@ use Rattle.std.proofs.lemmas.Option.{slice_get_within}
 use Rattle.press_acceptor.specs.Trace.{IsMember}
 use Rattle.press_node.specs.declared.event.Event.{Event}
 use Rattle.press_node.specs.declared.event.Event.TheVariants as event
-use Rattle.press_node.specs.NodeEvent.{Running, is_for, on_event}
+use Rattle.press_node.specs.NodeEvent.{RunningNode, is_for, on_event}
 use Rattle.press_node.specs.Refusals.{refusal}
 use Rattle.press_world.specs.Adding.{Adds}
 use Rattle.press_world.specs.Agreeing.{Agrees}
-use Rattle.press_world.specs.Worlds.{Place, World, with_query, at_index, comes, does, does_at, effect, index_of, new_world, refusal_before, restarted, step, unless_refused}
+use Rattle.press_world.specs.Worlds.{Place, World, with_query, at_index, comes, does, does_at, effect, index_of, new_world, refusal_before, restarts, step, unless_refused}
 use Rattle.press_world.specs.declared.step.Cut.{Cut}
 use Rattle.press_world.specs.declared.step.Step.{Step}
 use Rattle.press_world.specs.declared.step.Step.TheVariants.{Submit, Wake, Deliver, Restart}
@@ -42,11 +42,11 @@ module _ (law : Law) (n : ℕ) (w : World) (index : ℕ) (p : Place) (at : slice
   by_step x v e = (subst (Agrees n) e (law.agrees n w x a), subst (λ (u : World). Adds w.trace u.trace) e (law.adds n w x))
 
   -- it starts again
-  pub restart_agrees : Agrees n (restarted n w index (Some p)) × Adds w.trace (restarted n w index (Some p)).trace
-  restart_agrees = by_step (Restart (index + 1)) (restarted n w index (Some p))
-      (ap (λ o. at_index o (λ i. restarted n w i (slice_get w.places i)) w) here ∙ ap (restarted n w index) at)
+  pub restart_agrees : Agrees n (restarts n w index (Some p)) × Adds w.trace (restarts n w index (Some p)).trace
+  restart_agrees = by_step (Restart (index + 1)) (restarts n w index (Some p))
+      (ap (λ o. at_index o (λ i. restarts n w i (slice_get w.places i)) w) here ∙ ap (restarts n w index) at)
 
-  module _ (node : Running) (up : p.up ≡ Some node) (cut : Option Cut) where
+  module _ (node : RunningNode) (up : p.up ≡ Some node) (cut : Option Cut) where
     abbrev Done : Event → World
     Done e = effect w index p cut (on_event n (index + 1) p.store node e)
 

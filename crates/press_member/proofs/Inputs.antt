@@ -5,7 +5,7 @@ use Rattle.press_apply.specs.declared.command.Stamped.{Stamped}
 use Rattle.press_wire.specs.declared.message.Message.{Message}
 use Rattle.press_node.specs.Nodes.{NodeMove}
 use Rattle.press_node.specs.declared.fault.NodeFault.{NodeFault}
-use Rattle.press_member.specs.Acts.{Acts, Answers, Has, Submits, TakesMemory, View, moment, taken_answer, taken_if}
+use Rattle.press_member.specs.Acts.{Acts, Answers, Has, Submits, TakesMemory, View, moment, taken_answer, answer_if_open}
 use Rattle.press_member.specs.Deeds.{Deed}
 use Rattle.press_node.specs.declared.event.Event.{Event}
 use Rattle.press_node.specs.declared.event.Event.TheVariants as event
@@ -26,11 +26,11 @@ pub opened_form : (N : Type 0) (e : Event) (refused : Option NodeFault) (b : Boo
 opened_form N e refused true is ds h = h
 opened_form N e refused false is ds h = absurd (let f = is in cc)
 
-pub opened_answer : (b : Bool) (refused : Option NodeFault) (given : Answer) → b ≡ true → given ≡ taken_answer refused → given ≡ taken_if b refused
+pub opened_answer : (b : Bool) (refused : Option NodeFault) (given : Answer) → b ≡ true → given ≡ taken_answer refused → given ≡ answer_if_open b refused
 opened_answer true refused given is e = e
 opened_answer false refused given is e = absurd (let f = is in cc)
 
-pub closed_answer : (b r : Bool) (given : Answer) → r ≡ b → r ≡ false → given ≡ answer.NotYet → given ≡ taken_if b None
+pub closed_answer : (b r : Bool) (given : Answer) → r ≡ b → r ≡ false → given ≡ answer.NotYet → given ≡ answer_if_open b None
 closed_answer true r given is shut e = absurd (let f = sym is ∙ shut in cc)
 closed_answer false r given is shut e = e
 

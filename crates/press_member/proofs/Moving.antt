@@ -3,13 +3,13 @@ use Rattle.std.proofs.Common.{ℕ, zero, suc, ◌+◌, ◌-◌, ◌<◌, ◌≤�
 use Rattle.press_wire.specs.declared.message.Message.{Message}
 use Rattle.press_acceptor.specs.InMemory.{seen_of}
 use Rattle.press_acceptor.specs.StoreMap.{StoreMap, new_store}
-use Rattle.press_acceptor.specs.Turned.{moved}
+use Rattle.press_acceptor.specs.Turned.{store_move}
 use Rattle.press_node.specs.Nodes.{IsPlayed}
-use Rattle.press_node.specs.Plays.{Plays, state_moved}
+use Rattle.press_node.specs.Plays.{Plays, state_move}
 use Rattle.press_node.specs.States.{NodeState, started_at}
 use Rattle.press_node.specs.declared.event.Event.{Event}
 use Rattle.press_node.specs.declared.fault.NodeFault.{NodeFault}
-use Rattle.press_member.specs.Members.{AreMoves, Comes, Member, new_members, unstarted}
+use Rattle.press_member.specs.Members.{AreMoves, Comes, Member, new_members, unstarted_members}
 use Rattle.press_member.specs.Members.Holding.{Leaves}
 use Rattle.press_member.specs.Moving.{first_moves}
 use Rattle.press_member.proofs.Lists.{set_here}
@@ -18,7 +18,7 @@ use Rattle.press_member.proofs.Lists.{set_here}
 abbrev blank : ℕ → ℕ → Member StoreMap
 blank n id = record { store = Leaves new_store; state = record { id = id; members = n; up = None } }
 
-unstarted_at : (n id k i : ℕ) → i < k → slice_get (unstarted {S = StoreMap} n id k) i ≡ Some (blank n (id + i))
+unstarted_at : (n id k i : ℕ) → i < k → slice_get (unstarted_members {S = StoreMap} n id k) i ≡ Some (blank n (id + i))
 unstarted_at n id zero i lt = absurd (omega (arith, lt))
 unstarted_at n id (suc k) zero lt = let same : id ≡ id + 0 = omega arith in ap (λ j. Some (blank n j)) same
 unstarted_at n id (suc k) (suc i) lt = let same : id + 1 + i ≡ id + suc i = omega arith in unstarted_at n (id + 1) k i (omega (arith, lt)) ∙ ap (λ j. Some (blank n j)) same
@@ -36,7 +36,7 @@ module _ (n id : ℕ) (one : 1 ≤ id) (most : id ≤ n) where
       unstarted_at n 1 n index (omega (arith, one, most)) ∙ ap (λ j. Some (blank n j)) same
 
   pub are_moves : (e : Event) (outcome : Result (List Message) NodeFault) (s t : StoreMap) (old new : NodeState) → Comes [] e → s ≡ new_store → old ≡ started_at id n 0 →
-      IsPlayed old new (Plays (moved seen_of s t) (state_moved old new) e outcome) → AreMoves seen_of n (new_members n) (first_moves n id e outcome t new)
+      IsPlayed old new (Plays (store_move seen_of s t) (state_move old new) e outcome) → AreMoves seen_of n (new_members n) (first_moves n id e outcome t new)
   are_moves e outcome s t old new comes is begun played = (
     record {
       before = blank n id;
@@ -54,8 +54,8 @@ module _ (n id : ℕ) (one : 1 ≤ id) (most : id ≤ n) where
         is = record {
           comes = comes;
           played =
-              subst (λ x. IsPlayed (started_at id n 0) new (Plays (moved seen_of x t) (state_moved (started_at id n 0) new) e outcome)) is
-              (subst (λ o. IsPlayed o new (Plays (moved seen_of s t) (state_moved o new) e outcome)) begun played);
+              subst (λ x. IsPlayed (started_at id n 0) new (Plays (store_move seen_of x t) (state_move (started_at id n 0) new) e outcome)) is
+              (subst (λ o. IsPlayed o new (Plays (store_move seen_of s t) (state_move o new) e outcome)) begun played);
           is_honest = tt;
         };
       },

@@ -3,52 +3,53 @@
 use Rattle.std.proofs.Common.{ℕ, zero, suc, ◌+◌, ◌≡◌, ◌≢◌, ◌⊎◌, inl, inr, Bool, true, false, cond, List, [], ◌∷◌, ◌++◌, slice_get, slice_set, take, Option, None, Some, Result, refl, sym, subst, ap, ◌∙◌, append-nil, append_assoc, arith}
 use Rattle.press_wire.specs.declared.message.Message.{Message}
 use Rattle.press_acceptor.specs.Seen.{Seen}
-use Rattle.press_acceptor.specs.StoreMap.{StoreMap, Save, saved, saved_if, new_store}
+use Rattle.press_acceptor.specs.StoreMap.{StoreMap, Save, with_save, with_any_save, new_store}
 use Rattle.press_acceptor.specs.Trace.{Fact}
-use Rattle.press_acceptor.specs.Turned.{moved}
+use Rattle.press_acceptor.specs.Turned.{store_move}
 use Rattle.press_node.specs.declared.event.Event.{Event}
 use Rattle.press_node.specs.declared.event.Event.TheVariants as event
 use Rattle.press_node.specs.declared.fault.NodeFault.{NodeFault}
-use Rattle.press_node.specs.NodeEvent.{Answer, Running, fresh, is_for, on_body, on_event, quiet}
-use Rattle.press_node.specs.Plays.{PlaysWhere, state_moved}
+use Rattle.press_node.specs.NodeEvent.{Answer, RunningNode, fresh, is_for, on_body, on_event, quiet}
+use Rattle.press_node.specs.Plays.{PlaysWhere, state_move}
 use Rattle.press_node.specs.Refusals.{refusal}
 use Rattle.press_node.specs.States.{NodeState, running_in}
 use Rattle.press_world.specs.Adding.{Adds}
 use Rattle.press_world.specs.Agreeing.{Agrees}
-use Rattle.press_world.specs.Worlds.{Place, World, with_query, effect, new_places, new_world, restarted}
+use Rattle.press_world.specs.Worlds.{Place, World, with_query, effect, new_places, new_world, restarts}
 use Rattle.press_world.specs.declared.step.Cut.TheVariants.{AfterSave, AfterMessages}
 use Rattle.press_member.specs.Acting.{IsSettled, Does, Stops, ActsUp}
-use Rattle.press_member.specs.Members.{Member, Members, Move, Comes, MayLeave, StartsAt, IsMove, AreMoves, BreaksAt, BreaksBy, Holding, after, after_all, out_of, question, unstarted, new_members}
+use Rattle.press_member.specs.Members.{Member, Members, Move, Comes, MayLeave, StartsAt, IsMove, AreMoves, BreaksAt, BreaksBy, Holding, after, after_all, out_of, question, unstarted_members, new_members}
 use Rattle.press_member.specs.Members.Holding.{Over, Leaves}
 use Rattle.press_member.specs.Members.Move.{Acts, Breaks, Starts, Asks}
 use Rattle.press_member.proofs.Acting.{acts}
 use Rattle.press_member.proofs.Directed.{Law, IsDirected, event_agrees, restart_agrees}
-use Rattle.press_member.proofs.Lists.{get_front, get_set, set_here, set_other, set_same, set_twice}
+use Rattle.press_world.proofs.Lists.{get_set}
+use Rattle.press_member.proofs.Lists.{get_front, set_here, set_other, set_same, set_twice}
 
 -- ---- what stands for a member
 
 -- a save that may be there, of an event that a fault ended: in the world the event is still to come
 pub record IsPending (n id : ℕ) (sent : List Message) (p : Place) (left : StoreMap) : Type 0 where
-  pub node : Running
+  pub node : RunningNode
   pub event : Event
   pub save : Save
   pub up : p.up ≡ Some node
   pub comes : Comes sent event
   pub passes : refusal p.store (Some node) event ≡ None
   pub saves : (on_event n id p.store node event).save ≡ Some save
-  pub is : left ≡ saved p.store save
+  pub is : left ≡ with_save p.store save
 
 abbrev pub CanLeave : ℕ → ℕ → List Message → Place → StoreMap → Type 0
 CanLeave n id sent p left = (left ≡ p.store) ⊎ IsPending n id sent p left
 
 module _ {S : Type 0} (seen : S → Seen) where
-  pub record IsUpAt (store : Holding S) (node : Running) (p : Place) : Type 0 where
+  pub record IsUpAt (store : Holding S) (node : RunningNode) (p : Place) : Type 0 where
     pub s : S
     pub is : store ≡ Over s
     pub settled : IsSettled seen s p.store
     pub up : p.up ≡ Some node
 
-  abbrev pub StandsWhere : ℕ → ℕ → List Message → Holding S → Option Running → Place → Type 0
+  abbrev pub StandsWhere : ℕ → ℕ → List Message → Holding S → Option RunningNode → Place → Type 0
   StandsWhere n id sent store None p = (left : StoreMap) → MayLeave seen store left → CanLeave n id sent p left
   StandsWhere n id sent store (Some node) p = IsUpAt store node p
 
@@ -84,7 +85,7 @@ pub adds_twice : (t u w : List Fact) → Adds t u → Adds u w → Adds t w
 adds_twice t u w a b = (b.0 ++ a.0, append_assoc b.0 a.0 t ∙ (ap (λ x. b.0 ++ x) a.1 ∙ b.1))
 
 -- a message that isn't for the member leaves it as it is
-undirected : (n id : ℕ) (store : StoreMap) (node : Running) (e : Event) → (IsDirected n id e) ⊎ (on_event n id store node e ≡ quiet node)
+undirected : (n id : ℕ) (store : StoreMap) (node : RunningNode) (e : Event) → (IsDirected n id e) ⊎ (on_event n id store node e ≡ quiet node)
 undirected n id store node (event.Submit command) = inl tt
 undirected n id store node event.Wake = inl tt
 undirected n id store node (event.Deliver m) = go (is_for n id m) refl
@@ -93,7 +94,7 @@ undirected n id store node (event.Deliver m) = go (is_for n id m) refl
     go true e = inl e
     go false e = inr (ap (λ b. cond b (on_body n id store node m m.body) (quiet node)) e)
 
-pub directed : (n id : ℕ) (store : StoreMap) (node : Running) (e : Event) (save : Save) → (on_event n id store node e).save ≡ Some save → IsDirected n id e
+pub directed : (n id : ℕ) (store : StoreMap) (node : RunningNode) (e : Event) (save : Save) → (on_event n id store node e).save ≡ Some save → IsDirected n id e
 directed n id store node e save h = go (undirected n id store node e)
   where
     go : (IsDirected n id e) ⊎ (on_event n id store node e ≡ quiet node) → IsDirected n id e
@@ -107,7 +108,7 @@ none_taken (suc count) [] e = refl
 none_taken (suc count) (m ∷ ms) e = let x : m ∷ ms ≡ [] = e in cc
 
 module _ {S : Type 0} (seen : S → Seen) (law : Law) (n : ℕ) where
-  stands_where_on : (id : ℕ) (sent out : List Message) (store : Holding S) (o : Option Running) (p : Place) → StandsWhere seen n id sent store o p → StandsWhere seen n id (sent ++ out) store o p
+  stands_where_on : (id : ℕ) (sent out : List Message) (store : Holding S) (o : Option RunningNode) (p : Place) → StandsWhere seen n id sent store o p → StandsWhere seen n id (sent ++ out) store o p
   stands_where_on id sent out store None p h = λ left m. leaves_on n id sent out p left (h left m)
   stands_where_on id sent out store (Some node) p h = h
 
@@ -177,12 +178,12 @@ module _ {S : Type 0} (seen : S → Seen) (law : Law) (n : ℕ) where
     abbrev Result_of : Type 0
     Result_of = LeadsTo seen n w (record { all = slice_set m.all index x; sent = m.sent ++ out_of outcome })
 
-    goes_on : (node : Running) → q.up ≡ Some node → out_of outcome ≡ [] → running_in state_after ≡ Some node → IsSettled seen t q.store → Result_of
+    goes_on : (node : RunningNode) → q.up ≡ Some node → out_of outcome ≡ [] → running_in state_after ≡ Some node → IsSettled seen t q.store → Result_of
     goes_on node up none stays settled =
         stay m w stands index (record { store = Over s; state = state }) at x (out_of outcome) none
         (standing (m.sent ++ out_of outcome) q (subst (λ o. StandsWhere seen n (index + 1) (m.sent ++ out_of outcome) (Over t) o q) (sym stays) (record { s = t; is = refl; settled = settled; up = up })))
 
-    does : (node : Running) → q.up ≡ Some node → Does seen t q.store (on_event n (index + 1) q.store node e) (refusal q.store (Some node) e) (running_in state_after) outcome → Result_of
+    does : (node : RunningNode) → q.up ≡ Some node → Does seen t q.store (on_event n (index + 1) q.store node e) (refusal q.store (Some node) e) (running_in state_after) outcome → Result_of
     does node up h = go (undirected n (index + 1) q.store node e)
       where
         a : Answer
@@ -192,12 +193,12 @@ module _ {S : Type 0} (seen : S → Seen) (law : Law) (n : ℕ) where
         go (inr same) = goes_on node up
             (ap out_of h.sends ∙ ap (λ (b : Answer). b.out) same)
             (h.goes_on ∙ ap (λ (b : Answer). Some b.after) same)
-            (subst (λ (b : Answer). IsSettled seen t (saved_if q.store b.save)) same h.settled)
+            (subst (λ (b : Answer). IsSettled seen t (with_any_save q.store b.save)) same h.settled)
         go (inl d) =
             let c = subst (λ l. Comes l e) (sym stands.sent) comes in
             let v = effect w index q None (on_event n (index + 1) q.store node e) in
             let k = event_agrees law n w index q in_place stands.agrees node up None e c d h.passes in
-            let r : Place = record { store = saved_if q.store (on_event n (index + 1) q.store node e).save; up = Some (on_event n (index + 1) q.store node e).after } in (
+            let r : Place = record { store = with_any_save q.store (on_event n (index + 1) q.store node e).save; up = Some (on_event n (index + 1) q.store node e).after } in (
               v,
               k.1,
               put m w stands index (record { store = Over s; state = state }) at v x r (m.sent ++ out_of outcome) (out_of outcome) refl k.0
@@ -206,16 +207,16 @@ module _ {S : Type 0} (seen : S → Seen) (law : Law) (n : ℕ) where
                   (standing (m.sent ++ out_of outcome) r (subst (λ o. StandsWhere seen n (index + 1) (m.sent ++ out_of outcome) (Over t) o r) (sym h.goes_on) (record { s = t; is = refl; settled = h.settled; up = refl }))),
             )
 
-    stops : (node : Running) → q.up ≡ Some node → Stops seen t q.store (on_event n (index + 1) q.store node e) (refusal q.store (Some node) e) (running_in state_after) outcome → Result_of
+    stops : (node : RunningNode) → q.up ≡ Some node → Stops seen t q.store (on_event n (index + 1) q.store node e) (refusal q.store (Some node) e) (running_in state_after) outcome → Result_of
     stops node up h =
         stay m w stands index (record { store = Over s; state = state }) at x (out_of outcome) h.sends
         (standing (m.sent ++ out_of outcome) q (subst (λ o. StandsWhere seen n (index + 1) (m.sent ++ out_of outcome) (Over t) o q) (sym h.down) (λ left l. go left (h.leaves left l))))
       where
-        go : (left : StoreMap) → (left ≡ q.store) ⊎ ((save : Save) × (refusal q.store (Some node) e ≡ None) × ((on_event n (index + 1) q.store node e).save ≡ Some save) × (left ≡ saved q.store save)) → CanLeave n (index + 1) (m.sent ++ out_of outcome) q left
+        go : (left : StoreMap) → (left ≡ q.store) ⊎ ((save : Save) × (refusal q.store (Some node) e ≡ None) × ((on_event n (index + 1) q.store node e).save ≡ Some save) × (left ≡ with_save q.store save)) → CanLeave n (index + 1) (m.sent ++ out_of outcome) q left
         go left (inl h) = inl h
         go left (inr h) = inr (record { node = node; event = e; save = h.0; up = up; comes = comes_on m.sent (out_of outcome) e comes; passes = h.1; saves = h.2; is = h.3 })
 
-    by_case : (node : Running) → q.up ≡ Some node → ActsUp seen s t q.store n (index + 1) (Some node) (running_in state_after) e outcome → Result_of
+    by_case : (node : RunningNode) → q.up ≡ Some node → ActsUp seen s t q.store n (index + 1) (Some node) (running_in state_after) e outcome → Result_of
     by_case node up (inl h) = does node up h
     by_case node up (inr (inl h)) = goes_on node up h.sends h.stays h.settled
     by_case node up (inr (inr h)) = stops node up h
@@ -228,18 +229,18 @@ module _ {S : Type 0} (seen : S → Seen) (law : Law) (n : ℕ) where
         (subst (λ y. StandsWhere seen n (index + 1) (m.sent ++ out_of outcome) (Over y) None q) (sym same)
         (stands_where_on (index + 1) m.sent (out_of outcome) (Over s) None q h))))
 
-    settled_of : (node : Running) → IsUpAt seen (Over s) node q → IsSettled seen s q.store
+    settled_of : (node : RunningNode) → IsUpAt seen (Over s) node q → IsSettled seen s q.store
     settled_of node h = let same : s ≡ h.s = cc in subst (λ y. IsSettled seen y q.store) (sym same) h.settled
 
-    pub acted : (seen t).is_honest → PlaysWhere (running_in state) (moved seen s t) (state_moved state state_after) e outcome → Result_of
+    pub acted : (seen t).is_honest → PlaysWhere (running_in state) (store_move seen s t) (state_move state state_after) e outcome → Result_of
     acted honest plays = go (running_in state) refl kept_at.stands plays
       where
-        go : (o : Option Running) → running_in state ≡ o → StandsWhere seen n (index + 1) m.sent (Over s) o q → PlaysWhere o (moved seen s t) (state_moved state state_after) e outcome → Result_of
+        go : (o : Option RunningNode) → running_in state ≡ o → StandsWhere seen n (index + 1) m.sent (Over s) o q → PlaysWhere o (store_move seen s t) (state_move state state_after) e outcome → Result_of
         go None is h p = down is p.2 p.1 (ap out_of p.0) h
         go (Some node) is h p =
             let settled = settled_of node h in
             let own : IsSettled seen s (seen s).kept = record { is_open = settled.is_open; keeps = refl; only = λ left l. settled.only left l ∙ sym settled.keeps } in
-            let did = acts seen s t own honest state state_after e outcome (subst (λ o. PlaysWhere o (moved seen s t) (state_moved state state_after) e outcome) (sym is) p) in
+            let did = acts seen s t own honest state state_after e outcome (subst (λ o. PlaysWhere o (store_move seen s t) (state_move state state_after) e outcome) (sym is) p) in
             by_case node h.up
             (subst (λ o. ActsUp seen s t q.store n (index + 1) o (running_in state_after) e outcome) is
             (subst (λ k. ActsUp seen s t k n (index + 1) (running_in state) (running_in state_after) e outcome) settled.keeps
@@ -287,18 +288,18 @@ module _ {S : Type 0} (seen : S → Seen) (law : Law) (n : ℕ) where
         settled : IsSettled seen h.before b.store
         settled = subst (λ x. IsSettled seen x b.store) (sym same) k.settled
 
-        after_save : (count : ℕ) → refusal b.store (Some h.node) e ≡ None → left ≡ saved_if b.store (on_event n (index + 1) b.store h.node e).save → out ≡ take count (on_event n (index + 1) b.store h.node e).out → Broken
+        after_save : (count : ℕ) → refusal b.store (Some h.node) e ≡ None → left ≡ with_any_save b.store (on_event n (index + 1) b.store h.node e).save → out ≡ take count (on_event n (index + 1) b.store h.node e).out → Broken
         after_save count passes is sent = by (undirected n (index + 1) b.store h.node e)
           where
             by : (IsDirected n (index + 1) e) ⊎ (on_event n (index + 1) b.store h.node e ≡ quiet h.node) → Broken
             by (inr q) = unsaved
-                (is ∙ ap (λ (a : Answer). saved_if b.store a.save) q)
+                (is ∙ ap (λ (a : Answer). with_any_save b.store a.save) q)
                 (sent ∙ ap (λ (a : Answer). take count a.out) q ∙ none_taken count [] refl)
             by (inl d) =
                 let c = subst (λ l. Comes l e) (sym stands.sent) h.comes in
                 let a = on_event n (index + 1) b.store h.node e in
                 let g = event_agrees law n w index b there stands.agrees h.node k.up (Some (AfterMessages count)) e c d passes in
-                let r : Place = record { store = saved_if b.store (on_event n (index + 1) b.store h.node e).save; up = None } in (
+                let r : Place = record { store = with_any_save b.store (on_event n (index + 1) b.store h.node e).save; up = None } in (
                   effect w index b (Some (AfterMessages count)) a,
                   g.1,
                   put m w stands index old h.at (effect w index b (Some (AfterMessages count)) a) z r (m.sent ++ out) out refl g.0
@@ -311,7 +312,7 @@ module _ {S : Type 0} (seen : S → Seen) (law : Law) (n : ℕ) where
         go (inl x) = unsaved (settled.only left x.0) x.1
         go (inr x) = after_save x.0
             (ap (λ s. refusal s (Some h.node) e) (sym settled.keeps) ∙ x.1)
-            (x.2 ∙ ap (λ s. saved_if s (on_event n (index + 1) s h.node e).save) settled.keeps)
+            (x.2 ∙ ap (λ s. with_any_save s (on_event n (index + 1) s h.node e).save) settled.keeps)
             (x.3 ∙ ap (λ s. take x.0 (on_event n (index + 1) s h.node e).out) settled.keeps)
 
     pub broken : Broken
@@ -349,9 +350,9 @@ module _ {S : Type 0} (seen : S → Seen) (law : Law) (n : ℕ) where
     as_kept : (seen t).kept ≡ r.store → Started
     as_kept e =
         let k = restart_agrees law n w index r placed stands.agrees in (
-          restarted n w index (Some r),
+          restarts n w index (Some r),
           k.1,
-          put m w stands index h.before h.at (restarted n w index (Some r)) y (begun r.store) m.sent [] (sym (append-nil m.sent)) k.0 stands.sent refl (starting r.store e),
+          put m w stands index h.before h.at (restarts n w index (Some r)) y (begun r.store) m.sent [] (sym (append-nil m.sent)) k.0 stands.sent refl (starting r.store e),
         )
 
     as_saved : IsPending n (index + 1) m.sent r (seen t).kept → Started
@@ -360,12 +361,12 @@ module _ {S : Type 0} (seen : S → Seen) (law : Law) (n : ℕ) where
         let u = effect w index r (Some AfterSave) a in
         let c = subst (λ l. Comes l b.event) (sym stands.sent) b.comes in
         let k = event_agrees law n w index r placed stands.agrees b.node b.up (Some AfterSave) b.event c (directed n (index + 1) r.store b.node b.event b.save b.saves) b.passes in
-        let l : Place = record { store = saved_if r.store (on_event n (index + 1) r.store b.node b.event).save; up = None } in
+        let l : Place = record { store = with_any_save r.store (on_event n (index + 1) r.store b.node b.event).save; up = None } in
         let j = restart_agrees law n u index l (set_here w.places index l r placed) k.0 in
-        let v = restarted n u index (Some l) in (
+        let v = restarts n u index (Some l) in (
           v,
           adds_twice w.trace u.trace v.trace k.1 j.1,
-          put m w stands index h.before h.at v y (begun l.store) m.sent [] (sym (append-nil m.sent)) j.0 (append-nil w.sent ∙ stands.sent) (set_twice w.places index l (begun l.store)) (starting l.store (b.is ∙ ap (saved_if r.store) (sym b.saves))),
+          put m w stands index h.before h.at v y (begun l.store) m.sent [] (sym (append-nil m.sent)) j.0 (append-nil w.sent ∙ stands.sent) (set_twice w.places index l (begun l.store)) (starting l.store (b.is ∙ ap (with_any_save r.store) (sym b.saves))),
         )
 
     by_left : CanLeave n (index + 1) m.sent r (seen t).kept → Started
@@ -375,7 +376,7 @@ module _ {S : Type 0} (seen : S → Seen) (law : Law) (n : ℕ) where
     pub started : Started
     started = go (running_in h.before.state) was.stands
       where
-        go : (o : Option Running) → StandsWhere seen n (index + 1) m.sent h.before.store o r → Started
+        go : (o : Option RunningNode) → StandsWhere seen n (index + 1) m.sent h.before.store o r → Started
         go None k = by_left (k (seen t).kept h.left)
         go (Some node) k = as_kept (k.settled.only (seen t).kept (subst (λ o. MayLeave seen o (seen t).kept) k.is h.left))
 
@@ -411,7 +412,7 @@ module _ {S : Type 0} (seen : S → Seen) (law : Law) (n : ℕ) where
   abbrev first : ℕ → Place
   first id = record { store = new_store; up = Some (fresh n id 0) }
 
-  new_at : (id k i : ℕ) (z : Member S) → slice_get (unstarted n id k) i ≡ Some z → (blank (id + i) ≡ z) × (slice_get (new_places n id k) i ≡ Some (first (id + i)))
+  new_at : (id k i : ℕ) (z : Member S) → slice_get (unstarted_members n id k) i ≡ Some z → (blank (id + i) ≡ z) × (slice_get (new_places n id k) i ≡ Some (first (id + i)))
   new_at id zero i z e = cc
   new_at id (suc k) zero z e = let same : id ≡ id + 0 = omega arith in subst (λ j. (blank j ≡ z) × (Some (first id) ≡ Some (first j))) same (cc, refl)
   new_at id (suc k) (suc i) z e = let same : id + 1 + i ≡ id + suc i = omega arith in subst (λ j. (blank j ≡ z) × (slice_get (new_places n (id + 1) k) i ≡ Some (first j))) same (new_at (id + 1) k i z e)

@@ -5,15 +5,15 @@ use Rattle.press_apply.specs.declared.value.Value.TheVariants.{Cmd}
 use Rattle.press_wire.specs.Spelling.{is_too_long}
 use Rattle.press_wire.specs.declared.message.Message.{Message}
 use Rattle.press_acceptor.specs.Seen.{Call, Seen}
-use Rattle.press_acceptor.specs.Turned.{StoreMove, Trusts, moved}
+use Rattle.press_acceptor.specs.Turned.{StoreMove, Trusts, store_move}
 use Rattle.press_acceptor.specs.declared.fault.StoreFault.{StoreFault}
 use Rattle.press_acceptor.specs.declared.fault.StoreFault.TheVariants as store_fault
 use Rattle.press_proposer.specs.Queues.{is_full}
 use Rattle.press_node.specs.EventPlans.{event_calls}
-use Rattle.press_node.specs.Faults.{of_store}
-use Rattle.press_node.specs.NodeEvent.{Running}
+use Rattle.press_node.specs.Faults.{of_store, stop_of}
+use Rattle.press_node.specs.NodeEvent.{RunningNode}
 use Rattle.press_node.specs.Nodes.{IsPlayed, NodeMove}
-use Rattle.press_node.specs.Plays.{Plays, PlaysUp, PlaysWhere, state_moved}
+use Rattle.press_node.specs.Plays.{Plays, PlaysUp, PlaysWhere, state_move}
 use Rattle.press_node.specs.Refusals.{is_at_end, refusal_up}
 use Rattle.press_node.specs.States.{NodeState, Up, is_down, is_down_where, running_in}
 use Rattle.press_node.specs.declared.event.Event.{Event}
@@ -24,7 +24,7 @@ use Rattle.std.specs.declared.alloc.AllocError.{AllocError}
 use Rattle.press_member.specs.Acts.{Acts, TellsStop, View}
 use Rattle.press_member.specs.declared.input.Input.{Input}
 use Rattle.press_member.specs.declared.output.Outputs.{Outputs}
-use Rattle.press_member.specs.Deeds.{Deed, Does, later, own_after, stop_after_all, stop_behind, stop_of}
+use Rattle.press_member.specs.Deeds.{Deed, Does, later_stop, own_after, stop_after_all, stop_behind}
 use Rattle.press_member.specs.Deeds.Deed.{Plays as Playing, Asks as Asking}
 use Rattle.press_member.proofs.Coming.{honest_back}
 
@@ -36,21 +36,21 @@ mild_if false f g next m h e = h e
 mild_end : (g : NodeFault) → None ≡ Some g → stop_of g ≡ None
 mild_end g e = absurd (let f = e in cc)
 
-mild : (node : Running) (e : Event) (g : NodeFault) → refusal_up node e ≡ Some g → stop_of g ≡ None
+mild : (node : RunningNode) (e : Event) (g : NodeFault) → refusal_up node e ≡ Some g → stop_of g ≡ None
 mild node (event.Submit command) g e =
     mild_if (is_too_long (Cmd command)) fault.TooLong g (if is_full node.proposer.queue then Some fault.Full else None) refl (λ h. mild_if (is_full node.proposer.queue) fault.Full g None refl (mild_end g) h) e
 mild node event.Wake g e = mild_if (is_at_end node) fault.SlotsUsedUp g None refl (mild_end g) e
 mild node (event.Deliver message) g e = mild_end g e
 
-stops_so : (stop : Option StoreFault) (by : StoreFault) → later stop (stop_of (of_store by)) ≡ Some by
+stops_so : (stop : Option StoreFault) (by : StoreFault) → later_stop stop (stop_of (of_store by)) ≡ Some by
 stops_so stop store_fault.NoMemory = refl
 stops_so stop store_fault.Disk = refl
 stops_so stop store_fault.Damaged = refl
 
-goes_on : (stop : Option StoreFault) (f : NodeFault) → stop_of f ≡ None → later stop (stop_of f) ≡ stop
-goes_on stop f e = ap (later stop) e
+goes_on : (stop : Option StoreFault) (f : NodeFault) → stop_of f ≡ None → later_stop stop (stop_of f) ≡ stop
+goes_on stop f e = ap (later_stop stop) e
 
-up_so : (u : Option Up) (node : Running) → option_map (λ (up : Up). up.running) u ≡ Some node → is_down_where u ≡ false
+up_so : (u : Option Up) (node : RunningNode) → option_map (λ (up : Up). up.running) u ≡ Some node → is_down_where u ≡ false
 up_so None node e = absurd (let f = e in cc)
 up_so (Some up) node e = refl
 
@@ -63,28 +63,28 @@ none_stopped None e = refl
 none_stopped (Some by) e = absurd (let f = e in cc)
 
 module _ {S : Type 0} (seen : S → Seen) (s t : S) (honest : (seen t).is_honest) where
-  pub event_stops : (old new : NodeState) (stop : Option StoreFault) (e : Event) (o : Result (List Message) NodeFault) → Plays (moved seen s t) (state_moved old new) e o → is_down old ≡ is_some stop → is_down new ≡ is_some (stop_behind stop o)
+  pub event_stops : (old new : NodeState) (stop : Option StoreFault) (e : Event) (o : Result (List Message) NodeFault) → Plays (store_move seen s t) (state_move old new) e o → is_down old ≡ is_some stop → is_down new ≡ is_some (stop_behind stop o)
   event_stops old new stop e o p tells = go (running_in old) refl p
     where
       same : (f : NodeFault) → stop_of f ≡ None → o ≡ Err f → new ≡ old → is_down new ≡ is_some (stop_behind stop o)
       same f m is unchanged = ap is_down unchanged ∙ tells ∙ ap is_some (sym (ap (stop_behind stop) is ∙ goes_on stop f m))
 
-      up : (node : Running) → running_in old ≡ Some node → (r : Option NodeFault) → refusal_up node e ≡ r → (q : Result (List Message) NodeFault) → o ≡ q → PlaysUp r node (moved seen s t) (state_moved old new) e q → is_down new ≡ is_some (stop_behind stop o)
+      up : (node : RunningNode) → running_in old ≡ Some node → (r : Option NodeFault) → refusal_up node e ≡ r → (q : Result (List Message) NodeFault) → o ≡ q → PlaysUp r node (store_move seen s t) (state_move old new) e q → is_down new ≡ is_some (stop_behind stop o)
       up node was (Some f) r q is h = same f (mild node e f r) (is ∙ h.0) h.1
       up node was None r (Ok out) is h =
-          let alive : is_down new ≡ false = up_so new.up _ (h.memory (trusts (event_calls old.members old.id node e) (moved seen s t) honest)) in
+          let alive : is_down new ≡ false = up_so new.up _ (h.memory (trusts (event_calls old.members old.id node e) (store_move seen s t) honest)) in
           let before : false ≡ is_some stop = sym (up_so old.up node was) ∙ tells in
           alive ∙ before ∙ ap is_some (sym (ap (stop_behind stop) is))
       up node was None r (Err f) is (inl h) =
-          ap is_down h.down ∙ ap is_some (sym (ap (stop_behind stop) is ∙ ap (λ g. later stop (stop_of g)) h.is ∙ stops_so stop h.by))
+          ap is_down h.down ∙ ap is_some (sym (ap (stop_behind stop) is ∙ ap (λ g. later_stop stop (stop_of g)) h.is ∙ stops_so stop h.by))
       up node was None r (Err f) is (inr h) = same fault.RoundsUsedUp refl (is ∙ ap Err h.is) h.same
 
-      go : (r : Option Running) → running_in old ≡ r → PlaysWhere r (moved seen s t) (state_moved old new) e o → is_down new ≡ is_some (stop_behind stop o)
+      go : (r : Option RunningNode) → running_in old ≡ r → PlaysWhere r (store_move seen s t) (state_move old new) e o → is_down new ≡ is_some (stop_behind stop o)
       go None was h = same fault.Down refl h.0 h.1
       go (Some node) was h = up node was (refusal_up node e) refl o refl h
 
 module _ {S N : Type 0} (seen : S → Seen) (node_moves : N → N → NodeMove) (store : N → S) (state : N → NodeState)
-    (is : (a b : N) (e : Event) (o : Result (List Message) NodeFault) → (node_moves a b).plays e o → IsPlayed (state a) (state b) (Plays (moved seen (store a) (store b)) (state_moved (state a) (state b)) e o))
+    (is : (a b : N) (e : Event) (o : Result (List Message) NodeFault) → (node_moves a b).plays e o → IsPlayed (state a) (state b) (Plays (store_move seen (store a) (store b)) (state_move (state a) (state b)) e o))
     (n id : ℕ) where
   honest_first : (own : List Message) (ds : List (Deed N)) (a b : N) → Does node_moves n id own a ds b → (seen (store b)).is_honest → (seen (store a)).is_honest
   honest_first own [] a b d h = subst (λ x. (seen (store x)).is_honest) d h

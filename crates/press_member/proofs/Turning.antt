@@ -9,7 +9,7 @@ use Rattle.press_node.specs.Nodes.{NodeMove}
 use Rattle.press_node.specs.declared.event.Event.{Event}
 use Rattle.press_node.specs.declared.event.Event.TheVariants as event
 use Rattle.press_node.specs.declared.fault.NodeFault.{NodeFault}
-use Rattle.press_member.specs.Turns.{AreFor, AreQuestions, Brings, HearsAll, HearsFirst, IsDeed, IsSorted, MayWake, Moment, Turned, refused_by}
+use Rattle.press_member.specs.Turns.{AreFor, AreQuestions, Brings, HearsAll, HearsFirst, IsDeed, IsSorted, MayWake, Moment, Turned, refusal_by}
 use Rattle.press_member.specs.Deeds.{Cause, Deed, Does, KeepsAll, for_others, for_self, kept_by, kept_by_all, own_after, own_after_all, stop_after, stop_after_all, stop_behind}
 use Rattle.press_member.specs.Members.{question}
 use Rattle.press_member.specs.Deeds.Cause.{Brought, Heard, Due}
@@ -142,17 +142,17 @@ module _ {N : Type 0} (moved : N → N → NodeMove) (n id : ℕ) where
   }
 
   pub brought : (e : Event) (R : Option NodeFault → Type 0) (W : Type 0) (a b : Moment N) (out out' : List Message) →
-      (d : IsDeed moved id e R W a b out out') → Turned moved n id (Brings e (refused_by d.outcome)) W a b out out'
-  brought e R W a b out out' d = brings (Brings e (refused_by d.outcome)) e R W a b out out' d (refl, refl, no_wake)
+      (d : IsDeed moved id e R W a b out out') → Turned moved n id (Brings e (refusal_by d.outcome)) W a b out out'
+  brought e R W a b out out' d = brings (Brings e (refusal_by d.outcome)) e R W a b out out' d (refl, refl, no_wake)
 
   -- and then a wake may be due
   pub brings_turn : (e : Event) (R : Option NodeFault → Type 0) (V W X : Type 0) (a b c : Moment N) (out out1 out2 : List Message) →
       (d : IsDeed moved id e R V a b out out1) → (id1 : ℕ) → id1 ≡ id → Turned moved n id1 MayWake W b c out1 out2 → (X → V) → (X → W) →
-      Turned moved n id (Brings e (refused_by d.outcome)) X a c out out2
+      Turned moved n id (Brings e (refusal_by d.outcome)) X a c out out2
   brings_turn e R V W X a b c out out1 out2 d id1 is u v w =
-      turns_on (λ ds. ds ≡ brought_by e R V a b out out1 d ∷ []) MayWake (Brings e (refused_by d.outcome)) V W X a b c out out1 out2
+      turns_on (λ ds. ds ≡ brought_by e R V a b out out1 d ∷ []) MayWake (Brings e (refusal_by d.outcome)) V W X a b c out out1 out2
       (brings (λ ds. ds ≡ brought_by e R V a b out out1 d ∷ []) e R V a b out out1 d refl) id1 is u
-      (λ ds es k l. subst (λ x. Brings e (refused_by d.outcome) (x ++ es)) (sym k) (refl, refl, l)) v w
+      (λ ds es k l. subst (λ x. Brings e (refusal_by d.outcome) (x ++ es)) (sym k) (refl, refl, l)) v w
 
   pub due : (R : Option NodeFault → Type 0) (W : Type 0) (a b : Moment N) (out out' : List Message) →
       IsDeed moved id event.Wake R W a b out out' → Turned moved n id MayWake W a b out out'

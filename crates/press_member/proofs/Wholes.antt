@@ -6,10 +6,10 @@ use Rattle.press_page.specs.Page.{page_of}
 use Rattle.press_acceptor.specs.Agrees.{IsOf, StoreAgrees, fact_of}
 use Rattle.press_wire.specs.Blocks.{block_of}
 use Rattle.press_acceptor.specs.Seen.{Seen}
-use Rattle.press_acceptor.specs.StoreMap.{StoreMap, Save, saved_if}
+use Rattle.press_acceptor.specs.StoreMap.{StoreMap, Save, with_any_save}
 use Rattle.press_acceptor.specs.StoreMap.Save.{SaveRound, SavePromise, SaveVote}
 use Rattle.press_acceptor.specs.Trace.{Chosen, Fact, Legal}
-use Rattle.press_node.specs.NodeEvent.{Running, on_event}
+use Rattle.press_node.specs.NodeEvent.{RunningNode, on_event}
 use Rattle.press_node.specs.States.{running_in}
 use Rattle.press_world.specs.Adding.{Adds}
 use Rattle.press_world.specs.Agreeing.{UpAgrees}
@@ -37,10 +37,10 @@ module _ {S : Type 0} (seen : S → Seen) (law : Law) (n : ℕ) (m : Members S) 
   leaves_agreeing i p left at (inr b) =
       let c = subst (λ l. Comes l b.event) (sym stands.sent) b.comes in
       let k = event_agrees law n w i p at stands.agrees b.node b.up (Some AfterSave) b.event c (directed n (i + 1) p.store b.node b.event b.save b.saves) b.passes in
-      let l : Place = record { store = saved_if p.store (on_event n (i + 1) p.store b.node b.event).save; up = None } in
+      let l : Place = record { store = with_any_save p.store (on_event n (i + 1) p.store b.node b.event).save; up = None } in
       let s = k.0.stores i l (set_here w.places i l p at) in
       let legal = subst (λ o. Legal n block_of (trace_after_save w.trace (i + 1) p.store true o)) b.saves k.0.legal in
-      let store = subst (λ o. StoreAgrees (i + 1) (saved_if p.store o) (trace_after_save w.trace (i + 1) p.store true o)) b.saves s in
+      let store = subst (λ o. StoreAgrees (i + 1) (with_any_save p.store o) (trace_after_save w.trace (i + 1) p.store true o)) b.saves s in
       inr (fact_of (i + 1) p.store b.save, own_fact (i + 1) p.store b.save, legal.0, subst (λ x. StoreAgrees (i + 1) x (fact_of (i + 1) p.store b.save ∷ w.trace)) (sym b.is) store)
 
   stores_agree : (i : ℕ) (x : Member S) (left : StoreMap) → slice_get m.all i ≡ Some x → MayLeave seen x.store left → LeavesAgreeing n (i + 1) left w.trace
@@ -49,7 +49,7 @@ module _ {S : Type 0} (seen : S → Seen) (law : Law) (n : ℕ) (m : Members S) 
       one : (p : Place) × (slice_get w.places i ≡ Some p) × StandsAt seen n i m.sent x p
       one = stands.each i x at
 
-      go : (o : Option Running) → StandsWhere seen n (i + 1) m.sent x.store o one.0 → LeavesAgreeing n (i + 1) left w.trace
+      go : (o : Option RunningNode) → StandsWhere seen n (i + 1) m.sent x.store o one.0 → LeavesAgreeing n (i + 1) left w.trace
       go None h = leaves_agreeing i one.0 left one.1 (h left l)
       go (Some node) h = leaves_agreeing i one.0 left one.1 (inl (h.settled.only left (subst (λ o. MayLeave seen o left) h.is l)))
 
@@ -63,7 +63,7 @@ module _ {S : Type 0} (seen : S → Seen) (law : Law) (n : ℕ) (m : Members S) 
           one : (p : Place) × (slice_get w.places index ≡ Some p) × StandsAt seen n index m.sent x p
           one = stands.each index x at
 
-          up : (o : Option Running) → StandsWhere seen n (index + 1) m.sent x.store o one.0 → HasValues o values → Chosen n w.trace (i + 1) v
+          up : (o : Option RunningNode) → StandsWhere seen n (index + 1) m.sent x.store o one.0 → HasValues o values → Chosen n w.trace (i + 1) v
           up None k h = absurd h
           up (Some node) k h =
               let u = subst (λ o. UpAgrees n (index + 1) o w.trace) k.up (stands.agrees.nodes index one.0 one.1) in

@@ -2,8 +2,8 @@
 use Rattle.std.specs.Prelude.{ℕ, ◌≡◌, ◌⊎◌, IsTrue, Option, None, Some, List, [], Result, Ok}
 use Rattle.press_wire.specs.declared.message.Message.{Message}
 use Rattle.press_acceptor.specs.Seen.{Seen}
-use Rattle.press_acceptor.specs.StoreMap.{StoreMap, Only, Save, saved, saved_if}
-use Rattle.press_node.specs.NodeEvent.{Answer, Running, on_event}
+use Rattle.press_acceptor.specs.StoreMap.{StoreMap, Only, Save, with_save, with_any_save}
+use Rattle.press_node.specs.NodeEvent.{Answer, RunningNode, on_event}
 use Rattle.press_node.specs.Refusals.{refusal}
 use Rattle.press_node.specs.States.{NodeState, running_in}
 use Rattle.press_node.specs.declared.event.Event.{Event}
@@ -18,32 +18,32 @@ module _ {S : Type 0} (seen : S → Seen) where
     pub only : Only kept (seen s).may_leave
 
   -- The event was done, as its definition has it: nothing refused it, and its save is made.
-  pub record Does (t : S) (kept : StoreMap) (a : Answer) (refused : Option NodeFault) (up : Option Running) (outcome : Result (List Message) NodeFault) : Type 0 where
+  pub record Does (t : S) (kept : StoreMap) (a : Answer) (refused : Option NodeFault) (up : Option RunningNode) (outcome : Result (List Message) NodeFault) : Type 0 where
     pub passes : refused ≡ None
     pub sends : outcome ≡ Ok a.out
     pub goes_on : up ≡ Some a.after
-    pub settled : IsSettled t (saved_if kept a.save)
+    pub settled : IsSettled t (with_any_save kept a.save)
 
   -- It was refused: nothing is sent, and node and store are as they were.
-  pub record Refuses (t : S) (kept : StoreMap) (node : Running) (up : Option Running) (outcome : Result (List Message) NodeFault) : Type 0 where
+  pub record Refuses (t : S) (kept : StoreMap) (node : RunningNode) (up : Option RunningNode) (outcome : Result (List Message) NodeFault) : Type 0 where
     pub sends : out_of outcome ≡ []
     pub stays : up ≡ Some node
     pub settled : IsSettled t kept
 
   -- the save of the event was made in spite of its fault
   abbrev pub IsSaved : StoreMap → Answer → Option NodeFault → StoreMap → Type 0
-  IsSaved kept a refused left = (save : Save) × (refused ≡ None) × (a.save ≡ Some save) × (left ≡ saved kept save)
+  IsSaved kept a refused left = (save : Save) × (refused ≡ None) × (a.save ≡ Some save) × (left ≡ with_save kept save)
 
   -- It stopped the node: nothing is sent, and a stop leaves the store of before the save or after
   -- it.
-  pub record Stops (t : S) (kept : StoreMap) (a : Answer) (refused : Option NodeFault) (up : Option Running) (outcome : Result (List Message) NodeFault) : Type 0 where
+  pub record Stops (t : S) (kept : StoreMap) (a : Answer) (refused : Option NodeFault) (up : Option RunningNode) (outcome : Result (List Message) NodeFault) : Type 0 where
     pub sends : out_of outcome ≡ []
     pub down : up ≡ None
     pub leaves : (left : StoreMap) → (seen t).may_leave left → (left ≡ kept) ⊎ IsSaved kept a refused left
 
   -- of a node that was down nothing changes; of one that was up the event was done or refused, or
   -- it stopped the node
-  abbrev pub ActsUp : (s t : S) → StoreMap → ℕ → ℕ → Option Running → Option Running → Event → Result (List Message) NodeFault → Type 0
+  abbrev pub ActsUp : (s t : S) → StoreMap → ℕ → ℕ → Option RunningNode → Option RunningNode → Event → Result (List Message) NodeFault → Type 0
   ActsUp s t kept n id None up event outcome = (t ≡ s) × (up ≡ None) × (out_of outcome ≡ [])
   ActsUp s t kept n id (Some node) up event outcome =
       Does t kept (on_event n id kept node event) (refusal kept (Some node) event) up outcome

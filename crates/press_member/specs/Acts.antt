@@ -70,9 +70,9 @@ abbrev pub taken_answer : Option NodeFault → Answer
 taken_answer None = answer.Taken
 taken_answer (Some fault) = answer.Refused fault
 
-abbrev pub taken_if : Bool → Option NodeFault → Answer
-taken_if true refused = taken_answer refused
-taken_if false refused = answer.NotYet
+abbrev pub answer_if_open : Bool → Option NodeFault → Answer
+answer_if_open true refused = taken_answer refused
+answer_if_open false refused = answer.NotYet
 
 -- the page, or why there is none
 abbrev pub Shows : Bool → KitView → Option Up → Target → Answer → Type 0
@@ -87,7 +87,7 @@ Hears own theirs given = ((given ≡ answer.Taken) × (theirs ≡ own)) ⊎ ((gi
 
 -- what is answered to an input
 abbrev pub Answers : {N : Type 0} → View N → KitView → Option Up → Input → Option NodeFault → Answer → Type 0
-Answers old kit up (Command command) refused given = given ≡ taken_if old.is_open refused
+Answers old kit up (Command command) refused given = given ≡ answer_if_open old.is_open refused
 Answers old kit up (Letter message) refused given = given ≡ taken_answer refused
 Answers old kit up (Page target) refused given = Shows old.is_open kit up target given
 Answers old kit up (Report from report) refused given = Hears old.digests report.digests given

@@ -4,12 +4,11 @@ use Rattle.std.specs.Prelude.{ℕ, ◌≡◌, ◌==◌, not, List, [], ◌∷◌
 use Rattle.press_wire.specs.declared.message.Message.{Message}
 use Rattle.press_acceptor.specs.Trace.{IsMember}
 use Rattle.press_acceptor.specs.declared.fault.StoreFault.{StoreFault}
-use Rattle.press_acceptor.specs.declared.fault.StoreFault.TheVariants as store_fault
+use Rattle.press_node.specs.Faults.{stop_of}
 use Rattle.press_node.specs.Nodes.{NodeMove}
 use Rattle.press_node.specs.declared.event.Event.{Event}
 use Rattle.press_node.specs.declared.event.Event.TheVariants as event
 use Rattle.press_node.specs.declared.fault.NodeFault.{NodeFault}
-use Rattle.press_node.specs.declared.fault.NodeFault.TheVariants as fault
 use Rattle.press_member.specs.Members.{out_of, question}
 
 -- of what the member with this number sends, what goes to itself, and what to others, in the order
@@ -29,26 +28,15 @@ pub data Cause : Type 0 where
   -- a wake is due
   Due : Cause
 
--- what stops a node by a fault; none where that is a refusal
-abbrev pub stop_of : NodeFault → Option StoreFault
-stop_of fault.NoMemory = Some store_fault.NoMemory
-stop_of fault.Disk = Some store_fault.Disk
-stop_of fault.Damaged = Some store_fault.Damaged
-stop_of fault.Down = None
-stop_of fault.TooLong = None
-stop_of fault.Full = None
-stop_of fault.SlotsUsedUp = None
-stop_of fault.RoundsUsedUp = None
-
 -- the later stop
-abbrev pub later : Option StoreFault → Option StoreFault → Option StoreFault
-later stop None = stop
-later stop (Some by) = Some by
+abbrev pub later_stop : Option StoreFault → Option StoreFault → Option StoreFault
+later_stop stop None = stop
+later_stop stop (Some by) = Some by
 
 -- what stopped the node last, behind an event with this outcome
 abbrev pub stop_behind : Option StoreFault → Result (List Message) NodeFault → Option StoreFault
 stop_behind stop (Ok out) = stop
-stop_behind stop (Err fault) = later stop (stop_of fault)
+stop_behind stop (Err fault) = later_stop stop (stop_of fault)
 
 pub data Deed (N : Type 0) : Type 0 where
   -- the node plays an event, with this outcome, and is this node then; these of its messages are

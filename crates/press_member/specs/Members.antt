@@ -4,14 +4,14 @@ use Rattle.std.specs.Prelude.{ℕ, zero, suc, ◌+◌, ◌≡◌, ◌⊎◌, IsT
 use Rattle.press_wire.specs.declared.message.Body.TheVariants.{Query}
 use Rattle.press_wire.specs.declared.message.Message.{Message}
 use Rattle.press_acceptor.specs.Seen.{Seen}
-use Rattle.press_acceptor.specs.StoreMap.{StoreMap, Only, new_store, saved_if}
+use Rattle.press_acceptor.specs.StoreMap.{StoreMap, Only, new_store, with_any_save}
 use Rattle.press_acceptor.specs.Trace.{IsMember}
-use Rattle.press_acceptor.specs.Turned.{moved}
-use Rattle.press_node.specs.NodeEvent.{Answer, Running, on_event}
+use Rattle.press_acceptor.specs.Turned.{store_move}
+use Rattle.press_node.specs.NodeEvent.{Answer, RunningNode, on_event}
 use Rattle.press_node.specs.Nodes.{IsPlayed}
-use Rattle.press_node.specs.Plays.{Plays, state_moved}
+use Rattle.press_node.specs.Plays.{Plays, state_move}
 use Rattle.press_node.specs.Refusals.{refusal}
-use Rattle.press_node.specs.States.{NodeState, running_in, started_at, stopped}
+use Rattle.press_node.specs.States.{NodeState, running_in, started_at, stopped_state}
 use Rattle.press_node.specs.declared.event.Event.{Event}
 use Rattle.press_node.specs.declared.event.Event.TheVariants as event
 use Rattle.press_node.specs.declared.fault.NodeFault.{NodeFault}
@@ -83,7 +83,7 @@ Comes sent event.Wake = Unit {0}
 Comes sent (event.Deliver message) = IsSent sent message
 
 -- while it runs
-abbrev pub WhileUp : Option Running → Type 0 → Type 0
+abbrev pub WhileUp : Option RunningNode → Type 0 → Type 0
 WhileUp None P = Unit {0}
 WhileUp (Some node) P = P
 
@@ -96,7 +96,7 @@ module _ {S : Type 0} (seen : S → Seen) where
   -- The event did to node and store what each node says of it, over a store that is honest.
   pub record IsEvent (sent : List Message) (old new : S) (state state_after : NodeState) (event : Event) (outcome : Result (List Message) NodeFault) : Type 0 where
     pub comes : Comes sent event
-    pub played : IsPlayed state state_after (Plays (moved seen old new) (state_moved state state_after) event outcome)
+    pub played : IsPlayed state state_after (Plays (store_move seen old new) (state_move state state_after) event outcome)
     pub is_honest : (seen new).is_honest
 
   -- It is an event of the member at this index.
@@ -111,17 +111,17 @@ module _ {S : Type 0} (seen : S → Seen) where
   abbrev pub BreaksBy : S → Answer → Option NodeFault → StoreMap → List Message → Type 0
   BreaksBy s answer refused left out =
       ((seen s).may_leave left × (out ≡ []))
-      ⊎ ((count : ℕ) × (refused ≡ None) × (left ≡ saved_if (seen s).kept answer.save) × (out ≡ take count answer.out))
+      ⊎ ((count : ℕ) × (refused ≡ None) × (left ≡ with_any_save (seen s).kept answer.save) × (out ≡ take count answer.out))
 
   -- The member at this index was stopped within the event, and is down.
   pub record BreaksAt (n : ℕ) (w : Members S) (index : ℕ) (event : Event) (left : StoreMap) (out : List Message) (state : NodeState) : Type 0 where
     pub before : S
     pub state_before : NodeState
-    pub node : Running
+    pub node : RunningNode
     pub at : slice_get w.all index ≡ Some (record { store = Over before; state = state_before })
     pub up : running_in state_before ≡ Some node
     pub comes : Comes w.sent event
-    pub is_down : state ≡ stopped state_before
+    pub is_down : state ≡ stopped_state state_before
     pub breaks : BreaksBy before (on_event n (index + 1) (seen before).kept node event) (refusal (seen before).kept (Some node) event) left out
 
   -- The store shows what a stop may have left, and a crash leaves nothing else; the node has just
@@ -149,10 +149,10 @@ module _ {S : Type 0} (seen : S → Seen) where
 -- ---- the beginning
 
 -- none of n members has started, and nothing is in their stores
-abbrev pub unstarted : {S : Type 0} → ℕ → ℕ → ℕ → List (Member S)
-unstarted n id zero = []
-unstarted n id (suc more) = record { store = Leaves new_store; state = record { id = id; members = n; up = None } } ∷ unstarted n (id + 1) more
+abbrev pub unstarted_members : {S : Type 0} → ℕ → ℕ → ℕ → List (Member S)
+unstarted_members n id zero = []
+unstarted_members n id (suc more) = record { store = Leaves new_store; state = record { id = id; members = n; up = None } } ∷ unstarted_members n (id + 1) more
 
 -- before anything happened
 abbrev pub new_members : {S : Type 0} → ℕ → Members S
-new_members n = record { all = unstarted n 1 n; sent = [] }
+new_members n = record { all = unstarted_members n 1 n; sent = [] }

@@ -2,7 +2,7 @@
 use Rattle.std.specs.Prelude.{ℕ, ◌*◌, ◌+◌, ◌-◌, ◌==◌, ◌&&◌, not, if◌then◌else◌, Bool, false, nat_lt, nat_le, max, List, [], ◌∷◌, length, unwrap_or, option_map, option_and_then, Option, None, Some}
 use Rattle.press_member.specs.declared.peers.Peer.{Peer}
 use Rattle.press_member.specs.declared.peers.Peers.{Peers}
-use Rattle.press_member.specs.declared.peers.Told.{Told}
+use Rattle.press_member.specs.declared.peers.ChosenReport.{ChosenReport}
 
 -- so many of the members are a majority (Paxos Made Simple, 2.1)
 abbrev pub is_majority : ℕ → ℕ → Bool
@@ -17,7 +17,7 @@ is_heard now peer = unwrap_or (option_map (is_lately now) peer.heard) false
 
 -- how many slots are chosen, as it said lately
 abbrev pub claim : ℕ → Peer → Option ℕ
-claim now peer = option_and_then (λ (told : Told). if is_lately now told.at then Some told.chosen else None) peer.told
+claim now peer = option_and_then (λ (told : ChosenReport). if is_lately now told.at then Some told.chosen else None) peer.told
 
 -- it said lately that so many are
 abbrev pub says : ℕ → ℕ → Peer → Bool

@@ -50,14 +50,14 @@ pub record HearsFirst {N : Type 0} (id : ℕ) (Whole : Type 0) (own : List Messa
   pub wakes : MayWake more
 
 -- why an event was refused
-abbrev pub refused_by : Result (List Message) NodeFault → Option NodeFault
-refused_by (Ok out) = None
-refused_by (Err fault) = Some fault
+abbrev pub refusal_by : Result (List Message) NodeFault → Option NodeFault
+refusal_by (Ok out) = None
+refusal_by (Err fault) = Some fault
 
 -- the event is played first, and refused so; then a wake may be due
 abbrev pub Brings : {N : Type 0} → Event → Option NodeFault → List (Deed N) → Type 0
 Brings event refused [] = ⊥
-Brings event refused (Plays Brought e outcome kept after ∷ deeds) = (e ≡ event) × (refused_by outcome ≡ refused) × MayWake deeds
+Brings event refused (Plays Brought e outcome kept after ∷ deeds) = (e ≡ event) × (refusal_by outcome ≡ refused) × MayWake deeds
 Brings event refused (Plays Heard e outcome kept after ∷ deeds) = ⊥
 Brings event refused (Plays Due e outcome kept after ∷ deeds) = ⊥
 Brings event refused (Asks to slot kept ∷ deeds) = ⊥
@@ -128,4 +128,4 @@ pub record IsDeed {N : Type 0} (moved : N → N → NodeMove) (id : ℕ) (event 
   pub plays : (moved old.node new.node).plays event outcome
   pub sorted : IsSorted id (out_of outcome) Whole old.own new.own out out'
   pub stop_is : new.stop ≡ stop_behind old.stop outcome
-  pub refused_so : refused (refused_by outcome)
+  pub refused_so : refused (refusal_by outcome)

@@ -3,9 +3,10 @@
 ghost use Rattle.std.specs.Prelude.{[], ◌≤◌};
 ghost use Rattle.press_acceptor.specs.InMemory.{seen_of};
 ghost use Rattle.press_node.specs.Nodes.{state_of, store_of};
-ghost use Rattle.press_node.specs.Plays.{sent};
+ghost use Rattle.press_node.specs.Plays.{messages_of_result};
 ghost use Rattle.press_member.specs.Members.{AreMoves, Comes, new_members};
 ghost use Rattle.press_member.specs.Moving.{first_moves};
+ghost use Rattle.press_wire.specs.Ranges.{most_members};
 
 use press_acceptor::MemoryStore;
 use press_callbacks::Kit;
@@ -23,10 +24,11 @@ pub fn start_and_play(
     kit: Kit,
     event: Event,
 ) -> (Node<MemoryStore>, Result<Vec<Message>, NodeFault>)
-    requires few { members ≤ 7 }
+    requires few { members ≤ most_members }
     requires member { id ≤ members }
     ensures { Comes [] event → AreMoves seen_of members (new_members members)
-        (first_moves members id event (sent (λ out. out.items) result.1) (store_of result.0)
+        (first_moves members id event (messages_of_result (λ out. out.items) result.1)
+        (store_of result.0)
         (state_of result.0)) }
 {
     let number = id.number();

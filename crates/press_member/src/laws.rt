@@ -3,9 +3,9 @@
 ghost use Rattle.std.specs.Prelude.{ℕ, ◌≡◌, ◌≢◌, ◌+◌, ◌<◌, ◌++◌, [], IsTrue, List, Result};
 ghost use Rattle.press_wire.specs.declared.message.Message.{Message};
 ghost use Rattle.press_acceptor.specs.Trace.{Fact};
-ghost use Rattle.press_acceptor.specs.Turned.{moved};
-ghost use Rattle.press_node.specs.Nodes.{node_moved, state_of, store_of};
-ghost use Rattle.press_node.specs.Plays.{Plays, state_moved};
+ghost use Rattle.press_acceptor.specs.Turned.{store_move};
+ghost use Rattle.press_node.specs.Nodes.{node_move, state_of, store_of};
+ghost use Rattle.press_node.specs.Plays.{Plays, state_move};
 ghost use Rattle.press_node.specs.States.{NodeState, running_in};
 ghost use Rattle.press_node.specs.declared.event.Event.{Event};
 ghost use Rattle.press_node.specs.declared.fault.NodeFault.{NodeFault};
@@ -26,7 +26,7 @@ pub fn any_store_acts<S: PromiseStore>()
     ensures { (s t : S) (old new : NodeState) (event : Event)
         (outcome : Result (List Message) NodeFault) → IsSettled S.seen s (S.seen s).kept →
         (S.seen t).is_honest →
-        Plays (moved S.seen s t) (state_moved old new) event outcome →
+        Plays (store_move S.seen s t) (state_move old new) event outcome →
         ActsIn S.seen s t (S.seen s).kept old new event outcome }
 {}
 
@@ -35,7 +35,7 @@ pub fn any_store_stays_open<S: PromiseStore>()
     ensures { (s t : S) (old new : NodeState) (event : Event)
         (outcome : Result (List Message) NodeFault) →
         WhileUp (running_in old) (IsTrue (S.seen s).is_open) → (S.seen t).is_honest →
-        Plays (moved S.seen s t) (state_moved old new) event outcome →
+        Plays (store_move S.seen s t) (state_move old new) event outcome →
         WhileUp (running_in new) (IsTrue (S.seen t).is_open) }
 {}
 
@@ -78,14 +78,14 @@ pub fn turns_interleave<S: PromiseStore>()
 /// is, and two lives after each other are one. Among others, whatever they do between its inputs,
 /// all of it is moves.
 pub fn lives_among<S: PromiseStore>(member: &Member<S>)
-    ensures rests { Lives S.seen (λ a b. node_moved S.seen a b) (λ node. store_of node)
+    ensures rests { Lives S.seen (λ a b. node_move S.seen a b) (λ node. store_of node)
         (λ node. state_of node) [] (view_of member.now) (view_of member.now) }
     ensures joined { (first last : List (Step _)) (mid new : View _) →
-        Lives S.seen (λ a b. node_moved S.seen a b) (λ node. store_of node)
+        Lives S.seen (λ a b. node_move S.seen a b) (λ node. store_of node)
         (λ node. state_of node) first (view_of member.now) mid →
-        Lives S.seen (λ a b. node_moved S.seen a b) (λ node. store_of node)
+        Lives S.seen (λ a b. node_move S.seen a b) (λ node. store_of node)
         (λ node. state_of node) last mid new →
-        Lives S.seen (λ a b. node_moved S.seen a b) (λ node. store_of node)
+        Lives S.seen (λ a b. node_move S.seen a b) (λ node. store_of node)
         (λ node. state_of node) (first ++ last) (view_of member.now) new }
     ensures among { (index : ℕ) (w : Members S) (steps : List (Step _)) (new : View _)
         (out : List Message) → (view_of member.now).id ≡ index + 1 →
@@ -93,8 +93,8 @@ pub fn lives_among<S: PromiseStore>(member: &Member<S>)
         IsAmong S.seen w index (store_of (node_in (view_of member.now)))
         (state_of (node_in (view_of member.now)))
         (record { own = (view_of member.now).own; out = out }) [] →
-        Lives S.seen (λ a b. node_moved S.seen a b) (λ node. store_of node)
+        Lives S.seen (λ a b. node_move S.seen a b) (λ node. store_of node)
         (λ node. state_of node) steps (view_of member.now) new →
-        LivesAmong S.seen (λ a b. node_moved S.seen a b) (λ node. store_of node)
+        LivesAmong S.seen (λ a b. node_move S.seen a b) (λ node. store_of node)
         (λ node. state_of node) (view_of member.now).members index steps w }
 {}

@@ -2,7 +2,7 @@
 
 ghost use Rattle.std.specs.Prelude.{◌+◌, ◌≡◌, ◌<◌, ◌≤◌, ◌^◌, false, Ok, None, Some, [], IfErr, IfOk, IfSome, IsTrue, MatchResult, is_ok, length, max, true};
 ghost use Rattle.press_node.specs.States.{applied_count, is_down};
-ghost use Rattle.press_node.specs.Nodes.{kit_of, node_moved, state_of, store_of};
+ghost use Rattle.press_node.specs.Nodes.{kit_of, node_move, state_of, store_of};
 ghost use Rattle.press_member.specs.Acts.{Acts, Shows, TellsStop, first_view, has_more, is_open, node_in, stop_in, view_of};
 ghost use Rattle.press_member.specs.Coming.{AreItsMoves};
 ghost use Rattle.press_member.specs.Readiness.{is_ready, report_of};
@@ -13,6 +13,7 @@ ghost use Rattle.press_member.specs.Starting.{IsItsStart};
 ghost use Rattle.press_member.specs.Turns.{AreQuestions, IsVotedNext, MaySubmit, MayWake};
 ghost use Rattle.press_callbacks.specs.Kits.{kit_view};
 ghost use Rattle.press_member.specs.declared.input.Input.TheVariants as input;
+ghost use Rattle.press_wire.specs.Ranges.{most_members};
 
 use crate::beginning::Beginning;
 use crate::input::Input;
@@ -80,7 +81,7 @@ impl<S: PromiseStore + Drop> Member<S> {
         store: S,
         beginning: Beginning,
     ) -> Result<Member<S>, StartFault<S>>
-        requires few { beginning.members ≤ 7 }
+        requires few { beginning.members ≤ most_members }
         requires member { beginning.id ≤ beginning.members }
         ensures begins { IfOk result
             (λ member. view_of member ≡ first_view beginning (node_in (view_of member))) }
@@ -194,10 +195,10 @@ impl<S: PromiseStore> Member<S> {
     }
 
     /// How many slots are chosen, as far as it knows by votes and by what a majority says.
-    pub fn chosen(&self) -> u64
+    pub fn chosen_count(&self) -> u64
         ensures { result ≡ max self.now.player.pace.newest self.now.player.pace.applied }
     {
-        self.player.pace.chosen()
+        self.player.pace.chosen_count()
     }
 
     /// How far it is, as it says to others.
@@ -206,7 +207,7 @@ impl<S: PromiseStore> Member<S> {
     {
         Report {
             applied: self.player.node.applied(),
-            chosen: self.chosen(),
+            chosen: self.chosen_count(),
             digests: self.peers.digests(),
         }
     }
@@ -217,7 +218,7 @@ impl<S: PromiseStore> Member<S> {
         ensures { result ≡ is_ready self.now }
     {
         let applied = self.player.node.applied();
-        let borne_out = self.peers.borne_out(self.chosen(), self.time);
+        let borne_out = self.peers.borne_out(self.chosen_count(), self.time);
         self.is_open()
             && !self.player.node.is_down()
             && self.peers.is_majority_near(self.time)
@@ -241,7 +242,7 @@ impl<S: PromiseStore> Member<S> {
     /// Of members among whom it is one, over a store that keeps its word, that is a list of moves.
     pub fn on(&mut self, input: Input) -> Result<Outputs, AllocError>
         requires always { Unit {0} }
-        ensures acts { Acts (λ a b. node_moved S.seen a b) input (view_of self.old)
+        ensures acts { Acts (λ a b. node_move S.seen a b) input (view_of self.old)
             (view_of self.new) result }
         ensures stops { TellsStop (λ node. (S.seen (store_of node)).is_honest)
             (λ node. state_of node) (view_of self.old) (view_of self.new) }
@@ -259,7 +260,7 @@ impl<S: PromiseStore> Member<S> {
 impl<S: PromiseStore> Member<S> {
     fn act(&mut self, input: Input) -> Result<Outputs, AllocError>
         requires always { Unit {0} }
-        ensures { Acts (λ a b. node_moved S.seen a b) input (view_of self.old)
+        ensures { Acts (λ a b. node_move S.seen a b) input (view_of self.old)
             (view_of self.new) result }
     {
         match input {
@@ -280,8 +281,8 @@ impl<S: PromiseStore> Member<S> {
     // An event that an input brings, and what follows it.
     fn bring(&mut self, event: Event, out: &mut Vec<Message>) -> Result<Answer, AllocError>
         requires always { Unit {0} }
-        ensures same { IsSame (λ a b. node_moved S.seen a b) (view_of self.old) (view_of self.new) }
-        ensures brings { BringsEvent (λ a b. node_moved S.seen a b) (view_of self.old)
+        ensures same { IsSame (λ a b. node_move S.seen a b) (view_of self.old) (view_of self.new) }
+        ensures brings { BringsEvent (λ a b. node_move S.seen a b) (view_of self.old)
             (view_of self.new) event out.old.items out.new.items result }
     {
         let is_command = matches!(event, Event::Submit(_));
@@ -296,7 +297,7 @@ impl<S: PromiseStore> Member<S> {
 
     fn on_command(&mut self, command: Stamped) -> Result<Outputs, AllocError>
         requires always { Unit {0} }
-        ensures acts { Acts (λ a b. node_moved S.seen a b) (input.Command command)
+        ensures acts { Acts (λ a b. node_move S.seen a b) (input.Command command)
             (view_of self.old) (view_of self.new) result }
     {
         if !self.is_open() {
@@ -354,8 +355,8 @@ impl<S: PromiseStore> Member<S> {
         out: &mut Vec<Message>,
     ) -> Result<(), AllocError>
         requires always { Unit {0} }
-        ensures same { IsSame (λ a b. node_moved S.seen a b) (view_of self.old) (view_of self.new) }
-        ensures turned { Turns (λ a b. node_moved S.seen a b) (view_of self.old) (view_of self.new)
+        ensures same { IsSame (λ a b. node_move S.seen a b) (view_of self.old) (view_of self.new) }
+        ensures turned { Turns (λ a b. node_move S.seen a b) (view_of self.old) (view_of self.new)
             (MaySubmit (λ it. command ≡ Some it)) out.old.items out.new.items
             (IsTrue (is_ok result)) }
     {
@@ -372,7 +373,7 @@ impl<S: PromiseStore> Member<S> {
 
     fn on_message(&mut self, message: Message) -> Result<Outputs, AllocError>
         requires always { Unit {0} }
-        ensures acts { Acts (λ a b. node_moved S.seen a b) (input.Message message)
+        ensures acts { Acts (λ a b. node_move S.seen a b) (input.Message message)
             (view_of self.old) (view_of self.new) result }
     {
         let from = message.from;
@@ -428,7 +429,7 @@ impl<S: PromiseStore> Member<S> {
     }
 
     fn on_page(&mut self, target: &Target) -> Outputs
-        ensures acts { Acts (λ a b. node_moved S.seen a b) (input.Page target.now)
+        ensures acts { Acts (λ a b. node_move S.seen a b) (input.Page target.now)
             (view_of self.old) (view_of self.new) (Ok result) }
     {
         let answer = self.answer_to(target);
@@ -436,7 +437,7 @@ impl<S: PromiseStore> Member<S> {
     }
 
     fn on_report(&mut self, from: MemberId, report: Report) -> Outputs
-        ensures acts { Acts (λ a b. node_moved S.seen a b) (input.Report from report)
+        ensures acts { Acts (λ a b. node_move S.seen a b) (input.Report from report)
             (view_of self.old) (view_of self.new) (Ok result) }
     {
         if !self.peers.take_report(from, report, self.time) {
@@ -448,18 +449,20 @@ impl<S: PromiseStore> Member<S> {
 
     // What others say of how far they are.
     fn note_reports(&mut self)
-        ensures same { IsSame (λ a b. node_moved S.seen a b) (view_of self.old) (view_of self.new) }
+        ensures same { IsSame (λ a b. node_move S.seen a b) (view_of self.old) (view_of self.new) }
         ensures moment { moment_of self.new.player ≡ moment_of self.old.player }
         ensures time { self.new.time ≡ self.old.time }
     {
-        let borne_out = self.peers.borne_out(self.player.pace.chosen(), self.time);
+        let borne_out = self
+            .peers
+            .borne_out(self.player.pace.chosen_count(), self.time);
         let claim = self.peers.claim(self.time);
         let is_known = self.peers.has_told(self.time);
         self.player.pace.hear_reports(borne_out, claim, is_known);
     }
 
     fn on_end(&mut self, to: MemberId, asked: u32, is_taken: bool) -> Outputs
-        ensures acts { Acts (λ a b. node_moved S.seen a b) (input.Ended to asked is_taken)
+        ensures acts { Acts (λ a b. node_move S.seen a b) (input.Ended to asked is_taken)
             (view_of self.old) (view_of self.new) (Ok result) }
     {
         self.peers.end_asking(to, asked, is_taken, self.time);
@@ -468,7 +471,7 @@ impl<S: PromiseStore> Member<S> {
 
     fn on_own(&mut self) -> Result<Outputs, AllocError>
         requires always { Unit {0} }
-        ensures acts { Acts (λ a b. node_moved S.seen a b) input.HearOwn
+        ensures acts { Acts (λ a b. node_move S.seen a b) input.HearOwn
             (view_of self.old) (view_of self.new) result }
     {
         let mut messages = Vec::new(self.alloc);
@@ -482,8 +485,8 @@ impl<S: PromiseStore> Member<S> {
     // Asks the member at a place for the slots that are not applied, unless it is busy.
     fn ask_one(&mut self, place: usize, end: u64, out: &mut Vec<Message>) -> Result<(), AllocError>
         requires { place < length self.now.peers.all.items }
-        ensures same { IsSame (λ a b. node_moved S.seen a b) (view_of self.old) (view_of self.new) }
-        ensures turned { Turns (λ a b. node_moved S.seen a b) (view_of self.old) (view_of self.new)
+        ensures same { IsSame (λ a b. node_move S.seen a b) (view_of self.old) (view_of self.new) }
+        ensures turned { Turns (λ a b. node_move S.seen a b) (view_of self.old) (view_of self.new)
             AreQuestions out.old.items out.new.items (IsTrue (is_ok result)) }
         ensures time { self.new.time ≡ self.old.time }
     {
@@ -500,8 +503,8 @@ impl<S: PromiseStore> Member<S> {
     // Asks each member for the slots that are not applied, up to the one after this: a vote there
     // is the gap that has this one proposed again, where too few members voted.
     fn ask(&mut self, last: u64, out: &mut Vec<Message>) -> Result<(), AllocError>
-        ensures same { IsSame (λ a b. node_moved S.seen a b) (view_of self.old) (view_of self.new) }
-        ensures turned { Turns (λ a b. node_moved S.seen a b) (view_of self.old) (view_of self.new)
+        ensures same { IsSame (λ a b. node_move S.seen a b) (view_of self.old) (view_of self.new) }
+        ensures turned { Turns (λ a b. node_move S.seen a b) (view_of self.old) (view_of self.new)
             AreQuestions out.old.items out.new.items (IsTrue (is_ok result)) }
         ensures time { self.new.time ≡ self.old.time }
     {
@@ -519,8 +522,8 @@ impl<S: PromiseStore> Member<S> {
         looks: &mut Vec<MemberId>,
     ) -> Result<(), AllocError>
         requires always { Unit {0} }
-        ensures same { IsSame (λ a b. node_moved S.seen a b) (view_of self.old) (view_of self.new) }
-        ensures turned { Turns (λ a b. node_moved S.seen a b) (view_of self.old) (view_of self.new)
+        ensures same { IsSame (λ a b. node_move S.seen a b) (view_of self.old) (view_of self.new) }
+        ensures turned { Turns (λ a b. node_move S.seen a b) (view_of self.old) (view_of self.new)
             MayWake messages.old.items messages.new.items (IsTrue (is_ok result)) }
         ensures time { self.new.time ≡ self.old.time }
     {
@@ -540,8 +543,8 @@ impl<S: PromiseStore> Member<S> {
         looks: &mut Vec<MemberId>,
     ) -> Result<(), AllocError>
         requires always { Unit {0} }
-        ensures same { IsSame (λ a b. node_moved S.seen a b) (view_of self.old) (view_of self.new) }
-        ensures turned { Turns (λ a b. node_moved S.seen a b) (view_of self.old) (view_of self.new)
+        ensures same { IsSame (λ a b. node_move S.seen a b) (view_of self.old) (view_of self.new) }
+        ensures turned { Turns (λ a b. node_move S.seen a b) (view_of self.old) (view_of self.new)
             IsDue messages.old.items messages.new.items (IsTrue (is_ok result)) }
         ensures time { self.new.time ≡ self.old.time }
     {
@@ -559,7 +562,7 @@ impl<S: PromiseStore> Member<S> {
     // What is due. A member that is down does nothing more.
     fn on_time(&mut self, now: u64) -> Result<Outputs, AllocError>
         requires always { Unit {0} }
-        ensures acts { Acts (λ a b. node_moved S.seen a b) (input.Time now)
+        ensures acts { Acts (λ a b. node_move S.seen a b) (input.Time now)
             (view_of self.old) (view_of self.new) result }
         ensures time { self.new.time ≡ now }
     {

@@ -5,7 +5,8 @@ ghost use Rattle.std.specs.Prelude.{◌≡◌, ◌<◌, ◌≤◌, ◌+◌, ◌-
 ghost use Rattle.press_member.specs.Pacing.{HasSameNeeds, HasSameSeat, asks_at, has_all, is_busy, is_due, is_held_up, is_late, is_stuck, is_unbegun, last_asked, later, leads, rank_of, turn_from, wanted_slot};
 
 use crate::signs::{Sign, sign_of};
-use press_wire::{MemberId, Message};
+use press_learner::WINDOW;
+use press_wire::{BLOCK_SLOTS, MemberId, Message};
 
 // Milliseconds between the turns of two members at the begin of a block, which who proposed last
 // has after all others.
@@ -26,7 +27,7 @@ const SHARED: u64 = 1_000;
 const LONG: u64 = 100;
 
 // How many slots share a prepare.
-const BLOCK: u64 = 16;
+const BLOCK: u64 = BLOCK_SLOTS as u64;
 
 // How long answers may be on their way before it asks again, at first.
 const ON_ITS_WAY: u64 = 100;
@@ -43,11 +44,11 @@ const MOST_TICK: u64 = 1_000;
 const UNKNOWN: u64 = 50;
 
 // The most slots that are asked for at once: as many as a node keeps votes for.
-const WINDOW: u64 = 64;
+const AT_ONCE: u64 = WINDOW as u64;
 
 // How many slots a member may be behind what others are about before it asks for them: half of
 // those that a node keeps votes for.
-const SLACK: u64 = 32;
+const SLACK: u64 = AT_ONCE / 2;
 
 // How long the next slot may have been proposed for before this member proposes what it hears voted
 // for there.
@@ -509,7 +510,7 @@ impl Pace {
     }
 
     /// How many slots are chosen, as far as it knows.
-    pub fn chosen(&self) -> u64
+    pub fn chosen_count(&self) -> u64
         ensures { result ≡ max self.now.newest self.now.applied }
     {
         self.newest.max(self.applied)
@@ -573,7 +574,7 @@ impl Pace {
             self.asks.saturating_add(1)
         };
         self.asked_from = self.applied;
-        self.asked_to = self.wanted_slot().min(self.applied.saturating_add(WINDOW));
+        self.asked_to = self.wanted_slot().min(self.applied.saturating_add(AT_ONCE));
         self.ask_at = self
             .time
             .saturating_add(self.double_wait(ON_ITS_WAY, self.asks));

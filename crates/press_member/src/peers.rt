@@ -5,7 +5,7 @@ ghost use Rattle.press_member.specs.Hearing.{after_end, after_hearing, after_rep
 ghost use Rattle.press_member.specs.Parts.{AreSame};
 ghost use Rattle.press_member.specs.Ready.{borne_out, claim, if_borne, is_heard, is_lately, is_majority, others, says};
 
-use crate::signs::is_question;
+use crate::signs::is_query;
 use press_batch::{Digests, Report};
 use press_wire::{MemberId, Message};
 use std::alloc::{AllocError, Global};
@@ -21,7 +21,7 @@ struct Peer {
     // When it was heard last.
     heard: Option<u64>,
     // How far it said it is, and when.
-    told: Option<Told>,
+    told: Option<ChosenReport>,
     // How many looks and questions are on their way to it.
     asked: u32,
     // Whether it counts other members or runs another kit.
@@ -30,7 +30,7 @@ struct Peer {
 
 // How far a member said it is, and when.
 #[derive(Clone, Copy, Drop)]
-struct Told {
+struct ChosenReport {
     chosen: u64,
     at: u64,
 }
@@ -80,7 +80,7 @@ impl Peer {
             self.told = None;
         } else {
             self.heard = Some(now);
-            self.told = Some(Told { chosen, at: now });
+            self.told = Some(ChosenReport { chosen, at: now });
         }
     }
 
@@ -202,7 +202,7 @@ impl Peers {
         ensures { AreSame self.old self.new }
     {
         for message in messages {
-            if is_question(message) {
+            if is_query(message) {
                 self.begin_asking(message.to);
             }
         }

@@ -2,9 +2,10 @@
 
 ghost use Rattle.std.specs.Prelude.{◌≡◌, ℕ, IsTrue, is_ok};
 ghost use Rattle.press_acceptor.specs.Trace.{IsMember};
-ghost use Rattle.press_node.specs.Nodes.{kit_of, node_moved};
-ghost use Rattle.press_node.specs.Plays.{sent};
-ghost use Rattle.press_member.specs.Deeds.{later, stop_of};
+ghost use Rattle.press_node.specs.Nodes.{kit_of, node_move};
+ghost use Rattle.press_node.specs.Plays.{messages_of_result};
+ghost use Rattle.press_node.specs.Faults.{stop_of};
+ghost use Rattle.press_member.specs.Deeds.{later_stop};
 ghost use Rattle.press_member.specs.Turns.{AreQuestions, HearsAll, IsDeed, MayWake, Turned};
 ghost use Rattle.press_member.specs.Played.{SaysRefused, moment_of, refusal_in};
 ghost use Rattle.press_member.specs.Acts.{taken_answer};
@@ -12,7 +13,7 @@ ghost use Rattle.press_member.specs.Acts.{taken_answer};
 use crate::letters::put_all;
 use crate::output::Answer;
 use crate::pace::Pace;
-use crate::signs::is_question;
+use crate::signs::is_query;
 use press_acceptor::{PromiseStore, StoreFault};
 use press_node::{Event, Node, NodeFault};
 use press_wire::{Body, MemberId, Message, Slot};
@@ -97,7 +98,8 @@ impl Played {
 fn play_event<S: PromiseStore>(node: &mut Node<S>, event: Event) -> Result<Vec<Message>, NodeFault>
     requires always { Unit {0} }
     ensures kit { kit_of node.new ≡ kit_of node.old }
-    ensures plays { (node_moved S.seen node.old node.new).plays event (sent (λ v. v.items) result) }
+    ensures plays { (node_move S.seen node.old node.new).plays event
+        (messages_of_result (λ v. v.items) result) }
 {
     match node.on(event) {
         Ok(out) => Ok(out),
@@ -107,17 +109,11 @@ fn play_event<S: PromiseStore>(node: &mut Node<S>, event: Event) -> Result<Vec<M
 
 // What stopped a node last, behind an event that ended with this fault.
 fn stop_behind(stop: Option<StoreFault>, fault: NodeFault) -> Option<StoreFault>
-    ensures { result ≡ later stop (stop_of fault) }
+    ensures { result ≡ later_stop stop (stop_of fault) }
 {
-    match fault {
-        NodeFault::NoMemory => Some(StoreFault::NoMemory),
-        NodeFault::Disk => Some(StoreFault::Disk),
-        NodeFault::Damaged => Some(StoreFault::Damaged),
-        NodeFault::Down
-        | NodeFault::TooLong
-        | NodeFault::Full
-        | NodeFault::SlotsUsedUp
-        | NodeFault::RoundsUsedUp => stop,
+    match fault.stop() {
+        Some(by) => Some(by),
+        None => stop,
     }
 }
 
@@ -127,7 +123,7 @@ impl<S: PromiseStore> Player<S> {
         requires always { Unit {0} }
         ensures id { self.new.id ≡ self.old.id }
         ensures kit { kit_of self.new.node ≡ kit_of self.old.node }
-        ensures deed { IsDeed (λ a b. node_moved S.seen a b) self.old.id event
+        ensures deed { IsDeed (λ a b. node_move S.seen a b) self.old.id event
             (SaysRefused result) (IsTrue (is_ok result)) (moment_of self.old)
             (moment_of self.new) out.old.items out.new.items }
     {
@@ -137,7 +133,7 @@ impl<S: PromiseStore> Player<S> {
                 Ok(Played::Refused(fault))
             }
             Ok(sent) => {
-                let queries = sent.iter().any(is_question);
+                let queries = sent.iter().any(is_query);
                 self.pace.note_all(&sent, self.id);
                 put_all(self.id, sent, &mut self.own, out)?;
                 Ok(Played::Done { queries })
@@ -150,7 +146,7 @@ impl<S: PromiseStore> Player<S> {
         requires always { Unit {0} }
         ensures id { self.new.id ≡ self.old.id }
         ensures kit { kit_of self.new.node ≡ kit_of self.old.node }
-        ensures turned { (n : ℕ) → Turned (λ a b. node_moved S.seen a b) n self.old.id MayWake
+        ensures turned { (n : ℕ) → Turned (λ a b. node_move S.seen a b) n self.old.id MayWake
             (IsTrue (is_ok result)) (moment_of self.old) (moment_of self.new) out.old.items
             out.new.items }
     {
@@ -166,7 +162,7 @@ impl<S: PromiseStore> Player<S> {
         requires always { Unit {0} }
         ensures id { self.new.id ≡ self.old.id }
         ensures kit { kit_of self.new.node ≡ kit_of self.old.node }
-        ensures turned { (n : ℕ) → Turned (λ a b. node_moved S.seen a b) n self.old.id MayWake
+        ensures turned { (n : ℕ) → Turned (λ a b. node_move S.seen a b) n self.old.id MayWake
             (IsTrue (is_ok result)) (moment_of self.old) (moment_of self.new) out.old.items
             out.new.items }
     {
@@ -185,7 +181,7 @@ impl<S: PromiseStore> Player<S> {
         requires always { Unit {0} }
         ensures id { self.new.id ≡ self.old.id }
         ensures kit { kit_of self.new.node ≡ kit_of self.old.node }
-        ensures turned { (n : ℕ) → Turned (λ a b. node_moved S.seen a b) n self.old.id
+        ensures turned { (n : ℕ) → Turned (λ a b. node_move S.seen a b) n self.old.id
             (HearsAll self.old.id (IsTrue (is_ok result)) self.old.own.items)
             (IsTrue (is_ok result)) (moment_of self.old) (moment_of self.new) out.old.items
             out.new.items }
@@ -205,7 +201,7 @@ impl<S: PromiseStore> Player<S> {
     fn ask(&mut self, to: MemberId, slot: Slot, out: &mut Vec<Message>) -> Result<(), AllocError>
         ensures node { self.new.node ≡ self.old.node }
         ensures id { self.new.id ≡ self.old.id }
-        ensures turned { (n : ℕ) → IsMember n to → Turned (λ a b. node_moved S.seen a b) n
+        ensures turned { (n : ℕ) → IsMember n to → Turned (λ a b. node_move S.seen a b) n
             self.old.id AreQuestions (IsTrue (is_ok result)) (moment_of self.old)
             (moment_of self.new) out.old.items out.new.items }
     {
@@ -230,7 +226,7 @@ impl<S: PromiseStore> Player<S> {
     ) -> Result<(), AllocError>
         ensures node { self.new.node ≡ self.old.node }
         ensures id { self.new.id ≡ self.old.id }
-        ensures turned { (n : ℕ) → IsMember n to → Turned (λ a b. node_moved S.seen a b) n
+        ensures turned { (n : ℕ) → IsMember n to → Turned (λ a b. node_move S.seen a b) n
             self.old.id AreQuestions (IsTrue (is_ok result)) (moment_of self.old)
             (moment_of self.new) out.old.items out.new.items }
     {
@@ -251,7 +247,7 @@ impl<S: PromiseStore> Player<S> {
     ) -> Result<(), AllocError>
         ensures node { self.new.node ≡ self.old.node }
         ensures id { self.new.id ≡ self.old.id }
-        ensures turned { (n : ℕ) → IsMember n to → Turned (λ a b. node_moved S.seen a b) n
+        ensures turned { (n : ℕ) → IsMember n to → Turned (λ a b. node_move S.seen a b) n
             self.old.id AreQuestions (IsTrue (is_ok result)) (moment_of self.old)
             (moment_of self.new) out.old.items out.new.items }
     {

@@ -40,7 +40,7 @@ pub fn sign_of(message: &Message, own: MemberId, is_for_all: bool) -> Sign {
 }
 
 /// Whether the message asks for a vote that was cast.
-pub fn is_question(message: &Message) -> bool {
+pub fn is_query(message: &Message) -> bool {
     matches!(message.body, Body::Query)
 }
 

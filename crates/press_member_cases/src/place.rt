@@ -11,7 +11,7 @@ use press_member::{Beginning, Member};
 use press_page::Target;
 use press_simulation::{Actor, Answer, Begins, Condition, Input, Lanes, Note, Standing, digest_of};
 use press_store::Owner;
-use press_wire::Message;
+use press_wire::{MOST_MEMBERS, Message};
 use std::alloc::{AllocError, Global};
 
 /// A member that runs there, or what its disk kept.
@@ -51,7 +51,7 @@ fn standing_of<S: Shelf>(member: &Member<Watched<S>>) -> Standing {
         is_waiting: member.node().is_waiting(),
         has_more: member.has_more(),
         applied: member.node().applied(),
-        chosen: member.chosen(),
+        chosen: member.chosen_count(),
     }
 }
 
@@ -79,7 +79,7 @@ impl<S: Shelf> Place<S> {
             self.left = Some(store.close());
             return false;
         };
-        if beginning.members > 7 || beginning.id.number() > beginning.members {
+        if beginning.members > MOST_MEMBERS || beginning.id.number() > beginning.members {
             return false;
         }
         match Member::start(alloc, kit, store, beginning) {

@@ -4,8 +4,10 @@ use crate::forms::digest_of_value;
 use crate::shelf::Shelf;
 use press_acceptor::{Block, PromiseStore, StoreFault};
 use press_simulation::Note;
-use press_wire::{Ballot, Round, Slot, Vote, is_first};
+use press_wire::{BLOCK_SLOTS, Ballot, Round, Slot, Vote, is_first};
 use std::alloc::Global;
+
+const BLOCK: u64 = BLOCK_SLOTS as u64;
 
 // What is noted of a vote for a slot.
 fn note_of(alloc: Global, slot: Slot, vote: &Vote) -> Note {
@@ -114,8 +116,8 @@ impl<S: Shelf> Watched<S> {
     /// The votes that the disk has, of blocks up to that of a slot. None where it can't be read.
     pub fn votes(&mut self, last: u64) -> Option<Vec<Note>> {
         let mut votes = Vec::new(self.alloc);
-        for block in 0..last.div_ceil(16) {
-            let number = u32::try_from(block.saturating_mul(16).saturating_add(1)).ok()?;
+        for block in 0..last.div_ceil(BLOCK) {
+            let number = u32::try_from(block.saturating_mul(BLOCK).saturating_add(1)).ok()?;
             let slot = Slot::new(number)?;
             self.add_votes(slot, &mut votes)?;
         }

@@ -6,7 +6,7 @@ use Rattle.std.proofs.lemmas.List.Quantifiers.{position-Some}
 use Rattle.std.proofs.lemmas.Option.{get_or_from_slice_get, slice_get-map}
 use Rattle.press_net.specs.declared.outgoing_connections.OutgoingConnections.{OutgoingConnections}
 use Rattle.press_net.specs.declared.outgoing_connections.Lane.{Lane}
-use Rattle.press_net.specs.Lanes.{Queue, empty, queue_of, queues, changed_at, is_ready, ready}
+use Rattle.press_net.specs.Lanes.{Queue, empty_queue, queue_of, queues, changed_at, is_ready, ready_lane}
 
 -- another lane in its place is a change of its queue
 pub changes : (calls : OutgoingConnections) (place : ℕ) (lane other : Lane) (change : Queue → Queue) → slice_get calls.lanes.items place ≡ Some lane → queue_of other ≡ change (queue_of lane) → map queue_of (slice_set calls.lanes.items place other) ≡ changed_at change place (queues calls)
@@ -24,16 +24,16 @@ pub keeps : (lanes : List Lane) (place : ℕ) (lane other : Lane) → slice_inde
 keeps lanes place lane other item same = map-set_same (λ (l : Lane). l.kept) lanes place other lane (same ∙ ap (λ (l : Lane). l.kept) (sym item))
 
 -- the first that is ready is ready
-pub first_is_ready : (calls : OutgoingConnections) (place : ℕ) (lane : Lane) → ready calls ≡ Some place → slice_get calls.lanes.items place ≡ Some lane → is_ready (queue_of lane) ≡ true
+pub first_is_ready : (calls : OutgoingConnections) (place : ℕ) (lane : Lane) → ready_lane calls ≡ Some place → slice_get calls.lanes.items place ≡ Some lane → is_ready (queue_of lane) ≡ true
 first_is_ready calls place lane first is =
     ap (λ (l : Lane). is_ready (queue_of l)) (sym (get_or_from_slice_get calls.lanes.items place lane lane is))
     ∙ (position-Some (λ (l : Lane). is_ready (queue_of l)) calls.lanes.items place lane first).1
 
 -- a lane that nothing waits for at the end is an empty queue more
-pub grows : (lanes : List Lane) (all : List Queue) (count : ℕ) (lane : Lane) → map queue_of lanes ≡ all ++ replicate count empty → queue_of lane ≡ empty → map queue_of (lanes ++ lane ∷ []) ≡ all ++ replicate (count + 1) empty
+pub grows : (lanes : List Lane) (all : List Queue) (count : ℕ) (lane : Lane) → map queue_of lanes ≡ all ++ replicate count empty_queue → queue_of lane ≡ empty_queue → map queue_of (lanes ++ lane ∷ []) ≡ all ++ replicate (count + 1) empty_queue
 grows lanes all count lane so is =
     map-append queue_of lanes (lane ∷ [])
     ∙ ap (λ queue. map queue_of lanes ++ queue ∷ []) is
-    ∙ ap (λ front. front ++ empty ∷ []) so
-    ∙ append_assoc all (replicate count empty) (empty ∷ [])
-    ∙ ap (λ end. all ++ end) (replicate-append-replicate count 1 empty)
+    ∙ ap (λ front. front ++ empty_queue ∷ []) so
+    ∙ append_assoc all (replicate count empty_queue) (empty_queue ∷ [])
+    ∙ ap (λ end. all ++ end) (replicate-append-replicate count 1 empty_queue)

@@ -1,5 +1,4 @@
 mod Lanes
-mod Mapped
 mod Counted
 mod Found
 mod Sent

@@ -7,11 +7,11 @@ use Rattle.std.specs.declared.net.socket_addr.SocketAddr.{SocketAddr}
 use Rattle.std.specs.declared.net.socket_addr.SocketAddr.TheVariants.{V4, V6}
 use Rattle.press_net.specs.Talking.{is_same}
 use Rattle.press_net.specs.declared.addresses.AddressBook.{AddressBook}
-use Rattle.press_net.specs.declared.addresses.Entry.{Entry}
+use Rattle.press_net.specs.declared.addresses.AddressEntry.{AddressEntry}
 
 -- how many are listed
-abbrev pub listed : AddressBook → ℕ
-listed book = length book.all.items
+abbrev pub listed_count : AddressBook → ℕ
+listed_count book = length book.all.items
 
 -- one of these sockets is at that address
 abbrev pub has_ip : IpAddr → List SocketAddr → Bool
@@ -46,21 +46,21 @@ abbrev pub behind_loss : Option SocketAddr → List SocketAddr → List SocketAd
 behind_loss tried sockets = if went_first tried sockets then drop 1 sockets ++ take 1 sockets else sockets
 
 -- those that were known and are found again
-abbrev pub still : List SocketAddr → List SocketAddr → List SocketAddr
-still known found = filter (has_socket found) known
+abbrev pub found_again : List SocketAddr → List SocketAddr → List SocketAddr
+found_again known found = filter (has_socket found) known
 
 -- those that are found, but were not known
-abbrev pub fresh : List SocketAddr → List SocketAddr → List SocketAddr
-fresh known found = filter (λ socket. not (has_socket known socket)) found
+abbrev pub newly_found : List SocketAddr → List SocketAddr → List SocketAddr
+newly_found known found = filter (λ socket. not (has_socket known socket)) found
 
 -- behind a lookup: first those that are new, and then those that are found again; all that were
 -- known where nothing is found
 abbrev pub with_found : List SocketAddr → List SocketAddr → List SocketAddr
 with_found known found =
-    if nat_eq (length found) 0 then known else fresh (still known found) found ++ still known found
+    if nat_eq (length found) 0 then known else newly_found (found_again known found) found ++ found_again known found
 
 -- its name was looked up, and these addresses were found
-abbrev pub IsLookedUp : Entry → Entry → Type 0
+abbrev pub IsLookedUp : AddressEntry → AddressEntry → Type 0
 IsLookedUp old new = (found : List SocketAddr) × (new.sockets.items ≡ (if is_some old.name then with_found old.sockets.items found else old.sockets.items))
 
 -- the name of the one at a place was looked up, and these addresses were found
@@ -76,7 +76,7 @@ abbrev pub due_behind : AddressBook → ℕ → ℕ
 due_behind book now = unwrap_or (option_map (λ begun. min (now + pause (now - begun)) 18446744073709551615) book.begun) book.due
 
 -- its name is to be looked up
-abbrev pub wants : Entry → Bool
+abbrev pub wants : AddressEntry → Bool
 wants entry = entry.is_wanted && is_some entry.name
 
 abbrev pub wants_at : AddressBook → ℕ → Bool

@@ -29,8 +29,8 @@ abbrev pub kept_at : OutgoingConnections → ℕ → Option TcpStream
 kept_at calls place = option_and_then (λ lane. lane.kept) (slice_get calls.lanes.items place)
 
 -- those that stay open, by member
-abbrev pub kepts : OutgoingConnections → List (Option TcpStream)
-kepts calls = map (λ lane. lane.kept) calls.lanes.items
+abbrev pub kept_streams : OutgoingConnections → List (Option TcpStream)
+kept_streams calls = map (λ lane. lane.kept) calls.lanes.items
 
 -- the one to the member at a place is kept instead of that before, if it stays open
 abbrev pub with_kept : ℕ → Option TcpStream → List (Option TcpStream) → List (Option TcpStream)
@@ -46,12 +46,12 @@ abbrev pub changed_at : (Queue → Queue) → ℕ → List Queue → List Queue
 changed_at change place all =
     unwrap_or (option_map (λ queue. slice_set all place (change queue)) (slice_get all place)) all
 
-abbrev pub empty : Queue
-empty = record { waiting = []; «open» = 0 }
+abbrev pub empty_queue : Queue
+empty_queue = record { waiting = []; «open» = 0 }
 
 -- so many queues at least, those that are added empty
 abbrev pub with_lanes : ℕ → List Queue → List Queue
-with_lanes count all = all ++ replicate (count - length all) empty
+with_lanes count all = all ++ replicate (count - length all) empty_queue
 
 -- empty queues may have been added
 abbrev pub IsGrown : List Queue → List Queue → Type 0
@@ -85,8 +85,8 @@ abbrev pub is_ready : Queue → Bool
 is_ready queue = nat_lt queue.«open» 32 && nat_lt 0 (length queue.waiting)
 
 -- the first lane of which one may go out
-abbrev pub ready : OutgoingConnections → Option ℕ
-ready calls = position (λ lane. is_ready (queue_of lane)) calls.lanes.items
+abbrev pub ready_lane : OutgoingConnections → Option ℕ
+ready_lane calls = position (λ lane. is_ready (queue_of lane)) calls.lanes.items
 
 -- the first that waits there
 abbrev pub front_at : OutgoingConnections → ℕ → Option Outgoing
@@ -109,8 +109,8 @@ abbrev pub request_of : OutgoingConnection → Request
 request_of call = record { place = call.place; errand = call.errand; bytes = call.request.bytes.items; sent = call.request.sent; reply = call.reply.items; course = call.course }
 
 -- nothing of it is sent yet
-abbrev pub asked_by : Outgoing → Request
-asked_by outgoing = record { place = outgoing.place; errand = outgoing.errand; bytes = outgoing.bytes.items; sent = 0; reply = []; course = Goes }
+abbrev pub request_by : Outgoing → Request
+request_by outgoing = record { place = outgoing.place; errand = outgoing.errand; bytes = outgoing.bytes.items; sent = 0; reply = []; course = Goes }
 
 -- the same request, for the same member, begun at the same time
 abbrev pub HasSameAim : OutgoingConnection → OutgoingConnection → Type 0

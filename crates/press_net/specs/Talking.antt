@@ -13,7 +13,7 @@ use Rattle.press_net.specs.declared.connection.Phase.{Phase}
 use Rattle.press_net.specs.declared.connection.Phase.TheVariants.{Reading, Writing, Ending, Over}
 use Rattle.press_net.specs.declared.connection.Connection.{Connection}
 use Rattle.press_net.specs.declared.connections.Rank.{Rank}
-use Rattle.press_net.specs.declared.connections.Round.{Round}
+use Rattle.press_net.specs.declared.connections.Intake.{Intake}
 use Rattle.press_net.specs.declared.connections.Connections.{Connections}
 
 -- its request isn't whole yet
@@ -116,70 +116,70 @@ is_crowded most address slots = nat_le (most / 4) (count_of (is_from address) sl
 abbrev pub rank_of : Group → Phase → Bool → Rank
 rank_of group phase stalled = record { group = group; phase = phase; is_stalled = stalled }
 
-abbrev pub ending : Group → Rank
-ending group = rank_of group Ending false
+abbrev pub ending_rank : Group → Rank
+ending_rank group = rank_of group Ending false
 
-abbrev pub reading : Group → Rank
-reading group = rank_of group Reading false
+abbrev pub reading_rank : Group → Rank
+reading_rank group = rank_of group Reading false
 
 abbrev pub stalled_rank : Group → Rank
 stalled_rank group = rank_of group Writing true
 
-abbrev pub writing : Group → Rank
-writing group = rank_of group Writing false
+abbrev pub writing_rank : Group → Rank
+writing_rank group = rank_of group Writing false
 
 -- it is of a group, in a phase, and its reply is stalled, or isn't
 abbrev pub HasRank : Instant → Rank → Connection → Type 0
 HasRank now rank connection = (connection.arrival.group ≡ rank.group) × (connection.phase ≡ rank.phase) × (is_stalled now connection ≡ rank.is_stalled)
 
--- a connection of that rank may give way to those of a round: it came before the first of them
-abbrev pub MayGo : Rank → Round → List (Option Connection) → ℕ → Connection → Type 0
-MayGo rank round slots place connection =
-    (slice_get slots place ≡ Some (Some connection)) × HasRank round.now rank connection × (connection.arrival.number < round.first)
+-- a connection of that rank may give way to those of an intake: it came before the first of them
+abbrev pub MayGo : Rank → Intake → List (Option Connection) → ℕ → Connection → Type 0
+MayGo rank intake slots place connection =
+    (slice_get slots place ≡ Some (Some connection)) × HasRank intake.now rank connection × (connection.arrival.number < intake.first)
 
 -- of those that may, none came before it
-abbrev pub IsOldest : Rank → Round → List (Option Connection) → ℕ → Type 0
-IsOldest rank round slots place =
-    (connection : Connection) × MayGo rank round slots place connection
-    × ((other : ℕ) (next : Connection) → MayGo rank round slots other next → connection.arrival.number ≤ next.arrival.number)
+abbrev pub IsOldest : Rank → Intake → List (Option Connection) → ℕ → Type 0
+IsOldest rank intake slots place =
+    (connection : Connection) × MayGo rank intake slots place connection
+    × ((other : ℕ) (next : Connection) → MayGo rank intake slots other next → connection.arrival.number ≤ next.arrival.number)
 
 -- none may
-abbrev pub HasNone : Rank → Round → List (Option Connection) → Type 0
-HasNone rank round slots = (place : ℕ) (connection : Connection) → MayGo rank round slots place connection → ⊥
+abbrev pub HasNone : Rank → Intake → List (Option Connection) → Type 0
+HasNone rank intake slots = (place : ℕ) (connection : Connection) → MayGo rank intake slots place connection → ⊥
 
 -- of a group the oldest that was served and stays open goes first, else the oldest whose request
 -- isn't whole, else the oldest of whose reply nothing was taken for a second, else the oldest whose
--- reply isn't out; none that came in the same round
-abbrev pub GoesFirst : Group → Round → List (Option Connection) → Option ℕ → Type 0
-GoesFirst group round slots None =
-    HasNone (ending group) round slots × HasNone (reading group) round slots × HasNone (stalled_rank group) round slots × HasNone (writing group) round slots
-GoesFirst group round slots (Some place) =
-    IsOldest (ending group) round slots place
-    ⊎ (HasNone (ending group) round slots × IsOldest (reading group) round slots place)
-    ⊎ (HasNone (ending group) round slots × HasNone (reading group) round slots × IsOldest (stalled_rank group) round slots place)
-    ⊎ (HasNone (ending group) round slots × HasNone (reading group) round slots × HasNone (stalled_rank group) round slots
-    × IsOldest (writing group) round slots place)
+-- reply isn't out; none that came in the same intake
+abbrev pub GoesFirst : Group → Intake → List (Option Connection) → Option ℕ → Type 0
+GoesFirst group intake slots None =
+    HasNone (ending_rank group) intake slots × HasNone (reading_rank group) intake slots × HasNone (stalled_rank group) intake slots × HasNone (writing_rank group) intake slots
+GoesFirst group intake slots (Some place) =
+    IsOldest (ending_rank group) intake slots place
+    ⊎ (HasNone (ending_rank group) intake slots × IsOldest (reading_rank group) intake slots place)
+    ⊎ (HasNone (ending_rank group) intake slots × HasNone (reading_rank group) intake slots × IsOldest (stalled_rank group) intake slots place)
+    ⊎ (HasNone (ending_rank group) intake slots × HasNone (reading_rank group) intake slots × HasNone (stalled_rank group) intake slots
+    × IsOldest (writing_rank group) intake slots place)
 
 -- where none is beyond its address's quarter: one that comes beyond it puts out nobody, another one
 -- that is no member's, and a member's such a one, and a member's where there is none
-abbrev pub GoesFor : Group → Round → List (Option Connection) → Option ℕ → Type 0
-GoesFor Surplus round slots gone = gone ≡ None
-GoesFor Within round slots gone = GoesFirst Within round slots gone
-GoesFor Member round slots gone =
-    (IsSome gone × GoesFirst Within round slots gone) ⊎ (GoesFirst Within round slots None × GoesFirst Member round slots gone)
+abbrev pub GoesFor : Group → Intake → List (Option Connection) → Option ℕ → Type 0
+GoesFor Surplus intake slots gone = gone ≡ None
+GoesFor Within intake slots gone = GoesFirst Within intake slots gone
+GoesFor Member intake slots gone =
+    (IsSome gone × GoesFirst Within intake slots gone) ⊎ (GoesFirst Within intake slots None × GoesFirst Member intake slots gone)
 
 -- one that is beyond its address's quarter goes; where none does, it depends on who comes
-abbrev pub MakesWay : Group → Round → List (Option Connection) → Option ℕ → Type 0
-MakesWay newcomer round slots gone =
-    (IsSome gone × GoesFirst Surplus round slots gone) ⊎ (GoesFirst Surplus round slots None × GoesFor newcomer round slots gone)
+abbrev pub MakesWay : Group → Intake → List (Option Connection) → Option ℕ → Type 0
+MakesWay newcomer intake slots gone =
+    (IsSome gone × GoesFirst Surplus intake slots gone) ⊎ (GoesFirst Surplus intake slots None × GoesFor newcomer intake slots gone)
 
 -- what stands at a place, if there is one, is put in for what stood there
 abbrev pub with_slot : Option ℕ → Option Connection → List (Option Connection) → List (Option Connection)
 with_slot place slot slots = unwrap_or (option_map (λ place. slice_set slots place slot) place) slots
 
 -- it is closed, and its place is free
-abbrev pub GivesWay : Group → Round → List (Option Connection) → List (Option Connection) → Option ℕ → Type 0
-GivesWay newcomer round old new gone = MakesWay newcomer round old gone × (new ≡ with_slot gone None old)
+abbrev pub GivesWay : Group → Intake → List (Option Connection) → List (Option Connection) → Option ℕ → Type 0
+GivesWay newcomer intake old new gone = MakesWay newcomer intake old gone × (new ≡ with_slot gone None old)
 
 -- no place is free, and fewer are taken than may be
 abbrev pub MayGrow : ℕ → List (Option Connection) → Type 0
@@ -192,20 +192,20 @@ has_room most newcomer slots = is_member newcomer || nat_lt (count_of is_strange
 
 -- where it may have a place beside the others the first free one is it, else one more, else that of
 -- one that gives way; where it may not, that of one that gives way; there is none where none does
-abbrev pub MakesPlace : ℕ → Group → Round → List (Option Connection) → List (Option Connection) → Option ℕ → Type 0
-MakesPlace most newcomer round old new place =
+abbrev pub MakesPlace : ℕ → Group → Intake → List (Option Connection) → List (Option Connection) → Option ℕ → Type 0
+MakesPlace most newcomer intake old new place =
     ((has_room most newcomer old ≡ true) × IsSome place × (place ≡ position is_none old) × (new ≡ old))
     ⊎ ((has_room most newcomer old ≡ true) × MayGrow most old × (place ≡ Some (length old)) × (new ≡ old ++ None ∷ []))
-    ⊎ ((has_room most newcomer old ≡ true) × (position is_none old ≡ None) × (most ≤ length old) × GivesWay newcomer round old new place)
-    ⊎ ((has_room most newcomer old ≡ false) × GivesWay newcomer round old new place)
+    ⊎ ((has_room most newcomer old ≡ true) × (position is_none old ≡ None) × (most ≤ length old) × GivesWay newcomer intake old new place)
+    ⊎ ((has_room most newcomer old ≡ false) × GivesWay newcomer intake old new place)
 
 -- another look at its request is due
 abbrev pub is_due : Connection → Bool
 is_due connection = nat_le connection.came.due (length connection.came.bytes.items)
 
 -- the bytes that came are answered, for the address from which they came
-abbrev pub asked_by : Connection → Connection → Result ℕ HttpFault → Exchange
-asked_by old new result = exchange old.arrival.from old.came.bytes.items old.told.bytes.items new.told.bytes.items result
+abbrev pub exchange_by : Connection → Connection → Result ℕ HttpFault → Exchange
+exchange_by old new result = exchange old.arrival.from old.came.bytes.items old.told.bytes.items new.told.bytes.items result
 
 -- the input ended within the request, as far as it came
 abbrev pub is_end : HttpFault → Bool
@@ -231,4 +231,4 @@ phase_by ended phase (Err fault) = if is_end fault && not ended then phase else 
 
 abbrev pub IsAnswered : {A : Type 0} → (A → Exchange → A → Type 0) → Bool → A → Connection → Connection → A → Type 0
 IsAnswered answers ended before old new after =
-    (result : Result ℕ HttpFault) × answers before (asked_by old new result) after × (new.phase ≡ phase_by ended old.phase result)
+    (result : Result ℕ HttpFault) × answers before (exchange_by old new result) after × (new.phase ≡ phase_by ended old.phase result)

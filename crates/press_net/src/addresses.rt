@@ -4,14 +4,14 @@ ghost use Rattle.std.specs.Prelude.{ℕ, ◌≡◌, ◌≢◌, ◌++◌, ◌∷�
 ghost use Rattle.std.specs.List.{list_any};
 ghost use Rattle.std.specs.Net.Socket.{socket_ip};
 ghost use Rattle.press_net.specs.Talking.{is_same};
-ghost use Rattle.press_net.specs.declared.addresses.Entry.{Entry};
-ghost use Rattle.press_net.specs.Addresses.{HasSameTurn, HasTurn, IsFirstWanted, IsLookedUp, IsLookedUpAt, behind_loss, due_behind, first_at, fresh, has_ip, has_socket, is_same_socket, listed, pause, sockets_at, still, wants, wants_at, went_first, with_found};
+ghost use Rattle.press_net.specs.declared.addresses.AddressEntry.{AddressEntry};
+ghost use Rattle.press_net.specs.Addresses.{HasSameTurn, HasTurn, IsFirstWanted, IsLookedUp, IsLookedUpAt, behind_loss, due_behind, first_at, newly_found, has_ip, has_socket, is_same_socket, listed_count, pause, sockets_at, found_again, wants, wants_at, went_first, with_found};
 
 use std::alloc::{AllocError, Global};
 use std::net::{IpAddr, Net, SocketAddr, ToSocketAddrs};
 
 // Milliseconds from one lookup to the next.
-const PAUSE: u64 = 1_000;
+const LOOKUP_MILLIS: u64 = 1_000;
 
 // Nor is a name looked up before so many times as long as the last lookup took: lookups take a
 // small part of the time.
@@ -32,7 +32,7 @@ pub enum Listed {
 
 // One who is listed.
 #[derive(Drop)]
-struct Entry {
+struct AddressEntry {
     // What is looked up; none where it is listed by number.
     name: Option<String>,
     // Its addresses, of which requests go to the first; none where its name isn't found yet.
@@ -66,13 +66,13 @@ fn has_socket(sockets: &[SocketAddr], socket: SocketAddr) -> bool
 }
 
 fn keep_found(known: &mut Vec<SocketAddr>, found: &[SocketAddr])
-    ensures { known.new.items ≡ still known.old.items found.now }
+    ensures { known.new.items ≡ found_again known.old.items found.now }
 {
     known.retain(|socket| has_socket(found, *socket));
 }
 
 fn drop_known(found: &mut Vec<SocketAddr>, known: &[SocketAddr])
-    ensures { found.new.items ≡ fresh known.now found.old.items }
+    ensures { found.new.items ≡ newly_found known.now found.old.items }
 {
     found.retain(|socket| !has_socket(known, *socket));
 }
@@ -92,7 +92,7 @@ fn sockets_of<N: Net>(alloc: Global, net: &N, text: &str) -> Result<Vec<SocketAd
 fn pause(took: u64) -> u64
     ensures { result ≡ pause took }
 {
-    took.saturating_mul(SHARE).max(PAUSE)
+    took.saturating_mul(SHARE).max(LOOKUP_MILLIS)
 }
 
 fn is_host_byte(byte: u8) -> bool {
@@ -119,14 +119,14 @@ fn is_name(text: &str) -> bool {
     }
 }
 
-impl Entry {
-    fn read<N: Net>(alloc: Global, net: &N, text: &str) -> Result<Entry, AllocError> {
+impl AddressEntry {
+    fn read<N: Net>(alloc: Global, net: &N, text: &str) -> Result<AddressEntry, AllocError> {
         let sockets = sockets_of(alloc, net, text)?;
         let name = match text.parse::<SocketAddr>() {
             Ok(_) => None,
             Err(_) => Some(String::from_str(alloc, text)?),
         };
-        Ok(Entry {
+        Ok(AddressEntry {
             name,
             is_wanted: sockets.is_empty(),
             sockets,
@@ -138,7 +138,7 @@ impl Entry {
     }
 
     // Whether both have an address, or a name.
-    fn shares(&self, other: &Entry) -> bool {
+    fn shares(&self, other: &AddressEntry) -> bool {
         let is_same = match (&self.name, &other.name) {
             (Some(one), Some(other)) => one == other,
             _ => false,
@@ -219,7 +219,7 @@ impl Entry {
 #[derive(Drop)]
 pub struct AddressBook {
     alloc: Global,
-    all: Vec<Entry>,
+    all: Vec<AddressEntry>,
     // The place whose name was looked up last, and when that began, until it is known how long it
     // took.
     last: usize,
@@ -237,7 +237,7 @@ impl AddressBook {
             all: Vec::new(alloc),
             last: 0,
             begun: None,
-            due: PAUSE,
+            due: LOOKUP_MILLIS,
         }
     }
 
@@ -245,11 +245,11 @@ impl AddressBook {
     /// port, which is looked up.
     pub fn add<N: Net>(&mut self, net: &N, text: &str) -> Result<Listed, AllocError>
         ensures added { IfOk result (λ told. told ≢ Listed.Never →
-            (entry : Entry) × (self.new.all.items ≡ self.old.all.items ++ entry ∷ [])) }
+            (entry : AddressEntry) × (self.new.all.items ≡ self.old.all.items ++ entry ∷ [])) }
         ensures not_added { IfOk result (λ told. told ≡ Listed.Never → self.new ≡ self.old) }
         ensures no_memory { IfErr result (λ _. self.new.all.items ≡ self.old.all.items) }
     {
-        let entry = Entry::read(self.alloc, net, text)?;
+        let entry = AddressEntry::read(self.alloc, net, text)?;
         let told = if entry.is_found() {
             Listed::Found
         } else if is_name(text) {
@@ -263,7 +263,7 @@ impl AddressBook {
 
     /// How many are listed.
     pub fn len(&self) -> usize
-        ensures { result ≡ listed self.now }
+        ensures { result ≡ listed_count self.now }
     {
         self.all.len()
     }
@@ -293,7 +293,7 @@ impl AddressBook {
     }
 
     /// What one is listed by whose address isn't known.
-    pub fn missing(&self, place: usize) -> Option<&str> {
+    pub fn missing_name(&self, place: usize) -> Option<&str> {
         let entry = self.all.get(place)?;
         if entry.is_found() {
             return None;
@@ -329,7 +329,7 @@ impl AddressBook {
         ensures there { sockets_at self.new place ≡ behind_loss tried (sockets_at self.old place) }
         ensures others { (other : ℕ) → other ≢ place →
             sockets_at self.new other ≡ sockets_at self.old other }
-        ensures count { listed self.new ≡ listed self.old }
+        ensures count { listed_count self.new ≡ listed_count self.old }
         ensures wanted { IfSome (slice_get self.new.all.items place)
             (λ entry. entry.is_wanted ≡ true) }
         ensures turn { HasSameTurn self.new self.old }

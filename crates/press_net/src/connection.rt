@@ -25,13 +25,13 @@ const MOST_PIECES: u32 = 10;
 const MOST_AWAY: u32 = 64;
 
 // The time limit of all its reads and writes together.
-const SECONDS: u64 = 10;
+const LIMIT_SECONDS: u64 = 10;
 
 // A reply of which nothing was taken for so many seconds is stalled.
-const STALLED: u64 = 1;
+const STALL_SECONDS: u64 = 1;
 
 // The status of a reply that has a client come again later.
-const LATER: u16 = 503;
+const UNAVAILABLE: u16 = 503;
 
 // The status of a reply to what was taken.
 const TAKEN: u16 = 200;
@@ -217,7 +217,7 @@ impl Connection {
     pub fn is_late(&self, now: Instant) -> bool
         ensures { result ≡ is_late now self.now }
     {
-        Duration::from_secs(SECONDS) <= now.duration_since(self.arrival.begun)
+        Duration::from_secs(LIMIT_SECONDS) <= now.duration_since(self.arrival.begun)
     }
 
     /// Whether its socket took nothing of its reply for a second or more.
@@ -225,7 +225,7 @@ impl Connection {
         ensures { result ≡ is_stalled now self.now }
     {
         self.phase == Phase::Writing
-            && Duration::from_secs(STALLED) <= now.duration_since(self.taken)
+            && Duration::from_secs(STALL_SECONDS) <= now.duration_since(self.taken)
     }
 
     /// Gives it up before its request was whole: a line says why.
@@ -351,7 +351,7 @@ impl Connection {
                 self.is_kept = is_kept;
                 self.phase = Phase::Writing;
                 self.taken = now;
-                self.is_held = status == LATER
+                self.is_held = status == UNAVAILABLE
                     && self.came.method_and_target() == ("POST", "/command");
                 true
             }

@@ -29,7 +29,7 @@ pub struct Rank {
 
 /// Connections that are taken one after the other, before others have their turn.
 #[derive(Clone, Copy)]
-pub struct Round {
+pub struct Intake {
     /// The number of the first of them.
     pub first: u64,
     /// A time up to which all that came was looked at.
@@ -129,20 +129,20 @@ fn count_strangers(slots: &[Option<Connection>]) -> usize
     count
 }
 
-// The number of a connection of that rank that came before the first of a round, and before what
+// The number of a connection of that rank that came before the first of an intake, and before what
 // was found.
 fn number_before(
     found: Option<(usize, u64)>,
     rank: Rank,
-    round: Round,
+    intake: Intake,
     slot: &Option<Connection>,
 ) -> Option<u64>
     ensures { MatchOption result
         ((connection : Connection) → slot.now ≡ Some connection →
-        HasRank round.now rank connection → connection.arrival.number < round.first →
+        HasRank intake.now rank connection → connection.arrival.number < intake.first →
         IsSomeAnd found (λ f. f.1 ≤ connection.arrival.number))
         (λ number. (connection : Connection) × (slot.now ≡ Some connection)
-        × HasRank round.now rank connection × (connection.arrival.number < round.first)
+        × HasRank intake.now rank connection × (connection.arrival.number < intake.first)
         × (number ≡ connection.arrival.number)
         × IfSome found (λ f. number < f.1)) }
 {
@@ -155,10 +155,10 @@ fn number_before(
     if connection.phase() != rank.phase {
         return None;
     }
-    if connection.is_stalled(round.now) != rank.is_stalled {
+    if connection.is_stalled(intake.now) != rank.is_stalled {
         return None;
     }
-    if round.first <= connection.number() {
+    if intake.first <= connection.number() {
         return None;
     }
     match found {
@@ -272,14 +272,14 @@ impl Connections {
         self.most / 4 <= count_from(&self.places, from)
     }
 
-    // The place of the oldest of that rank that came before the first of a round.
-    fn oldest(&self, rank: Rank, round: Round) -> Option<usize>
-        ensures { MatchOption result (HasNone rank round self.now.places.items)
-            (IsOldest rank round self.now.places.items) }
+    // The place of the oldest of that rank that came before the first of an intake.
+    fn oldest(&self, rank: Rank, intake: Intake) -> Option<usize>
+        ensures { MatchOption result (HasNone rank intake self.now.places.items)
+            (IsOldest rank intake self.now.places.items) }
     {
         let mut found: Option<(usize, u64)> = None;
         for (place, slot) in self.places.iter().enumerate() {
-            if let Some(number) = number_before(found, rank, round, slot) {
+            if let Some(number) = number_before(found, rank, intake, slot) {
                 found = Some((place, number));
             }
         }
@@ -287,74 +287,80 @@ impl Connections {
         Some(place)
     }
 
-    fn oldest_in(&self, group: Group, phase: Phase, is_stalled: bool, round: Round) -> Option<usize>
+    fn oldest_in(
+        &self,
+        group: Group,
+        phase: Phase,
+        is_stalled: bool,
+        intake: Intake,
+    ) -> Option<usize>
         ensures { MatchOption result
-            (HasNone (rank_of group phase is_stalled) round self.now.places.items)
-            (IsOldest (rank_of group phase is_stalled) round self.now.places.items) }
+            (HasNone (rank_of group phase is_stalled) intake self.now.places.items)
+            (IsOldest (rank_of group phase is_stalled) intake self.now.places.items) }
     {
         let rank = Rank {
             group,
             phase,
             is_stalled,
         };
-        self.oldest(rank, round)
+        self.oldest(rank, intake)
     }
 
     // Which goes first of a group.
-    fn first_of(&self, group: Group, round: Round) -> Option<usize>
-        ensures { GoesFirst group round self.now.places.items result }
+    fn first_of(&self, group: Group, intake: Intake) -> Option<usize>
+        ensures { GoesFirst group intake self.now.places.items result }
     {
-        if let Some(place) = self.oldest_in(group, Phase::Ending, false, round) {
+        if let Some(place) = self.oldest_in(group, Phase::Ending, false, intake) {
             return Some(place);
         }
-        if let Some(place) = self.oldest_in(group, Phase::Reading, false, round) {
+        if let Some(place) = self.oldest_in(group, Phase::Reading, false, intake) {
             return Some(place);
         }
-        if let Some(place) = self.oldest_in(group, Phase::Writing, true, round) {
+        if let Some(place) = self.oldest_in(group, Phase::Writing, true, intake) {
             return Some(place);
         }
-        self.oldest_in(group, Phase::Writing, false, round)
+        self.oldest_in(group, Phase::Writing, false, intake)
     }
 
     // Which goes first for a member's, where none is beyond its address's quarter.
-    fn first_for_member(&self, round: Round) -> Option<usize>
-        ensures { GoesFor Member round self.now.places.items result }
+    fn first_for_member(&self, intake: Intake) -> Option<usize>
+        ensures { GoesFor Member intake self.now.places.items result }
     {
-        if let Some(place) = self.first_of(Group::Within, round) {
+        if let Some(place) = self.first_of(Group::Within, intake) {
             return Some(place);
         }
-        self.first_of(Group::Member, round)
+        self.first_of(Group::Member, intake)
     }
 
-    // Which one is to be closed for one of a round, of that group.
-    fn first_to_go(&self, newcomer: Group, round: Round) -> Option<usize>
-        ensures { MakesWay newcomer round self.now.places.items result }
+    // Which one is to be closed for one of an intake, of that group.
+    fn first_to_go(&self, newcomer: Group, intake: Intake) -> Option<usize>
+        ensures { MakesWay newcomer intake self.now.places.items result }
     {
-        if let Some(place) = self.first_of(Group::Surplus, round) {
+        if let Some(place) = self.first_of(Group::Surplus, intake) {
             return Some(place);
         }
         match newcomer {
             Group::Surplus => None,
-            Group::Within => self.first_of(Group::Within, round),
-            Group::Member => self.first_for_member(round),
+            Group::Within => self.first_of(Group::Within, intake),
+            Group::Member => self.first_for_member(intake),
         }
     }
 
-    /// Closes one for one of a round, of that group: one that came as its address had a quarter of
+    /// Closes one for an intake's, of that group: one that came as its address had a quarter of
     /// the places, else, for a newcomer that doesn't come so itself, any other that is no member's,
     /// else, for a member's, any; among those the oldest that was served and stays open, else the
     /// oldest whose request isn't whole, else the oldest of whose reply nothing was taken for a
-    /// second, else the oldest, and none that came in that round. Returns its place, if there was
+    /// second, else the oldest, and none that came in that intake. Returns its place, if there was
     /// one.
     pub fn give_way<E: Write>(
         &mut self,
         newcomer: Group,
-        round: Round,
+        intake: Intake,
         log: &mut E,
     ) -> Option<usize>
-        ensures { GivesWay newcomer round self.old.places.items self.new.places.items result }
+        ensures { GivesWay newcomer intake self.old.places.items self.new.places.items result }
     {
-        let place = self.first_to_go(newcomer, round)?;
+        let place = self.first_to_go(newcomer, intake)?;
         self.close(place, log, GIVEN_UP);
         Some(place)
     }
@@ -389,16 +395,16 @@ impl Connections {
     fn place<E: Write>(
         &mut self,
         newcomer: Group,
-        round: Round,
+        intake: Intake,
         log: &mut E,
     ) -> Result<Option<usize>, AllocError>
-        ensures made { IfOk result (MakesPlace self.old.most newcomer round self.old.places.items
+        ensures made { IfOk result (MakesPlace self.old.most newcomer intake self.old.places.items
             self.new.places.items) }
         ensures no_memory { IfErr result (λ _. MayGrow self.old.most self.old.places.items
             × (self.new.places.items ≡ self.old.places.items)) }
     {
         if !self.has_room(newcomer) {
-            return Ok(self.give_way(newcomer, round, log));
+            return Ok(self.give_way(newcomer, intake, log));
         }
         if let Some(place) = self.free_place() {
             return Ok(Some(place));
@@ -408,7 +414,7 @@ impl Connections {
             self.places.push(None)?;
             return Ok(Some(count));
         }
-        Ok(self.give_way(newcomer, round, log))
+        Ok(self.give_way(newcomer, intake, log))
     }
 
     fn put(&mut self, place: usize, connection: Connection)
@@ -419,22 +425,22 @@ impl Connections {
         }
     }
 
-    /// Puts a connection of a round at a free place, at a new one, or at that of one that gives
+    /// Puts a connection of an intake at a free place, at a new one, or at that of one that gives
     /// way; where none does, it is closed. Returns its place.
     pub fn enter<E: Write>(
         &mut self,
         connection: Connection,
-        round: Round,
+        intake: Intake,
         log: &mut E,
     ) -> Result<Option<usize>, AllocError>
         ensures entered { IfOk result (λ place. (slots : List (Option Connection))
-            × MakesPlace self.old.most connection.arrival.group round self.old.places.items
+            × MakesPlace self.old.most connection.arrival.group intake self.old.places.items
             slots place
             × (self.new.places.items ≡ with_slot place (Some connection) slots)) }
         ensures no_memory { IfErr result (λ _. MayGrow self.old.most self.old.places.items
             × (self.new.places.items ≡ self.old.places.items)) }
     {
-        let Some(place) = self.place(connection.arrival.group, round, log)? else {
+        let Some(place) = self.place(connection.arrival.group, intake, log)? else {
             connection.give_up(log, GIVEN_UP);
             return Ok(None);
         };

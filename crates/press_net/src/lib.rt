@@ -19,5 +19,5 @@ mod write_buffer;
 pub use addresses::{AddressBook, Listed};
 pub use answers::{Answers, Errand, Outgoing, Time, Traffic};
 pub use lines::{Lines, Log};
-pub use request_buffer::words_of;
+pub use request_buffer::method_and_target_of;
 pub use server::{Server, Task};

@@ -112,7 +112,7 @@ impl<W: Write> Write for Ready<W> {
 /// Lines of which some may be lost.
 pub trait Log {
     /// How many were lost.
-    fn lost(&self) -> u64;
+    fn lost_count(&self) -> u64;
 }
 
 /// Lines on a writer, each behind the time: it goes out at once, or it is lost, and counted. The
@@ -210,7 +210,7 @@ impl<C: Clock, O: Outlet + Drop> Write for Lines<'_, C, O> {
 }
 
 impl<C, O> Log for Lines<'_, C, O> {
-    fn lost(&self) -> u64
+    fn lost_count(&self) -> u64
         ensures { result ≡ min (self.now.told + self.now.lost) 18446744073709551615 }
     {
         self.told.saturating_add(self.lost)

@@ -1,7 +1,7 @@
 //! One request that goes out to a member, from its begin to its end.
 
 ghost use Rattle.std.specs.Prelude.{◌≡◌, ◌++◌, ◌-◌, ◌<◌, ◌≤◌, IfOk, IsFalse, IsTrue, false, length, option_map, take};
-ghost use Rattle.press_net.specs.Lanes.{HasSameAim, asked_by, is_call_late, is_out, reply_in, request_of, stream_left};
+ghost use Rattle.press_net.specs.Lanes.{HasSameAim, request_by, is_call_late, is_out, reply_in, request_of, stream_left};
 
 use crate::answers::{Errand, Outgoing};
 use crate::reply::is_whole;
@@ -21,10 +21,10 @@ const MOST_AWAY: u32 = 160;
 const LONGEST: usize = 1_049_088;
 
 // Its time limit.
-const SECONDS: u64 = 2;
+const LIMIT_SECONDS: u64 = 2;
 
 // How long others may wait for it to be out.
-const MILLISECONDS: u64 = 2;
+const OUT_MILLIS: u64 = 2;
 
 /// How far a request is.
 #[derive(Clone, Copy, PartialEq, Eq)]
@@ -73,7 +73,7 @@ impl OutgoingConnection {
         outgoing: Outgoing,
         begun: Instant,
     ) -> OutgoingConnection
-        ensures request { request_of result ≡ asked_by outgoing }
+        ensures request { request_of result ≡ request_by outgoing }
         ensures begun { result.begun ≡ begun }
         ensures stream { result.stream ≡ stream }
         ensures kept { result.is_kept ≡ false }
@@ -145,7 +145,7 @@ impl OutgoingConnection {
         ensures { result ≡ is_out now self.now }
     {
         self.request.bytes.len() <= self.request.sent_count()
-            || Duration::from_millis(MILLISECONDS) <= now.duration_since(self.begun)
+            || Duration::from_millis(OUT_MILLIS) <= now.duration_since(self.begun)
     }
 
     pub fn course(&self) -> Course
@@ -170,7 +170,7 @@ impl OutgoingConnection {
     pub fn is_late(&self, now: Instant) -> bool
         ensures { result ≡ is_call_late now self.now }
     {
-        Duration::from_secs(SECONDS) <= now.duration_since(self.begun)
+        Duration::from_secs(LIMIT_SECONDS) <= now.duration_since(self.begun)
     }
 
     /// Sends the request as far as the socket takes it: none of it before it is connected. Returns

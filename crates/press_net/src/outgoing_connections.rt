@@ -2,7 +2,7 @@
 
 ghost use Rattle.std.specs.Prelude.{◌≡◌, [], if◌then◌else◌, ◌+◌, ◌<◌, ◌≤◌, ◌⊎◌, IfErr, IfOk, IfSome, IsFalse, IsTrue, MatchOption, None, Some, false, is_none, length, option_and_then, option_map, position, slice_get, slice_set, unwrap_or};
 ghost use Rattle.std.specs.VecDeque.{deque_capacity, deque_len};
-ghost use Rattle.press_net.specs.Lanes.{IsGrown, MakesRoom, are_out, call_at, changed_at, after_end, front_at, is_call_late, is_out_at, is_ready, kept_at, kepts, queue_of, queues, ready, after_send, stream_left, with_kept, with_lanes, with_last};
+ghost use Rattle.press_net.specs.Lanes.{IsGrown, MakesRoom, are_out, call_at, changed_at, after_end, front_at, is_call_late, is_out_at, is_ready, kept_at, kept_streams, queue_of, queues, ready_lane, after_send, stream_left, with_kept, with_lanes, with_last};
 
 use crate::answers::Outgoing;
 use crate::outgoing_connection::OutgoingConnection;
@@ -12,10 +12,10 @@ use std::collections::VecDeque;
 use std::time::Instant;
 
 // The most that are open at once for one member.
-const MOST_OPEN: usize = 32;
+const MOST_OPEN_REQUESTS: usize = 32;
 
 // The most that wait for one member; one more is lost.
-const MOST_WAITING: usize = 4_096;
+const MOST_WAITING_REQUESTS: usize = 4_096;
 
 // The requests for one member.
 struct Lane {
@@ -30,7 +30,7 @@ impl Lane {
     fn is_ready(&self) -> bool
         ensures { result ≡ is_ready (queue_of self.now) }
     {
-        self.open < MOST_OPEN && !self.waiting.is_empty()
+        self.open < MOST_OPEN_REQUESTS && !self.waiting.is_empty()
     }
 
     // The first that waits goes out, if one may.
@@ -138,7 +138,7 @@ impl OutgoingConnections {
             return false;
         }
         match self.lanes.get_mut(place) {
-            Some(lane) if lane.waiting.len() < MOST_WAITING => {
+            Some(lane) if lane.waiting.len() < MOST_WAITING_REQUESTS => {
                 lane.waiting.push_back(outgoing).is_ok()
             }
             _ => false,
@@ -147,15 +147,16 @@ impl OutgoingConnections {
 
     // The first lane of which one may go out.
     fn ready(&self) -> Option<usize>
-        ensures { result ≡ ready self.now }
+        ensures { result ≡ ready_lane self.now }
     {
         self.lanes.iter().position(|lane| lane.is_ready())
     }
 
     /// The next that may go out: the first of the first lane that has one, and fewer than 32 open.
     pub fn next(&mut self) -> Option<Outgoing>
-        ensures next { result ≡ option_and_then (front_at self.old) (ready self.old) }
-        ensures lanes { MatchOption (ready self.old) (queues self.new ≡ queues self.old) (λ place.
+        ensures next { result ≡ option_and_then (front_at self.old) (ready_lane self.old) }
+        ensures lanes { MatchOption (ready_lane self.old) (queues self.new ≡ queues self.old)
+            (λ place.
             queues self.new ≡ changed_at after_send place (queues self.old)) }
         ensures same { self.new.places ≡ self.old.places }
     {
@@ -166,7 +167,7 @@ impl OutgoingConnections {
     /// One that was to go out has ended.
     pub fn close_lane(&mut self, place: usize)
         ensures closes { queues self.new ≡ changed_at after_end place (queues self.old) }
-        ensures kept { kepts self.new ≡ kepts self.old }
+        ensures kept { kept_streams self.new ≡ kept_streams self.old }
         ensures same { self.new.places ≡ self.old.places }
     {
         if let Some(lane) = self.lanes.get_mut(place) {
@@ -237,7 +238,8 @@ impl OutgoingConnections {
         ensures lane { MatchOption (call_at self.old place) (self.new.lanes ≡ self.old.lanes)
             (λ call. queues self.new ≡ changed_at after_end call.place (queues self.old)) }
         ensures kept { MatchOption (call_at self.old place) (self.new.lanes ≡ self.old.lanes)
-            (λ call. kepts self.new ≡ with_kept call.place (stream_left call) (kepts self.old)) }
+            (λ call. kept_streams self.new ≡ with_kept call.place (stream_left call)
+            (kept_streams self.old)) }
     {
         let Some(slot) = self.places.get_mut(place) else {
             return;
@@ -252,7 +254,7 @@ impl OutgoingConnections {
 
     // A connection to the member at a place stays open.
     fn keep_stream(&mut self, place: usize, stream: Option<TcpStream>)
-        ensures keeps { kepts self.new ≡ with_kept place stream (kepts self.old) }
+        ensures keeps { kept_streams self.new ≡ with_kept place stream (kept_streams self.old) }
         ensures lanes { queues self.new ≡ queues self.old }
         ensures same { self.new.places ≡ self.old.places }
     {

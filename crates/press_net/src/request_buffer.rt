@@ -5,13 +5,10 @@ ghost use Rattle.press_net.specs.declared.request_buffer.Line.TheVariants.{Befor
 ghost use Rattle.press_net.specs.Heads.{IsDueWithBody, IsWanted, due_again, is_whole, line_after, lines_after};
 ghost use Rattle.press_net.specs.Padding.{Pads};
 
-use press_http::{Pieces, read_pieces};
+use press_http::{LONGEST_HEAD, Pieces, read_pieces};
 use std::alloc::{AllocError, Global};
 use std::io;
 use std::str::from_utf8;
-
-// Where a head is refused at the latest.
-const LONGEST_HEAD: usize = 8192;
 
 // Where the bytes of a head are. Empty lines before it are none of its lines.
 #[derive(Clone, Copy, PartialEq, Eq)]
@@ -111,7 +108,7 @@ fn behind_empty_lines(bytes: &[u8]) -> &[u8] {
 
 /// The method and the target of a request, as far as its first line has such words, and `-` for one
 /// that it lacks.
-pub fn words_of(bytes: &[u8]) -> (&str, &str) {
+pub fn method_and_target_of(bytes: &[u8]) -> (&str, &str) {
     let (method, rest) = word(behind_empty_lines(bytes));
     let (target, _) = match rest {
         [_, rest @ ..] => word(rest),
@@ -208,6 +205,6 @@ impl RequestBuffer {
 
     /// The method and the target, as far as the first line has such words.
     pub fn method_and_target(&self) -> (&str, &str) {
-        words_of(&self.bytes)
+        method_and_target_of(&self.bytes)
     }
 }

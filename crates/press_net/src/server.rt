@@ -12,7 +12,7 @@ ghost use Rattle.press_net.specs.Turning.{KeepsAllButCalls, call_of, ends_at, ho
 
 use crate::answers::{Answers, Outgoing, Time, Traffic};
 use crate::connection::{Arrival, Connection, Group, Phase, log_close, log_line};
-use crate::connections::{Connections, Round};
+use crate::connections::{Connections, Intake};
 use crate::dial::connect_from;
 use crate::lines::Log;
 use crate::outgoing_connection::OutgoingConnection;
@@ -42,17 +42,17 @@ const MOST_CALLED: u32 = 256;
 const MOST_LINES: u32 = 16;
 
 // How long may pass before late connections are looked for.
-const MILLISECONDS: u64 = 100;
+const LATE_LOOK_MILLIS: u64 = 100;
 
 // How long may pass where requests go out by time.
-const STEP: u64 = 2;
+const STEP_MILLIS: u64 = 2;
 
 // For how many milliseconds others keep it from what waits for nothing else.
-const BEHIND: u64 = 2;
+const BEHIND_MILLIS: u64 = 2;
 
 // Milliseconds from one reply that has a client come again later to the next one: many clients that
 // come again at once take a small part of its time.
-const PAUSE: u64 = 5;
+const LET_OUT_MILLIS: u64 = 5;
 
 // The most of them that go out at once.
 const MOST_LET_OUT: u128 = 32;
@@ -305,17 +305,17 @@ impl Server {
         )
     }
 
-    // A connection begins, in the round whose first one has that number.
+    // A connection begins, in the intake whose first one has that number.
     fn begin<E: Write>(
         &mut self,
         stream: TcpStream,
         arrival: Arrival,
-        round: Round,
+        intake: Intake,
         log: &mut E,
     ) -> io::Result<()> {
         let connection = Connection::new(self.alloc, stream, arrival);
         self.came = self.came.saturating_add(1);
-        let Some(place) = self.connections.enter(connection, round, log)? else {
+        let Some(place) = self.connections.enter(connection, intake, log)? else {
             return Ok(());
         };
         let watched = self.watch(place);
@@ -344,11 +344,11 @@ impl Server {
     }
 
     // Accepts those that wait, each at the time when it is taken. An error costs the one that it is
-    // of. Where nothing more can be opened, one that came in an earlier round gives way, but none
+    // of. Where nothing more can be opened, one that came in an earlier intake gives way, but none
     // of a member, since nothing is known of who waits; where none does, those that wait are tried
     // again by time.
     fn take<C: Clock, A: Answers, E: Write>(&mut self, clock: &C, answers: &A, log: &mut E) {
-        let round = Round {
+        let intake = Intake {
             first: self.came,
             now: self.now,
         };
@@ -359,7 +359,7 @@ impl Server {
                     self.look_at_clock(clock);
                     let from = from.ip();
                     let arrival = self.arrival(from, answers.is_member(from));
-                    if self.begin(stream, arrival, round, log).is_err() {
+                    if self.begin(stream, arrival, intake, log).is_err() {
                         log_close(self.alloc, log, from, "nothing more can be opened");
                     }
                 }
@@ -369,7 +369,7 @@ impl Server {
                     Miss::WaitsOn => {
                         if self
                             .connections
-                            .give_way(Group::Within, round, log)
+                            .give_way(Group::Within, intake, log)
                             .is_none()
                         {
                             self.is_behind = true;
@@ -472,11 +472,11 @@ impl Server {
     // where no connection is still to have its turn.
     fn let_some_out(&mut self) {
         let passed = self.now.duration_since(self.last_out);
-        if self.is_open() && passed < Duration::from_millis(PAUSE) {
+        if self.is_open() && passed < Duration::from_millis(LET_OUT_MILLIS) {
             return;
         }
         self.last_out = self.now;
-        let count = (passed.as_millis() / u128::from(PAUSE)).max(1);
+        let count = (passed.as_millis() / u128::from(LET_OUT_MILLIS)).max(1);
         for _ in 0..count.min(MOST_LET_OUT) {
             let Some(held) = self.held.pop_front() else {
                 return;
@@ -625,7 +625,7 @@ impl Server {
         if self.calls.are_out(self.now) {
             return true;
         }
-        if has_more && self.now.duration_since(since) < Duration::from_millis(BEHIND) {
+        if has_more && self.now.duration_since(since) < Duration::from_millis(BEHIND_MILLIS) {
             self.waits_since = Some(since);
             return false;
         }
@@ -661,15 +661,15 @@ impl Server {
         if has_more && self.calls.are_out(self.now) {
             Some(Duration::from_millis(0))
         } else if has_more {
-            Some(Duration::from_millis(BEHIND))
+            Some(Duration::from_millis(BEHIND_MILLIS))
         } else if self.is_timed {
-            Some(Duration::from_millis(STEP))
+            Some(Duration::from_millis(STEP_MILLIS))
         } else if !self.held.is_empty() {
-            Some(Duration::from_millis(PAUSE))
+            Some(Duration::from_millis(LET_OUT_MILLIS))
         } else if self.connections.is_empty() && !self.is_behind {
             None
         } else {
-            Some(Duration::from_millis(MILLISECONDS))
+            Some(Duration::from_millis(LATE_LOOK_MILLIS))
         }
     }
 
@@ -730,7 +730,7 @@ impl Server {
     {
         let traffic = Traffic {
             connections: self.connections.count(),
-            lost: log.lost(),
+            lost: log.lost_count(),
         };
         answers.pass(time);
         answers.see(traffic);

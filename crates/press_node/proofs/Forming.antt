@@ -20,15 +20,15 @@ use Rattle.press_acceptor.specs.StoreMap.{StoreMap, block_votes, promise_of, vot
 use Rattle.press_acceptor.specs.Turns.{cast_in, if_less, unless_greater, prepare_by, accept_by, report_of}
 use Rattle.press_proposer.specs.Phases.{awaits, can_ask, promises_in, with_promise}
 use Rattle.press_proposer.specs.Promises.{is_majority}
-use Rattle.press_proposer.specs.Proposing.{Proposing, Turn, quiet, in_phase}
-use Rattle.press_proposer.specs.Turns.{is_content, accepts_in, asks, goes_on, prepares, next_round, wake_turn, proposes, counted, promise_turn}
+use Rattle.press_proposer.specs.Proposing.{ProposerState, Turn, quiet, in_phase}
+use Rattle.press_proposer.specs.Turns.{is_content, accepts_in, asks, goes_on, prepares, next_round, wake_turn, proposes, turn_with_promise, promise_turn}
 use Rattle.press_proposer.specs.declared.phase.Phase.{Phase}
 use Rattle.press_proposer.specs.declared.phase.Phase.TheVariants.{Idle, Preparing, Leading}
 use Rattle.press_proposer.specs.declared.promises.Promise as promises
 use Rattle.press_learner.specs.Chosen.{has_gap}
 use Rattle.press_node.specs.declared.event.Event.{Event}
 use Rattle.press_node.specs.declared.event.Event.TheVariants.{Submit, Wake, Deliver}
-use Rattle.press_node.specs.NodeEvent.{Running, Answer, quiet as node_quiet, by_proposer, is_at_end, is_for, on_body, on_event}
+use Rattle.press_node.specs.NodeEvent.{RunningNode, Answer, quiet as node_quiet, by_proposer, is_at_end, is_for, on_body, on_event}
 use Rattle.press_node.proofs.Few.{either}
 
 abbrev AreFormed : List Message → Type 0
@@ -81,12 +81,12 @@ acceptor_formed n id store asker slot (Accepted vote) = none
 abbrev IsTurnFormed : Turn → Type 0
 IsTurnFormed turn = AreFormed turn.out
 
-accepts_formed : (p : Proposing) (phase : Phase) (slot : ℕ) → AreFormed (accepts_in p phase slot)
+accepts_formed : (p : ProposerState) (phase : Phase) (slot : ℕ) → AreFormed (accepts_in p phase slot)
 accepts_formed p Idle slot = none
 accepts_formed p (Preparing first ballot promises) slot = none
 accepts_formed p (Leading first ballot promises asked) slot = all p.members p.id slot _ tt
 
-wake_formed : (store : StoreMap) (p : Proposing) (applied : ℕ) (gap : Bool) → IsTurnFormed (wake_turn store p applied gap)
+wake_formed : (store : StoreMap) (p : ProposerState) (applied : ℕ) (gap : Bool) → IsTurnFormed (wake_turn store p applied gap)
 wake_formed store p applied gap =
     let round = next_round store p in
     either IsTurnFormed (is_content p gap) (asks p (applied + 1)) (if can_ask p.phase (applied + 1) then goes_on p (applied + 1) else prepares p (block_of (applied + 1)) round)
@@ -95,18 +95,18 @@ wake_formed store p applied gap =
     (accepts_formed p p.phase (applied + 1))
     (all p.members p.id (block_of (applied + 1)) (Prepare round) (first_of (applied + 1))))
 
-promise_formed : (p : Proposing) (from block : ℕ) (ballot : Ballot) (votes : List SlotVote) (applied : ℕ) → IsTurnFormed (promise_turn p from block ballot votes applied)
+promise_formed : (p : ProposerState) (from block : ℕ) (ballot : Ballot) (votes : List SlotVote) (applied : ℕ) → IsTurnFormed (promise_turn p from block ballot votes applied)
 promise_formed p from block ballot votes applied =
     let promise : promises.Promise = record { from = from; votes = votes } in
     let came : List promises.Promise = promises_in p.phase ++ promise ∷ [] in
-    either IsTurnFormed (awaits p.phase from block ballot) (counted p block ballot (promises_in p.phase) promise (applied + 1)) (quiet p)
+    either IsTurnFormed (awaits p.phase from block ballot) (turn_with_promise p block ballot (promises_in p.phase) promise (applied + 1)) (quiet p)
     (either IsTurnFormed (is_majority p.members came) (proposes p block ballot came (applied + 1)) (quiet (in_phase p (with_promise p.phase promise)))
     (all p.members p.id (applied + 1) _ tt) none)
     none
 
 -- ---- the node
 
-body_formed : (n id : ℕ) (store : StoreMap) (node : Running) (message : Message) (body : Body) → AreFormed (on_body n id store node message body).out
+body_formed : (n id : ℕ) (store : StoreMap) (node : RunningNode) (message : Message) (body : Body) → AreFormed (on_body n id store node message body).out
 body_formed n id store node message (Prepare round) = acceptor_formed n id store message.from message.slot message.body
 body_formed n id store node message (Accept round value) = acceptor_formed n id store message.from message.slot message.body
 body_formed n id store node message Query = acceptor_formed n id store message.from message.slot message.body
@@ -116,7 +116,7 @@ body_formed n id store node message (Promise ballot votes) =
 body_formed n id store node message (Nack refused promised) = none
 body_formed n id store node message (Accepted vote) = none
 
-pub event_formed : (n id : ℕ) (store : StoreMap) (node : Running) (event : Event) → AreFormed (on_event n id store node event).out
+pub event_formed : (n id : ℕ) (store : StoreMap) (node : RunningNode) (event : Event) → AreFormed (on_event n id store node event).out
 event_formed n id store node (Submit command) = none
 event_formed n id store node Wake = wake_formed store node.proposer node.learner.applied (has_gap node.learner)
 event_formed n id store node (Deliver message) =

@@ -12,12 +12,12 @@ use Rattle.press_wire.specs.declared.message.Body.TheVariants.{Prepare, Promise,
 use Rattle.press_wire.specs.declared.message.Message.{Message}
 use Rattle.press_acceptor.specs.Answers.{answer_to, said_out, query_out}
 use Rattle.press_acceptor.specs.Messages.{message_to, to_all}
-use Rattle.press_acceptor.specs.StoreMap.{StoreMap, block_votes, promise_of, saved_if, vote_of, with_promise as with_saved, with_round, with_vote}
+use Rattle.press_acceptor.specs.StoreMap.{StoreMap, block_votes, promise_of, with_any_save, vote_of, with_promise as with_saved, with_round, with_vote}
 use Rattle.press_acceptor.specs.Turns.{cast_in, if_less, unless_greater, prepare_by, accept_by, report_of}
 use Rattle.press_proposer.specs.Phases.{awaits, can_ask, promises_in, with_promise}
 use Rattle.press_proposer.specs.Promises.{is_majority}
-use Rattle.press_proposer.specs.Proposing.{Proposing, Turn, quiet, in_phase}
-use Rattle.press_proposer.specs.Turns.{is_content, accepts_in, asks, goes_on, prepares, next_round, wake_turn, proposes, counted, promise_turn}
+use Rattle.press_proposer.specs.Proposing.{ProposerState, Turn, quiet, in_phase}
+use Rattle.press_proposer.specs.Turns.{is_content, accepts_in, asks, goes_on, prepares, next_round, wake_turn, proposes, turn_with_promise, promise_turn}
 use Rattle.press_proposer.specs.declared.phase.Phase.{Phase}
 use Rattle.press_proposer.specs.declared.phase.Phase.TheVariants.{Idle, Preparing, Leading}
 use Rattle.press_proposer.specs.declared.promises.Promise as promises
@@ -25,7 +25,7 @@ use Rattle.press_learner.specs.Chosen.{has_gap}
 use Rattle.press_node.specs.declared.event.Event.{Event}
 use Rattle.press_node.specs.declared.event.Event.TheVariants.{Submit, Wake, Deliver}
 use Rattle.press_node.specs.Durable.{AreStored, IsAnswerStored, IsStored, IsBodyStored}
-use Rattle.press_node.specs.NodeEvent.{Running, quiet as node_quiet, by_proposer, is_at_end, is_for, on_body, on_event}
+use Rattle.press_node.specs.NodeEvent.{RunningNode, quiet as node_quiet, by_proposer, is_at_end, is_for, on_body, on_event}
 use Rattle.press_acceptor.proofs.Maps.{get_here}
 use Rattle.press_node.proofs.Few.{either}
 
@@ -46,7 +46,7 @@ to_all_stored store n id slot body h = All-map (IsStored store) (message_to id s
 -- a promise leaves each vote of the block as it is, and a vote is where it was put
 prepare_stored : (n id : ℕ) (store : StoreMap) (asker block : ℕ) (ballot : Ballot) (o : Option Ballot) →
     let turn = prepare_by o (block_votes store block) block ballot in
-    AreStored (saved_if store turn.save) (said_out n id block ballot asker turn.said)
+    AreStored (with_any_save store turn.save) (said_out n id block ballot asker turn.said)
 prepare_stored n id store asker block ballot None =
     one (with_saved store block ballot) (message_to id block (Promise ballot (block_votes store block)) asker) (get_here store.promises block ballot block refl, refl)
 prepare_stored n id store asker block ballot (Some promised) = one store (message_to id block (Nack ballot promised) asker) tt
@@ -61,7 +61,7 @@ cast_is (Some vote) ballot cast e = cast_by (is_same vote.ballot ballot) vote ca
 
 accept_stored : (n id : ℕ) (store : StoreMap) (asker slot : ℕ) (vote : Vote) (c : Option Vote) (o : Option Ballot) → cast_in (vote_of store slot) vote.ballot ≡ c →
     let turn = accept_by c o slot vote in
-    AreStored (saved_if store turn.save) (said_out n id slot vote.ballot asker turn.said)
+    AreStored (with_any_save store turn.save) (said_out n id slot vote.ballot asker turn.said)
 accept_stored n id store asker slot vote (Some cast) o e = to_all_stored store n id slot (Accepted cast) (cast_is (vote_of store slot) vote.ballot cast e)
 accept_stored n id store asker slot vote None None e = to_all_stored (with_vote store slot vote) n id slot (Accepted vote) (get_here store.votes slot vote slot refl)
 accept_stored n id store asker slot vote None (Some promised) e = one store (message_to id slot (Nack vote.ballot promised) asker) tt
@@ -70,7 +70,7 @@ query_stored : (id : ℕ) (store : StoreMap) (asker slot : ℕ) (o : Option Vote
 query_stored id store asker slot None e = none store
 query_stored id store asker slot (Some vote) e = one store (message_to id slot (Accepted vote) asker) e
 
-acceptor_stored : (n id : ℕ) (store : StoreMap) (asker slot : ℕ) (body : Body) → AreStored (saved_if store (answer_to n id store asker slot body).save) (answer_to n id store asker slot body).out
+acceptor_stored : (n id : ℕ) (store : StoreMap) (asker slot : ℕ) (body : Body) → AreStored (with_any_save store (answer_to n id store asker slot body).save) (answer_to n id store asker slot body).out
 acceptor_stored n id store asker slot (Prepare round) =
     let ballot : Ballot = record { round = round; node = asker } in
     prepare_stored n id store asker (block_of slot) ballot (unless_greater (promise_of store (block_of slot)) ballot)
@@ -85,14 +85,14 @@ acceptor_stored n id store asker slot (Accepted vote) = none store
 -- ---- the proposer
 
 abbrev IsTurnStored : StoreMap → Turn → Type 0
-IsTurnStored store turn = AreStored (saved_if store turn.save) turn.out
+IsTurnStored store turn = AreStored (with_any_save store turn.save) turn.out
 
-accepts_stored : (store : StoreMap) (p : Proposing) (phase : Phase) (slot : ℕ) → AreStored store (accepts_in p phase slot)
+accepts_stored : (store : StoreMap) (p : ProposerState) (phase : Phase) (slot : ℕ) → AreStored store (accepts_in p phase slot)
 accepts_stored store p Idle slot = none store
 accepts_stored store p (Preparing first ballot promises) slot = none store
 accepts_stored store p (Leading first ballot promises asked) slot = to_all_stored store p.members p.id slot _ tt
 
-wake_stored : (store : StoreMap) (p : Proposing) (applied : ℕ) (gap : Bool) → IsTurnStored store (wake_turn store p applied gap)
+wake_stored : (store : StoreMap) (p : ProposerState) (applied : ℕ) (gap : Bool) → IsTurnStored store (wake_turn store p applied gap)
 wake_stored store p applied gap =
     let round = next_round store p in
     either (IsTurnStored store) (is_content p gap) (asks p (applied + 1)) (if can_ask p.phase (applied + 1) then goes_on p (applied + 1) else prepares p (block_of (applied + 1)) round)
@@ -101,20 +101,20 @@ wake_stored store p applied gap =
     (accepts_stored store p p.phase (applied + 1))
     (to_all_stored (with_round store round) p.members p.id (block_of (applied + 1)) (Prepare round) (omega arith)))
 
-counted_stored : (store : StoreMap) (p : Proposing) (block : ℕ) (ballot : Ballot) (earlier : List promises.Promise) (promise : promises.Promise) (slot : ℕ) → IsTurnStored store (counted p block ballot earlier promise slot)
+counted_stored : (store : StoreMap) (p : ProposerState) (block : ℕ) (ballot : Ballot) (earlier : List promises.Promise) (promise : promises.Promise) (slot : ℕ) → IsTurnStored store (turn_with_promise p block ballot earlier promise slot)
 counted_stored store p block ballot earlier promise slot =
     let came : List promises.Promise = earlier ++ promise ∷ [] in
     either (IsTurnStored store) (is_majority p.members came) (proposes p block ballot came slot) (quiet (in_phase p (with_promise p.phase promise)))
     (to_all_stored store p.members p.id slot _ tt) (none store)
 
-promise_stored : (store : StoreMap) (p : Proposing) (from block : ℕ) (ballot : Ballot) (votes : List SlotVote) (applied : ℕ) → IsTurnStored store (promise_turn p from block ballot votes applied)
+promise_stored : (store : StoreMap) (p : ProposerState) (from block : ℕ) (ballot : Ballot) (votes : List SlotVote) (applied : ℕ) → IsTurnStored store (promise_turn p from block ballot votes applied)
 promise_stored store p from block ballot votes applied =
-    either (IsTurnStored store) (awaits p.phase from block ballot) (counted p block ballot (promises_in p.phase) (record { from = from; votes = votes }) (applied + 1)) (quiet p)
+    either (IsTurnStored store) (awaits p.phase from block ballot) (turn_with_promise p block ballot (promises_in p.phase) (record { from = from; votes = votes }) (applied + 1)) (quiet p)
     (counted_stored store p block ballot (promises_in p.phase) (record { from = from; votes = votes }) (applied + 1)) (none store)
 
 -- ---- the node
 
-body_stored : (n id : ℕ) (store : StoreMap) (node : Running) (message : Message) (body : Body) → IsAnswerStored store (on_body n id store node message body)
+body_stored : (n id : ℕ) (store : StoreMap) (node : RunningNode) (message : Message) (body : Body) → IsAnswerStored store (on_body n id store node message body)
 body_stored n id store node message (Prepare round) = acceptor_stored n id store message.from message.slot message.body
 body_stored n id store node message (Accept round value) = acceptor_stored n id store message.from message.slot message.body
 body_stored n id store node message Query = acceptor_stored n id store message.from message.slot message.body
@@ -124,7 +124,7 @@ body_stored n id store node message (Promise ballot votes) =
 body_stored n id store node message (Nack refused promised) = none store
 body_stored n id store node message (Accepted vote) = none store
 
-pub event_stored : (n id : ℕ) (store : StoreMap) (node : Running) (event : Event) → IsAnswerStored store (on_event n id store node event)
+pub event_stored : (n id : ℕ) (store : StoreMap) (node : RunningNode) (event : Event) → IsAnswerStored store (on_event n id store node event)
 event_stored n id store node (Submit command) = none store
 event_stored n id store node Wake = wake_stored store node.proposer node.learner.applied (has_gap node.learner)
 event_stored n id store node (Deliver message) =

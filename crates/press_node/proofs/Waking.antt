@@ -9,7 +9,7 @@ use Rattle.press_proposer.specs.declared.fault.ProposerFault.TheVariants as prop
 use Rattle.press_node.specs.declared.event.Event.TheVariants.{Wake}
 use Rattle.press_node.specs.declared.fault.NodeFault.TheVariants.{RoundsUsedUp, SlotsUsedUp}
 use Rattle.press_node.specs.Faults.{of_proposer}
-use Rattle.press_node.specs.NodeEvent.{Running, is_at_end}
+use Rattle.press_node.specs.NodeEvent.{RunningNode, is_at_end}
 use Rattle.press_node.specs.Plays.{MemoryMove, PlaysUp}
 
 used : (b : Bool) → IsTrue b → cond b (Some RoundsUsedUp) None ≡ Some RoundsUsedUp
@@ -20,7 +20,7 @@ used_back : (b : Bool) → cond b (Some RoundsUsedUp) None ≡ Some RoundsUsedUp
 used_back true h = refl
 used_back false h = cc
 
-module _ (members id : ℕ) (running : Running) (store : StoreMove) (same : Type 0) (has : Running → Type 0) where
+module _ (members id : ℕ) (running : RunningNode) (store : StoreMove) (same : Type 0) (has : RunningNode → Type 0) where
   abbrev pub move : MemoryMove
   move = record { id = id; members = members; before = Some running; same = same; has = has; down = Unit {0} }
 

@@ -1,5 +1,5 @@
 -- Faults of a node: the number of each, and which of them stop the node (own).
-use Rattle.std.specs.Prelude.{ℕ, Bool, true, false}
+use Rattle.std.specs.Prelude.{ℕ, Bool, true, false, Option, Some, None}
 use Rattle.press_acceptor.specs.declared.fault.StoreFault.{StoreFault}
 use Rattle.press_acceptor.specs.declared.fault.StoreFault.TheVariants as store_fault
 use Rattle.press_proposer.specs.declared.fault.ProposerFault.{ProposerFault}
@@ -27,6 +27,17 @@ stops RoundsUsedUp = false
 stops Disk = true
 stops Damaged = true
 stops NoMemory = true
+
+-- what stops a node by a fault; none where that is a refusal
+abbrev pub stop_of : NodeFault → Option StoreFault
+stop_of Down = None
+stop_of TooLong = None
+stop_of Full = None
+stop_of SlotsUsedUp = None
+stop_of RoundsUsedUp = None
+stop_of Disk = Some store_fault.Disk
+stop_of Damaged = Some store_fault.Damaged
+stop_of NoMemory = Some store_fault.NoMemory
 
 -- ---- the fault of a part, as the node's
 

@@ -11,8 +11,8 @@ use Rattle.press_acceptor.specs.Seen.{Seen}
 use Rattle.press_wire.specs.declared.message.Message.{Message}
 use Rattle.press_node.specs.declared.event.Event.{Event}
 use Rattle.press_node.specs.declared.fault.NodeFault.{NodeFault}
-use Rattle.press_acceptor.specs.Turned.{moved}
-use Rattle.press_node.specs.Plays.{Plays, StatePlays, state_moved}
+use Rattle.press_acceptor.specs.Turned.{store_move}
+use Rattle.press_node.specs.Plays.{Plays, StatePlays, state_move}
 use Rattle.press_node.specs.States.{IsMemberOf, IsWhole, NodeState, Up}
 use Rattle.press_node.specs.declared.node.Node.{Node}
 
@@ -60,10 +60,10 @@ pub record NodeMove : Type 1 where
   -- this event was played, with this outcome
   pub plays : Event → Result (List Message) NodeFault → Type 0
 
-abbrev pub node_moved : {S : Type 0} {t : _} {F : _} {g : _} → (S → Seen) → Node S t F g → Node S t F g → NodeMove
-node_moved seen old new = record {
+abbrev pub node_move : {S : Type 0} {t : _} {F : _} {g : _} → (S → Seen) → Node S t F g → Node S t F g → NodeMove
+node_move seen old new = record {
   kit = kit_of old;
   up = (state_of old).up;
   same = new ≡ old;
-  plays = λ event outcome. IsPlayed (state_of old) (state_of new) (Plays (moved seen (store_of old) (store_of new)) (state_moved (state_of old) (state_of new)) event outcome);
+  plays = λ event outcome. IsPlayed (state_of old) (state_of new) (Plays (store_move seen (store_of old) (store_of new)) (state_move (state_of old) (state_of new)) event outcome);
 }

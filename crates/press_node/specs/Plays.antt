@@ -7,7 +7,7 @@
 use Rattle.std.specs.Prelude.{ℕ, ◌≡◌, ◌⊎◌, Option, None, Some, List, Result, Ok, Err, MatchResult}
 use Rattle.press_wire.specs.declared.message.Message.{Message}
 use Rattle.press_acceptor.specs.StoreMap.{StoreMap}
-use Rattle.press_acceptor.specs.Turned.{Plan, StoreMove, Trusts, Turned, moved}
+use Rattle.press_acceptor.specs.Turned.{Plan, StoreMove, Trusts, Turned, store_move}
 use Rattle.press_acceptor.specs.Seen.{Seen}
 use Rattle.press_acceptor.specs.declared.fault.StoreFault.{StoreFault}
 use Rattle.press_proposer.specs.Wakes.{last_round_plan}
@@ -16,37 +16,37 @@ use Rattle.press_node.specs.declared.fault.NodeFault.{NodeFault}
 use Rattle.press_node.specs.declared.fault.NodeFault.TheVariants.{Down, RoundsUsedUp}
 use Rattle.press_node.specs.EventPlans.{WantsRound, event_plan}
 use Rattle.press_node.specs.Faults.{of_store}
-use Rattle.press_node.specs.NodeEvent.{Running, Answer, on_event}
+use Rattle.press_node.specs.NodeEvent.{RunningNode, Answer, on_event}
 use Rattle.press_node.specs.Refusals.{refusal_up, refusal_by_rounds}
-use Rattle.press_node.specs.States.{NodeState, running_in, stopped}
+use Rattle.press_node.specs.States.{NodeState, running_in, stopped_state}
 
 -- A node's memory, before and after.
 pub record MemoryMove : Type 1 where
   pub id : ℕ
   pub members : ℕ
   -- what was in it; none where the node was down
-  pub before : Option Running
+  pub before : Option RunningNode
   -- it is the very same
   pub same : Type 0
   -- this is in it
-  pub has : Running → Type 0
+  pub has : RunningNode → Type 0
   -- the node is down
   pub down : Type 0
 
-abbrev pub state_moved : NodeState → NodeState → MemoryMove
-state_moved old new = record {
+abbrev pub state_move : NodeState → NodeState → MemoryMove
+state_move old new = record {
   id = old.id;
   members = old.members;
   before = running_in old;
   same = new ≡ old;
   has = λ node. running_in new ≡ Some node;
-  down = new ≡ stopped old;
+  down = new ≡ stopped_state old;
 }
 
 -- the messages of a result
-abbrev pub sent : {T : Type 0} → (T → List Message) → Result T NodeFault → Result (List Message) NodeFault
-sent messages (Ok out) = Ok (messages out)
-sent messages (Err fault) = Err fault
+abbrev pub messages_of_result : {T : Type 0} → (T → List Message) → Result T NodeFault → Result (List Message) NodeFault
+messages_of_result messages (Ok out) = Ok (messages out)
+messages_of_result messages (Err fault) = Err fault
 
 -- The event was done: what the definition has is sent, in memory and stored, where what the store
 -- answers counts.
@@ -83,7 +83,7 @@ PlaysBy plan answer wants refused store node outcome =
 abbrev pub IsRefused : NodeFault → StoreMove → MemoryMove → Result (List Message) NodeFault → Type 0
 IsRefused fault store node outcome = (outcome ≡ Err fault) × node.same × store.same
 
-abbrev pub PlaysUp : Option NodeFault → Running → StoreMove → MemoryMove → Event → Result (List Message) NodeFault → Type 0
+abbrev pub PlaysUp : Option NodeFault → RunningNode → StoreMove → MemoryMove → Event → Result (List Message) NodeFault → Type 0
 PlaysUp (Some fault) running store node event outcome = IsRefused fault store node outcome
 PlaysUp None running store node event outcome =
     PlaysBy (event_plan node.members node.id running event)
@@ -92,7 +92,7 @@ PlaysUp None running store node event outcome =
     (λ kept. refusal_by_rounds kept running event)
     store node outcome
 
-abbrev pub PlaysWhere : Option Running → StoreMove → MemoryMove → Event → Result (List Message) NodeFault → Type 0
+abbrev pub PlaysWhere : Option RunningNode → StoreMove → MemoryMove → Event → Result (List Message) NodeFault → Type 0
 PlaysWhere None store node event outcome = IsRefused Down store node outcome
 PlaysWhere (Some running) store node event outcome = PlaysUp (refusal_up running event) running store node event outcome
 
@@ -103,4 +103,4 @@ Plays store node event outcome = PlaysWhere node.before store node event outcome
 
 -- of a node's state, over a store of its own
 abbrev pub StatePlays : {S T : Type 0} → (S → Seen) → S → S → NodeState → NodeState → Event → (T → List Message) → Result T NodeFault → Type 0
-StatePlays seen store store_after old new event messages result = Plays (moved seen store store_after) (state_moved old new) event (sent messages result)
+StatePlays seen store store_after old new event messages result = Plays (store_move seen store store_after) (state_move old new) event (messages_of_result messages result)

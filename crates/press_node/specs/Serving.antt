@@ -14,7 +14,7 @@ use Rattle.press_text.specs.Gives.{Gives}
 use Rattle.press_http.specs.Meanings as meaning
 use Rattle.press_http.specs.Replies.{fault_bytes, reply_bytes}
 use Rattle.press_http.specs.Requests.{IsRequest, Refuses, longest_request}
-use Rattle.press_http.specs.Routes.{asked}
+use Rattle.press_http.specs.Routes.{asked_by_request}
 use Rattle.press_page.specs.declared.reply.ContentKind.TheVariants.{Json, Text}
 use Rattle.press_page.specs.declared.reply.Reply.{Reply}
 use Rattle.press_page.specs.declared.reply.Target.{Target}
@@ -50,7 +50,7 @@ taken_reply = record { status = 200; kind = Text; body = [] }
 -- route says why
 abbrev pub AsksFor : List ℕ → Option (List ℕ) → Result Asked HttpFault → Type 0
 AsksFor seen left result =
-    IsErrAnd result (λ e. Refuses e seen left) ⊎ ((r : Request) × IsRequest seen r × Gives meaning.Refuses Ok result (asked r.method r.target r.body))
+    IsErrAnd result (λ e. Refuses e seen left) ⊎ ((r : Request) × IsRequest seen r × Gives meaning.Refuses Ok result (asked_by_request r.method r.target r.body))
 
 -- ---- replies
 

@@ -10,10 +10,11 @@ use Rattle.press_acceptor.specs.StoreMap.{StoreMap}
 use Rattle.press_learner.specs.Chosen.{chosen_next}
 use Rattle.press_proposer.specs.Queues.{is_empty}
 use Rattle.press_node.specs.declared.event.Event.{Event}
-use Rattle.press_node.specs.NodeEvent.{Running, Answer, fresh, on_event}
+use Rattle.press_node.specs.NodeEvent.{RunningNode, Answer, fresh, on_event}
+use Rattle.press_wire.specs.Ranges.{most_members}
 
 pub record Up : Type 0 where
-  pub running : Running
+  pub running : RunningNode
   -- what the applied values make
   pub site : SiteView
 
@@ -23,15 +24,15 @@ pub record NodeState : Type 0 where
   -- none where the node is down
   pub up : Option Up
 
-abbrev pub running_in : NodeState → Option Running
+abbrev pub running_in : NodeState → Option RunningNode
 running_in state = option_map (λ up. up.running) state.up
 
 -- its answer to an event, where it is up
 abbrev pub answer_in : StoreMap → NodeState → Event → Option Answer
 answer_in store state event = option_map (λ up. on_event state.members state.id store up.running event) state.up
 
-abbrev pub stopped : NodeState → NodeState
-stopped state = record { id = state.id; members = state.members; up = None }
+abbrev pub stopped_state : NodeState → NodeState
+stopped_state state = record { id = state.id; members = state.members; up = None }
 
 -- just started, over a store with this last round
 abbrev pub started_at : ℕ → ℕ → ℕ → NodeState
@@ -83,8 +84,8 @@ IsFolded kit state = option_map (λ up. up.site) state.up ≡ option_map (λ up.
 
 -- What holds of a running node at every moment: its parts are of one node of at most seven, it has
 -- applied as many values as its learner counts, and none is chosen that it has not applied.
-pub record IsRunningAt (id members : ℕ) (node : Running) : Type 0 where
-  pub small : members ≤ 7
+pub record IsRunningAt (id members : ℕ) (node : RunningNode) : Type 0 where
+  pub small : members ≤ most_members
   pub member : id ≤ members
   pub id_of : node.proposer.id ≡ id
   pub members_of : node.proposer.members ≡ members
@@ -92,8 +93,8 @@ pub record IsRunningAt (id members : ℕ) (node : Running) : Type 0 where
   pub count : node.learner.applied ≡ length node.values
   pub none : chosen_next node.learner ≡ None
 
-abbrev pub IsWholeWhere : ℕ → ℕ → Option Running → Type 0
-IsWholeWhere id members None = (members ≤ 7) × (id ≤ members)
+abbrev pub IsWholeWhere : ℕ → ℕ → Option RunningNode → Type 0
+IsWholeWhere id members None = (members ≤ most_members) × (id ≤ members)
 IsWholeWhere id members (Some node) = IsRunningAt id members node
 
 -- and of a node

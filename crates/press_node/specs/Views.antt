@@ -4,13 +4,13 @@ use Rattle.press_apply.specs.Apply.{applied, site_after}
 use Rattle.press_apply.specs.declared.value.Value.{Value}
 use Rattle.press_callbacks.specs.Kits.{KitView}
 use Rattle.press_learner.specs.Chosen.{chosen_next}
-use Rattle.press_node.specs.NodeEvent.{Running, with_applied}
+use Rattle.press_node.specs.NodeEvent.{RunningNode, with_applied}
 use Rattle.press_node.specs.Plays.{MemoryMove}
 use Rattle.press_node.specs.States as states
 use Rattle.press_node.specs.States.{IsRunningAt, IsWholeWhere}
 use Rattle.press_node.specs.declared.up.Up.{Up}
 
-abbrev pub running_of : Up → Running
+abbrev pub running_of : Up → RunningNode
 running_of up = record { proposer = up.proposer; learner = up.learner; values = up.values.items }
 
 abbrev pub view_one : Up → states.Up
@@ -26,8 +26,8 @@ abbrev pub IsUp : ℕ → ℕ → Option Up → Type 0
 IsUp id members up = IsWholeWhere id members (option_map running_of up)
 
 -- memory, before and after
-abbrev pub up_moved : ℕ → ℕ → Up → Up → MemoryMove
-up_moved id members old new = record {
+abbrev pub up_move : ℕ → ℕ → Up → Up → MemoryMove
+up_move id members old new = record {
   id = id;
   members = members;
   before = Some (running_of old);

@@ -1,5 +1,5 @@
-ghost use Rattle.std.specs.Prelude.{◌≡◌, true};
-ghost use Rattle.press_node.specs.Faults.{node_fault_number, of_proposer, of_store, stops};
+ghost use Rattle.std.specs.Prelude.{◌≡◌, MatchOption, false, true};
+ghost use Rattle.press_node.specs.Faults.{node_fault_number, of_proposer, of_store, stop_of, stops};
 
 use press_acceptor::StoreFault;
 use press_proposer::ProposerFault;
@@ -57,6 +57,23 @@ impl NodeFault {
             | NodeFault::Full
             | NodeFault::SlotsUsedUp
             | NodeFault::RoundsUsedUp => false,
+        }
+    }
+
+    /// What stopped the node, where it is more than a refusal.
+    pub fn stop(self) -> Option<StoreFault>
+        ensures stop { result ≡ stop_of self }
+        ensures tells { MatchOption result (stops self ≡ false) (λ by. self ≡ of_store by) }
+    {
+        match self {
+            NodeFault::NoMemory => Some(StoreFault::NoMemory),
+            NodeFault::Disk => Some(StoreFault::Disk),
+            NodeFault::Damaged => Some(StoreFault::Damaged),
+            NodeFault::Down
+            | NodeFault::TooLong
+            | NodeFault::Full
+            | NodeFault::SlotsUsedUp
+            | NodeFault::RoundsUsedUp => None,
         }
     }
 

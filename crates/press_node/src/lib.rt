@@ -19,6 +19,6 @@ pub use event::Event;
 pub use fault::NodeFault;
 pub use laws::{few_messages_go_out, what_is_said_is_stored, what_is_sent_is_in_form};
 pub use node::Node;
-pub use serve::{Served, serve_one};
+pub use serve::{Served, queued_reply, serve_one, taken_reply};
 pub use start_fault::StartFault;
 pub use state::State;

@@ -6,6 +6,7 @@ ghost use Rattle.press_acceptor.specs.Seen.{Calls, Looks};
 ghost use Rattle.press_acceptor.specs.Seen.Call.{LoadsRound};
 ghost use Rattle.press_node.specs.Nodes.{IsDeskAt, IsPageAt, NodePlays, kit_of, state_of, store_of};
 ghost use Rattle.press_node.specs.States.{IsMemberOf, IsWhole, applied_count, applied_values, is_down, is_waiting, started_at, waiting_count};
+ghost use Rattle.press_wire.specs.Ranges.{most_members};
 
 use crate::event::Event;
 use crate::fault::NodeFault;
@@ -108,7 +109,7 @@ impl<S: PromiseStore> Node<S> {
         kit: Kit,
         mut store: S,
     ) -> Result<Node<S>, StartFault<S>>
-        requires few { members ≤ 7 }
+        requires few { members ≤ most_members }
         requires member { id ≤ members }
         ensures kit { MatchResult result (λ node. kit_of node ≡ kit_view kit)
             (λ e. kit_view e.kit ≡ kit_view kit) }

@@ -5,7 +5,7 @@ ghost use Rattle.std.specs.Io.KnownBytes.{Appends, Consumes};
 ghost use Rattle.press_text.specs.Streams.{AppendsProperFront};
 ghost use Rattle.press_http.specs.Replies.{IsReplyStatus, fault_bytes};
 ghost use Rattle.press_http.specs.Requests.{longest_request};
-ghost use Rattle.press_node.specs.Nodes.{kit_of, node_moved, state_of};
+ghost use Rattle.press_node.specs.Nodes.{kit_of, node_move, state_of};
 ghost use Rattle.press_node.specs.Serving.{
   AsksFor,
   IsAnswered,
@@ -91,8 +91,8 @@ fn refuse<W: Write>(alloc: Global, writer: &mut W, status: u16) -> Result<Served
     }
 }
 
-// The reply that a command waits to be chosen. Its body is short, so it takes no memory.
-fn queued_reply(alloc: Global) -> Reply
+/// The reply that a command waits to be chosen. Its body is short, so it takes no memory.
+pub fn queued_reply(alloc: Global) -> Reply
     ensures { result ≡ queued_reply }
 {
     let Ok(body) = Text::from_str(alloc, "{\"queued\":true}") else {
@@ -105,8 +105,8 @@ fn queued_reply(alloc: Global) -> Reply
     }
 }
 
-// The reply that a message was taken.
-fn taken_reply(alloc: Global) -> Reply
+/// The reply that a message was taken.
+pub fn taken_reply(alloc: Global) -> Reply
     ensures { result ≡ taken_reply }
 {
     Reply {
@@ -176,7 +176,7 @@ fn serve_event<S: PromiseStore, W: Write>(
     reply: &Reply,
 ) -> Result<Served, HttpFault>
     ensures kit { kit_of node.new ≡ kit_of node.old }
-    ensures plays { PlaysAndTells (node_moved S.seen node.old node.new).plays event reply.now
+    ensures plays { PlaysAndTells (node_move S.seen node.old node.new).plays event reply.now
         (W.contents writer.old) (W.contents writer.new) result }
 {
     let alloc = node.alloc;
@@ -205,7 +205,7 @@ fn serve_request<S: PromiseStore, W: Write>(
     asked: Asked,
 ) -> Result<Served, HttpFault>
     ensures kit { kit_of node.new ≡ kit_of node.old }
-    ensures answered { IsAnswered (node_moved S.seen node.old node.new) (W.contents writer.old)
+    ensures answered { IsAnswered (node_move S.seen node.old node.new) (W.contents writer.old)
         (W.contents writer.new) asked result }
 {
     let alloc = node.alloc;
@@ -241,7 +241,7 @@ pub fn serve_one<S: PromiseStore, R: Read, W: Write>(
     writer: &mut W,
 ) -> Result<Served, HttpFault>
     ensures kit { kit_of node.new ≡ kit_of node.old }
-    ensures served { Serves (node_moved S.seen node.old node.new) (R.remaining reader.old)
+    ensures served { Serves (node_move S.seen node.old node.new) (R.remaining reader.old)
         (R.remaining reader.new) (W.contents writer.old) (W.contents writer.new) result }
 {
     match parse_request(node.alloc, reader) {

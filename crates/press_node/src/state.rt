@@ -16,9 +16,10 @@ ghost use Rattle.press_node.specs.States.{
   IsWhole,
   running_in,
   started_at,
-  stopped,
+  stopped_state,
   waiting_count,
 };
+ghost use Rattle.press_wire.specs.Ranges.{most_members};
 
 use crate::event::Event;
 use crate::fault::NodeFault;
@@ -73,7 +74,7 @@ impl Model for State {
 impl State {
     /// A node that has just started.
     pub fn new(alloc: Global, id: MemberId, members: u8, last_round: u64) -> State
-        requires few { members ≤ 7 }
+        requires few { members ≤ most_members }
         requires member { id ≤ members }
         ensures { result ≡ started_at id members last_round }
     {
@@ -222,7 +223,7 @@ impl State {
 
     /// Stops the node, which is down from now on.
     pub fn stop(&mut self)
-        ensures { self.new ≡ stopped self.old }
+        ensures { self.new ≡ stopped_state self.old }
     {
         drop(self.up.take());
     }

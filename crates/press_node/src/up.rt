@@ -5,7 +5,7 @@ ghost use Rattle.press_callbacks.specs.Kits.{kit_view};
 ghost use Rattle.press_acceptor.specs.Answers.{acceptor_answer};
 ghost use Rattle.press_acceptor.specs.Plans.{answer_calls, answer_plan};
 ghost use Rattle.press_acceptor.specs.StoreMap.{StoreMap};
-ghost use Rattle.press_acceptor.specs.Turned.{Says, Turned, moved};
+ghost use Rattle.press_acceptor.specs.Turned.{Says, Turned, store_move};
 ghost use Rattle.press_acceptor.specs.declared.fault.StoreFault.{StoreFault};
 ghost use Rattle.press_learner.specs.Chosen.{chosen_next, has_gap};
 ghost use Rattle.press_learner.specs.Kept.{with_vote};
@@ -13,10 +13,11 @@ ghost use Rattle.press_proposer.specs.Turns.{queued_by, nacked_by};
 ghost use Rattle.press_site.specs.Effects.{no_site};
 ghost use Rattle.press_node.specs.EventPlans.{TakesForPromise, TakesForVote, body_plan};
 ghost use Rattle.press_node.specs.Faults.{of_store, stops};
-ghost use Rattle.press_node.specs.NodeEvent.{fresh, is_for, on_body, promise_answer, settled, with_learner};
-ghost use Rattle.press_node.specs.Plays.{Plays, PlaysBy, PlaysUp, sent};
+ghost use Rattle.press_node.specs.NodeEvent.{fresh, is_for, on_body, promise_answer, with_all_applied, with_learner};
+ghost use Rattle.press_node.specs.Plays.{Plays, PlaysBy, PlaysUp, messages_of_result};
 ghost use Rattle.press_node.specs.Refusals.{is_at_end, refusal, refusal_up};
-ghost use Rattle.press_node.specs.Views.{Applies, IsBeside, IsUpAt, IsUpFolded, running_of, up_moved};
+ghost use Rattle.press_node.specs.Views.{Applies, IsBeside, IsUpAt, IsUpFolded, running_of, up_move};
+ghost use Rattle.press_wire.specs.Ranges.{last_slot, most_members};
 
 use crate::event::Event;
 use crate::fault::NodeFault;
@@ -24,16 +25,13 @@ use crate::fixed::Fixed;
 use press_acceptor::{Acceptor, PromiseStore};
 use press_apply::{Stamped, Value, apply};
 use press_callbacks::Kit;
-use press_learner::{Learner, none_is_chosen_after_64};
+use press_learner::{Learner, WINDOW, none_is_chosen_after_64};
 use press_proposer::Proposer;
 use press_site::Site;
 use press_wire::{
     Ballot, Body, LAST_SLOT, MemberId, Message, Slot, Vote, Votes, is_command_too_long,
 };
 use std::alloc::Global;
-
-// For how many slots votes are kept.
-const WINDOW: u8 = 64;
 
 pub(crate) struct Up {
     pub(crate) proposer: Proposer,
@@ -55,7 +53,7 @@ impl Drop for Up {
 
 // The slot after this many.
 fn slot_behind(applied: u64) -> Slot
-    requires { applied < 1000000 }
+    requires { applied < last_slot }
     ensures { result ≡ applied + 1 }
 {
     let Some(slot) = Slot::new(applied as u32 + 1) else {
@@ -70,16 +68,16 @@ fn answer_of_acceptor<S: PromiseStore>(
     store: &mut S,
     message: &Message,
 ) -> Result<Vec<Message>, NodeFault>
-    requires { fixed.now.members ≤ 7 }
+    requires { fixed.now.members ≤ most_members }
     ensures out { Says (answer_calls message.now.slot message.now.body) (λ out. out.items)
         (λ kept. (acceptor_answer fixed.now.members fixed.now.id kept message.now).out)
-        (moved S.seen store.old store.new) result }
+        (store_move S.seen store.old store.new) result }
     ensures turned { MatchResult result
         (λ _. Turned (answer_plan fixed.now.members fixed.now.id message.now)
-        (moved S.seen store.old store.new) None)
+        (store_move S.seen store.old store.new) None)
         (λ fault. (by : StoreFault) × (fault ≡ of_store by) ×
         Turned (answer_plan fixed.now.members fixed.now.id message.now)
-        (moved S.seen store.old store.new) (Some by)) }
+        (store_move S.seen store.old store.new) (Some by)) }
 {
     match Acceptor::answer(fixed.alloc, store, fixed.members, fixed.id, message) {
         Ok(out) => Ok(out),
@@ -96,7 +94,7 @@ fn is_for(members: u8, id: MemberId, message: &Message) -> bool
 
 impl Up {
     pub(crate) fn new(alloc: Global, id: MemberId, members: u8, last_round: u64) -> Up
-        requires { members ≤ 7 }
+        requires { members ≤ most_members }
         ensures running { running_of result ≡ fresh members id last_round }
         ensures none { chosen_next result.learner ≡ None }
         ensures site { result.site ≡ no_site }
@@ -156,7 +154,8 @@ impl Up {
         ensures stops { IfErr result (λ fault. stops fault ≡ true) }
         ensures memory { IfErr result
             (λ fault. (fault ≡ NodeFault.NoMemory) × IsSome (chosen_next self.old.learner)) }
-        ensures settled { OnOk result (running_of self.new ≡ settled (running_of self.old)) }
+        ensures settled { OnOk result
+            (running_of self.new ≡ with_all_applied (running_of self.old)) }
         ensures folded { OnOk result
             (IsUpFolded (kit_view kit.now) self.old → IsUpFolded (kit_view kit.now) self.new) }
     {
@@ -191,7 +190,7 @@ impl Up {
         ensures memory { IfErr result
             (λ fault. (fault ≡ NodeFault.NoMemory) × TakesForVote self.old.learner from slot vote) }
         ensures voted { OnOk result
-            (running_of self.new ≡ settled
+            (running_of self.new ≡ with_all_applied
             (with_learner (running_of self.old) (with_vote self.old.learner from slot vote))) }
         ensures folded { OnOk result
             (IsUpFolded (kit_view fixed.now.kit.now) self.old
@@ -243,7 +242,7 @@ impl Up {
     #[tactic(auto, unfolding(crate::specs::Refusals::is_at_end))]
     fn is_at_end(&self) -> bool
         ensures value { result ≡ is_at_end (running_of self.now) }
-        ensures more { result ≡ false → self.now.learner.applied < 1000000 }
+        ensures more { result ≡ false → self.now.learner.applied < last_slot }
     {
         self.learner.applied() >= LAST_SLOT as u64
     }
@@ -270,8 +269,9 @@ impl Up {
         members: u8,
     ) -> Result<Vec<Message>, NodeFault>
         ensures rest { IsBeside self.old self.new }
-        ensures plays { Plays (moved S.seen store.old store.new)
-            (up_moved id members self.old self.new) Event.Wake (sent (λ out. out.items) result) }
+        ensures plays { Plays (store_move S.seen store.old store.new)
+            (up_move id members self.old self.new) Event.Wake
+            (messages_of_result (λ out. out.items) result) }
     {
         if self.is_at_end() {
             return Err(NodeFault::SlotsUsedUp);
@@ -340,9 +340,9 @@ impl Up {
             (body_plan fixed.now.members fixed.now.id (running_of self.old) message message.body)
             (λ kept. on_body fixed.now.members fixed.now.id kept (running_of self.old) message
             message.body)
-            ⊥ (λ _. None) (moved S.seen store.old store.new)
-            (up_moved fixed.now.id fixed.now.members self.old self.new)
-            (sent (λ out. out.items) result) }
+            ⊥ (λ _. None) (store_move S.seen store.old store.new)
+            (up_move fixed.now.id fixed.now.members self.old self.new)
+            (messages_of_result (λ out. out.items) result) }
     {
         let Message {
             from,
@@ -388,9 +388,9 @@ impl Up {
         ensures folded { OnOk result
             (IsUpFolded (kit_view fixed.now.kit.now) self.old
             → IsUpFolded (kit_view fixed.now.kit.now) self.new) }
-        ensures plays { Plays (moved S.seen store.old store.new)
-            (up_moved fixed.now.id fixed.now.members self.old self.new) (Event.Deliver message)
-            (sent (λ out. out.items) result) }
+        ensures plays { Plays (store_move S.seen store.old store.new)
+            (up_move fixed.now.id fixed.now.members self.old self.new) (Event.Deliver message)
+            (messages_of_result (λ out. out.items) result) }
     {
         if !is_for(fixed.members, fixed.id, &message) {
             drop(message);
@@ -412,9 +412,9 @@ impl Up {
         ensures folded { OnOk result
             (IsUpFolded (kit_view fixed.now.kit.now) self.old
             → IsUpFolded (kit_view fixed.now.kit.now) self.new) }
-        ensures plays { Plays (moved S.seen store.old store.new)
-            (up_moved fixed.now.id fixed.now.members self.old self.new) event
-            (sent (λ out. out.items) result) }
+        ensures plays { Plays (store_move S.seen store.old store.new)
+            (up_move fixed.now.id fixed.now.members self.old self.new) event
+            (messages_of_result (λ out. out.items) result) }
     {
         match event {
             Event::Submit(command) => match self.submit(fixed.alloc, command) {

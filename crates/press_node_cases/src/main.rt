@@ -19,7 +19,7 @@ mod failing;
 mod faults;
 mod fuse;
 mod lines;
-mod pieces;
+mod piece_reader;
 mod played;
 mod posts;
 mod runs;

@@ -64,7 +64,7 @@ fn play_words(rt: &HostRuntime, scene: &Scene<'_>) -> anyhow::Result<()> {
         } = read_kit_file(alloc, &file)?;
         let mut callbacks: Vec<Stored> = Vec::new(alloc);
         for scripted in parts.into_vec() {
-            let own = scripted.script.copied(alloc)?;
+            let own = scripted.script.copy_in(alloc)?;
             let call: BoxedTurns = Box::new(
                 alloc,
                 move |input: &CallIn| script_turn(alloc, &own, input),

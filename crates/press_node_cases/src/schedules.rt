@@ -3,18 +3,17 @@
 use crate::cluster::Cluster;
 use crate::failing::{Fails, Reader, Writer};
 use crate::fuse::Fuse;
-use crate::pieces::Pieces;
+use crate::piece_reader::PieceReader;
 use crate::word::Word;
 use press_callbacks::{BoxedTurns, CallIn, Kit, Stored};
 use press_kit::{KitParts, read_kit_file};
 use press_text::Copied;
+use press_wire::MOST_MEMBERS;
 use press_world::{ReplayFault, replay};
 use std::alloc::{AllocError, Global};
 use std::fs;
 use std::io::{Read, Write};
 use std::rc::Rc;
-
-const NODES: usize = 7;
 
 // How many nodes a schedule has whose closures run out of memory.
 const MEMBERS: usize = 3;
@@ -53,7 +52,7 @@ fn fault_of_replay<R: Read, W: Write>(
     writer: &mut W,
 ) -> anyhow::Result<Option<ReplayFault>> {
     let mut kits = Vec::new(alloc);
-    for _ in 0..NODES {
+    for _ in 0..MOST_MEMBERS as usize {
         let kit = Kit::build(alloc, Vec::new(alloc), Vec::new(alloc))?;
         kits.push(kit)?;
     }
@@ -61,7 +60,7 @@ fn fault_of_replay<R: Read, W: Write>(
 }
 
 fn transcript_of(alloc: Global, schedule: &[u8]) -> anyhow::Result<Transcript> {
-    let mut reader = Pieces::new(schedule, 4096);
+    let mut reader = PieceReader::new(schedule, 4096);
     let mut bytes = Vec::new(alloc);
     let fault = match fault_of_replay(alloc, &mut reader, &mut bytes)? {
         Some(fault) => Some(fault.number()),
@@ -191,7 +190,7 @@ fn play_at(kit: &[u8], cluster: &mut Cluster<'_>, at: u64, restarts: bool) -> an
         let parts = read_kit_file(alloc, kit)?;
         let mut callbacks: Vec<Stored> = Vec::new(alloc);
         for scripted in parts.callbacks.into_vec() {
-            let own = scripted.script.copied(alloc)?;
+            let own = scripted.script.copy_in(alloc)?;
             let fuse = cluster.fuse.clone()?;
             let call: BoxedTurns = Box::new(
                 alloc,

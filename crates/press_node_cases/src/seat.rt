@@ -3,7 +3,7 @@
 ghost use Rattle.std.specs.Prelude.{◌≡◌};
 
 use crate::lines::{done_line, kind_of, sent_line, store_line};
-use crate::pieces::Pieces;
+use crate::piece_reader::PieceReader;
 use crate::posts::post;
 use crate::store::Failing;
 use crate::word::Turn;
@@ -170,7 +170,7 @@ impl Seat {
     pub fn serve(&mut self, name: &str, bytes: &[u8]) -> anyhow::Result<Vec<u8>>
         requires always { Unit {0} }
     {
-        let mut reader = Pieces::new(bytes, self.size);
+        let mut reader = PieceReader::new(bytes, self.size);
         let mut reply = Vec::new(self.alloc);
         match serve_one(&mut self.node, &mut reader, &mut reply) {
             Ok(Served { status, outbox }) => {
@@ -211,7 +211,7 @@ impl Seat {
     pub fn reply_to(&mut self, bytes: &[u8]) -> anyhow::Result<Vec<u8>>
         requires always { Unit {0} }
     {
-        let mut reader = Pieces::new(bytes, bytes.len());
+        let mut reader = PieceReader::new(bytes, bytes.len());
         let mut reply = Vec::new(self.alloc);
         self.serve_on(&mut reader, &mut reply)?;
         Ok(reply)
@@ -265,7 +265,7 @@ impl Seat {
     pub fn serve_away(&mut self, bytes: &[u8])
         requires always { Unit {0} }
     {
-        let mut reader = Pieces::new(bytes, bytes.len());
+        let mut reader = PieceReader::new(bytes, bytes.len());
         let _ = serve_one(&mut self.node, &mut reader, &mut io::sink());
     }
 

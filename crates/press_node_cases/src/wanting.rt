@@ -29,7 +29,7 @@ pub fn play_wants(rt: &HostRuntime, name: &str) -> anyhow::Result<()> {
     let fuse = Rc::new(alloc, Fuse::new())?;
     let mut callbacks: Vec<Stored> = Vec::new(alloc);
     for scripted in scripts.into_vec() {
-        let own = scripted.script.copied(alloc)?;
+        let own = scripted.script.copy_in(alloc)?;
         let fuse = fuse.clone()?;
         let call: BoxedTurns = Box::new(
             alloc,

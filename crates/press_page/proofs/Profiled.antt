@@ -1,5 +1,5 @@
 -- What is asked of a site in profile 1 is replied to as it was before there were profiles.
-use Rattle.std.proofs.Common.{◌≡◌, refl, ap, subst, ℕ, ◌++◌, List, [], ◌∷◌, take, if◌then◌else◌, codes, decimal, Option, Some, None}
+use Rattle.std.proofs.Common.{◌≡◌, refl, ap, ℕ, ◌++◌, List, [], ◌∷◌, take, if◌then◌else◌, codes, decimal, Option, Some, None}
 use Rattle.std.specs.Prelude.{IfSome, is_some}
 use Rattle.serde_json.specs.Written.{compact_text}
 use Rattle.press_callbacks.specs.Kits.{KitView, Scripts}
@@ -16,34 +16,16 @@ use Rattle.press_run.specs.Earlier.{KeepsProfile}
 use Rattle.press_run.specs.Links.{Changes, read_only}
 use Rattle.press_run.specs.Outcome.{job_meaning}
 use Rattle.press_run.specs.Run.{◌>>=◌, Answer, Meaning, State, apply_hook, callbacks_of, do_fires, within}
+use Rattle.press_run.proofs.Profiled.{Alike, Any, any, binds, binds_same}
 use Rattle.press_page.specs.declared.filtered.Filtered.{Filtered}
 use Rattle.press_page.specs.declared.reply.Reply.{Reply}
 use Rattle.press_page.specs.declared.reply.Target.{Target}
 use Rattle.press_page.specs.declared.reply.Target.TheVariants as target
 use Rattle.press_page.specs.Earlier as earlier
-use Rattle.press_page.specs.Json.{body_or_limit, filtered, post_body, post_data, post_reply, texts_of}
-use Rattle.press_page.specs.Page.{article, article_body, article_head, articles, closing, not_found, opening, page_of, page_or_limit, page_with, public_post, puts_filtered, site_name, whole_page}
-use Rattle.press_page.specs.Steps.{booted, fires, puts}
+use Rattle.press_page.specs.Json.{body_or_limit, filter_post, post_body, post_data, post_reply, texts_of}
+use Rattle.press_page.specs.Page.{article, article_body, article_head, articles, page_closing, not_found, page_opening, page_of, page_or_limit, page_with, public_post, puts_filtered, site_name, whole_page}
+use Rattle.press_page.specs.Steps.{state_after_boot, fires, puts}
 use Rattle.press_page.specs.Template.{after_content, after_title, article_part, end_part, heading_part, title_part}
-
--- ---- two outcomes that are one, of which a word holds
-
-abbrev pub Alike : {A : Type 0} → (A → Type 0) → Option A → Option A → Type 0
-Alike P o o' = (o ≡ o') × IfSome o P
-
-binds_same : {A B : Type 0} (P : A → Type 0) (Q : B → Type 0) (o : Option A) (f g : A → Option B) → IfSome o P → ((x : A) → P x → Alike Q (f x) (g x)) → Alike Q (o >>= f) (o >>= g)
-binds_same P Q None f g p e = (refl, tt)
-binds_same P Q (Some x) f g p e = e x p
-
-binds : {A B : Type 0} (P : A → Type 0) (Q : B → Type 0) (o o' : Option A) (f g : A → Option B) → Alike P o o' → ((x : A) → P x → Alike Q (f x) (g x)) → Alike Q (o >>= f) (o' >>= g)
-binds P Q o o' f g h e = subst (λ x. Alike Q (o >>= f) (x >>= g)) h.0 (binds_same P Q o f g h.1 e)
-
-abbrev pub Any : {A : Type 0} → A → Type 0
-Any x = Unit {0}
-
-any : {A : Type 0} (o : Option A) → IfSome o Any
-any None = tt
-any (Some x) = tt
 
 -- ---- profile 1
 
@@ -73,8 +55,8 @@ module _ (m m' : Meaning) (actions : AlikeActions m m') (filters : AlikeFilters 
   fires_alike : (fs : List Fire) (s : State) → First s → Alike First (fires m fs s) (fires m' fs s)
   fires_alike fs s first = binds InFirst First (do_fires m fs s) (do_fires m' fs s) (λ a. Some a.state) (λ a. Some a.state) (actions fs s first) (λ a f. (refl, f))
 
-  opening_alike : (name : List ℕ) (s : State) → First s → Alike First (opening m name s) (opening m' name s)
-  unfolding opening
+  opening_alike : (name : List ℕ) (s : State) → First s → Alike First (page_opening m name s) (page_opening m' name s)
+  unfolding page_opening
   opening_alike name s first =
       let head = bare (codes "wp_head") ∷ [] in
       binds First First (fires m boot_actions s) (fires m' boot_actions s) (λ loaded. puts (title_part name) loaded >>= λ titled. fires m head titled >>= puts (heading_part name)) (λ loaded. puts (title_part name) loaded >>= λ titled. fires m' head titled >>= puts (heading_part name)) (fires_alike boot_actions s first)
@@ -107,7 +89,7 @@ module _ (m m' : Meaning) (actions : AlikeActions m m') (filters : AlikeFilters 
   articles_alike posts [] s first = (refl, first)
   articles_alike posts (id ∷ ids) s first = binds First First (article m (post_at posts id) s) (article m' (post_at posts id) s) (articles m posts ids) (articles m' posts ids) (article_alike (post_at posts id) s first) (λ s' f. articles_alike posts ids s' f)
 
-  closing_alike : (s : State) → First s → Alike First (closing m s) (closing m' s)
+  closing_alike : (s : State) → First s → Alike First (page_closing m s) (page_closing m' s)
   closing_alike s first =
       let footer = bare (codes "wp_footer") ∷ [] in
       binds First First (fires m footer s) (fires m' footer s) (puts end_part) (puts end_part) (fires_alike footer s first) (λ s' f. puts_alike end_part s' f)
@@ -115,8 +97,8 @@ module _ (m m' : Meaning) (actions : AlikeActions m m') (filters : AlikeFilters 
   whole_alike : (name : List ℕ) (posts : List (Option Post)) (ids : List ℕ) (s : State) → First s → Alike First (whole_page m name posts ids s) (whole_page m' name posts ids s)
   unfolding whole_page
   whole_alike name posts ids s first =
-      binds First First (opening m name s) (opening m' name s) (λ opened. articles m posts ids opened >>= closing m) (λ opened. articles m' posts ids opened >>= closing m') (opening_alike name s first)
-      (λ opened f. binds First First (articles m posts ids opened) (articles m' posts ids opened) (closing m) (closing m') (articles_alike posts ids opened f) (λ s' g. closing_alike s' g))
+      binds First First (page_opening m name s) (page_opening m' name s) (λ opened. articles m posts ids opened >>= page_closing m) (λ opened. articles m' posts ids opened >>= page_closing m') (opening_alike name s first)
+      (λ opened f. binds First First (articles m posts ids opened) (articles m' posts ids opened) (page_closing m) (page_closing m') (articles_alike posts ids opened f) (λ s' g. closing_alike s' g))
 
   -- ---- a post in JSON
 
@@ -128,8 +110,8 @@ module _ (m m' : Meaning) (actions : AlikeActions m m') (filters : AlikeFilters 
       binds InFirst Any (apply_hook m (codes "the_title") args s) (apply_hook m' (codes "the_title") args s) (λ title. apply_hook m (codes "the_content") (post.content ∷ []) title.state >>= both title) (λ title. apply_hook m' (codes "the_content") (post.content ∷ []) title.state >>= both title) (filters (codes "the_title") args s first)
       (λ title f. binds InFirst Any (apply_hook m (codes "the_content") (post.content ∷ []) title.state) (apply_hook m' (codes "the_content") (post.content ∷ []) title.state) (both title) (both title) (filters (codes "the_content") (post.content ∷ []) title.state f) (λ content g. (refl, tt)))
 
-  filtered_alike : (post : Post) (s : State) → First s → Alike Any (filtered m post s) (filtered m' post s)
-  unfolding filtered
+  filtered_alike : (post : Post) (s : State) → First s → Alike Any (filter_post m post s) (filter_post m' post s)
+  unfolding filter_post
   filtered_alike post s first = binds First Any (fires m boot_actions s) (fires m' boot_actions s) (texts_of m post) (texts_of m' post) (fires_alike boot_actions s first) (λ loaded f. texts_alike post loaded f)
 
   post_body_alike : (post : Post) (s : State) → First s → post_body m post s ≡ post_body m' post s
@@ -152,11 +134,11 @@ module _ (keeps : KeepsProfile read_only) (same : SameRuns) (keeping : KeepingRu
   filters_alike hook args s first = (same read_only kit.scripts (job.Apply hook args) s keeps first, keeping read_only kit.scripts (job.Apply hook args) s keeps first)
 
   page_alike : (ids : List ℕ) → site.profile ≡ 1 → page_with kit site ids ≡ earlier.page_with kit site ids
-  page_alike ids first = ap page_or_limit (whole_alike (callbacks_of read_only kit.scripts) (earlier.callbacks_on kit) actions_alike filters_alike (site_name site) site.posts ids (booted kit site) first).0
+  page_alike ids first = ap page_or_limit (whole_alike (callbacks_of read_only kit.scripts) (earlier.callbacks_on kit) actions_alike filters_alike (site_name site) site.posts ids (state_after_boot kit site) first).0
 
   reply_alike : (o : Option Post) → site.profile ≡ 1 → post_reply kit site o ≡ earlier.post_reply kit site o
   reply_alike None first = refl
-  reply_alike (Some post) first = ap body_or_limit (post_body_alike (callbacks_of read_only kit.scripts) (earlier.callbacks_on kit) actions_alike filters_alike post (booted kit site) first)
+  reply_alike (Some post) first = ap body_or_limit (post_body_alike (callbacks_of read_only kit.scripts) (earlier.callbacks_on kit) actions_alike filters_alike post (state_after_boot kit site) first)
 
   pub pages_alike : (asked : Target) → site.profile ≡ 1 → page_of kit site asked ≡ earlier.page_of kit site asked
   pages_alike target.Front first = page_alike (take 10 (published site.posts)) first

@@ -7,14 +7,14 @@ use Rattle.press_site.specs.Effects.{no_site}
 use Rattle.press_site.specs.SiteView.{SiteView}
 use Rattle.press_run.specs.Run.{do_fires}
 use Rattle.press_page.specs.declared.reply.Target.TheVariants as target
-use Rattle.press_page.specs.Page.{page_of, site_name, opening, articles, whole_page}
+use Rattle.press_page.specs.Page.{page_of, site_name, page_opening, articles, whole_page}
 use Rattle.press_page.specs.Template.{title_part, heading_part}
 
 abbrev no_kit : KitView
 no_kit = record { scripts = []; plugins = [] }
 
 pub empty_front : length (page_of no_kit no_site target.Front).body ≡ 97
-unfolding whole_page opening articles do_fires title_part heading_part
+unfolding whole_page page_opening articles do_fires title_part heading_part
 empty_front = refl
 
 -- ---- a post that isn't published
@@ -26,7 +26,7 @@ pub draft_not_found : (page_of no_kit (with_status Draft) (target.Post 1)).statu
 draft_not_found = refl
 
 pub draft_not_listed : length (page_of no_kit (with_status Draft) target.Front).body ≡ 97
-unfolding whole_page opening articles do_fires title_part heading_part
+unfolding whole_page page_opening articles do_fires title_part heading_part
 draft_not_listed = refl
 
 -- ---- the option `blogname`

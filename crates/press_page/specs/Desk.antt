@@ -42,8 +42,8 @@ posts_down posts zero = []
 posts_down posts (suc id) = before_others (post_at posts (suc id)) (posts_down posts id)
 
 -- those with ids below this one: the first of them, so many and 100 at most
-abbrev pub listed : List (Option Post) → ℕ → ℕ → List Post
-listed posts before count = take (min count 100) (posts_down posts (min (before - 1) (length posts)))
+abbrev pub posts_below : List (Option Post) → ℕ → ℕ → List Post
+posts_below posts before count = take (min count 100) (posts_down posts (min (before - 1) (length posts)))
 
 abbrev pub posts_data : List Post → Data
 posts_data posts = object (member (codes "posts") (array (items_of (map kept_data posts))) no_members)
@@ -100,7 +100,7 @@ site_data kit site applied =
 
 -- a page doesn't say of which status its post is, so a post's page is the one that it would have if it were published now
 abbrev pub desk_of : KitView → SiteView → ℕ → Desk → Reply
-desk_of kit site applied (desk.Posts before count) = json_reply 200 (posts_data (listed site.posts before count))
+desk_of kit site applied (desk.Posts before count) = json_reply 200 (posts_data (posts_below site.posts before count))
 desk_of kit site applied (desk.Post id) = kept_reply (post_at site.posts id)
 desk_of kit site applied (desk.Preview id) = if is_some (post_at site.posts id) then page_with kit site (id ∷ []) else not_found
 desk_of kit site applied desk.Site = json_reply 200 (site_data kit site applied)

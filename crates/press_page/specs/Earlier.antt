@@ -15,7 +15,7 @@ use Rattle.press_page.specs.declared.reply.Target.TheVariants as target
 use Rattle.press_page.specs.Json.{body_or_limit, post_body, status_reply}
 use Rattle.press_page.specs.Page.{not_found, page_or_limit, public_post, site_name, whole_page}
 use Rattle.press_page.specs.Page as now
-use Rattle.press_page.specs.Steps.{booted}
+use Rattle.press_page.specs.Steps.{state_after_boot}
 
 -- what the callbacks of a kit came to, over a site that is only read
 abbrev pub callbacks_on : KitView → Meaning
@@ -23,12 +23,12 @@ callbacks_on kit = runs.callbacks_of read_only kit.scripts
 
 -- the page of the posts of these ids
 abbrev pub page_with : KitView → SiteView → List ℕ → Reply
-page_with kit site ids = page_or_limit (whole_page (callbacks_on kit) (site_name site) site.posts ids (booted kit site))
+page_with kit site ids = page_or_limit (whole_page (callbacks_on kit) (site_name site) site.posts ids (state_after_boot kit site))
 
 -- a post in JSON
 abbrev pub post_reply : KitView → SiteView → Option Post → Reply
 post_reply kit site None = status_reply 404
-post_reply kit site (Some post) = body_or_limit (post_body (callbacks_on kit) post (booted kit site))
+post_reply kit site (Some post) = body_or_limit (post_body (callbacks_on kit) post (state_after_boot kit site))
 
 -- what is asked for; an outcome runs no callback
 abbrev pub page_of : KitView → SiteView → Target → Reply

@@ -15,7 +15,7 @@ use Rattle.press_run.specs.Run.{◌>>=◌, State, Meaning, apply_hook, callbacks
 use Rattle.press_page.specs.declared.filtered.Filtered.{Filtered}
 use Rattle.press_page.specs.declared.reply.Reply.{Reply}
 use Rattle.press_page.specs.declared.reply.ContentKind.TheVariants.{Json}
-use Rattle.press_page.specs.Steps.{booted, fires}
+use Rattle.press_page.specs.Steps.{state_after_boot, fires}
 
 -- ---- a post
 
@@ -27,27 +27,27 @@ texts_of callback post s = do
   Some (record { title = title.text; content = content.text })
 
 -- what is echoed on the way isn't shown
-unfoldable pub filtered : Meaning → Post → State → Option Filtered
-filtered callback post s = do
+unfoldable pub filter_post : Meaning → Post → State → Option Filtered
+filter_post callback post s = do
   loaded ← fires callback boot_actions s
   texts_of callback post loaded
 
-abbrev pub rendered : List ℕ → Data
-rendered text = object (member (codes "rendered") (string text) no_members)
+abbrev pub rendered_data : List ℕ → Data
+rendered_data text = object (member (codes "rendered") (string text) no_members)
 
 -- the date is the moment as a number
 abbrev pub post_data : Post → Filtered → Data
 post_data post texts =
-    object (member (codes "content") (rendered texts.content)
+    object (member (codes "content") (rendered_data texts.content)
     (member (codes "date") (number (unsigned post.date))
     (member (codes "id") (number (unsigned post.id))
     (member (codes "status") (string (status_word post.status))
-    (member (codes "title") (rendered texts.title) no_members)))))
+    (member (codes "title") (rendered_data texts.title) no_members)))))
 
 -- its text, where that stays within the bytes
 unfoldable pub post_body : Meaning → Post → State → Option (List ℕ)
 post_body callback post s = do
-  texts ← filtered callback post s
+  texts ← filter_post callback post s
   within (compact_text (post_data post texts))
 
 -- ---- replies
@@ -68,7 +68,7 @@ body_or_limit (Some body) = record { status = 200; kind = Json; body = body }
 
 abbrev pub post_reply : KitView → SiteView → Option Post → Reply
 post_reply kit site None = status_reply 404
-post_reply kit site (Some post) = body_or_limit (post_body (callbacks_of read_only kit.scripts) post (booted kit site))
+post_reply kit site (Some post) = body_or_limit (post_body (callbacks_of read_only kit.scripts) post (state_after_boot kit site))
 
 abbrev pub outcome_data : Outcome → Data
 outcome_data (Done id) = object (member (codes "done") (number (unsigned id)) no_members)

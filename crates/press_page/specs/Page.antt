@@ -1,7 +1,7 @@
 -- A page of a site: a fresh boot with its three actions, the template, and the filters of each post's title and content, over a site that is only read
 -- (Plugin Handbook, Hooks: `wp_head`, `the_title`, `the_content`, `wp_footer`; Options API, `blogname`; the template is own).
 use Rattle.std.specs.Prelude.{◌≡◌, ℕ, List, [], ◌∷◌, take, Option, Some, None, is_some, unwrap_or, Result, MatchResult, codes, decimal, if◌then◌else◌}
-use Rattle.press_text.specs.Escapes.{escaped}
+use Rattle.press_text.specs.Escapes.{escaped_text}
 use Rattle.press_posts.specs.declared.post.Post.{Post}
 use Rattle.press_posts.specs.PostChange.{post_at, is_publish}
 use Rattle.press_posts.specs.Published.{published}
@@ -19,12 +19,12 @@ use Rattle.press_page.specs.declared.reply.Reply.{Reply}
 use Rattle.press_page.specs.declared.reply.ContentKind.TheVariants.{Html}
 use Rattle.press_page.specs.Json.{post_reply, result_reply}
 use Rattle.press_run.specs.Outcome.{Refuses}
-use Rattle.press_page.specs.Steps.{booted, fires, puts}
+use Rattle.press_page.specs.Steps.{state_after_boot, fires, puts}
 use Rattle.press_page.specs.Template.{title_part, heading_part, article_part, after_title, after_content, end_part, fixed_body}
 
 -- up to the articles
-unfoldable pub opening : Meaning → List ℕ → State → Option State
-opening callback name s = do
+unfoldable pub page_opening : Meaning → List ℕ → State → Option State
+page_opening callback name s = do
   loaded ← fires callback boot_actions s
   titled ← puts (title_part name) loaded
   head ← fires callback (bare (codes "wp_head") ∷ []) titled
@@ -62,22 +62,22 @@ articles callback posts (id ∷ ids) s = do
   shown ← article callback (post_at posts id) s
   articles callback posts ids shown
 
-abbrev pub closing : Meaning → State → Option State
-closing callback s = do
+abbrev pub page_closing : Meaning → State → Option State
+page_closing callback s = do
   footer ← fires callback (bare (codes "wp_footer") ∷ []) s
   puts end_part footer
 
 unfoldable pub whole_page : Meaning → List ℕ → List (Option Post) → List ℕ → State → Option State
 whole_page callback name posts ids s = do
-  opened ← opening callback name s
+  opened ← page_opening callback name s
   shown ← articles callback posts ids opened
-  closing callback shown
+  page_closing callback shown
 
 -- ---- replies
 
 -- the option `blogname`, or `Press` where it isn't set
 abbrev pub site_name : SiteView → List ℕ
-site_name site = escaped (unwrap_or (option_of (codes "blogname") site.options) (codes "Press"))
+site_name site = escaped_text (unwrap_or (option_of (codes "blogname") site.options) (codes "Press"))
 
 abbrev pub not_found : Reply
 not_found = record { status = 404; kind = Html; body = fixed_body (codes "404 Not Found") }
@@ -89,7 +89,7 @@ page_or_limit (Some s) = record { status = 200; kind = Html; body = s.output }
 
 -- the page of the posts of these ids
 abbrev pub page_with : KitView → SiteView → List ℕ → Reply
-page_with kit site ids = page_or_limit (whole_page (callbacks_of read_only kit.scripts) (site_name site) site.posts ids (booted kit site))
+page_with kit site ids = page_or_limit (whole_page (callbacks_of read_only kit.scripts) (site_name site) site.posts ids (state_after_boot kit site))
 
 -- ---- what is asked
 

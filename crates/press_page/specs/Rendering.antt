@@ -8,11 +8,11 @@ use Rattle.press_run.specs.Run.{Meaning, State, callbacks_of}
 use Rattle.press_run.specs.Outcome.{is_limit, state_of}
 use Rattle.press_run.specs.declared.run_fault.RunFault.{RunFault}
 use Rattle.press_run.specs.declared.run_fault.RunFault.TheVariants.{Limit, NoMemory}
-use Rattle.press_run.specs.Standing.{standing}
+use Rattle.press_run.specs.Standing.{machine_view}
 use Rattle.press_page.specs.declared.rendering.Rendering.{Rendering}
 
 abbrev pub state_in : Rendering → State
-state_in r = state_of (standing (λ link. link.0.now) (λ link. Some link.0.now) r.machine)
+state_in r = state_of (machine_view (λ link. link.0.now) (λ link. Some link.0.now) r.machine)
 
 -- what a kit's callbacks come to there
 abbrev pub meaning_in : {t : _} {F : _} {g : _} → Kit t F g → Meaning

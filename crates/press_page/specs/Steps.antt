@@ -5,8 +5,8 @@ use Rattle.press_site.specs.SiteView.{SiteView}
 use Rattle.press_callbacks.specs.Kits.{KitView}
 use Rattle.press_run.specs.declared.run_fault.RunFault.{RunFault}
 use Rattle.press_run.specs.Run.{◌>>=◌, Answer, answer, State, Meaning, within, do_fires}
-use Rattle.press_run.specs.Boot.{booted_with}
-use Rattle.press_run.specs.Outcome.{Refuses, started}
+use Rattle.press_run.specs.Boot.{boot_with}
+use Rattle.press_run.specs.Outcome.{Refuses, state_at_start}
 use Rattle.press_text.specs.Gives.{Gives}
 
 -- a text goes to the output, where that stays within the bytes
@@ -22,8 +22,8 @@ fires callback fs s = do
   Some a.state
 
 -- the state after a fresh boot
-abbrev pub booted : KitView → SiteView → State
-booted kit site = started (booted_with kit.plugins site.active) site
+abbrev pub state_after_boot : KitView → SiteView → State
+state_after_boot kit site = state_at_start (boot_with kit.plugins site.active) site
 
 -- ---- what a step answers, beside the state after it
 

@@ -8,8 +8,8 @@ use Rattle.press_page.specs.declared.reply.Target.{Target}
 use Rattle.press_page.specs.declared.reply.Target.TheVariants.{Front, Post, Json, Result}
 
 -- what is before and after the first such byte
-abbrev pub parted : ℕ → List ℕ → Option (List ℕ × List ℕ)
-parted at text =
+abbrev pub split_at : ℕ → List ℕ → Option (List ℕ × List ℕ)
+split_at at text =
     if nat_lt (position_or_len (λ b. b == at) text) (length text)
     then Some (before_first (λ b. b == at) text, after_first (λ b. b == at) text) else None
 
@@ -21,7 +21,7 @@ token_of p = option_and_then (token_by p.0) (decimal_in p.1)
 
 -- `EDITOR/SEQ`
 abbrev pub token_in : List ℕ → Option Token
-token_in text = option_and_then token_of (parted 47 text)
+token_in text = option_and_then token_of (split_at 47 text)
 
 abbrev pub target_by : List ℕ → List ℕ → Option Target
 target_by kind rest =
@@ -32,7 +32,7 @@ target_by kind rest =
 abbrev pub target_in : List ℕ → Option Target
 target_in text =
     if bytes_eq text (codes "front") then Some Front
-    else option_and_then (λ p. target_by p.0 p.1) (parted 58 text)
+    else option_and_then (λ p. target_by p.0 p.1) (split_at 58 text)
 
 -- what is asked for is the outcome of an editor's command
 abbrev pub HasEditor : Option Target → Type 0

@@ -7,7 +7,7 @@ ghost use Rattle.serde_json.specs.View.{items_of, view};
 ghost use Rattle.press_callbacks.specs.Kits.{kit_view};
 ghost use Rattle.press_page.specs.Json.{json_reply};
 ghost use Rattle.press_page.specs.Desk.{count_of, counts_data, has_status, desk_of, event_data, every_word, kept_data, kept_reply};
-ghost use Rattle.press_page.specs.Desk.{listed, option_data, posts_data, posts_down, site_data};
+ghost use Rattle.press_page.specs.Desk.{posts_below, option_data, posts_data, posts_down, site_data};
 
 use crate::json::{json_reply, status_reply};
 use crate::pages::{fixed_reply, page_with};
@@ -20,8 +20,8 @@ use press_text::{Every, Name};
 use serde_json::{Value, json};
 use std::alloc::{AllocError, Global};
 
-// The most posts of one list.
-const MOST: u64 = 100;
+/// The most posts of one list.
+pub const MOST_POSTS: u64 = 100;
 
 /// What an editor asks of a site.
 #[derive(Clone, Copy, Debug)]
@@ -115,17 +115,17 @@ fn kept_values(alloc: Global, site: &Site, from: u64, count: u64) -> Result<Vec<
 }
 
 fn posts_value(alloc: Global, site: &Site, before: u64, count: u64) -> Result<Value, AllocError>
-    ensures { IfOk result (λ v. view v ≡ posts_data (listed site.now.posts before count)) }
+    ensures { IfOk result (λ v. view v ≡ posts_data (posts_below site.now.posts before count)) }
 {
     let from = before.saturating_sub(1).min(site.last_id());
-    let posts = Value::Array(kept_values(alloc, site, from, count.min(MOST))?);
+    let posts = Value::Array(kept_values(alloc, site, from, count.min(MOST_POSTS))?);
     json!(in alloc; {"posts": posts})
 }
 
 #[tactic(auto, using(crate::proofs::Desks::no_float_posts))]
 fn posts(alloc: Global, site: &Site, before: u64, count: u64) -> Result<Reply, AllocError>
     ensures { IfOk result (λ r.
-        r ≡ json_reply 200 (posts_data (listed site.now.posts before count))) }
+        r ≡ json_reply 200 (posts_data (posts_below site.now.posts before count))) }
 {
     let value = posts_value(alloc, site, before, count)?;
     json_reply(alloc, 200, &value)
@@ -272,7 +272,7 @@ fn lists_of(alloc: Global, site: &Site, kit: &Kit) -> Result<Lists, AllocError>
     Ok(Lists {
         active: active_values(alloc, site.active())?,
         counts: counts_value(alloc, site)?,
-        events: event_values(alloc, site.scheduled())?,
+        events: event_values(alloc, site.all_events())?,
         options: option_values(alloc, options.as_slice())?,
         plugins: plugin_values(alloc, kit.plugins())?,
     })

@@ -14,7 +14,7 @@ mod reply;
 mod targets;
 mod template;
 
-pub use desk::{Applied, Desk, show_desk};
+pub use desk::{Applied, Desk, MOST_POSTS, show_desk};
 pub use earlier::pages_as_before;
 pub use json::json_reply;
 pub use pages::page;

@@ -6,11 +6,11 @@ ghost use Rattle.press_run.specs.Limits.{ShowsLimits};
 ghost use Rattle.press_run.specs.Outcome.{Refuses, is_limit};
 ghost use Rattle.press_run.specs.Run.{apply_hook, within};
 ghost use Rattle.press_text.specs.Gives.{Gives};
-ghost use Rattle.press_page.specs.Json.{filtered, texts_of};
-ghost use Rattle.press_page.specs.Page.{article, article_body, article_head, articles, closing, opening};
+ghost use Rattle.press_page.specs.Json.{filter_post, texts_of};
+ghost use Rattle.press_page.specs.Page.{article, article_body, article_head, articles, page_closing, page_opening};
 ghost use Rattle.press_page.specs.Page.{puts_filtered, whole_page};
 ghost use Rattle.press_page.specs.Rendering.{ButAtLimit, TellsLimits, meaning_in, state_in};
-ghost use Rattle.press_page.specs.Steps.{Answers, Steps, booted, fires, puts};
+ghost use Rattle.press_page.specs.Steps.{Answers, Steps, state_after_boot, fires, puts};
 
 use crate::filtered::Filtered;
 use crate::{hooks, template};
@@ -40,7 +40,8 @@ impl Drop for Rendering<'_> {
 impl<'a> Rendering<'a> {
     /// Fresh tables, nothing counted and nothing written.
     pub fn new(alloc: Global, kit: &Kit, site: &'a Site) -> Result<Rendering<'a>, AllocError>
-        ensures booted { IfOk result (λ r. state_in r ≡ booted (kit_view kit.now) site.now) }
+        ensures booted { IfOk result (λ r.
+            state_in r ≡ state_after_boot (kit_view kit.now) site.now) }
         ensures site { IfOk result (λ r. r.machine.site.0.now ≡ site.now) }
         ensures limit { IfOk result (λ r. r.machine.met_limit ≡ false) }
     {
@@ -57,9 +58,9 @@ impl<'a> Rendering<'a> {
         ensures limits { TellsLimits result self.old self.new }
     {
         let site = self.machine.site.0;
-        self.opening(kit, name)?;
+        self.page_opening(kit, name)?;
         self.articles(kit, site, ids)?;
-        self.closing(kit)
+        self.page_closing(kit)
     }
 
     /// The site that is read.
@@ -78,10 +79,10 @@ impl<'a> Rendering<'a> {
     }
 
     /// The boot's actions, then the title and the content of a post, each by its filter.
-    #[tactic(auto, unfolding(crate::specs::Json::filtered))]
+    #[tactic(auto, unfolding(crate::specs::Json::filter_post))]
     pub fn filter_post(&mut self, kit: &Kit, post: &Post) -> Result<Filtered, RunFault>
         ensures gives { Gives Refuses Some result
-            (filtered (meaning_in kit.now) post.now (state_in self.old)) }
+            (filter_post (meaning_in kit.now) post.now (state_in self.old)) }
         ensures limits { TellsLimits result self.old self.new }
     {
         self.fires(kit, boot_actions(self.alloc)?)?;
@@ -120,9 +121,9 @@ impl<'a> Rendering<'a> {
         self.apply_filter(kit, hook, args)
     }
 
-    #[tactic(auto, unfolding(crate::specs::Page::opening))]
-    fn opening(&mut self, kit: &Kit, name: &str) -> Result<(), RunFault>
-        ensures steps { Steps (opening (meaning_in kit.now) name.now (state_in self.old))
+    #[tactic(auto, unfolding(crate::specs::Page::page_opening))]
+    fn page_opening(&mut self, kit: &Kit, name: &str) -> Result<(), RunFault>
+        ensures steps { Steps (page_opening (meaning_in kit.now) name.now (state_in self.old))
             (state_in self.new) result }
         ensures limits { TellsLimits result self.old self.new }
     {
@@ -184,8 +185,8 @@ impl<'a> Rendering<'a> {
         self.puts("\n</article>\n")
     }
 
-    fn closing(&mut self, kit: &Kit) -> Result<(), RunFault>
-        ensures steps { Steps (closing (meaning_in kit.now) (state_in self.old))
+    fn page_closing(&mut self, kit: &Kit) -> Result<(), RunFault>
+        ensures steps { Steps (page_closing (meaning_in kit.now) (state_in self.old))
             (state_in self.new) result }
         ensures limits { TellsLimits result self.old self.new }
     {

@@ -11,7 +11,7 @@ use std::alloc::{AllocError, Global};
 // The texts before and after the first such byte.
 fn split_at(text: &str, at: char) -> Option<(&str, &str)>
     requires { at < 128 }
-    ensures { option_map (λ p. (p.0.now, p.1.now)) result ≡ spec.parted at text.now }
+    ensures { option_map (λ p. (p.0.now, p.1.now)) result ≡ spec.split_at at text.now }
 {
     text.split_once(at)
 }

@@ -7,12 +7,13 @@ use Rattle.std.proofs.lemmas.Bool.{ltb-false}
 use Rattle.std.proofs.lemmas.List.Sorted.{IsPermutation-insert, list_any-IsPermutation}
 use Rattle.std.proofs.lemmas.List.Sums.{prefix_len-le-length}
 use Rattle.std.proofs.lemmas.Slice.Eq.{bytes_eq-Decides}
-use Rattle.press_site.specs.Plugins.{is_before, is_active, place_in}
+use Rattle.press_text.specs.NameOrder.{is_before}
+use Rattle.press_site.specs.Plugins.{is_active, place_in}
 use Rattle.press_site.specs.Effects.{no_site, with_plugins}
 use Rattle.press_site.specs.declared.fault.SiteFault.TheVariants.{AlreadyActive}
 use Rattle.press_run.specs.Links.{or_no_change}
 use Rattle.press_site.specs.SiteView.{SiteView}
-use Rattle.press_callbacks.proofs.Halves.{weak, both, and, clash, behind}
+use Rattle.press_text.proofs.NameOrder.{weak, both, and, clash, behind}
 use Rattle.press_play.specs.Sites.{one_active, all_active, site_with}
 
 -- each name before all that follow it

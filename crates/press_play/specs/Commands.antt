@@ -5,7 +5,7 @@ use Rattle.press_site.specs.SiteView.{SiteView}
 use Rattle.press_callbacks.specs.Kits.{KitView}
 use Rattle.press_apply.specs.declared.command.Stamped.{Stamped}
 use Rattle.press_apply.specs.declared.value.Value.TheVariants.{Cmd}
-use Rattle.press_apply.specs.Apply.{applied, folded}
+use Rattle.press_apply.specs.Apply.{applied, fold_values}
 use Rattle.press_page.specs.Json.{outcome_data}
 use Rattle.press_play.specs.Lines.{line}
 
@@ -16,4 +16,4 @@ outcome_lines kit (c ∷ cs) site = line (outcome_data (applied kit site (Cmd c)
 
 -- the site after the commands
 abbrev pub site_after : KitView → List Stamped → SiteView → SiteView
-site_after kit commands site = folded kit site (map (λ c. Cmd c) commands)
+site_after kit commands site = fold_values kit site (map (λ c. Cmd c) commands)

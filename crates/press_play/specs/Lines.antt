@@ -9,9 +9,9 @@ use Rattle.press_callbacks.specs.Kits.{Scripts}
 use Rattle.press_run.specs.declared.job.Job.{Job}
 use Rattle.press_run.specs.declared.job.Job.TheVariants as job
 use Rattle.press_run.specs.Run.{Answer, State, answer}
-use Rattle.press_run.specs.Links.{kept}
+use Rattle.press_run.specs.Links.{unchanging_part}
 use Rattle.press_run.specs.Outcome.{state_of, job_meaning}
-use Rattle.press_run.specs.Standing.{standing}
+use Rattle.press_run.specs.Standing.{machine_view}
 use Rattle.press_run.specs.declared.machine.Machine.{Machine}
 use Rattle.press_site.specs.SiteView.{SiteView}
 use Rattle.press_kit.specs.declared.play_file.PlayKind.{PlayKind}
@@ -48,7 +48,7 @@ lines scripts (p ∷ ps) s = lines_where (λ s'. lines scripts ps s') (job_meani
 -- ---- what a machine of plays stands for, and what one play writes
 
 abbrev pub state_in : Machine SiteView → State
-state_in machine = state_of (standing (λ s. s) (λ s. Some (kept s)) machine)
+state_in machine = state_of (machine_view (λ s. s) (λ s. Some (unchanging_part s)) machine)
 
 -- a play was shown on the machine: its line was written, and the machine is as it left it
 pub record Shows (meaning : Option Answer) (after : State) (old new : List ℕ) : Type 0 where

@@ -5,8 +5,8 @@ use Rattle.std.specs.Prelude.{◌≡◌, ℕ, List, ◌++◌, map, Option, Some,
 use Rattle.press_callbacks.specs.declared.kit_fault.KitFault.{KitFault}
 use Rattle.press_callbacks.specs.Kits.{Scripts, KitView, view_of, kit_fault}
 use Rattle.press_site.specs.SiteView.{SiteView}
-use Rattle.press_run.specs.Boot.{booted_with}
-use Rattle.press_run.specs.Outcome.{started}
+use Rattle.press_run.specs.Boot.{boot_with}
+use Rattle.press_run.specs.Outcome.{state_at_start}
 use Rattle.press_kit.specs.declared.place.Place.{Place}
 use Rattle.press_kit.specs.declared.kit_parts.Scripted.{Scripted}
 use Rattle.press_kit.specs.declared.play_file.Play.{Play}
@@ -27,7 +27,7 @@ scripts_of callbacks = map (λ c. (c.id, c.script)) callbacks
 
 -- the lines on a kit and a site, over a boot of its own
 abbrev pub lines_on : KitView → SiteView → List Play → List ℕ
-lines_on kit site plays = lines kit.scripts plays (started (booted_with kit.plugins site.active) site)
+lines_on kit site plays = lines kit.scripts plays (state_at_start (boot_with kit.plugins site.active) site)
 
 -- what is shown of a site: its pages, and plays
 abbrev pub shown_lines : KitView → SiteView → List Target → List Play → List ℕ

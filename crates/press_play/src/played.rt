@@ -110,7 +110,7 @@ fn lines_of_play(journal: &Journal, file: PlayFile) -> Result<String, PlayFault>
     } = kit;
     let mut callbacks: Vec<Stored> = Vec::new(alloc);
     for scripted in parts.into_vec() {
-        let own = scripted.script.copied(alloc)?;
+        let own = scripted.script.copy_in(alloc)?;
         let id = scripted.id;
         let noted = journal.copy()?;
         let call: BoxedTurns = Box::new(alloc, move |input: &CallIn| noted.turn(&id, &own, input))?;

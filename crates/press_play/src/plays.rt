@@ -3,8 +3,8 @@
 ghost use Rattle.std.specs.Prelude.{◌≡◌, [], IfOk, string_bytes};
 ghost use Rattle.press_site.specs.Effects.{effect_on};
 ghost use Rattle.press_callbacks.specs.Kits.{scripts_in, plugins_in};
-ghost use Rattle.press_run.specs.Boot.{booted_with};
-ghost use Rattle.press_run.specs.Outcome.{job_meaning, started};
+ghost use Rattle.press_run.specs.Boot.{boot_with};
+ghost use Rattle.press_run.specs.Outcome.{job_meaning, state_at_start};
 ghost use Rattle.press_play.specs.Lines.{Plays, job_of, lines, state_in};
 
 use crate::journal::Journal;
@@ -41,7 +41,7 @@ impl Playing {
     // A fresh boot of the site, and no line.
     fn new(journal: &Journal, kit: &Kit, site: Site) -> Result<Playing, AllocError>
         ensures started { IfOk result (λ p. state_in p.machine
-            ≡ started (booted_with (plugins_in kit.now) site.active) site) }
+            ≡ state_at_start (boot_with (plugins_in kit.now) site.active) site) }
         ensures lines { IfOk result (λ p. string_bytes p.lines ≡ []) }
     {
         let alloc = journal.alloc();
@@ -130,7 +130,7 @@ pub fn lines_of(
     plays: &[Play],
 ) -> Result<String, AllocError>
     ensures { IfOk result (λ t. string_bytes t ≡ lines (scripts_in kit.now) plays.now
-        (started (booted_with (plugins_in kit.now) site.active) site)) }
+        (state_at_start (boot_with (plugins_in kit.now) site.active) site)) }
 {
     let mut playing = Playing::new(journal, kit, site)?;
     let again = Again::new(journal, &playing.machine)?;

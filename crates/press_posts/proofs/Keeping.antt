@@ -5,8 +5,8 @@ use Rattle.std.proofs.lemmas.Bool.Decides.{nat_tests}
 use Rattle.std.proofs.lemmas.List.{set_at, take-map, reverse-reverse, length-map, length-reverse}
 use Rattle.press_posts.specs.declared.post.Post.{Post}
 use Rattle.press_posts.specs.declared.posts.Dated.{Dated}
-use Rattle.press_posts.specs.Kept.{oldest_first, put_in, taken_out, keeps_order, IsAmong, IsKept}
-use Rattle.press_posts.specs.PostChange.{post_at, is_publish, standing}
+use Rattle.press_posts.specs.Kept.{oldest_first, put_in, take_out, keeps_order, IsAmong, IsKept}
+use Rattle.press_posts.specs.PostChange.{post_at, is_publish, post_count}
 use Rattle.press_posts.specs.Published.{dated_of, newest_first, published, IsOldestFirst}
 use Rattle.press_posts.specs.Restored.{IsGiven}
 use Rattle.press_posts.proofs.Order.{put_with, oldest_none, order}
@@ -55,7 +55,7 @@ module _ (posts : List (Option Post)) (count : ℕ) (ds : List Dated) (room : �
 
     pub has_room : IsKept posts count ds room → IsGiven id posts → IsFree → length ds < room
     has_room k g e =
-        let n : length ds ≤ standing posts = rw k.ordered (few_published posts) in
+        let n : length ds ≤ post_count posts = rw k.ordered (few_published posts) in
         omega (arith, few k g e, k.counted, k.roomy, n)
 
     pub fills : (es : List Dated) → es ≡ put_in (dated_of (Some p)) ds → IsKept posts count ds room → IsGiven id posts → IsFree → IsKept (set posts (id - 1) (Some p)) (count + 1) es room
@@ -77,7 +77,7 @@ module _ (posts : List (Option Post)) (count : ℕ) (ds : List Dated) (room : �
     pub was : (q : Option Post) → IsKept posts count ds room → IsGiven id posts → q ≡ get_or posts (id - 1) q → q ≡ Some p → ds ≡ put_with (dated_of (Some p)) (oldest_first (set posts (id - 1) None))
     was q k g at is = k.ordered ∙ emptied posts (id - 1) ∙ ap (λ (o : Option Post). put_with (dated_of o) (oldest_first (set posts (id - 1) None))) (stood q g at is)
 
-    fewer : (q : Option Post) → IsKept posts count ds room → IsGiven id posts → q ≡ get_or posts (id - 1) q → q ≡ Some p → standing (set posts (id - 1) None) + 1 ≡ count
+    fewer : (q : Option Post) → IsKept posts count ds room → IsGiven id posts → q ≡ get_or posts (id - 1) q → q ≡ Some p → post_count (set posts (id - 1) None) + 1 ≡ count
     fewer q k g at is =
         let n = counted posts (id - 1) None (omega (arith, g.0, g.1)) in
         let one = stood q g at is in
@@ -89,10 +89,10 @@ module _ (posts : List (Option Post)) (count : ℕ) (ds : List Dated) (room : �
     pub is_among : (q : Option Post) → IsKept posts count ds room → IsGiven id posts → q ≡ get_or posts (id - 1) q → q ≡ Some p → IsAmong (dated_of (Some p)) ds
     is_among q k g at is = rw (was q k g at is) (among_with (dated_of (Some p)) (oldest_first (set posts (id - 1) None)))
 
-    pub empties : (q : Option Post) (es : List Dated) → es ≡ taken_out (dated_of (Some p)) ds → IsKept posts count ds room → IsGiven id posts → q ≡ get_or posts (id - 1) q → q ≡ Some p → IsKept (set posts (id - 1) None) (count - 1) es room
+    pub empties : (q : Option Post) (es : List Dated) → es ≡ take_out (dated_of (Some p)) ds → IsKept posts count ds room → IsGiven id posts → q ≡ get_or posts (id - 1) q → q ≡ Some p → IsKept (set posts (id - 1) None) (count - 1) es room
     empties q es taken k g at is = record {
       counted = omega (arith, fewer q k g at is);
-      ordered = taken ∙ ap (taken_out (dated_of (Some p))) (was q k g at is) ∙ out_with (dated_of (Some p)) (oldest_first (set posts (id - 1) None));
+      ordered = taken ∙ ap (take_out (dated_of (Some p))) (was q k g at is) ∙ out_with (dated_of (Some p)) (oldest_first (set posts (id - 1) None));
       roomy = omega (arith, length-set posts (id - 1) None, k.roomy);
     }
 
@@ -148,7 +148,7 @@ newest_of posts ds most e =
     ap (λ (es : List Dated). map (λ (d : Dated). d.id) (take most (reverse es))) e ∙ ap (λ (es : List Dated). map (λ (d : Dated). d.id) (take most es)) (reverse-reverse (newest_first posts))
     ∙ sym (take-map (λ (d : Dated). d.id) most (newest_first posts))
 
-few_newest : (posts : List (Option Post)) → length (newest_first posts) ≤ standing posts
+few_newest : (posts : List (Option Post)) → length (newest_first posts) ≤ post_count posts
 unfolding oldest_first
 few_newest posts = omega (arith, length-reverse (newest_first posts), few_published posts)
 

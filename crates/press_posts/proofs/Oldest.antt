@@ -5,8 +5,8 @@ use Rattle.std.specs.List.Sorted.{IsPartitionedBy}
 use Rattle.std.proofs.lemmas.Bool.Decides.{nat_tests}
 use Rattle.press_posts.specs.declared.post.Post.{Post}
 use Rattle.press_posts.specs.declared.posts.Dated.{Dated}
-use Rattle.press_posts.specs.Kept.{oldest_first, place_among, put_in, taken_out, IsAmong}
-use Rattle.press_posts.specs.PostChange.{standing}
+use Rattle.press_posts.specs.Kept.{oldest_first, place_among, put_in, take_out, IsAmong}
+use Rattle.press_posts.specs.PostChange.{post_count}
 use Rattle.press_posts.specs.Published.{dated_of, is_older, NoneOlder, IsOldestFirst}
 use Rattle.press_posts.proofs.Order.{put, puts, put_with, oldest_none, oldest_more}
 
@@ -79,7 +79,7 @@ out : (d : Dated) (es : List Dated) → remove (put d es) (place_among d (put d 
 out d [] = rw (never d) refl
 out d (e ∷ es) = out_by (is_older e d) d e es refl (out d es)
 
-pub out_with : (o : Option Dated) (es : List Dated) → taken_out o (put_with o es) ≡ es
+pub out_with : (o : Option Dated) (es : List Dated) → take_out o (put_with o es) ≡ es
 out_with None es = refl
 out_with (Some d) es = out d es
 
@@ -125,16 +125,16 @@ more (p ∷ ps) = oldest_more p (ps ++ None ∷ []) ∙ ap (put_with (dated_of p
 abbrev one_if : Option Post → ℕ
 one_if p = cond (is_some p) 1 0
 
-standing_more : (p : Option Post) (ps : List (Option Post)) → standing (p ∷ ps) ≡ one_if p + standing ps
+standing_more : (p : Option Post) (ps : List (Option Post)) → post_count (p ∷ ps) ≡ one_if p + post_count ps
 standing_more None ps = omega arith
 standing_more (Some p) ps = omega arith
 
-pub counted : (ps : List (Option Post)) (i : ℕ) (q : Option Post) → i < length ps → standing (set ps i q) + one_if (get_or ps i None) ≡ standing ps + one_if q
+pub counted : (ps : List (Option Post)) (i : ℕ) (q : Option Post) → i < length ps → post_count (set ps i q) + one_if (get_or ps i None) ≡ post_count ps + one_if q
 counted [] i q lt = absurd (omega arith)
 counted (p ∷ ps) zero q lt = omega (arith, standing_more p ps, standing_more q ps)
 counted (p ∷ ps) (suc i) q lt = omega (arith, standing_more p ps, standing_more p (set ps i q), counted ps i q (omega arith))
 
-pub counted_more : (ps : List (Option Post)) → standing (ps ++ None ∷ []) ≡ standing ps
+pub counted_more : (ps : List (Option Post)) → post_count (ps ++ None ∷ []) ≡ post_count ps
 counted_more [] = refl
 counted_more (p ∷ ps) = omega (arith, standing_more p ps, standing_more p (ps ++ None ∷ []), counted_more ps)
 
@@ -142,11 +142,11 @@ few_if : (p : Option Post) → one_if p ≤ 1
 few_if None = omega arith
 few_if (Some p) = omega arith
 
-pub few_stand : (ps : List (Option Post)) → standing ps ≤ length ps
+pub few_stand : (ps : List (Option Post)) → post_count ps ≤ length ps
 few_stand [] = omega arith
 few_stand (p ∷ ps) = omega (arith, standing_more p ps, few_if p, few_stand ps)
 
-pub fewer_stand : (ps : List (Option Post)) (i : ℕ) → i < length ps → get_or ps i None ≡ None → standing ps < length ps
+pub fewer_stand : (ps : List (Option Post)) (i : ℕ) → i < length ps → get_or ps i None ≡ None → post_count ps < length ps
 fewer_stand [] i lt e = absurd (omega arith)
 fewer_stand (p ∷ ps) zero lt e = let none : one_if p ≡ 0 = ap one_if e in omega (arith, standing_more p ps, few_stand ps)
 fewer_stand (p ∷ ps) (suc i) lt e = omega (arith, standing_more p ps, few_if p, fewer_stand ps i (omega arith) e)
@@ -167,6 +167,6 @@ few_with : (p : Option Post) (es : List Dated) → length (put_with (dated_of p)
 few_with None es = omega arith
 few_with (Some p) es = few_if_dated _ _ es
 
-pub few_published : (ps : List (Option Post)) → length (oldest_first ps) ≤ standing ps
+pub few_published : (ps : List (Option Post)) → length (oldest_first ps) ≤ post_count ps
 few_published [] = rw oldest_none (omega arith)
 few_published (p ∷ ps) = rw (oldest_more p ps) (omega (arith, few_with p (oldest_first ps), few_published ps, standing_more p ps))

@@ -7,7 +7,7 @@ use Rattle.std.proofs.lemmas.List.Sorted.{IsPermutation-refl, IsPermutation-cons
 use Rattle.press_posts.specs.declared.post.Post.{Post}
 use Rattle.press_posts.specs.declared.posts.Dated.{Dated}
 use Rattle.press_posts.specs.Kept.{oldest_first, place_among}
-use Rattle.press_posts.specs.Published.{dated_of, is_older, place_in, with_dated, newest_first, with_listed, listed, NoneOlder, IsOldestFirst, IsInOrder}
+use Rattle.press_posts.specs.Published.{dated_of, is_older, place_in, with_dated, newest_first, with_listed, published_by_id, NoneOlder, IsOldestFirst, IsInOrder}
 
 -- ---- each once
 
@@ -15,9 +15,9 @@ once_with : (o : Option Dated) (ds es : List Dated) → IsPermutation ds es → 
 once_with None ds es h = h
 once_with (Some d) ds es h = IsPermutation-trans (d ∷ ds) (d ∷ es) (with_dated (Some d) es) (IsPermutation-cons d ds es h) (IsPermutation-insert es (place_in d es) d)
 
-once : (posts : List (Option Post)) → IsPermutation (listed posts) (newest_first posts)
+once : (posts : List (Option Post)) → IsPermutation (published_by_id posts) (newest_first posts)
 once [] = IsPermutation-refl []
-once (p ∷ ps) = once_with (dated_of p) (listed ps) (newest_first ps) (once ps)
+once (p ∷ ps) = once_with (dated_of p) (published_by_id ps) (newest_first ps) (once ps)
 
 -- ---- the order, read from the end
 

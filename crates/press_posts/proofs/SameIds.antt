@@ -6,7 +6,7 @@ use Rattle.press_posts.specs.declared.fault.PostFault.TheVariants.{NotTrashed}
 use Rattle.press_posts.specs.declared.post.Post.{Post}
 use Rattle.press_posts.specs.declared.status.Status.{Status}
 use Rattle.press_posts.specs.Ids.{HaveIds}
-use Rattle.press_posts.specs.PostChange.{Change, Changed, post_change, post_at, put_at, unless, of_post, insert_fault, edit_fault, inserted, edited, deleted, post_of, status_moved, moved_to, is_trash}
+use Rattle.press_posts.specs.PostChange.{Change, ChangeResult, post_change, post_at, put_at, unless, of_post, insert_fault, edit_fault, insert_post, edit_post, delete_post, post_of, status_after_move, move_post, is_trash}
 use Rattle.press_posts.specs.PostChange.Change.{Insert, Edit, Moves, Delete}
 use Rattle.press_posts.proofs.Once.{HaveIdsFrom, all_from}
 
@@ -43,14 +43,14 @@ more_ids posts q h f =
 
 -- ---- by cases on what a change comes to
 
-abbrev Keep : Result Changed PostFault → Type 0
+abbrev Keep : Result ChangeResult PostFault → Type 0
 Keep meant = IfOk meant (λ c. HaveIds c.posts)
 
-keep_unless : (o : Option PostFault) (c : Changed) → HaveIds c.posts → Keep (unless o c)
+keep_unless : (o : Option PostFault) (c : ChangeResult) → HaveIds c.posts → Keep (unless o c)
 keep_unless None c h = h
 keep_unless (Some f) c h = tt
 
-keep_of : (o : Option Post) (f : Post → Result Changed PostFault) → ((p : Post) → o ≡ Some p → Keep (f p)) → Keep (of_post o f)
+keep_of : (o : Option Post) (f : Post → Result ChangeResult PostFault) → ((p : Post) → o ≡ Some p → Keep (f p)) → Keep (of_post o f)
 keep_of None f h = tt
 keep_of (Some p) f h = h p refl
 
@@ -61,19 +61,19 @@ some_id posts (suc i) p e = omega arith
 own_id : (posts : List (Option Post)) (id : ℕ) (p : Post) → HaveIds posts → post_at posts id ≡ Some p → p.id ≡ id
 own_id posts id p f e = subst (HasId id) e (f id)
 
-moved_by : (r : Result (Option Status) PostFault) (posts : List (Option Post)) (id : ℕ) (p : Post) → HaveIds posts → post_at posts id ≡ Some p → Keep (moved_to id r p posts)
+moved_by : (r : Result (Option Status) PostFault) (posts : List (Option Post)) (id : ℕ) (p : Post) → HaveIds posts → post_at posts id ≡ Some p → Keep (move_post id r p posts)
 moved_by (Ok (Some status)) posts id p f e = put_ids posts id _ (some_id posts id p e) (own_id posts id p f e) f
 moved_by (Ok None) posts id p f e = f
 moved_by (Err fault) posts id p f e = tt
 
-deleted_by : (b : Bool) (posts : List (Option Post)) (id : ℕ) (p : Post) → HaveIds posts → post_at posts id ≡ Some p → Keep (cond b (Ok (deleted id posts)) (Err NotTrashed))
+deleted_by : (b : Bool) (posts : List (Option Post)) (id : ℕ) (p : Post) → HaveIds posts → post_at posts id ≡ Some p → Keep (cond b (Ok (delete_post id posts)) (Err NotTrashed))
 deleted_by true posts id p f e = put_ids posts id None (some_id posts id p e) tt f
 deleted_by false posts id p f e = tt
 
 pub keep_ids : (posts : List (Option Post)) (change : Change) (now : ℕ) → HaveIds posts → IfOk (post_change posts change now) (λ c. HaveIds c.posts)
-keep_ids posts (Insert d) now f = keep_unless (insert_fault d posts) (inserted (post_of (length posts + 1) d now) posts) (more_ids posts _ refl f)
+keep_ids posts (Insert d) now f = keep_unless (insert_fault d posts) (insert_post (post_of (length posts + 1) d now) posts) (more_ids posts _ refl f)
 keep_ids posts (Edit id d) now f =
     keep_of (post_at posts id) _
-    (λ p e. keep_unless (edit_fault d p) (edited (post_of id d now) p posts) (put_ids posts id _ (some_id posts id p e) refl f))
-keep_ids posts (Moves id move) now f = keep_of (post_at posts id) _ (λ p e. moved_by (status_moved move p) posts id p f e)
+    (λ p e. keep_unless (edit_fault d p) (edit_post (post_of id d now) p posts) (put_ids posts id _ (some_id posts id p e) refl f))
+keep_ids posts (Moves id move) now f = keep_of (post_at posts id) _ (λ p e. moved_by (status_after_move move p) posts id p f e)
 keep_ids posts (Delete id) now f = keep_of (post_at posts id) _ (λ p e. deleted_by (is_trash p.status) posts id p f e)

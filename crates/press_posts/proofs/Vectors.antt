@@ -6,7 +6,7 @@ use Rattle.press_posts.specs.declared.fire.Fire.{Fire}
 use Rattle.press_posts.specs.declared.post.Move.TheVariants as move
 use Rattle.press_posts.specs.declared.post.Post.{Post}
 use Rattle.press_posts.specs.declared.status.Status.TheVariants.{Publish, Draft}
-use Rattle.press_posts.specs.PostChange.{Change, Changed, post_change}
+use Rattle.press_posts.specs.PostChange.{Change, ChangeResult, post_change}
 use Rattle.press_posts.specs.PostChange.Change.{Insert, Edit, Moves, Delete}
 use Rattle.press_posts.specs.Published.{published}
 
@@ -14,7 +14,7 @@ abbrev Posts : Type 0
 Posts = List (Option Post)
 
 -- the posts after a change; none where it is refused
-abbrev posts_after : Result Changed PostFault → Posts
+abbrev posts_after : Result ChangeResult PostFault → Posts
 posts_after (Ok c) = c.posts
 posts_after (Err fault) = []
 
@@ -22,7 +22,7 @@ abbrev then : Posts → Change → ℕ → Posts
 then posts change now = posts_after (post_change posts change now)
 
 -- the id, the fires, whether the events go and when one comes
-abbrev told : Result Changed PostFault → Result (ℕ × (List Fire × (Bool × Option ℕ))) PostFault
+abbrev told : Result ChangeResult PostFault → Result (ℕ × (List Fire × (Bool × Option ℕ))) PostFault
 told (Ok c) = Ok (c.id, (c.fires, (c.goes, c.comes)))
 told (Err fault) = Err fault
 
@@ -121,7 +121,7 @@ trashed_once = refl
 deletes : told (post_change trashed (Delete 1) 100) ≡ Ok (1, ([], (true, None)))
 deletes = refl
 
-abbrev id_of : Result Changed PostFault → ℕ
+abbrev id_of : Result ChangeResult PostFault → ℕ
 id_of (Ok c) = c.id
 id_of (Err fault) = 0
 

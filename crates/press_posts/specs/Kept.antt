@@ -3,7 +3,7 @@ use Rattle.std.specs.Prelude.{◌≡◌, ℕ, ◌<◌, ◌≤◌, List, length, 
 use Rattle.std.specs.List.{prefix_len}
 use Rattle.press_posts.specs.declared.post.Post.{Post}
 use Rattle.press_posts.specs.declared.posts.Dated.{Dated}
-use Rattle.press_posts.specs.PostChange.{is_publish, standing}
+use Rattle.press_posts.specs.PostChange.{is_publish, post_count}
 use Rattle.press_posts.specs.Published.{is_older, newest_first}
 
 unfoldable pub oldest_first : List (Option Post) → List Dated
@@ -17,9 +17,9 @@ abbrev pub put_in : Option Dated → List Dated → List Dated
 put_in None ds = ds
 put_in (Some d) ds = insert ds (place_among d ds) d
 
-abbrev pub taken_out : Option Dated → List Dated → List Dated
-taken_out None ds = ds
-taken_out (Some d) ds = remove ds (place_among d ds)
+abbrev pub take_out : Option Dated → List Dated → List Dated
+take_out None ds = ds
+take_out (Some d) ds = remove ds (place_among d ds)
 
 -- what is to be taken out has a place
 abbrev pub IsAmong : Option Dated → List Dated → Type 0
@@ -33,6 +33,6 @@ keeps_order (Some old) new = is_publish old.status && (is_publish new.status && 
 
 -- room for as many published posts as there are places, so that a post at a place that was assigned takes no memory
 pub record IsKept (posts : List (Option Post)) (count : ℕ) (order : List Dated) (room : ℕ) : Type 0 where
-  pub counted : count ≡ standing posts
+  pub counted : count ≡ post_count posts
   pub ordered : order ≡ oldest_first posts
   pub roomy : length posts ≤ room

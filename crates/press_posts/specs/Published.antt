@@ -34,9 +34,9 @@ with_listed None ds = ds
 with_listed (Some d) ds = d ∷ ds
 
 -- the published posts in the order of their ids
-abbrev pub listed : List (Option Post) → List Dated
-listed [] = []
-listed (p ∷ ps) = with_listed (dated_of p) (listed ps)
+abbrev pub published_by_id : List (Option Post) → List Dated
+published_by_id [] = []
+published_by_id (p ∷ ps) = with_listed (dated_of p) (published_by_id ps)
 
 abbrev pub NoneOlder : Dated → List Dated → Type 0
 NoneOlder d [] = Unit {0}
@@ -47,5 +47,5 @@ IsOldestFirst [] = Unit {0}
 IsOldestFirst (d ∷ ds) = NoneOlder d ds × IsOldestFirst ds
 
 pub record IsInOrder (posts : List (Option Post)) : Type 0 where
-  pub once : IsPermutation (listed posts) (newest_first posts)
+  pub once : IsPermutation (published_by_id posts) (newest_first posts)
   pub order : IsOldestFirst (reverse (newest_first posts))

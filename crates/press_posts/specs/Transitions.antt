@@ -31,28 +31,28 @@ old_word (Some status) = status_word status
 abbrev pub general : Option Status → Status → ℕ → Fire
 general old new id = record { hook = codes "transition_post_status"; args = status_word new ∷ old_word old ∷ decimal id ∷ [] }
 
-abbrev pub turned_name : List ℕ → List ℕ → List ℕ
-turned_name old new = old ++ (codes "_to_" ++ new)
+abbrev pub transition_name : List ℕ → List ℕ → List ℕ
+transition_name old new = old ++ (codes "_to_" ++ new)
 
-abbrev pub turned : Option Status → Status → ℕ → Fire
-turned old new id = record { hook = turned_name (old_word old) (status_word new); args = decimal id ∷ [] }
+abbrev pub transition_fire : Option Status → Status → ℕ → Fire
+transition_fire old new id = record { hook = transition_name (old_word old) (status_word new); args = decimal id ∷ [] }
 
-abbrev pub reached_name : List ℕ → List ℕ
-reached_name new = new ++ codes "_post"
+abbrev pub status_name : List ℕ → List ℕ
+status_name new = new ++ codes "_post"
 
-abbrev pub reached : Status → ℕ → Fire
-reached new id = record { hook = reached_name (status_word new); args = decimal id ∷ [] }
+abbrev pub status_fire : Status → ℕ → Fire
+status_fire new id = record { hook = status_name (status_word new); args = decimal id ∷ [] }
 
 -- a transition fires these three, in this order, also where the statuses are the same
 abbrev pub transition : Option Status → Status → ℕ → List Fire
-transition old new id = general old new id ∷ turned old new id ∷ reached new id ∷ []
+transition old new id = general old new id ∷ transition_fire old new id ∷ status_fire new id ∷ []
 
 -- `save_post` gets the id, and `1` for an update or the empty text for an insert
-abbrev pub saved : ℕ → List ℕ → Fire
-saved id update = record { hook = codes "save_post"; args = decimal id ∷ update ∷ [] }
+abbrev pub save_fire : ℕ → List ℕ → Fire
+save_fire id update = record { hook = codes "save_post"; args = decimal id ∷ update ∷ [] }
 
-abbrev pub inserts : Status → ℕ → List Fire
-inserts new id = transition None new id ++ saved id [] ∷ []
+abbrev pub insert_fires : Status → ℕ → List Fire
+insert_fires new id = transition None new id ++ save_fire id [] ∷ []
 
-abbrev pub updates : Status → Status → ℕ → List Fire
-updates old new id = transition (Some old) new id ++ saved id (codes "1") ∷ []
+abbrev pub update_fires : Status → Status → ℕ → List Fire
+update_fires old new id = transition (Some old) new id ++ save_fire id (codes "1") ∷ []

@@ -2,7 +2,7 @@
 
 ghost use Rattle.std.specs.Prelude.{◌≡◌, ◌++◌, ◌∷◌, [], None, IfOk, codes, decimal, string_bytes};
 ghost use Rattle.press_text.specs.Names.{name_fault};
-ghost use Rattle.press_posts.specs.Transitions.{old_word, transition, general, turned_name, turned, reached_name, reached, saved, inserts, updates};
+ghost use Rattle.press_posts.specs.Transitions.{old_word, transition, general, transition_name, transition_fire, status_name, status_fire, save_fire, insert_fires, update_fires};
 
 use crate::status::Status;
 use press_text::{HookName, Items, Text, Texts};
@@ -50,8 +50,8 @@ pub fn transition(
 }
 
 /// What an insert fires.
-pub fn inserts(alloc: Global, new: Status, id: u64) -> Result<Items<Fire>, AllocError>
-    ensures { IfOk result (λ fs. fs ≡ inserts new id) }
+pub fn insert_fires(alloc: Global, new: Status, id: u64) -> Result<Items<Fire>, AllocError>
+    ensures { IfOk result (λ fs. fs ≡ insert_fires new id) }
 {
     let mut fires = transition(alloc, None, new, id)?;
     fires.push(save_fire(alloc, id, "")?)?;
@@ -59,8 +59,13 @@ pub fn inserts(alloc: Global, new: Status, id: u64) -> Result<Items<Fire>, Alloc
 }
 
 /// What an update fires.
-pub fn updates(alloc: Global, old: Status, new: Status, id: u64) -> Result<Items<Fire>, AllocError>
-    ensures { IfOk result (λ fs. fs ≡ updates old new id) }
+pub fn update_fires(
+    alloc: Global,
+    old: Status,
+    new: Status,
+    id: u64,
+) -> Result<Items<Fire>, AllocError>
+    ensures { IfOk result (λ fs. fs ≡ update_fires old new id) }
 {
     let mut fires = transition(alloc, Some(old), new, id)?;
     fires.push(save_fire(alloc, id, "1")?)?;
@@ -86,33 +91,33 @@ fn transition_fire(
     new: Status,
     id: u64,
 ) -> Result<Fire, AllocError>
-    ensures { IfOk result (λ f. f ≡ turned old new id) }
+    ensures { IfOk result (λ f. f ≡ transition_fire old new id) }
 {
     let name = transition_name(alloc, old_word(old), new.word())?;
     of_id(alloc, name.as_str(), id)
 }
 
 fn transition_name(alloc: Global, old: &str, new: &str) -> Result<String, AllocError>
-    ensures { IfOk result (λ t. string_bytes t ≡ turned_name old.now new.now) }
+    ensures { IfOk result (λ t. string_bytes t ≡ transition_name old.now new.now) }
 {
     format!(in alloc; "{old}_to_{new}")
 }
 
 fn status_fire(alloc: Global, new: Status, id: u64) -> Result<Fire, AllocError>
-    ensures { IfOk result (λ f. f ≡ reached new id) }
+    ensures { IfOk result (λ f. f ≡ status_fire new id) }
 {
     let name = status_name(alloc, new.word())?;
     of_id(alloc, name.as_str(), id)
 }
 
 fn status_name(alloc: Global, new: &str) -> Result<String, AllocError>
-    ensures { IfOk result (λ t. string_bytes t ≡ reached_name new.now) }
+    ensures { IfOk result (λ t. string_bytes t ≡ status_name new.now) }
 {
     format!(in alloc; "{new}_post")
 }
 
 fn save_fire(alloc: Global, id: u64, update: &str) -> Result<Fire, AllocError>
-    ensures { IfOk result (λ f. f ≡ saved id update.now) }
+    ensures { IfOk result (λ f. f ≡ save_fire id update.now) }
 {
     let update = Text::from_str(alloc, update)?;
     let id = decimal(alloc, id)?;

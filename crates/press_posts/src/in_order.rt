@@ -1,7 +1,7 @@
 //! Published posts in their order, oldest first: a post's position is found by binary search.
 
 ghost use Rattle.std.specs.Prelude.{◌≡◌, ◌<◌, ◌≤◌, length, map, take, reverse, vec_len, vec_capacity, IfOk, OnErr, OnOk};
-ghost use Rattle.press_posts.specs.Kept.{place_among, put_in, taken_out, IsAmong};
+ghost use Rattle.press_posts.specs.Kept.{place_among, put_in, take_out, IsAmong};
 ghost use Rattle.press_posts.specs.Published.{is_older, IsOldestFirst};
 
 use crate::posts::Dated;
@@ -36,7 +36,7 @@ pub fn put_in(order: &mut Vec<Dated>, dated: Option<Dated>)
 pub fn take_out(order: &mut Vec<Dated>, dated: Option<Dated>)
     requires order { IsOldestFirst order.old.items }
     requires among { IsAmong dated order.old.items }
-    ensures items { order.new.items ≡ taken_out dated order.old.items }
+    ensures items { order.new.items ≡ take_out dated order.old.items }
     ensures capacity { vec_capacity order.new ≡ vec_capacity order.old }
 {
     let Some(dated) = dated else {

@@ -1,6 +1,6 @@
 ghost use Rattle.std.specs.Prelude.{◌≡◌, Some};
 ghost use Rattle.press_posts.specs.Kept.{keeps_order};
-ghost use Rattle.press_posts.specs.PostChange.{is_due, edit_fault, status_moved};
+ghost use Rattle.press_posts.specs.PostChange.{is_due, edit_fault, status_after_move};
 ghost use Rattle.press_posts.specs.Published.{dated_of};
 
 use crate::draft::Draft;
@@ -44,7 +44,7 @@ pub enum Move {
 
 impl Post {
     /// Its position among the published posts, if it is one.
-    pub(crate) fn dated(&self) -> Option<Dated>
+    pub(crate) fn to_dated(&self) -> Option<Dated>
         ensures { result ≡ dated_of (Some self.now) }
     {
         self.status.is_publish().then_some(Dated {
@@ -84,8 +84,8 @@ impl Post {
     }
 
     /// The status that a move gives it; None where the move leaves it as it is.
-    pub fn moved(&self, to: Move) -> Result<Option<Status>, PostFault>
-        ensures { result ≡ status_moved to self.now }
+    pub fn status_after_move(&self, to: Move) -> Result<Option<Status>, PostFault>
+        ensures { result ≡ status_after_move to self.now }
     {
         let trashed = self.status.is_trash();
         match to {
@@ -100,7 +100,7 @@ impl Post {
 }
 
 impl Copied for Post {
-    fn copied(&self, alloc: Global) -> Result<Post, AllocError> {
+    fn copy_in(&self, alloc: Global) -> Result<Post, AllocError> {
         Ok(Post {
             id: self.id,
             title: self.title.copy(alloc)?,

@@ -6,11 +6,11 @@ ghost use Rattle.press_posts.specs.PostChange.{Changes, post_change, post_at, pu
 ghost use Rattle.press_posts.specs.Transitions.{transition};
 ghost use Rattle.press_posts.specs.PostChange.Change.{Insert, Edit, Moves, Delete};
 ghost use Rattle.press_posts.specs.Published.{published};
-ghost use Rattle.press_posts.specs.Restored.{restored, IsGiven, IsRestorable};
+ghost use Rattle.press_posts.specs.Restored.{restore_post, IsGiven, IsRestorable};
 
 use crate::draft::Draft;
 use crate::fault::PostFault;
-use crate::fire::{Fire, inserts, transition, updates};
+use crate::fire::{Fire, insert_fires, transition, update_fires};
 use crate::in_order::{make_room, newest, put_in, take_out};
 use crate::post::{Move, Post};
 use crate::status::Status;
@@ -85,7 +85,7 @@ impl Posts {
         }
         let id = self.next_id();
         let post = draft.post(id, now);
-        let fires = inserts(self.alloc, post.status, id)?;
+        let fires = insert_fires(self.alloc, post.status, id)?;
         self.push(post)?;
         Ok((id, fires))
     }
@@ -103,7 +103,7 @@ impl Posts {
         }
         let old = old.status;
         let post = draft.post(id, now);
-        let fires = updates(self.alloc, old, post.status, id)?;
+        let fires = update_fires(self.alloc, old, post.status, id)?;
         self.put(id, post);
         Ok(fires)
     }
@@ -118,7 +118,7 @@ impl Posts {
             return Err(PostFault::NoSuchPost);
         };
         let old = post.status;
-        match post.moved(to)? {
+        match post.status_after_move(to)? {
             Some(status) => Ok(self.turn(id, old, status)?),
             None => Ok(Items::new(self.alloc)),
         }
@@ -157,7 +157,7 @@ impl Posts {
     /// the post as it was. Takes no memory.
     pub fn restore(&mut self, id: u64, post: Option<Post>)
         requires { IsRestorable id post self.old }
-        ensures { self.new ≡ restored id post self.old }
+        ensures { self.new ≡ restore_post id post self.old }
     {
         match post {
             Some(post) => self.put(id, post),
@@ -199,7 +199,7 @@ impl Posts {
         order.extend_from_slice(&self.order)?;
         Ok(Posts {
             alloc: self.alloc,
-            places: copied_places(self.alloc, self.places.as_slice())?,
+            places: copy_places(self.alloc, self.places.as_slice())?,
             count: self.count,
             order,
         })
@@ -322,7 +322,7 @@ impl Posts {
     {
         let post = self.places[(id - 1) as usize].take()?;
         self.count -= 1;
-        take_out(&mut self.order, post.dated());
+        take_out(&mut self.order, post.to_dated());
         Some(post)
     }
 
@@ -331,27 +331,27 @@ impl Posts {
         requires { IsGiven id self.old × (post_at self.old id ≡ None) }
         ensures { self.new ≡ put_at self.old id (Some post) }
     {
-        put_in(&mut self.order, post.dated());
+        put_in(&mut self.order, post.to_dated());
         self.count += 1;
         self.places[(id - 1) as usize] = Some(post);
     }
 }
 
-fn copied_places(alloc: Global, places: &[Option<Post>]) -> Result<Vec<Option<Post>>, AllocError>
+fn copy_places(alloc: Global, places: &[Option<Post>]) -> Result<Vec<Option<Post>>, AllocError>
     ensures { IfOk result (λ v. v.items ≡ places.now) }
 {
     let mut copies = Vec::new(alloc);
     for place in places {
-        copies.push(copied_place(alloc, place)?)?;
+        copies.push(copy_place(alloc, place)?)?;
     }
     Ok(copies)
 }
 
-fn copied_place(alloc: Global, place: &Option<Post>) -> Result<Option<Post>, AllocError>
+fn copy_place(alloc: Global, place: &Option<Post>) -> Result<Option<Post>, AllocError>
     ensures { IfOk result (λ p. p ≡ place.now) }
 {
     match place {
-        Some(post) => Ok(Some(post.copied(alloc)?)),
+        Some(post) => Ok(Some(post.copy_in(alloc)?)),
         None => Ok(None),
     }
 }

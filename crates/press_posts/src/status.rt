@@ -1,6 +1,6 @@
 ghost use Rattle.std.specs.Prelude.{◌≡◌};
 ghost use Rattle.press_posts.specs.Transitions.{status_named, status_word};
-ghost use Rattle.press_posts.specs.PostChange.{settled, is_trash, is_future, is_publish};
+ghost use Rattle.press_posts.specs.PostChange.{settle_status, is_trash, is_future, is_publish};
 
 use press_text::Moment;
 
@@ -17,7 +17,7 @@ pub enum Status {
 
 impl Status {
     /// The status of that word.
-    pub fn named(word: &str) -> Option<Status>
+    pub fn from_word(word: &str) -> Option<Status>
         ensures { result ≡ status_named word.now }
     {
         if word == "publish" {
@@ -53,7 +53,7 @@ impl Status {
 
     /// The status that a post of that date gets when this one is asked for.
     pub fn settle(self, date: Moment, now: Moment) -> Status
-        ensures { result ≡ settled self date now }
+        ensures { result ≡ settle_status self date now }
     {
         match self {
             Status::Publish | Status::Future => {

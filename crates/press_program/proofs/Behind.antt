@@ -11,7 +11,7 @@ use Rattle.press_page.specs.declared.reply.Target.{Target}
 use Rattle.press_world.specs.ReadingFiles.{ReadsAs, Refuses}
 use Rattle.press_world.specs.declared.replay_fault.ReplayFault.{ReplayFault}
 use Rattle.press_world.specs.declared.replay_fault.ReplayFault.TheVariants.{NoMemory, ReadFault, WriteFault, BadSchedule}
-use Rattle.press_program.specs.Endings.{joined, page_ending, sites_in, EndsBehind, IsOutside, ReadsBehind, ReadsNamed}
+use Rattle.press_program.specs.Endings.{joined_sites, page_ending, sites_in, EndsBehind, IsOutside, ReadsBehind, ReadsNamed}
 use Rattle.press_program.specs.Words.{of_file, of_files, page_job}
 use Rattle.press_program.specs.declared.ending.Ending.{Ending}
 use Rattle.press_program.specs.declared.ending.Ending.TheVariants.{Fault}
@@ -29,38 +29,38 @@ job_behind file (name ∷ names) target some = refl
 
 -- ---- commands of files, one behind the other
 
-joined_front : (more : Result (List Stamped) Place) → more ≡ joined (Ok []) more
+joined_front : (more : Result (List Stamped) Place) → more ≡ joined_sites (Ok []) more
 joined_front (Ok more) = refl
 joined_front (Err place) = refl
 
-joined_twice : (a b c : Result (List Stamped) Place) → joined (joined a b) c ≡ joined a (joined b c)
+joined_twice : (a b c : Result (List Stamped) Place) → joined_sites (joined_sites a b) c ≡ joined_sites a (joined_sites b c)
 joined_twice (Err place) b c = refl
 joined_twice (Ok xs) (Err place) c = refl
 joined_twice (Ok xs) (Ok ys) (Err place) = refl
 joined_twice (Ok xs) (Ok ys) (Ok zs) = ap (λ cs. Ok cs) (append_assoc xs ys zs)
 
-sites_append : (files more : List (List ℕ)) → sites_in (files ++ more) ≡ joined (sites_in files) (sites_in more)
+sites_append : (files more : List (List ℕ)) → sites_in (files ++ more) ≡ joined_sites (sites_in files) (sites_in more)
 unfolding sites_in
 sites_append [] more = joined_front (sites_in more)
-sites_append (bytes ∷ files) more = ap (joined (site_in bytes)) (sites_append files more) ∙ sym (joined_twice (site_in bytes) (sites_in files) (sites_in more))
+sites_append (bytes ∷ files) more = ap (joined_sites (site_in bytes)) (sites_append files more) ∙ sym (joined_twice (site_in bytes) (sites_in files) (sites_in more))
 
 one_site : (bytes : List ℕ) (commands : List Stamped) → site_in bytes ≡ Ok commands → sites_in (bytes ∷ []) ≡ Ok commands
 unfolding sites_in
-one_site bytes commands is = ap (λ found. joined found (Ok [])) is ∙ ap (λ cs. Ok cs) (append-nil commands)
+one_site bytes commands is = ap (λ found. joined_sites found (Ok [])) is ∙ ap (λ cs. Ok cs) (append-nil commands)
 
 bad_front : (bytes : List ℕ) (files : List (List ℕ)) (place : Place) → site_in bytes ≡ Err place → sites_in (bytes ∷ files) ≡ Err place
 unfolding sites_in
-bad_front bytes files place bad = ap (λ found. joined found (sites_in files)) bad
+bad_front bytes files place bad = ap (λ found. joined_sites found (sites_in files)) bad
 
 bad_behind : (bytes : List ℕ) (files : List (List ℕ)) (commands : List Stamped) (place : Place) → site_in bytes ≡ Ok commands → sites_in files ≡ Err place
     → sites_in (bytes ∷ files) ≡ Err place
 unfolding sites_in
-bad_behind bytes files commands place is bad = ap₂ joined is bad
+bad_behind bytes files commands place is bad = ap₂ joined_sites is bad
 
 both_sites : (bytes : List ℕ) (files : List (List ℕ)) (commands more : List Stamped) → site_in bytes ≡ Ok commands → sites_in files ≡ Ok more
     → sites_in (bytes ∷ files) ≡ Ok (commands ++ more)
 unfolding sites_in
-both_sites bytes files commands more is are = ap₂ joined is are
+both_sites bytes files commands more is are = ap₂ joined_sites is are
 
 -- a fault of one reading is that of another, where what is bad for the one is so for the other
 carried : (fault : ReplayFault) (found found' : Result (List Stamped) Place) → ((place : Place) → found ≡ Err place → found' ≡ Err place) → Refuses fault found → Refuses fault found'
@@ -101,7 +101,7 @@ pub one_more : (count : ℕ) (commands more new : List Stamped) → AreRead coun
 unfolding ReadsAs
 one_more count commands more new read reads is =
     let long : length (read.0 ++ reads.0 ∷ []) ≡ count + 1 = omega (arith, length-append read.0 (reads.0 ∷ []), read.1) in
-    (read.0 ++ reads.0 ∷ [], long, sites_append read.0 (reads.0 ∷ []) ∙ (ap₂ joined read.2 (one_site reads.0 more reads.2) ∙ ap (λ cs. Ok cs) (sym is)))
+    (read.0 ++ reads.0 ∷ [], long, sites_append read.0 (reads.0 ∷ []) ∙ (ap₂ joined_sites read.2 (one_site reads.0 more reads.2) ∙ ap (λ cs. Ok cs) (sym is)))
 
 pub all_read : (count total : ℕ) (commands : List Stamped) → count ≡ total → AreRead count commands → ReadsNamed total (Ok commands)
 unfolding ReadsNamed
@@ -112,7 +112,7 @@ unfolding ReadsAs ReadsNamed
 one_stops count total commands fault less read reads =
     let rest = blanks (total - (count + 1)) in
     let stops : (place : Place) → site_in reads.0 ≡ Err place → sites_in (read.0 ++ reads.0 ∷ rest.0) ≡ Err place =
-    λ place bad. sites_append read.0 (reads.0 ∷ rest.0) ∙ ap₂ joined read.2 (bad_front reads.0 rest.0 place bad) in
+    λ place bad. sites_append read.0 (reads.0 ∷ rest.0) ∙ ap₂ joined_sites read.2 (bad_front reads.0 rest.0 place bad) in
     let long : length (read.0 ++ reads.0 ∷ rest.0) ≡ total = omega (arith, length-append read.0 (reads.0 ∷ rest.0), read.1, rest.1, less) in
     (read.0 ++ reads.0 ∷ rest.0, long, carried fault (site_in reads.0) (sites_in (read.0 ++ reads.0 ∷ rest.0)) stops reads.2)
 

@@ -18,7 +18,7 @@ use Rattle.press_program.specs.declared.ending.Ending.{Ending}
 use Rattle.press_program.specs.declared.ending.Ending.TheVariants.{Printed, Replayed, Fault}
 use Rattle.press_program.specs.declared.task.Task.{Task}
 use Rattle.press_program.specs.declared.task.Task.TheVariants.{Page, Replay, Loop}
-use Rattle.press_program.specs.Endings.{failed, page_ending, EndsLoop, EndsOn, EndsReplay, EndsTask, IsOutside}
+use Rattle.press_program.specs.Endings.{replay_err, page_ending, EndsLoop, EndsOn, EndsReplay, EndsTask, IsOutside}
 
 pub outside : (kit : KitView) (target : Target) (remaining : Option (List ℕ)) (end : Ending) → IsOutside end → EndsOn kit target remaining end
 unfolding EndsOn
@@ -32,7 +32,7 @@ nothing bytes (Some known) = (0, sym (append-nil known))
 
 -- nothing was written before something came from outside
 unwritten : (shows : ℕ × List Step → List ℕ) (found : Result (ℕ × List Step) Place) (out : Option (List ℕ)) (fault : ReplayFault)
-    → IsOutside (Fault fault) → Writes shows found out out (failed fault)
+    → IsOutside (Fault fault) → Writes shows found out out (replay_err fault)
 unwritten shows (Ok schedule) out NoMemory is = nothing (shows schedule) out
 unwritten shows (Err place) out NoMemory is = refl
 unwritten shows (Ok schedule) out ReadFault is = refl
@@ -46,7 +46,7 @@ unplayed kit kits None out fault is = ([], tt, unwritten (transcript kit) (sched
 unplayed kit kits (Some told) out fault is = (told, refl, unwritten (transcript kit) (schedule_in kits told) out fault is)
 
 unlooped : (shows : ℕ × List Step → List ℕ) (found : Result (ℕ × List Step) Place) (out : Option (List ℕ)) (fault : ReplayFault)
-    → IsOutside (Fault fault) → WritesFront shows found out out (failed fault)
+    → IsOutside (Fault fault) → WritesFront shows found out out (replay_err fault)
 unlooped shows (Ok schedule) out NoMemory is = nothing (shows schedule) out
 unlooped shows (Err place) out NoMemory is = refl
 unlooped shows (Ok schedule) out ReadFault is = nothing (shows schedule) out

@@ -2,7 +2,7 @@
 use Rattle.std.proofs.Common.{ℕ, zero, suc, ◌≡◌, inl, inr, List, [], ◌∷◌, ◌++◌, drop, Some, None, slice_get, refl, sym, ap, ◌∙◌, append_assoc, append-nil}
 use Rattle.std.specs.Prelude.{Option}
 use Rattle.std.specs.Io.KnownBytes.{Appends, Keeps}
-use Rattle.press_client.specs.declared.entry.Entry.{Entry}
+use Rattle.press_client.specs.declared.entry.LogEntry.{LogEntry}
 use Rattle.press_client.specs.declared.site_files.SiteFile.{SiteFile}
 use Rattle.press_text.specs.Streams.{AppendsFront}
 use Rattle.press_world.specs.declared.replay_fault.ReplayFault.TheVariants.{NoMemory}
@@ -42,9 +42,9 @@ module _ (it : Export) (result : ℕ) (out out' err err' : Option (List ℕ)) wh
   pub no_room : result ≡ 2 → Keeps out out' → AppendsFront err err' (fault_line NoMemory) → Exports it result out out' err err'
   no_room two kept told = inl (two, kept, inr told)
 
-  pub are_made : (entries : List Entry) → result ≡ 0 → Appends out out' (lines_of it entries) → Keeps err err' → Exports it result out out' err err'
+  pub are_made : (entries : List LogEntry) → result ≡ 0 → Appends out out' (lines_of it entries) → Keeps err err' → Exports it result out out' err err'
   are_made entries none put kept = inr (inl (entries, none, put, kept))
 
-  pub is_told : (entries : List Entry) (why : Unmade) (by_then : Option (List ℕ)) → result ≡ 2 → AppendsFront out out' (lines_of it entries) → AppendsFront err by_then (fault_line (fault_of why)) →
+  pub is_told : (entries : List LogEntry) (why : Unmade) (by_then : Option (List ℕ)) → result ≡ 2 → AppendsFront out out' (lines_of it entries) → AppendsFront err by_then (fault_line (fault_of why)) →
       AppendsFront by_then err' (reason_of it why) → Exports it result out out' err err'
   is_told entries why by_then two put fault reason = inr (inr (entries, why, by_then, two, put, fault, reason))

@@ -6,8 +6,8 @@ use Rattle.std.specs.List.{Contains}
 use Rattle.press_lint.specs.Joints.{File, files_of}
 use Rattle.press_lint.specs.declared.joint.NamedFile.{NamedFile}
 use Rattle.press_program.specs.KitFiles.{MeetsAlone, MeetsFault}
-use Rattle.press_program.specs.declared.kitting.KitFault.{KitFault}
-use Rattle.press_program.specs.declared.kitting.KitFault.TheVariants.{NoMemory, ReadFault, TooLong, Refused}
+use Rattle.press_program.specs.declared.kitting.KitSourceFault.{KitSourceFault}
+use Rattle.press_program.specs.declared.kitting.KitSourceFault.TheVariants.{NoMemory, ReadFault, TooLong, Refused}
 
 abbrev pub texts : List (Bor (List ℕ)) → List (List ℕ)
 texts names = map (λ n. n.now) names
@@ -22,7 +22,7 @@ bytes_of files = map (λ (f : File). f.bytes) (files_of files)
 pub among : (names : List (Bor (List ℕ))) (i : ℕ) (d : Bor (List ℕ)) → i < length names → Contains (texts names) (get_or names i d).now
 among names i d lt = (i, rw (length-map names (λ n. n.now)) lt, get_or-map (λ n. n.now) names i d (get_or names i d).now lt)
 
-pub meets : (names : List (List ℕ)) (file : List ℕ) (fault : KitFault) → MeetsAlone fault → Contains names file → MeetsFault names file fault
+pub meets : (names : List (List ℕ)) (file : List ℕ) (fault : KitSourceFault) → MeetsAlone fault → Contains names file → MeetsFault names file fault
 meets names file NoMemory alone is = tt
 meets names file ReadFault alone is = is
 meets names file TooLong alone is = is

@@ -8,14 +8,14 @@ use Rattle.press_program.specs.declared.ending.Ending.TheVariants.{Fault}
 use Rattle.press_world.specs.declared.replay_fault.ReplayFault.TheVariants.{NoMemory}
 use Rattle.press_server.specs.declared.serve_fault.ServeFault.TheVariants as fault
 use Rattle.press_demonstration.specs.Demonstration.{demonstration}
-use Rattle.press_program.specs.Endings.{known_of, Does, Runs, RunsOver, Served}
+use Rattle.press_program.specs.Endings.{known_of, Does, Runs, RunsOver, ServeRelation}
 use Rattle.press_program.specs.KitFiles.{fault_line}
-use Rattle.press_program.specs.declared.kitting.KitFault.TheVariants as kit
+use Rattle.press_program.specs.declared.kitting.KitSourceFault.TheVariants as kit
 use Rattle.press_program.specs.Words.{Arguments, Job, export, of_file, of_files, send, serve}
 use Rattle.press_program.proofs.Ends.{outside_task}
 use Rattle.press_program.proofs.Behind.{outside}
 
-no_memory_for : (served : Served) (kit : KitView) (job : Job) (remaining : Option (List ℕ)) (status : ℕ) (out err err' : Option (List ℕ))
+no_memory_for : (served : ServeRelation) (kit : KitView) (job : Job) (remaining : Option (List ℕ)) (status : ℕ) (out err err' : Option (List ℕ))
     → status ≡ 2 → Keeps out out → AppendsFront err err' (fault_line NoMemory) → Does served kit job remaining status out out err err'
 no_memory_for served kit (of_file wanted) remaining status out err err' is kept told =
     (Fault NoMemory, out, outside_task kit wanted.1 (known_of wanted.0 remaining) out NoMemory tt, (is, kept, told))
@@ -25,12 +25,12 @@ no_memory_for served kit (serve server) remaining status out err err' is kept to
 no_memory_for served kit (send mail) remaining status out err err' is kept told = inl (is, kept, inr told)
 no_memory_for served kit (export it) remaining status out err err' is kept told = inl (is, kept, inr told)
 
-no_memory_over : (served : Served) (names : List (List ℕ)) (job : Job) (remaining : Option (List ℕ)) (status : ℕ) (out err err' : Option (List ℕ))
+no_memory_over : (served : ServeRelation) (names : List (List ℕ)) (job : Job) (remaining : Option (List ℕ)) (status : ℕ) (out err err' : Option (List ℕ))
     → status ≡ 2 → Keeps out out → AppendsFront err err' (fault_line NoMemory) → RunsOver served names job remaining status out out err err'
 no_memory_over served [] job remaining status out err err' is kept told = no_memory_for served demonstration job remaining status out err err' is kept told
 no_memory_over served (name ∷ names) job remaining status out err err' is kept told = inl (is, kept, [], kit.NoMemory, tt, told)
 
-pub no_memory : (served : Served) (asked : Option Arguments) (remaining : Option (List ℕ)) (status : ℕ) (out err err' : Option (List ℕ))
+pub no_memory : (served : ServeRelation) (asked : Option Arguments) (remaining : Option (List ℕ)) (status : ℕ) (out err err' : Option (List ℕ))
     → status ≡ 2 → Keeps out out → AppendsFront err err' (fault_line NoMemory) → Runs served asked remaining status out out err err'
 no_memory served None remaining status out err err' is kept told = (is, kept, inr told)
 no_memory served (Some asked) remaining status out err err' is kept told = no_memory_over served asked.kits asked.job remaining status out err err' is kept told

@@ -26,7 +26,7 @@ use Rattle.press_server.specs.declared.serve_fault.ServeFault.{ServeFault}
 use Rattle.press_server.specs.declared.serve_fault.ServeFault.TheVariants as fault
 use Rattle.press_loop.specs.Loops.{Loops}
 use Rattle.press_program.specs.Exports.{Makes, TellsUnmade}
-use Rattle.press_program.specs.Words.{Arguments, Export, Job, Mail, OfFile, OfFiles, Server, export, of_file, of_files, send, serve, is_input}
+use Rattle.press_program.specs.Words.{Arguments, Export, Job, OfFile, OfFiles, Server, export, of_file, of_files, send, serve, is_input}
 use Rattle.press_program.specs.declared.task.Task.{Task}
 use Rattle.press_program.specs.declared.task.Task.TheVariants.{Page, Replay, Loop}
 use Rattle.press_text.specs.Streams.{AppendsFront}
@@ -69,26 +69,26 @@ EndsPage kit target end input = (end ≡ page_ending kit target (site_in input))
 unfoldable pub EndsOn : KitView → Target → Option (List ℕ) → Ending → Type 0
 EndsOn kit target remaining end = (input : List ℕ) × Has remaining input × EndsPage kit target end input
 
-abbrev pub replayed : Result (Unit {0}) ReplayFault
-replayed = Ok tt
+abbrev pub replay_ok : Result (Unit {0}) ReplayFault
+replay_ok = Ok tt
 
-abbrev pub failed : ReplayFault → Result (Unit {0}) ReplayFault
-failed fault = Err fault
+abbrev pub replay_err : ReplayFault → Result (Unit {0}) ReplayFault
+replay_err fault = Err fault
 
 -- The end of a replay of the schedule that a reader has left, over at most so many nodes of this
 -- kit, and what it has put on the output: the transcript, or a prefix of it where a write failed or
 -- memory ran out; nothing where the file is bad or couldn't be read.
 unfoldable pub EndsReplay : KitView → ℕ → Option (List ℕ) → Option (List ℕ) → Option (List ℕ) → Ending → Type 0
 EndsReplay kit kits remaining out out' (Printed status body) = ⊥
-EndsReplay kit kits remaining out out' Replayed = Replays (schedule_in kits) (transcript kit) remaining out out' replayed
-EndsReplay kit kits remaining out out' (Fault fault) = Replays (schedule_in kits) (transcript kit) remaining out out' (failed fault)
+EndsReplay kit kits remaining out out' Replayed = Replays (schedule_in kits) (transcript kit) remaining out out' replay_ok
+EndsReplay kit kits remaining out out' (Fault fault) = Replays (schedule_in kits) (transcript kit) remaining out out' (replay_err fault)
 
 -- The same where the steps come over sockets, any of which may fail: then a prefix of the
 -- transcript is left.
 unfoldable pub EndsLoop : KitView → ℕ → Option (List ℕ) → Option (List ℕ) → Option (List ℕ) → Ending → Type 0
 EndsLoop kit kits remaining out out' (Printed status body) = ⊥
-EndsLoop kit kits remaining out out' Replayed = Loops (schedule_in kits) (transcript kit) remaining out out' replayed
-EndsLoop kit kits remaining out out' (Fault fault) = Loops (schedule_in kits) (transcript kit) remaining out out' (failed fault)
+EndsLoop kit kits remaining out out' Replayed = Loops (schedule_in kits) (transcript kit) remaining out out' replay_ok
+EndsLoop kit kits remaining out out' (Fault fault) = Loops (schedule_in kits) (transcript kit) remaining out out' (replay_err fault)
 
 -- how many kits are made for it
 abbrev pub kits_for : Task → ℕ
@@ -147,16 +147,16 @@ Shows kit wanted remaining result out out' err err' = (end : Ending) × (by_then
 
 -- that somebody served over a kit, as the words have it, and how that ended: each who serves says
 -- it in a way of its own
-abbrev pub Served : Type 1
-Served = KitView → Server → Result (Unit {0}) ServeFault → Type 0
+abbrev pub ServeRelation : Type 1
+ServeRelation = KitView → Server → Result (Unit {0}) ServeFault → Type 0
 
 -- said of whoever serves
-abbrev pub any_server : Served
+abbrev pub any_server : ServeRelation
 any_server kit server ended = Unit {0}
 
 -- One served over the kit, as the words have it, and printed its line on the output, as far as that
 -- took it; or there was no memory for the kit, and nobody did.
-abbrev pub IsServed : Served → KitView → Server → Result (Unit {0}) ServeFault → Option (List ℕ) → Option (List ℕ) → Type 0
+abbrev pub IsServed : ServeRelation → KitView → Server → Result (Unit {0}) ServeFault → Option (List ℕ) → Option (List ℕ) → Type 0
 IsServed served kit server ended out out' =
     ((ended ≡ Err fault.NoMemory) × Keeps out out') ⊎ (served kit server ended × AppendsFront out out' (listening_line server.place))
 
@@ -167,21 +167,21 @@ server_status (Err fault) = 2
 
 -- A server's run, and its status. Contracts see no bytes of sockets, and its lines on standard
 -- error depend on them.
-abbrev pub Listens : Served → KitView → Server → ℕ → Option (List ℕ) → Option (List ℕ) → Type 0
+abbrev pub Listens : ServeRelation → KitView → Server → ℕ → Option (List ℕ) → Option (List ℕ) → Type 0
 Listens served kit server result out out' = (ended : Result (Unit {0}) ServeFault) × IsServed served kit server ended out out' × (result ≡ server_status ended)
 
 -- ---- several files
 
 -- commands with others behind them; what is bad in front decides
-abbrev pub joined : Result (List Stamped) Place → Result (List Stamped) Place → Result (List Stamped) Place
-joined (Err place) more = Err place
-joined (Ok commands) (Err place) = Err place
-joined (Ok commands) (Ok more) = Ok (commands ++ more)
+abbrev pub joined_sites : Result (List Stamped) Place → Result (List Stamped) Place → Result (List Stamped) Place
+joined_sites (Err place) more = Err place
+joined_sites (Ok commands) (Err place) = Err place
+joined_sites (Ok commands) (Ok more) = Ok (commands ++ more)
 
 -- The commands of files, one behind the other; the first that is bad decides.
 unfoldable pub sites_in : List (List ℕ) → Result (List Stamped) Place
 sites_in [] = Ok []
-sites_in (bytes ∷ files) = joined (site_in bytes) (sites_in files)
+sites_in (bytes ∷ files) = joined_sites (site_in bytes) (sites_in files)
 
 -- What a reading answers of so many files, which are opened by their names and have some bytes.
 unfoldable pub ReadsNamed : ℕ → Result (List Stamped) ReplayFault → Type 0
@@ -241,7 +241,7 @@ Exports it result out out' err err' =
     TellsUsage result out out' err err' ⊎ (Makes it result out out' err err' ⊎ TellsUnmade it result out out' err err')
 
 -- what is to be done, over a kit
-abbrev pub Does : Served → KitView → Job → Option (List ℕ) → ℕ → Option (List ℕ) → Option (List ℕ) → Option (List ℕ) → Option (List ℕ) → Type 0
+abbrev pub Does : ServeRelation → KitView → Job → Option (List ℕ) → ℕ → Option (List ℕ) → Option (List ℕ) → Option (List ℕ) → Option (List ℕ) → Type 0
 Does served kit (of_file wanted) remaining result out out' err err' = Shows kit wanted remaining result out out' err err'
 Does served kit (of_files files) remaining result out out' err err' = ShowsFiles kit files remaining result out out' err err'
 Does served kit (serve server) remaining result out out' err err' = Listens served kit server result out out'
@@ -250,7 +250,7 @@ Does served kit (send mail) remaining result out out' err err' = Mails (known_of
 
 -- Over the demonstration kit, or over that of kit files, whose slips are reported before anything
 -- else; one that can't be used is reported, and nothing else is done.
-abbrev pub RunsOver : Served → List (List ℕ) → Job → Option (List ℕ) → ℕ → Option (List ℕ) → Option (List ℕ) → Option (List ℕ) → Option (List ℕ) → Type 0
+abbrev pub RunsOver : ServeRelation → List (List ℕ) → Job → Option (List ℕ) → ℕ → Option (List ℕ) → Option (List ℕ) → Option (List ℕ) → Option (List ℕ) → Type 0
 RunsOver served [] job remaining result out out' err err' = Does served demonstration job remaining result out out' err err'
 RunsOver served (name ∷ names) job remaining result out out' err err' =
     RefusesKit (name ∷ names) result out out' err err'
@@ -258,6 +258,6 @@ RunsOver served (name ∷ names) job remaining result out out' err err' =
     × (by_then : Option (List ℕ)) × AppendsFront err by_then told × Does served (view_where (read_together files)) job remaining result out out' by_then err')
 
 -- A run for what is asked.
-abbrev pub Runs : Served → Option Arguments → Option (List ℕ) → ℕ → Option (List ℕ) → Option (List ℕ) → Option (List ℕ) → Option (List ℕ) → Type 0
+abbrev pub Runs : ServeRelation → Option Arguments → Option (List ℕ) → ℕ → Option (List ℕ) → Option (List ℕ) → Option (List ℕ) → Option (List ℕ) → Type 0
 Runs served None remaining result out out' err err' = TellsUsage result out out' err err'
 Runs served (Some asked) remaining result out out' err err' = RunsOver served asked.kits asked.job remaining result out out' err err'

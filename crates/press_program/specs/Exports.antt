@@ -2,7 +2,7 @@
 use Rattle.std.specs.Prelude.{ℕ, ◌≡◌, ◌+◌, suc, List, [], ◌∷◌, ◌++◌, nat_eq, if◌then◌else◌, Option, codes, decimal}
 use Rattle.std.specs.Io.KnownBytes.{Appends, Keeps}
 use Rattle.press_client.specs.Exporting.{files_of}
-use Rattle.press_client.specs.declared.entry.Entry.{Entry}
+use Rattle.press_client.specs.declared.entry.LogEntry.{LogEntry}
 use Rattle.press_client.specs.declared.site_files.Limits.{Limits}
 use Rattle.press_client.specs.declared.site_files.SiteFile.{SiteFile}
 use Rattle.press_kit.specs.KitFile.{file_limit}
@@ -72,15 +72,15 @@ reason_of export why = reason_line (subject_of export why) (words_of why)
 -- ---- a run
 
 -- the lines of the files that some log gives: contracts see no bytes of sockets and files
-abbrev pub lines_of : Export → List Entry → List ℕ
+abbrev pub lines_of : Export → List LogEntry → List ℕ
 lines_of export entries = lines_from export.1 0 (files_of limits entries)
 
 -- The files are written, and a line for each is printed; or a fault is told, with a reason, as far
 -- as the errors take them.
 abbrev pub Makes : Export → ℕ → Option (List ℕ) → Option (List ℕ) → Option (List ℕ) → Option (List ℕ) → Type 0
-Makes export result out out' err err' = (entries : List Entry) × (result ≡ 0) × Appends out out' (lines_of export entries) × Keeps err err'
+Makes export result out out' err err' = (entries : List LogEntry) × (result ≡ 0) × Appends out out' (lines_of export entries) × Keeps err err'
 
 abbrev pub TellsUnmade : Export → ℕ → Option (List ℕ) → Option (List ℕ) → Option (List ℕ) → Option (List ℕ) → Type 0
 TellsUnmade export result out out' err err' =
-    (entries : List Entry) × (why : Unmade) × (by_then : Option (List ℕ)) × (result ≡ 2) × AppendsFront out out' (lines_of export entries)
+    (entries : List LogEntry) × (why : Unmade) × (by_then : Option (List ℕ)) × (result ≡ 2) × AppendsFront out out' (lines_of export entries)
     × AppendsFront err by_then (fault_line (fault_of why)) × AppendsFront by_then err' (reason_of export why)

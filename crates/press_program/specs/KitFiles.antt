@@ -12,8 +12,8 @@ use Rattle.press_lint.specs.Files.{TellsFiles}
 use Rattle.press_lint.specs.Joints.{File, Joint, files_of, read_together}
 use Rattle.press_program.specs.declared.kitting.KitSource.{KitSource}
 use Rattle.press_program.specs.declared.kitting.KitSource.TheVariants.{Demonstration, OfFiles}
-use Rattle.press_program.specs.declared.kitting.KitFault.{KitFault}
-use Rattle.press_program.specs.declared.kitting.KitFault.TheVariants as kit
+use Rattle.press_program.specs.declared.kitting.KitSourceFault.{KitSourceFault}
+use Rattle.press_program.specs.declared.kitting.KitSourceFault.TheVariants as kit
 use Rattle.press_text.specs.Streams.{AppendsFront}
 use Rattle.press_world.specs.declared.replay_fault.ReplayFault.{ReplayFault}
 use Rattle.press_world.specs.declared.replay_fault.ReplayFault.TheVariants.{NoMemory, ReadFault, WriteFault, BadSchedule}
@@ -46,14 +46,14 @@ AreNamed names files = map (λ (f : File). f.name) files ≡ names
 abbrev pub slip_front : List ℕ
 slip_front = codes "press: warning in "
 
-abbrev pub kit_line : List ℕ → KitFault → List ℕ
+abbrev pub kit_line : List ℕ → KitSourceFault → List ℕ
 kit_line file kit.NoMemory = fault_line NoMemory
 kit_line file kit.ReadFault = codes "press: fault 40 in " ++ (file ++ codes "\n")
 kit_line file kit.TooLong = codes "press: fault 73 in " ++ (file ++ codes ": longer than 4194304 bytes\n")
 kit_line file (kit.Refused number text) = codes "press: fault " ++ (decimal number ++ (codes " in " ++ (file ++ (codes ": " ++ (string_bytes text ++ codes "\n")))))
 
 -- of a file that is read by itself
-abbrev pub MeetsAlone : KitFault → Type 0
+abbrev pub MeetsAlone : KitSourceFault → Type 0
 MeetsAlone kit.NoMemory = Unit {0}
 MeetsAlone kit.ReadFault = Unit {0}
 MeetsAlone kit.TooLong = Unit {0}
@@ -61,7 +61,7 @@ MeetsAlone (kit.Refused number text) = ⊥
 
 -- refused files are reported as they are; out of memory, and of each file a failed read or that it
 -- is too long, may be met at any time
-abbrev pub MeetsFault : List (List ℕ) → List ℕ → KitFault → Type 0
+abbrev pub MeetsFault : List (List ℕ) → List ℕ → KitSourceFault → Type 0
 MeetsFault names file kit.NoMemory = Unit {0}
 MeetsFault names file kit.ReadFault = Contains names file
 MeetsFault names file kit.TooLong = Contains names file
@@ -69,4 +69,4 @@ MeetsFault names file (kit.Refused number text) = (files : List File) × AreName
 
 -- a fault is reported with its file, or that there is no memory for that, and nothing else is done
 abbrev pub RefusesKit : List (List ℕ) → ℕ → Option (List ℕ) → Option (List ℕ) → Option (List ℕ) → Option (List ℕ) → Type 0
-RefusesKit names result out out' err err' = (result ≡ 2) × Keeps out out' × (file : List ℕ) × (fault : KitFault) × MeetsFault names file fault × AppendsFront err err' (kit_line file fault)
+RefusesKit names result out out' err err' = (result ≡ 2) × Keeps out out' × (file : List ℕ) × (fault : KitSourceFault) × MeetsFault names file fault × AppendsFront err err' (kit_line file fault)

@@ -33,69 +33,69 @@ None >>= f = None
 -- ---- the program, as it is given to `clap`
 
 -- a word that has to be there
-abbrev pub needed : Text → Rule
-needed id = record (new_rule id) { required = true }
+abbrev pub needed_rule : Text → Rule
+needed_rule id = record (new_rule id) { required = true }
 
 -- a word behind `--NAME`, which may be there
-abbrev pub named : Text → Rule
-named id = record (new_rule id) { long = Some id }
+abbrev pub named_rule : Text → Rule
+named_rule id = record (new_rule id) { long = Some id }
 
 -- a word `--NAME` without a value, which may be there
-abbrev pub flagged : Text → Rule
-flagged id = record (named id) { action = Some SetTrue }
+abbrev pub flag_rule : Text → Rule
+flag_rule id = record (named_rule id) { action = Some SetTrue }
 
 -- a command without a call for help
-abbrev pub helpless : Text → App
-helpless name = record { top = record (new_app name).top { disable_help_flag = true }; subs = [] }
+abbrev pub helpless_app : Text → App
+helpless_app name = record { top = record (new_app name).top { disable_help_flag = true }; subs = [] }
 
 -- a word behind `--NAME`, which may be there more than once
-abbrev pub repeated : Text → Rule
-repeated id = record (named id) { action = Some Append }
+abbrev pub repeated_rule : Text → Rule
+repeated_rule id = record (named_rule id) { action = Some Append }
 
 abbrev pub with_names : App → Text → App
-with_names app id = with_rule app (repeated id)
+with_names app id = with_rule app (repeated_rule id)
 
 -- a command, over kit files where they are named
 abbrev pub with_kit : App → App
 with_kit app = with_names app (codes "kit")
 
 abbrev pub page_words : App
-page_words = with_kit (with_names (with_rule (with_rule (helpless (codes "page")) (needed (codes "FILE"))) (needed (codes "TARGET"))) (codes "then"))
+page_words = with_kit (with_names (with_rule (with_rule (helpless_app (codes "page")) (needed_rule (codes "FILE"))) (needed_rule (codes "TARGET"))) (codes "then"))
 
 -- a command with a file alone
 abbrev pub file_words : Text → App
-file_words name = with_kit (with_rule (helpless name) (needed (codes "FILE")))
+file_words name = with_kit (with_rule (helpless_app name) (needed_rule (codes "FILE")))
 
 -- a server's place
 abbrev pub place_words : App
 place_words =
-    with_rule (with_rule (with_rule (with_rule (helpless (codes "serve")) (named (codes "port"))) (named (codes "id"))) (named (codes "peers"))) (named (codes "tick"))
+    with_rule (with_rule (with_rule (with_rule (helpless_app (codes "serve")) (named_rule (codes "port"))) (named_rule (codes "id"))) (named_rule (codes "peers"))) (named_rule (codes "tick"))
 
 abbrev pub valued_words : App
 valued_words =
-    with_rule (with_rule (with_rule (with_rule place_words (named (codes "store"))) (named (codes "turns"))) (named (codes "editor"))) (named (codes "ahead"))
+    with_rule (with_rule (with_rule (with_rule place_words (named_rule (codes "store"))) (named_rule (codes "turns"))) (named_rule (codes "editor"))) (named_rule (codes "ahead"))
 
 abbrev pub server_words : App
-server_words = with_rule (with_rule valued_words (flagged (codes "stay"))) (flagged (codes "status"))
+server_words = with_rule (with_rule valued_words (flag_rule (codes "stay"))) (flag_rule (codes "status"))
 
 abbrev pub serve_words : App
 serve_words = with_kit server_words
 
 abbrev pub send_words : App
-send_words = with_rule (with_rule (helpless (codes "send")) (needed (codes "FILE"))) (needed (codes "MEMBERS"))
+send_words = with_rule (with_rule (helpless_app (codes "send")) (needed_rule (codes "FILE"))) (needed_rule (codes "MEMBERS"))
 
 abbrev pub export_words : App
-export_words = with_rule (with_rule (helpless (codes "export")) (needed (codes "MEMBER"))) (new_rule (codes "FILE"))
+export_words = with_rule (with_rule (helpless_app (codes "export")) (needed_rule (codes "MEMBER"))) (new_rule (codes "FILE"))
 
-abbrev pub bare : App
-bare = record {
+abbrev pub bare_app : App
+bare_app = record {
   top = record (new_app (codes "press")).top { no_binary_name = true; disable_help_flag = true; disable_help_subcommand = true; subcommand_required = true };
   subs = [];
 }
 
 unfoldable pub program : App
 program =
-    with_subcommand (with_subcommand (with_subcommand (with_subcommand (with_subcommand (with_subcommand bare page_words.top) (file_words (codes "replay")).top)
+    with_subcommand (with_subcommand (with_subcommand (with_subcommand (with_subcommand (with_subcommand bare_app page_words.top) (file_words (codes "replay")).top)
     (file_words (codes "loop")).top) serve_words.top) send_words.top) export_words.top
 
 -- ---- what is asked for
@@ -255,17 +255,17 @@ job_in name rows =
     (if bytes_eq name (codes "send") then option_map send (mailing_in rows) else
     (if bytes_eq name (codes "export") then option_map export (export_in rows) else None)))))
 
-abbrev pub asked_in : Text → List Row → Option Arguments
-asked_in name rows = option_map (λ job. record { kits = names_in (codes "kit") rows; job = job }) (job_in name rows)
+abbrev pub arguments_in : Text → List Row → Option Arguments
+arguments_in name rows = option_map (λ job. record { kits = names_in (codes "kit") rows; job = job }) (job_in name rows)
 
 -- nothing where `clap` has a fault
-abbrev pub asked_where : Kinds → Option (Text × List Row) → Option Arguments
-asked_where [] found = option_and_then (λ p. asked_in p.0 p.1) found
-asked_where (k ∷ ks) found = None
+abbrev pub arguments_where : Kinds → Option (Text × List Row) → Option Arguments
+arguments_where [] found = option_and_then (λ p. arguments_in p.0 p.1) found
+arguments_where (k ∷ ks) found = None
 
-abbrev pub asked_by : List Text → Option Arguments
-asked_by [] = Some (record { kits = []; job = of_file (codes "-", Page (Post 1)) })
-asked_by (w ∷ ws) = asked_where (fault_of program (w ∷ ws)) (subcommand_of program (w ∷ ws))
+abbrev pub arguments_by : List Text → Option Arguments
+arguments_by [] = Some (record { kits = []; job = of_file (codes "-", Page (Post 1)) })
+arguments_by (w ∷ ws) = arguments_where (fault_of program (w ∷ ws)) (subcommand_of program (w ∷ ws))
 
 -- `-` is the standard input
 abbrev pub is_input : List ℕ → Bool
@@ -309,5 +309,5 @@ job_of (told.Serve s) = serve (server_of s)
 job_of (told.Send m) = send (mailing_of m)
 job_of (told.Export e) = export (export_of e)
 
-abbrev pub asked_of : asked.Arguments → Arguments
-asked_of a = record { kits = map (λ kit. kit.now) a.kits.items; job = job_of a.job }
+abbrev pub arguments_of : asked.Arguments → Arguments
+arguments_of a = record { kits = map (λ kit. kit.now) a.kits.items; job = job_of a.job }

@@ -27,7 +27,7 @@ macro_rules! filed_kit {
     ($alloc:ident, $parts:ident) => {{
         let mut callbacks: Vec<Stored> = Vec::new($alloc);
         for scripted in $parts.callbacks.into_vec() {
-            let own = scripted.script.copied($alloc)?;
+            let own = scripted.script.copy_in($alloc)?;
             let call: BoxedTurns = Box::new($alloc, move |input: &CallIn| {
                 script_turn($alloc, &own, input)
             })?;

@@ -2,7 +2,7 @@
 
 ghost use Rattle.std.specs.Prelude.{◌≡◌, map, IfOk};
 ghost use Rattle.press_callbacks.specs.Kits.{kit_view};
-ghost use Rattle.press_apply.specs.Apply.{folded};
+ghost use Rattle.press_apply.specs.Apply.{fold_values};
 ghost use Rattle.press_apply.specs.declared.value.Value.TheVariants.{Cmd};
 
 use press_apply::{Stamped, Value, apply};
@@ -19,7 +19,7 @@ pub fn apply_all(
     commands: Items<Stamped>,
 ) -> Result<(), AllocError>
     ensures { IfOk result (λ _. site.new
-        ≡ folded (kit_view kit.now) site.old (map (λ c. Cmd c) commands)) }
+        ≡ fold_values (kit_view kit.now) site.old (map (λ c. Cmd c) commands)) }
 {
     for stamped in commands.into_vec() {
         apply(alloc, site, kit, &Value::Cmd(stamped))?;

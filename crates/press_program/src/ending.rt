@@ -6,6 +6,7 @@ ghost use Rattle.press_kit.specs.KitFile.{file_limit};
 ghost use Rattle.press_text.specs.Streams.{TakesAtMost};
 ghost use Rattle.press_world.specs.Starts.{AreKit, views_of};
 ghost use Rattle.press_program.specs.Endings.{ending_of, kits_for, page_ending, ending_of_reply, EndsLoop, EndsOn, EndsReplay, EndsTask};
+ghost use Rattle.press_wire.specs.Ranges.{most_members};
 
 use crate::commands::apply_all;
 use crate::task::Task;
@@ -85,7 +86,7 @@ fn run_replay<R: Read, W: Write>(
     reader: &mut R,
     writer: &mut W,
 ) -> Ending
-    requires few { length kits.items ≤ 7 }
+    requires few { length kits.items ≤ most_members }
     requires alike { (kit : KitView) × AreKit kit (views_of kits.items) }
     ensures took { TakesAtMost (R.remaining reader.old) (R.remaining reader.new) (file_limit + 1) }
     ensures ends { (kit : KitView) → AreKit kit (views_of kits.items) →
@@ -106,7 +107,7 @@ fn run_loop<Rt: AllocGlobal + Net, R: Read, W: Write>(
     reader: &mut R,
     writer: &mut W,
 ) -> Ending
-    requires few { length kits.items ≤ 7 }
+    requires few { length kits.items ≤ most_members }
     requires alike { (kit : KitView) × AreKit kit (views_of kits.items) }
     ensures took { TakesAtMost (R.remaining reader.old) (R.remaining reader.new) (file_limit + 1) }
     ensures ends { (kit : KitView) → AreKit kit (views_of kits.items) →

@@ -2,7 +2,7 @@
 
 ghost use Rattle.std.specs.Prelude.{◌≡◌, IfOk, List, MatchResult, string_bytes};
 ghost use Rattle.std.specs.Io.KnownBytes.{Appends};
-ghost use Rattle.press_client.specs.declared.entry.Entry.{Entry as Applied};
+ghost use Rattle.press_client.specs.declared.entry.LogEntry.{LogEntry};
 ghost use Rattle.press_text.specs.Streams.{AppendsFront};
 ghost use Rattle.press_program.specs.Exports as spec;
 ghost use Rattle.press_program.specs.Endings.{Exports};
@@ -12,7 +12,7 @@ ghost use Rattle.press_program.specs.declared.exporting.Unmade.TheVariants.{NoMe
 use crate::telling::{fail, refuse, tell};
 use crate::wanted::Exporting;
 use press_client::{Limits, LogFault, MembersFault, SiteFile, Sockets, export};
-use press_kit::FILE_LIMIT;
+use press_kit::{COMMAND_LIMIT, FILE_LIMIT};
 use press_text::write_once;
 use press_world::ReplayFault;
 use std::alloc::{AllocError, Global};
@@ -23,7 +23,7 @@ use std::io::Write;
 // As much as a site file takes.
 const LIMITS: Limits = Limits {
     bytes: FILE_LIMIT,
-    commands: 100_000,
+    commands: COMMAND_LIMIT,
 };
 
 /// Why site files were not made, or not told.
@@ -161,7 +161,7 @@ impl Exporting<'_> {
 
     // Makes the files; returns a line for each.
     fn make_files(&self, members: &mut Sockets<'_>) -> Result<String, Unmade>
-        ensures { IfOk result (λ t. (entries : List Applied)
+        ensures { IfOk result (λ t. (entries : List LogEntry)
             × (string_bytes t ≡ spec.lines_of (export_of self.now) entries)) }
     {
         let rt = members.runtime();
@@ -173,7 +173,7 @@ impl Exporting<'_> {
 
     // Makes the files, and prints a line for each.
     fn make<W: Write>(&self, members: &mut Sockets<'_>, writer: &mut W) -> Result<(), Unmade>
-        ensures { (entries : List Applied) × MatchResult result
+        ensures { (entries : List LogEntry) × MatchResult result
             (λ _. Appends (W.contents writer.old) (W.contents writer.new)
             (spec.lines_of (export_of self.now) entries))
             (λ _. AppendsFront (W.contents writer.old) (W.contents writer.new)

@@ -5,7 +5,7 @@ ghost use Rattle.press_kit.specs.KitFile.{file_limit};
 ghost use Rattle.press_lint.specs.Files.{GivesSlips};
 ghost use Rattle.press_lint.specs.Joints.{files_of, read_together};
 ghost use Rattle.press_program.specs.KitFiles.{AreNamed, MeetsAlone, MeetsFault, kit_line, slip_front};
-ghost use Rattle.press_program.specs.declared.kitting.KitFault.TheVariants.{NoMemory};
+ghost use Rattle.press_program.specs.declared.kitting.KitSourceFault.TheVariants.{NoMemory};
 
 use press_kit::FILE_LIMIT;
 use press_lint::{FilesFault, NamedFile, lint_files};
@@ -26,7 +26,7 @@ pub enum KitSource<'f> {
 
 /// Why a kit file can't be used.
 #[derive(Debug, Drop, Error)]
-pub enum KitFault {
+pub enum KitSourceFault {
     #[error("no memory")]
     NoMemory,
     #[error("a read failed")]
@@ -37,38 +37,38 @@ pub enum KitFault {
     Refused { number: u8, text: String },
 }
 
-impl From<AllocError> for KitFault {
+impl From<AllocError> for KitSourceFault {
     ghost from_gives = { λ _ e. e ≡ NoMemory };
 
-    fn from(_e: AllocError) -> KitFault {
-        KitFault::NoMemory
+    fn from(_e: AllocError) -> KitSourceFault {
+        KitSourceFault::NoMemory
     }
 }
 
 // The bytes that a reader has left, as many as a kit file may have.
-fn bytes_left<R: Read>(alloc: Global, reader: &mut R) -> Result<Vec<u8>, KitFault>
+fn bytes_left<R: Read>(alloc: Global, reader: &mut R) -> Result<Vec<u8>, KitSourceFault>
     ensures alone { IfErr result (λ f. MeetsAlone f) }
     ensures whole { IfOk result (λ bytes. IfSome (R.remaining reader.old)
         (λ input. bytes.items ≡ input)) }
-    ensures over { IsErrOf result KitFault.TooLong → IfSome (R.remaining reader.old)
+    ensures over { IsErrOf result KitSourceFault.TooLong → IfSome (R.remaining reader.old)
         (λ input. file_limit < length input) }
 {
     match read_limited(alloc, reader, FILE_LIMIT) {
         Ok(bytes) => Ok(bytes),
-        Err(ReadLimitedFault::NoMemory) => Err(KitFault::NoMemory),
-        Err(ReadLimitedFault::ReadFault) => Err(KitFault::ReadFault),
-        Err(ReadLimitedFault::TooLong) => Err(KitFault::TooLong),
+        Err(ReadLimitedFault::NoMemory) => Err(KitSourceFault::NoMemory),
+        Err(ReadLimitedFault::ReadFault) => Err(KitSourceFault::ReadFault),
+        Err(ReadLimitedFault::TooLong) => Err(KitSourceFault::TooLong),
     }
 }
 
 // The bytes of a file by its name. One that can't be opened counts as one that can't be read.
-fn bytes_of<Rt: AllocGlobal + Files>(rt: &Rt, file: &str) -> Result<Vec<u8>, KitFault>
+fn bytes_of<Rt: AllocGlobal + Files>(rt: &Rt, file: &str) -> Result<Vec<u8>, KitSourceFault>
     ensures { IfErr result (λ f. MeetsAlone f) }
 {
     let mut reader = match fs::open(rt, file) {
         Ok(reader) => reader,
-        Err(e) if e.kind() == io::ErrorKind::OutOfMemory => return Err(KitFault::NoMemory),
-        Err(_) => return Err(KitFault::ReadFault),
+        Err(e) if e.kind() == io::ErrorKind::OutOfMemory => return Err(KitSourceFault::NoMemory),
+        Err(_) => return Err(KitSourceFault::ReadFault),
     };
     bytes_left(rt.alloc(), &mut reader)
 }
@@ -77,7 +77,7 @@ fn bytes_of<Rt: AllocGlobal + Files>(rt: &Rt, file: &str) -> Result<Vec<u8>, Kit
 #[derive(Debug, Drop)]
 pub struct Unusable<'f> {
     pub file: &'f str,
-    pub fault: KitFault,
+    pub fault: KitSourceFault,
 }
 
 // The bytes of files by their names.
@@ -100,7 +100,7 @@ fn read_all<'f, Rt: AllocGlobal + Files>(
         if files.push(NamedFile { name, bytes }).is_err() {
             return Err(Unusable {
                 file: name,
-                fault: KitFault::NoMemory,
+                fault: KitSourceFault::NoMemory,
             });
         }
     }
@@ -135,26 +135,26 @@ pub fn read_kits<'f, Rt: AllocGlobal + Files>(
         Ok(slips) => Ok(ReadKits { files, slips }),
         Err(FilesFault::NoMemory) => Err(Unusable {
             file: "",
-            fault: KitFault::NoMemory,
+            fault: KitSourceFault::NoMemory,
         }),
         Err(FilesFault::Refused { file, number, text }) => Err(Unusable {
             file,
-            fault: KitFault::Refused { number, text },
+            fault: KitSourceFault::Refused { number, text },
         }),
     }
 }
 
 /// The line that reports a kit file's fault.
-pub fn kit_line(alloc: Global, file: &str, fault: &KitFault) -> Result<String, AllocError>
+pub fn kit_line(alloc: Global, file: &str, fault: &KitSourceFault) -> Result<String, AllocError>
     ensures { IfOk result (λ t. string_bytes t ≡ kit_line file.now fault.now) }
 {
     match fault {
-        KitFault::NoMemory => String::from_str(alloc, "press: fault 0\n"),
-        KitFault::ReadFault => format!(in alloc; "press: fault 40 in {file}\n"),
-        KitFault::TooLong => {
+        KitSourceFault::NoMemory => String::from_str(alloc, "press: fault 0\n"),
+        KitSourceFault::ReadFault => format!(in alloc; "press: fault 40 in {file}\n"),
+        KitSourceFault::TooLong => {
             format!(in alloc; "press: fault 73 in {file}: longer than 4194304 bytes\n")
         }
-        KitFault::Refused { number, text } => {
+        KitSourceFault::Refused { number, text } => {
             format!(in alloc; "press: fault {number} in {file}: {text}\n")
         }
     }

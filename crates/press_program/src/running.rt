@@ -4,7 +4,7 @@ ghost use Rattle.std.specs.Prelude.{◌+◌, map, option_map, string_bytes};
 ghost use Rattle.press_kit.specs.KitFile.{file_limit};
 ghost use Rattle.press_text.specs.Streams.{TakesAtMost};
 ghost use Rattle.press_program.specs.Endings.{ReadsAsked, ReadsFor, RefusesWords, Runs, RunsOver, any_server};
-ghost use Rattle.press_program.specs.Words.{asked_by, asked_of, job_of};
+ghost use Rattle.press_program.specs.Words.{arguments_by, arguments_of, job_of};
 
 use crate::hosting::Hosting;
 use crate::kitting::{KitSource, ReadKits, Unusable, read_kits};
@@ -69,12 +69,12 @@ impl<S: Serves> Program<'_, S> {
     ) -> u8
         ensures took { TakesAtMost (R.remaining reader.old)
             (R.remaining reader.new) (file_limit + 1) }
-        ensures asked { ReadsAsked (option_map (λ a. asked_of a) asked.now)
+        ensures asked { ReadsAsked (option_map (λ a. arguments_of a) asked.now)
             (R.remaining reader.old) (R.remaining reader.new) }
-        ensures runs { Runs S.served (option_map (λ a. asked_of a) asked.now)
+        ensures runs { Runs S.served (option_map (λ a. arguments_of a) asked.now)
             (R.remaining reader.old) result (W.contents writer.old) (W.contents writer.new)
             (E.contents error.old) (E.contents error.new) }
-        ensures refused { RefusesWords (option_map (λ a. asked_of a) asked.now) result
+        ensures refused { RefusesWords (option_map (λ a. arguments_of a) asked.now) result
             (R.remaining reader.old) (R.remaining reader.new)
             (W.contents writer.old) (W.contents writer.new)
             (E.contents error.old) (E.contents error.new) }
@@ -97,12 +97,12 @@ impl<S: Serves> Program<'_, S> {
     ) -> u8
         ensures read { TakesAtMost (R.remaining reader.old)
             (R.remaining reader.new) (file_limit + 1) }
-        ensures asked { ReadsAsked (asked_by (map string_bytes words.now))
+        ensures asked { ReadsAsked (arguments_by (map string_bytes words.now))
             (R.remaining reader.old) (R.remaining reader.new) }
-        ensures runs { Runs S.served (asked_by (map string_bytes words.now))
+        ensures runs { Runs S.served (arguments_by (map string_bytes words.now))
             (R.remaining reader.old) result (W.contents writer.old) (W.contents writer.new)
             (E.contents error.old) (E.contents error.new) }
-        ensures refused { RefusesWords (asked_by (map string_bytes words.now)) result
+        ensures refused { RefusesWords (arguments_by (map string_bytes words.now)) result
             (R.remaining reader.old) (R.remaining reader.new)
             (W.contents writer.old) (W.contents writer.new)
             (E.contents error.old) (E.contents error.new) }
@@ -148,12 +148,12 @@ pub fn run<R: Read, W: Write, E: Write>(
     error: &mut E,
 ) -> u8
     ensures read { TakesAtMost (R.remaining reader.old) (R.remaining reader.new) (file_limit + 1) }
-    ensures asked { ReadsAsked (asked_by (map string_bytes words.now))
+    ensures asked { ReadsAsked (arguments_by (map string_bytes words.now))
         (R.remaining reader.old) (R.remaining reader.new) }
-    ensures runs { Runs any_server (asked_by (map string_bytes words.now))
+    ensures runs { Runs any_server (arguments_by (map string_bytes words.now))
         (R.remaining reader.old) result (W.contents writer.old) (W.contents writer.new)
         (E.contents error.old) (E.contents error.new) }
-    ensures refused { RefusesWords (asked_by (map string_bytes words.now)) result
+    ensures refused { RefusesWords (arguments_by (map string_bytes words.now)) result
         (R.remaining reader.old) (R.remaining reader.new)
         (W.contents writer.old) (W.contents writer.new)
         (E.contents error.old) (E.contents error.new) }

@@ -6,7 +6,7 @@ ghost use Rattle.press_program.specs.Endings.{usage_line, Finishes};
 ghost use Rattle.press_program.specs.KitFiles.{fault_line, kit_line as line_of_kit};
 
 use crate::ending::Ending;
-use crate::kitting::{KitFault, kit_line};
+use crate::kitting::{KitSourceFault, kit_line};
 use press_text::write_once;
 use press_world::ReplayFault;
 use std::alloc::Global;
@@ -64,7 +64,12 @@ pub(crate) fn finish<W: Write, E: Write>(end: Ending, writer: &mut W, error: &mu
 }
 
 /// Reports a kit file that can't be used.
-pub(crate) fn refuse_kit<E: Write>(alloc: Global, file: &str, fault: &KitFault, error: &mut E) -> u8
+pub(crate) fn refuse_kit<E: Write>(
+    alloc: Global,
+    file: &str,
+    fault: &KitSourceFault,
+    error: &mut E,
+) -> u8
     ensures status { result ≡ 2 }
     ensures told { AppendsFront (E.contents error.old) (E.contents error.new)
         (line_of_kit file.now fault.now)

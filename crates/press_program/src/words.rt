@@ -5,6 +5,7 @@ ghost use Rattle.clap.specs.Words.{FailsBy, app_of, fault_of, first_of, found_of
 ghost use Rattle.clap.specs.declared.builder.command.Command.TheViews.{out-Command};
 ghost use Rattle.clap.specs.Values.{kind_of};
 ghost use Rattle.press_program.specs.Words as spec;
+ghost use Rattle.press_wire.specs.Ranges.{most_members};
 
 use crate::task::Task;
 use crate::wanted::{Arguments, Exporting, Job, Mailing, SeveralFiles, Wanted};
@@ -146,7 +147,7 @@ fn export_words<'a>(alloc: Global) -> Result<Command<'a>, AllocError>
 
 // The program without its commands.
 fn bare_words<'a>(alloc: Global) -> Command<'a>
-    ensures { app_of result ≡ spec.bare }
+    ensures { app_of result ≡ spec.bare_app }
 {
     Command::new(alloc, "press")
         .no_binary_name(true)
@@ -275,7 +276,7 @@ fn tick_in(text: Option<&str>) -> Option<u32>
 }
 
 fn id_in(text: &str) -> Option<u8>
-    ensures { result ≡ spec.number_in 1 7 text.now }
+    ensures { result ≡ spec.number_in 1 most_members text.now }
 {
     match number_in(text, 1, MOST_MEMBERS as u32) {
         Some(n) => Some(n as u8),
@@ -403,8 +404,8 @@ fn asked_in<'a>(
     name: &str,
     inside: &ArgMatches<'a>,
 ) -> Result<Option<Arguments<'a>>, AllocError>
-    ensures { IfOk result (λ a. option_map (λ a. spec.asked_of a) a
-        ≡ spec.asked_in name.now (rows_of (found_of inside.now))) }
+    ensures { IfOk result (λ a. option_map (λ a. spec.arguments_of a) a
+        ≡ spec.arguments_in name.now (rows_of (found_of inside.now))) }
 {
     match job_in(alloc, name, inside)? {
         Some(job) => {
@@ -420,8 +421,8 @@ fn found_in<'a>(
     alloc: Global,
     matches: &ArgMatches<'a>,
 ) -> Result<Option<Arguments<'a>>, AllocError>
-    ensures { IfOk result (λ a. option_map (λ a. spec.asked_of a) a
-        ≡ option_and_then (λ p. spec.asked_in p.0 p.1) (subcommand_rows_of matches.now)) }
+    ensures { IfOk result (λ a. option_map (λ a. spec.arguments_of a) a
+        ≡ option_and_then (λ p. spec.arguments_in p.0 p.1) (subcommand_rows_of matches.now)) }
 {
     match matches.subcommand() {
         Some((name, inside)) => asked_in(alloc, name, inside),
@@ -445,8 +446,8 @@ pub fn read_words<'a>(
     alloc: Global,
     words: &'a [String],
 ) -> Result<Option<Arguments<'a>>, AllocError>
-    ensures { IfOk result (λ a. option_map (λ a. spec.asked_of a) a
-        ≡ spec.asked_by (map string_bytes words.entry.now)) }
+    ensures { IfOk result (λ a. option_map (λ a. spec.arguments_of a) a
+        ≡ spec.arguments_by (map string_bytes words.entry.now)) }
 {
     if words.is_empty() {
         return Ok(Some(Arguments {

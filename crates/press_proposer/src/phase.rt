@@ -1,5 +1,5 @@
 ghost use Rattle.std.specs.Prelude.{◌≡◌, ◌+◌, OnOk, OnErr};
-ghost use Rattle.press_proposer.specs.Phases.{awaits, can_ask, is_current, led, promises_in, with_promise};
+ghost use Rattle.press_proposer.specs.Phases.{awaits, can_ask, is_current, leading_phase, promises_in, with_promise};
 
 use crate::promises::{Promise, Promises};
 use press_wire::{Ballot, MemberId, Slot};
@@ -96,7 +96,7 @@ impl Phase {
 
     /// From now on it leads its block, and has asked for votes for the slot.
     pub fn lead(&mut self, slot: Slot)
-        ensures { self.new ≡ led self.old slot }
+        ensures { self.new ≡ leading_phase self.old slot }
     {
         match mem::replace(self, Phase::Idle) {
             Phase::Idle => {}

@@ -5,13 +5,13 @@ ghost use Rattle.press_acceptor.specs.Messages as messages;
 ghost use Rattle.press_acceptor.specs.Seen.{Calls, Looks, fault_in};
 ghost use Rattle.press_acceptor.specs.Seen.Call.{LoadsRound};
 ghost use Rattle.press_acceptor.specs.StoreMap.{StoreMap};
-ghost use Rattle.press_acceptor.specs.Turned.{Says, moved};
+ghost use Rattle.press_acceptor.specs.Turned.{Says, store_move};
 ghost use Rattle.press_acceptor.specs.declared.fault.StoreFault.TheVariants.{NoMemory};
-ghost use Rattle.press_wire.specs.Ranges.{round_of};
+ghost use Rattle.press_wire.specs.Ranges.{round_of, last_slot, most_members};
 ghost use Rattle.press_wire.specs.declared.message.Body.TheVariants.{Accept};
 ghost use Rattle.press_proposer.specs.Faults.{store_fault};
 ghost use Rattle.press_proposer.specs.Phases.{awaits};
-ghost use Rattle.press_proposer.specs.Proposing.{started, in_phase};
+ghost use Rattle.press_proposer.specs.Proposing.{new_proposer, in_phase};
 ghost use Rattle.press_proposer.specs.Queues.{is_empty, is_full};
 ghost use Rattle.press_proposer.specs.Turns.{queued_by, is_content, is_used_up, next_round, wake_turn, promise_turn, nacked_by, applied_by, accepts_in};
 ghost use Rattle.press_proposer.specs.Wakes.{Wakes, wake_calls};
@@ -53,9 +53,10 @@ impl Drop for Proposer {
 
 impl Model for Proposer {
     ghost use Rattle.std.specs.Prelude.{◌≤◌};
-    ghost use Rattle.press_proposer.specs.Proposing.{Proposing};
+    ghost use Rattle.press_proposer.specs.Proposing.{ProposerState};
+    ghost use Rattle.press_wire.specs.Ranges.{most_members};
 
-    ghost Value = { Proposing };
+    ghost Value = { ProposerState };
 
     ghost view = { λ p. record {
       id = p.id;
@@ -65,7 +66,7 @@ impl Model for Proposer {
       nacked = p.nacked;
     } };
 
-    ghost invariant = { λ p. p.members ≤ 7 };
+    ghost invariant = { λ p. p.members ≤ most_members };
 }
 
 impl Proposer {
@@ -74,8 +75,8 @@ impl Proposer {
     /// `last_round` is the last round of the store: no round up to it is used again, whatever the
     /// store answers later.
     pub fn new(alloc: Global, id: MemberId, members: u8, last_round: u64) -> Proposer
-        requires { members ≤ 7 }
-        ensures { result ≡ started id members last_round }
+        requires { members ≤ most_members }
+        ensures { result ≡ new_proposer id members last_round }
     {
         Proposer {
             id,
@@ -149,16 +150,16 @@ impl Proposer {
         applied: u32,
         gap: bool,
     ) -> Result<Vec<Message>, ProposerFault>
-        requires { applied < 1000000 }
+        requires { applied < last_slot }
         ensures kept { self.new ≡ in_phase self.old self.new.phase }
         ensures after { Says (wake_calls self.old applied gap) (λ _. self.new)
             (λ kept. (wake_turn kept self.old applied gap).after)
-            (moved S.seen store.old store.new) result }
+            (store_move S.seen store.old store.new) result }
         ensures out { Says (wake_calls self.old applied gap) (λ out. out.items)
             (λ kept. (wake_turn kept self.old applied gap).out)
-            (moved S.seen store.old store.new) result }
+            (store_move S.seen store.old store.new) result }
         ensures unchanged { OnErr result (self.new ≡ self.old) }
-        ensures wakes { Wakes self.old applied gap (moved S.seen store.old store.new)
+        ensures wakes { Wakes self.old applied gap (store_move S.seen store.old store.new)
             (fault_in result) }
     {
         let slot = slot_after(applied);
@@ -198,7 +199,7 @@ impl Proposer {
         applied: u32,
     ) -> Result<Vec<Message>, AllocError>
         requires member { from ≤ self.old.members }
-        requires left { applied < 1000000 }
+        requires left { applied < last_slot }
         ensures kept { self.new ≡ in_phase self.old self.new.phase }
         ensures after { OnOk result (self.new
             ≡ (promise_turn self.old from first ballot votes applied).after) }
@@ -323,7 +324,7 @@ impl Proposer {
 
 // The slot after this many.
 fn slot_after(applied: u32) -> Slot
-    requires { applied < 1000000 }
+    requires { applied < last_slot }
     ensures { result ≡ applied + 1 }
 {
     let Some(slot) = Slot::new(applied + 1) else {

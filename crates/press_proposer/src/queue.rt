@@ -11,7 +11,7 @@ use std::alloc::{AllocError, Global};
 use std::marker::Model;
 
 // The most commands that wait.
-const MOST: usize = 256;
+const MOST_COMMANDS: usize = 256;
 
 /// Commands that wait to be chosen, in the order in which they came.
 #[derive(Debug)]
@@ -58,7 +58,7 @@ impl Queue {
     pub fn is_full(&self) -> bool
         ensures { result ≡ is_full self.now }
     {
-        MOST <= self.commands.len()
+        MOST_COMMANDS <= self.commands.len()
     }
 
     /// Puts the command at the end.

@@ -27,7 +27,7 @@ use Rattle.press_run.specs.Links.{Changes, or_no_change, publishes, schedules}
 use Rattle.press_run.specs.Counts.{Counts}
 use Rattle.press_run.specs.Run.{◌>>=◌, only_if, Answer, answer, State, Meaning, most_turns, first_text, do_fires, run_hook, do_hook, scan, change_site, fire_change, one_if, publish, play, fuel, or_empty, at_depth, built_in, built_in_where, turn_step, answers, fits, or_one_empty}
 use Rattle.press_run.specs.Outcome.{Machine, Around, around, state_of, CountsTurn, Refuses}
-use Rattle.press_run.specs.Frames.{meant, taken, IsFew, turns_left, Goes, Gives, Leaves, Begins, Calls, awaited, opened, BeginsAs, Steps, CountsAs, Turns, counted, turned, played, hooked}
+use Rattle.press_run.specs.Frames.{frame_meaning, frame_with_answer, IsFew, turns_left, Goes, Gives, Leaves, Begins, Calls, begun_as_step, begun_as_opened, BeginsAs, Steps, CountsAs, Turns, play_counted_turn, play_turn, play_after_step, run_to_answer}
 use Rattle.press_run.proofs.Resumed.{awaits, awaits_none}
 use Rattle.press_run.proofs.Steps.{some_depth, built_in_depth, more_turns, no_fires, more_fires}
 
@@ -121,16 +121,16 @@ module _ (changes : Changes) (scripts : Scripts) where
   pub built_in_begins : (room : ℕ) (id : List ℕ) (call : CallIn) (b : Bool) (argument : List ℕ) (weighs : ℕ) (old new : Machine) (counts : Counts) (result : Result Begun RunFault) → CountsTurn old.counts counts true → argument ≡ first_text call.args → bytes_eq id do_shortcode ≡ b → weighs ≤ 2 ^ 70
       → BeginsAs changes scripts (built_in_where changes (at_depth changes room scripts) argument (state_of (with_counts counts old)) b) weighs (with_counts counts old) new result
       → BeginsAs changes scripts (built_in changes (at_depth changes room scripts) id call (state_of old)) 1 old new result
-  built_in_begins room id call b argument weighs old new counts result counted first is le h =
+  built_in_begins room id call b argument weighs old new counts result is_counted first is le h =
       let m = at_depth changes room scripts in
-      let pays : turns_left counts.turns + 2 ^ 70 ≡ turns_left old.counts.turns = turn_counted old.counts counts counted in
+      let pays : turns_left counts.turns + 2 ^ 70 ≡ turns_left old.counts.turns = turn_counted old.counts counts is_counted in
       begins_as changes scripts (built_in changes m id call (state_of old)) (built_in_where changes m argument (state_of (with_counts counts old)) b) weighs 1 old (with_counts counts old) new result
       (ap (λ x. built_in_where changes m x (state_of (with_counts counts old)) b) first
-      ∙ ap (λ (x : Counts). built_in_where changes m (first_text call.args) (state_of (with_counts x old)) b) counted.1
-      ∙ sym (built_in_counted changes m id call (state_of old) b counted.0 is))
-      (same_around old counts counted) (omega (arith, pays, le)) h
+      ∙ ap (λ (x : Counts). built_in_where changes m (first_text call.args) (state_of (with_counts x old)) b) is_counted.1
+      ∙ sym (built_in_counted changes m id call (state_of old) b is_counted.0 is))
+      (same_around old counts is_counted) (omega (arith, pays, le)) h
 
-  is_opened : (whole : Option Answer) (a : Around) (n : ℕ) (callback : OpenCallback) (w : Machine) (b : Begun) → Begins changes scripts whole a n w b → Calls changes scripts whole a n callback w (opened b)
+  is_opened : (whole : Option Answer) (a : Around) (n : ℕ) (callback : OpenCallback) (w : Machine) (b : Begun) → Begins changes scripts whole a n w b → Calls changes scripts whole a n callback w (begun_as_opened b)
   is_opened whole a n callback w (begun.Opens f) g = g
   is_opened whole a n callback w (begun.Gives text) g = g
 
@@ -141,9 +141,9 @@ module _ (changes : Changes) (scripts : Scripts) where
         sym (ap (λ n. at_depth changes n scripts id call (state_of old)) d ∙ built_in_depth changes (room - 1) scripts id call (state_of old) own)
 
     pub opens_built_in : (callback : OpenCallback) (b : Begun) → Begins changes scripts (built_in changes (at_depth changes (room - 1) scripts) id call (state_of old)) (around old) (turns_left old.counts.turns + 1) new b
-        → Calls changes scripts (at_depth changes room scripts id call (state_of old)) (around old) (turns_left old.counts.turns + 1) callback new (opened b)
+        → Calls changes scripts (at_depth changes room scripts id call (state_of old)) (around old) (turns_left old.counts.turns + 1) callback new (begun_as_opened b)
     opens_built_in callback b h =
-        subst (λ (o : Option Answer). Calls changes scripts o (around old) (turns_left old.counts.turns + 1) callback new (opened b)) as_built_in
+        subst (λ (o : Option Answer). Calls changes scripts o (around old) (turns_left old.counts.turns + 1) callback new (begun_as_opened b)) as_built_in
         (is_opened (built_in changes (at_depth changes (room - 1) scripts) id call (state_of old)) (around old) (turns_left old.counts.turns + 1) callback new b h)
 
     pub built_in_stops : (fault : RunFault) → Refuses fault (built_in changes (at_depth changes (room - 1) scripts) id call (state_of old)) → Refuses fault (at_depth changes room scripts id call (state_of old))
@@ -164,17 +164,17 @@ module _ (changes : Changes) (scripts : Scripts) where
   -- ---- a callback takes a turn
 
   after_counting : (c : OpenCallback) (turn : Turn) (s : State) (b d : Bool) → ltb s.turns most_turns ≡ b → fits turn ≡ d
-      → counted changes scripts c turn s ≡ ((only_if b (record s { turns = s.turns + 1 }) >>= λ s'. only_if d turn >>= λ turn'. turn_step changes (at_depth changes c.room scripts) c.call s' turn') >>= played changes scripts c)
+      → play_counted_turn changes scripts c turn s ≡ ((only_if b (record s { turns = s.turns + 1 }) >>= λ s'. only_if d turn >>= λ turn'. turn_step changes (at_depth changes c.room scripts) c.call s' turn') >>= play_after_step changes scripts c)
   after_counting c turn s b d l f = rw (l, f) refl
 
   -- the rest of a turn that is counted
   pub turn_counts : (c c' : OpenCallback) (turn : Turn) (old new : Machine) (counts : Counts) (result : Result Step RunFault) → CountsTurn old.counts counts true → fits turn ≡ true
       → Turns changes scripts c turn c' (with_counts counts old) new result → CountsAs changes scripts c turn c' old new result
   turn_counts c c' turn old new counts result is_counted fit h =
-      let before = counted changes scripts c turn (state_of old) in
+      let before = play_counted_turn changes scripts c turn (state_of old) in
       let P : Option Answer → Around → ℕ → Type 0 = λ o a n. MatchResult result (λ s. Leaves changes scripts o a n (frame.Callback c') new s) (λ fault. Refuses fault o) in
-      let meaning : turned changes scripts c turn (state_of (with_counts counts old)) ≡ before
-      = ap (λ (x : Counts). turned changes scripts c turn (state_of (with_counts x old))) is_counted.1 ∙ sym (after_counting c turn (state_of old) true true is_counted.0 fit) in
+      let meaning : play_turn changes scripts c turn (state_of (with_counts counts old)) ≡ before
+      = ap (λ (x : Counts). play_turn changes scripts c turn (state_of (with_counts x old))) is_counted.1 ∙ sym (after_counting c turn (state_of old) true true is_counted.0 fit) in
       let pays : turns_left counts.turns + 2 ^ 70 ≡ turns_left old.counts.turns + 0 = (let p = turn_counted old.counts counts is_counted in omega (arith, p)) in
       subst (λ n. P before (around old) n) pays (subst (λ a. P before a (turns_left counts.turns + 2 ^ 70)) (same_around old counts is_counted) (subst (λ o. P o (around (with_counts counts old)) (turns_left counts.turns + 2 ^ 70)) meaning h))
 
@@ -184,8 +184,8 @@ module _ (changes : Changes) (scripts : Scripts) where
   turn_steps c c' turn old new result more is h =
       let n : c.left ≡ suc (c.left - 1) = omega arith in
       let one_less : OpenCallback = record c { left = c.left - 1 } in
-      let meaning : counted changes scripts one_less turn (state_of old) ≡ meant changes scripts (frame.Callback c) (around old) (state_of old)
-      = ap (λ (t : Turn). counted changes scripts one_less t (state_of old)) is
+      let meaning : play_counted_turn changes scripts one_less turn (state_of old) ≡ frame_meaning changes scripts (frame.Callback c) (around old) (state_of old)
+      = ap (λ (t : Turn). play_counted_turn changes scripts one_less t (state_of old)) is
       ∙ sym (more_turns changes (at_depth changes c.room scripts) (or_empty (script_at c.place scripts)) (c.left - 1) c.call (state_of old))
       ∙ sym (ap (λ k. play changes (at_depth changes c.room scripts) (or_empty (script_at c.place scripts)) k c.call (state_of old)) n) in
       subst (λ o. MatchResult result (λ s. Leaves changes scripts o (around old) (turns_left old.counts.turns + 0) (frame.Callback c') new s) (λ fault. Refuses fault o)) meaning h
@@ -194,17 +194,17 @@ module _ (changes : Changes) (scripts : Scripts) where
 
   module _ (c : OpenCallback) (turn : Turn) (s : State) (a : Around) where
     abbrev pub waits_for : Option Answer → Option Answer
-    waits_for o = o >>= λ x. meant changes scripts (taken (frame.Callback c) x.text) a x.state
+    waits_for o = o >>= λ x. frame_meaning changes scripts (frame_with_answer (frame.Callback c) x.text) a x.state
 
-    filter_answer : (o : Option Answer) → waits_for (o >>= λ x. answer x.text x.state) ≡ ((o >>= λ x. answers c.call x.text x.state) >>= played changes scripts c)
+    filter_answer : (o : Option Answer) → waits_for (o >>= λ x. answer x.text x.state) ≡ ((o >>= λ x. answers c.call x.text x.state) >>= play_after_step changes scripts c)
     filter_answer None = refl
     filter_answer (Some x) = refl
 
-    action_answer : (o : Option Answer) → waits_for (o >>= λ x. answer [] x.state) ≡ (((o >>= λ x. answer [] x.state) >>= λ x. answers c.call [] x.state) >>= played changes scripts c)
+    action_answer : (o : Option Answer) → waits_for (o >>= λ x. answer [] x.state) ≡ (((o >>= λ x. answer [] x.state) >>= λ x. answers c.call [] x.state) >>= play_after_step changes scripts c)
     action_answer None = refl
     action_answer (Some x) = refl
 
-    its_answer : (o : Option Answer) → waits_for o ≡ ((o >>= λ x. answers c.call x.text x.state) >>= played changes scripts c)
+    its_answer : (o : Option Answer) → waits_for o ≡ ((o >>= λ x. answers c.call x.text x.state) >>= play_after_step changes scripts c)
     its_answer None = refl
     its_answer (Some x) = refl
 
@@ -213,9 +213,9 @@ module _ (changes : Changes) (scripts : Scripts) where
     m = at_depth changes c.room scripts
 
     abbrev pub ComesTo : Turn → Option Answer → Type 0
-    ComesTo turn o = (o >>= λ x. meant changes scripts (taken (frame.Callback c) x.text) (around old) x.state) ≡ turned changes scripts c turn (state_of old)
+    ComesTo turn o = (o >>= λ x. frame_meaning changes scripts (frame_with_answer (frame.Callback c) x.text) (around old) x.state) ≡ play_turn changes scripts c turn (state_of old)
 
-    pub apply_comes : (turn : Turn) (hook : List ℕ) (texts : List (List ℕ)) → turn ≡ Apply hook texts → ComesTo turn (hooked m Filter hook texts (state_of old))
+    pub apply_comes : (turn : Turn) (hook : List ℕ) (texts : List (List ℕ)) → turn ≡ Apply hook texts → ComesTo turn (run_to_answer m Filter hook texts (state_of old))
     apply_comes turn hook texts is = rw is (filter_answer c turn (state_of old) (around old) (run_hook m Filter hook texts (state_of old)))
 
     pub do_comes : (turn : Turn) (hook : List ℕ) (texts : List (List ℕ)) → turn ≡ Do hook texts → ComesTo turn (do_hook m hook texts (state_of old))
@@ -235,8 +235,8 @@ module _ (changes : Changes) (scripts : Scripts) where
 
     -- the callback waits for what its turn begins
     pub asks : (turn : Turn) (o : Option Answer) (weighs : ℕ) (new : Machine) (b : Begun) → ComesTo turn o → weighs ≤ 2 ^ 70 → IsFew 1 c → Begins changes scripts o (around old) (turns_left old.counts.turns + weighs) new b
-        → Leaves changes scripts (turned changes scripts c turn (state_of old)) (around old) (turns_left old.counts.turns + 2 ^ 70) (frame.Callback c) new (awaited b)
-    asks turn o weighs new b comes le few h = awaits changes scripts o (turned changes scripts c turn (state_of old)) (around old) weighs (turns_left old.counts.turns + 2 ^ 70) (frame.Callback c) old new b comes refl few (omega (arith, le)) h
+        → Leaves changes scripts (play_turn changes scripts c turn (state_of old)) (around old) (turns_left old.counts.turns + 2 ^ 70) (frame.Callback c) new (begun_as_step b)
+    asks turn o weighs new b comes le few h = awaits changes scripts o (play_turn changes scripts c turn (state_of old)) (around old) weighs (turns_left old.counts.turns + 2 ^ 70) (frame.Callback c) old new b comes refl few (omega (arith, le)) h
 
-    pub asks_none : (turn : Turn) (o : Option Answer) (fault : RunFault) → ComesTo turn o → Refuses fault o → Refuses fault (turned changes scripts c turn (state_of old))
-    asks_none turn o fault comes h = awaits_none changes scripts o (turned changes scripts c turn (state_of old)) (frame.Callback c) old fault comes h
+    pub asks_none : (turn : Turn) (o : Option Answer) (fault : RunFault) → ComesTo turn o → Refuses fault o → Refuses fault (play_turn changes scripts c turn (state_of old))
+    asks_none turn o fault comes h = awaits_none changes scripts o (play_turn changes scripts c turn (state_of old)) (frame.Callback c) old fault comes h

@@ -20,9 +20,9 @@ use Rattle.press_run.specs.declared.frame.OpenFires.{OpenFires}
 use Rattle.press_run.specs.declared.frame.Frame.{Frame}
 use Rattle.press_run.specs.declared.frame.Frame.TheVariants as frame
 use Rattle.press_run.specs.Links.{Changes}
-use Rattle.press_run.specs.Run.{◌>>=◌, Answer, answer, Meaning, at_depth, do_fires, do_hook, run_entries, first_text, hook_call, handed_on, without_last}
+use Rattle.press_run.specs.Run.{◌>>=◌, Answer, answer, Meaning, at_depth, do_fires, do_hook, run_entries, first_text, hook_call, next_args, without_last}
 use Rattle.press_run.specs.Outcome.{Machine, Around, around, state_of, innermost, Refuses}
-use Rattle.press_run.specs.Frames.{meant, taken, round, shown, turns_left, weight, Goes, Takes, Gives, Leaves, Begins, Calls, Moves, Ends, Enters, awaited, closed, moved}
+use Rattle.press_run.specs.Frames.{frame_meaning, frame_with_answer, round, hook_answer, turns_left, weight, Goes, Takes, Gives, Leaves, Begins, Calls, Moves, Ends, Enters, begun_as_step, end_run, opened_as_moved}
 use Rattle.press_run.proofs.Begins.{more_goes, more_gives}
 use Rattle.press_run.proofs.Resumed.{awaits, awaits_called, awaits_none}
 use Rattle.press_run.proofs.Steps.{no_entries, with_table, entries_step, around_kept, open_kept, one_fire, fires_end}
@@ -42,10 +42,10 @@ module _ (changes : Changes) (scripts : Scripts) (h : OpenHook) (w : Machine) wh
 
   -- what a run's answer is to the hook
   abbrev pub run_answer : Answer → Option Answer
-  run_answer x = answer (shown h.kind x.text) (record (x.state) { doing = without_last w.counts.doing })
+  run_answer x = answer (hook_answer h.kind x.text) (record (x.state) { doing = without_last w.counts.doing })
 
   abbrev pub whole : Option Answer
-  whole = meant changes scripts (frame.Hook h) (around w) (state_of w)
+  whole = frame_meaning changes scripts (frame.Hook h) (around w) (state_of w)
 
   abbrev pub beside : Around
   beside = round (frame.Hook h) (around w)
@@ -80,15 +80,15 @@ module _ (changes : Changes) (scripts : Scripts) (h : OpenHook) (w : Machine) wh
       asked = m e.callback call (state_of (with_table t w))
 
       abbrev pub goes_on : Answer → Option Answer
-      goes_on x = run_entries m h.kind (h.left - 1) (handed_on h.kind x.text h.args) (innermost t.open_runs) x.state
+      goes_on x = run_entries m h.kind (h.left - 1) (next_args h.kind x.text h.args) (innermost t.open_runs) x.state
 
-      entry_comes : (asked >>= λ x. meant changes scripts (taken (frame.Hook one_less) x.text) (around (with_table t w)) x.state) ≡ whole
+      entry_comes : (asked >>= λ x. frame_meaning changes scripts (frame_with_answer (frame.Hook one_less) x.text) (around (with_table t w)) x.state) ≡ whole
       entry_comes =
           sym (bind_assoc asked goes_on run_answer)
           ∙ ap (λ (x : CallIn). (m e.callback x (state_of (with_table t w)) >>= goes_on) >>= run_answer) is
           ∙ sym (ap (λ o. o >>= run_answer) (entries_step m h.kind h.args h.run w t h.left (h.left - 1) left_more stands on (Some e) some))
 
-      pub entry_calls : (new : Machine) (callback : OpenCallback) (b : Opened) → Calls changes scripts asked (around (with_table t w)) (turns_left w.counts.turns + 1) callback new b → Moves changes scripts whole beside bound (frame.Hook one_less) new (moved callback b)
+      pub entry_calls : (new : Machine) (callback : OpenCallback) (b : Opened) → Calls changes scripts asked (around (with_table t w)) (turns_left w.counts.turns + 1) callback new b → Moves changes scripts whole beside bound (frame.Hook one_less) new (opened_as_moved callback b)
       entry_calls new callback b g =
           awaits_called changes scripts asked whole beside 1 bound (frame.Hook one_less) (with_table t w) new callback b entry_comes beside_kept (open_kept m h.kind h.args h.run w t h.left (h.left - 1) left_more stands on) (omega arith) g
 
@@ -107,23 +107,23 @@ more_moves changes scripts o a n k f w (moves.Calls callback inner) le g = recor
 
 more_enters : (changes : Changes) (scripts : Scripts) (o : Option Answer) (a : Around) (n k : ℕ) (h : OpenHook) (callback : OpenCallback) (w : Machine) (e : Option Opened) → n ≤ k → Enters changes scripts o a n h callback w e → Enters changes scripts o a k h callback w e
 more_enters changes scripts o a n k h callback w None le g = record { same = g.same; stands = g.stands; ready = g.ready; less = omega (arith, g.less, le) }
-more_enters changes scripts o a n k h callback w (Some b) le g = more_moves changes scripts o a n k (frame.Hook h) w (moved callback b) le g
+more_enters changes scripts o a n k h callback w (Some b) le g = more_moves changes scripts o a n k (frame.Hook h) w (opened_as_moved callback b) le g
 
 -- the run is closed, and has answered
-pub run_ends : (changes : Changes) (scripts : Scripts) (o : Option Answer) (a : Around) (n : ℕ) (h : OpenHook) (w new : Machine) (text : List ℕ) → text ≡ shown h.kind (first_text h.args) → new ≡ closed w → Ends changes scripts o a n h w → Gives changes scripts o a n new text
+pub run_ends : (changes : Changes) (scripts : Scripts) (o : Option Answer) (a : Around) (n : ℕ) (h : OpenHook) (w new : Machine) (text : List ℕ) → text ≡ hook_answer h.kind (first_text h.args) → new ≡ end_run w → Ends changes scripts o a n h w → Gives changes scripts o a n new text
 run_ends changes scripts o a n h w new text given is e = rw (given, is) (record { same = e.same; stands = e.stands; less = e.less })
 
 -- what a run comes to after some entries is what it came to before them
 module _ (changes : Changes) (scripts : Scripts) (h : OpenHook) (w : Machine) where
   abbrev pub at_first : Option Answer
-  at_first = meant changes scripts (frame.Hook h) (around w) (state_of w)
+  at_first = frame_meaning changes scripts (frame.Hook h) (around w) (state_of w)
 
   abbrev pub IsOn : OpenHook → Machine → Type 0
   IsOn x m = Goes changes scripts at_first (round (frame.Hook h) (around w)) (turns_left w.counts.turns + 3) (frame.Hook x) m
 
   module _ (now : OpenHook) (old : Machine) (goes : IsOn now old) where
     pub entry_on : (after : OpenHook) (callback : OpenCallback) (new : Machine) (e : Option Opened)
-        → Enters changes scripts (meant changes scripts (frame.Hook now) (around old) (state_of old)) (round (frame.Hook now) (around old)) (turns_left old.counts.turns + 2) after callback new e
+        → Enters changes scripts (frame_meaning changes scripts (frame.Hook now) (around old) (state_of old)) (round (frame.Hook now) (around old)) (turns_left old.counts.turns + 2) after callback new e
         → Enters changes scripts at_first (round (frame.Hook h) (around w)) (turns_left w.counts.turns + 2) after callback new e
     entry_on after callback new e g =
         let n = turns_left old.counts.turns + 2 in
@@ -131,18 +131,18 @@ module _ (changes : Changes) (scripts : Scripts) (h : OpenHook) (w : Machine) wh
         (subst (λ (a : Around). Enters changes scripts at_first a n after callback new e) goes.stands
         (subst (λ (o : Option Answer). Enters changes scripts o (round (frame.Hook now) (around old)) n after callback new e) goes.same g))
 
-    pub entry_refused : (fault : RunFault) → Refuses fault (meant changes scripts (frame.Hook now) (around old) (state_of old)) → Refuses fault at_first
+    pub entry_refused : (fault : RunFault) → Refuses fault (frame_meaning changes scripts (frame.Hook now) (around old) (state_of old)) → Refuses fault at_first
     entry_refused fault r = subst (Refuses fault) goes.same r
 
 -- an answer that came at once is taken, and the run goes on
-taken_on : (changes : Changes) (scripts : Scripts) (o : Option Answer) (a : Around) (n k : ℕ) (h next : OpenHook) (w : Machine) (text : List ℕ) → n < k → next ≡ record h { args = handed_on h.kind text h.args }
+taken_on : (changes : Changes) (scripts : Scripts) (o : Option Answer) (a : Around) (n k : ℕ) (h next : OpenHook) (w : Machine) (text : List ℕ) → n < k → next ≡ record h { args = next_args h.kind text h.args }
     → Takes changes scripts o a n (frame.Hook h) w text → Goes changes scripts o a k (frame.Hook next) w
 taken_on changes scripts o a n k h next w text lt is t =
     subst (λ (x : OpenHook). Goes changes scripts o a k (frame.Hook x) w) (sym is) (record { same = t.same; stands = t.stands; ready = t.waits; less = omega (arith, t.less, lt) })
 
 pub entry_taken : (changes : Changes) (scripts : Scripts) (h : OpenHook) (w : Machine) (now : OpenHook) (old : Machine) → IsOn changes scripts h w now old
     → (after next : OpenHook) (callback : OpenCallback) (new : Machine) (text : List ℕ)
-    → Enters changes scripts (meant changes scripts (frame.Hook now) (around old) (state_of old)) (round (frame.Hook now) (around old)) (turns_left old.counts.turns + 2) after callback new (Some (called.Gives text)) → next ≡ record after { args = handed_on after.kind text after.args }
+    → Enters changes scripts (frame_meaning changes scripts (frame.Hook now) (around old) (state_of old)) (round (frame.Hook now) (around old)) (turns_left old.counts.turns + 2) after callback new (Some (called.Gives text)) → next ≡ record after { args = next_args after.kind text after.args }
     → IsOn changes scripts h w next new
 entry_taken changes scripts h w now old goes after next callback new text g is =
     taken_on changes scripts (at_first changes scripts h w) (round (frame.Hook h) (around w)) (turns_left w.counts.turns + 2) (turns_left w.counts.turns + 3) after next new text (omega arith) is
@@ -158,7 +158,7 @@ past fires i none = by (slice_get_cases fires i).1 where
 
 module _ (changes : Changes) (scripts : Scripts) (f : OpenFires) (w : Machine) where
   abbrev pub fired : Option Answer
-  fired = meant changes scripts (frame.Fires f) (around w) (state_of w)
+  fired = frame_meaning changes scripts (frame.Fires f) (around w) (state_of w)
 
   pub fires_end_with : None ≡ slice_get f.fires f.done → Gives changes scripts fired (around w) (turns_left w.counts.turns + weight (frame.Fires f)) w f.gives
   fires_end_with none = let le = past f.fires f.done none in record {
@@ -180,14 +180,14 @@ module _ (changes : Changes) (scripts : Scripts) (f : OpenFires) (w : Machine) w
     abbrev pub next : OpenFires
     next = record f { done = f.done + 1 }
 
-    fire_comes : (started >>= λ x. meant changes scripts (taken (frame.Fires next) x.text) (around w) x.state) ≡ fired
+    fire_comes : (started >>= λ x. frame_meaning changes scripts (frame_with_answer (frame.Fires next) x.text) (around w) x.state) ≡ fired
     fire_comes =
         let c = at_depth changes f.room scripts in
         sym (bind_assoc started (λ x. do_fires c (drop (f.done + 1) f.fires) x.state) (λ x. answer f.gives x.state))
         ∙ ap (λ a. (do_hook c fire.hook a (state_of w) >>= λ x. do_fires c (drop (f.done + 1) f.fires) x.state) >>= λ x. answer f.gives x.state) same
         ∙ sym (ap (λ o. o >>= λ x. answer f.gives x.state) (one_fire c f.fires f.done fire (state_of w) lt at))
 
-    pub fire_starts : (new : Machine) (b : Begun) → Begins changes scripts started (around w) (turns_left w.counts.turns + 3) new b → Leaves changes scripts fired (around w) (turns_left w.counts.turns + weight (frame.Fires f)) (frame.Fires next) new (awaited b)
+    pub fire_starts : (new : Machine) (b : Begun) → Begins changes scripts started (around w) (turns_left w.counts.turns + 3) new b → Leaves changes scripts fired (around w) (turns_left w.counts.turns + weight (frame.Fires f)) (frame.Fires next) new (begun_as_step b)
     fire_starts new b g = awaits changes scripts started fired (around w) 3 (turns_left w.counts.turns + weight (frame.Fires f)) (frame.Fires next) w new b fire_comes refl tt (omega (arith, lt)) g
 
     pub fire_stops : (fault : RunFault) → Refuses fault started → Refuses fault fired

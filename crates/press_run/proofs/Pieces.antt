@@ -15,9 +15,9 @@ use Rattle.press_run.specs.declared.frame.Filtering.{Filtering}
 use Rattle.press_run.specs.declared.frame.Filtering.TheVariants.{Off, Came}
 use Rattle.press_run.specs.declared.frame.Frame.TheVariants as frame
 use Rattle.press_run.specs.Links.{Changes}
-use Rattle.press_run.specs.Run.{◌>>=◌, Answer, Meaning, at_depth, filtered, filtered_where, filters_answers, is_short, shortcode_call, tag_answer}
+use Rattle.press_run.specs.Run.{◌>>=◌, Answer, Meaning, at_depth, filter_answer, filter_answer_where, filters_answers, is_short, shortcode_call, tag_answer}
 use Rattle.press_run.specs.Outcome.{Machine, around, state_of, Refuses}
-use Rattle.press_run.specs.Frames.{meant, taken, put, scanned, scan_meant, filtering_where, turns_left, weight, scan_weight, scan_weight_waiting, Awaits, GoesOn, ScanReady, ScanWaits, Begins, Goes, Gives, Leaves, Moves, awaited, moved}
+use Rattle.press_run.specs.Frames.{frame_meaning, frame_with_answer, put_answer, resume_scan, scan_meaning, filtering_where, turns_left, weight, scan_weight, scan_weight_waiting, Awaits, GoesOn, ScanReady, ScanWaits, Begins, Goes, Gives, Leaves, Moves, begun_as_step, opened_as_moved}
 use Rattle.press_run.specs.Frames as frames
 use Rattle.press_run.proofs.Resumed.{awaits, awaits_called, awaits_none}
 use Rattle.press_run.proofs.Scans.{ComputesSome, ComputesNone, EndsWithin, text_taken, text_inside, shortcode_waits, scan_ends}
@@ -37,7 +37,7 @@ module _ (some : ComputesSome) (none : ComputesNone) (ends : EndsWithin) (change
   callback = at_depth changes old.room scripts
 
   abbrev pub whole : Option Answer
-  whole = meant changes scripts (frame.Scan old) (around w) (state_of w)
+  whole = frame_meaning changes scripts (frame.Scan old) (around w) (state_of w)
 
   abbrev pub bound : ℕ
   bound = turns_left w.counts.turns + weight (frame.Scan old)
@@ -45,8 +45,8 @@ module _ (some : ComputesSome) (none : ComputesNone) (ends : EndsWithin) (change
   abbrev pub with_scan : Progress → OpenScan
   with_scan p = record old { scan = p }
 
-  scans : (p : Progress) → scan_meant callback old.filtering p (state_of w) ≡ scanned callback p (state_of w)
-  scans p = ap (λ k. scan_meant callback k p (state_of w)) off
+  scans : (p : Progress) → scan_meaning callback old.filtering p (state_of w) ≡ resume_scan callback p (state_of w)
+  scans p = ap (λ k. scan_meaning callback k p (state_of w)) off
 
   weighs : (n : ℕ) → scan_weight old.filtering n ≡ 3 * n + 5
   weighs n = ap (λ k. scan_weight k n) off
@@ -78,11 +78,11 @@ module _ (some : ComputesSome) (none : ComputesNone) (ends : EndsWithin) (change
 
     -- as it is taken
     abbrev pub comes_to : Filtering → Option Answer → Option Answer
-    comes_to x o = o >>= λ a. meant changes scripts (taken (frame.Scan (waiting x)) a.text) (around w) a.state
+    comes_to x o = o >>= λ a. frame_meaning changes scripts (frame_with_answer (frame.Scan (waiting x)) a.text) (around w) a.state
 
     -- as it is meant
     abbrev pub filtered_then : List ℕ → Progress → Bool → Option Answer → Option Answer
-    filtered_then t p b o = (o >>= λ a. filtered_where callback (cut t c.tag) a b) >>= λ a. scanned callback (put p.waiting p a.text) a.state
+    filtered_then t p b o = (o >>= λ a. filter_answer_where callback (cut t c.tag) a b) >>= λ a. resume_scan callback (put_answer p.waiting p a.text) a.state
 
     both_filter : (b : Bool) (o : Option Answer) → comes_to (filtering_where (cut text c.tag) b) o ≡ filtered_then text new b o
     both_filter b None = refl
@@ -109,7 +109,7 @@ module _ (some : ComputesSome) (none : ComputesNone) (ends : EndsWithin) (change
     abbrev pub called_with : CallIn → Option Answer
     called_with call = tag_answer callback (callback_of call.tag w.tags) call (state_of w)
 
-    pub call_begins : (call : CallIn) (after : Machine) (opening : OpenCallback) (b : Opened) → call ≡ shortcode_call text c → frames.Calls changes scripts (called_with call) (around w) (turns_left w.counts.turns + 2) opening after b → Moves changes scripts whole (around w) bound (frame.Scan (waiting k)) after (moved opening b)
+    pub call_begins : (call : CallIn) (after : Machine) (opening : OpenCallback) (b : Opened) → call ≡ shortcode_call text c → frames.Calls changes scripts (called_with call) (around w) (turns_left w.counts.turns + 2) opening after b → Moves changes scripts whole (around w) bound (frame.Scan (waiting k)) after (opened_as_moved opening b)
     call_begins call after opening b of_it g =
         let n = length new.text - new.at in
         let length_same : length new.text ≡ length old.scan.text = ap (λ (p : Progress). length p.text) calls.waits in
@@ -126,18 +126,18 @@ module _ (some : ComputesSome) (none : ComputesNone) (ends : EndsWithin) (change
 
 module _ (changes : Changes) (scripts : Scripts) (old : OpenScan) (w : Machine) (text tag : List ℕ) (came : old.filtering ≡ Came text tag) (ready : Awaits old.scan) where
   abbrev pub filter_of : Option Answer
-  filter_of = filtered (at_depth changes old.room scripts) tag text (state_of w)
+  filter_of = filter_answer (at_depth changes old.room scripts) tag text (state_of w)
 
   abbrev pub off : OpenScan
   off = record old { filtering = Off }
 
   abbrev pub answered : Option Answer
-  answered = meant changes scripts (frame.Scan old) (around w) (state_of w)
+  answered = frame_meaning changes scripts (frame.Scan old) (around w) (state_of w)
 
-  filter_comes : (filter_of >>= λ x. meant changes scripts (taken (frame.Scan off) x.text) (around w) x.state) ≡ answered
-  filter_comes = sym (ap (λ k. scan_meant (at_depth changes old.room scripts) k old.scan (state_of w)) came)
+  filter_comes : (filter_of >>= λ x. frame_meaning changes scripts (frame_with_answer (frame.Scan off) x.text) (around w) x.state) ≡ answered
+  filter_comes = sym (ap (λ k. scan_meaning (at_depth changes old.room scripts) k old.scan (state_of w)) came)
 
-  pub filter_begins : (after : Machine) (b : Begun) → Begins changes scripts filter_of (around w) (turns_left w.counts.turns + 3) after b → Leaves changes scripts answered (around w) (turns_left w.counts.turns + weight (frame.Scan old)) (frame.Scan off) after (awaited b)
+  pub filter_begins : (after : Machine) (b : Begun) → Begins changes scripts filter_of (around w) (turns_left w.counts.turns + 3) after b → Leaves changes scripts answered (around w) (turns_left w.counts.turns + weight (frame.Scan old)) (frame.Scan off) after (begun_as_step b)
   filter_begins after b g =
       let n = length old.scan.text - old.scan.at in
       let before : scan_weight old.filtering n ≡ 3 * n + 4 = ap (λ k. scan_weight k n) came in

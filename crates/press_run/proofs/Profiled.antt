@@ -7,7 +7,7 @@ use Rattle.press_text.specs.declared.every.Every.{Every}
 use Rattle.press_hooks.specs.declared.entry.Entry.{Entry}
 use Rattle.press_hooks.specs.declared.open_run.OpenRun.{OpenRun}
 use Rattle.press_hooks.specs.HookRows.{has_rows}
-use Rattle.press_hooks.specs.NextEntry.{next_entry, next_run, begun}
+use Rattle.press_hooks.specs.NextEntry.{next_entry, next_run, new_run}
 use Rattle.press_posts.specs.declared.fire.Fire.{Fire}
 use Rattle.press_posts.specs.declared.post.Move.TheVariants.{PublishDue}
 use Rattle.press_scan.specs.declared.shortcode.Shortcode.{Shortcode}
@@ -27,7 +27,7 @@ use Rattle.press_site.specs.declared.effect.Effect.{Effect}
 use Rattle.press_site.specs.declared.effect.Effect.TheVariants as effect
 use Rattle.press_site.specs.declared.fault.SiteFault.{SiteFault}
 use Rattle.press_site.specs.ContentView.{ContentView}
-use Rattle.press_site.specs.Contents.{taking}
+use Rattle.press_site.specs.Contents.{take_event_effect}
 use Rattle.press_site.specs.Effects.{content_of, effect_on, with_content, with_options, with_plugins}
 use Rattle.press_site.specs.Options.{Values}
 use Rattle.press_site.specs.SiteView.{SiteView}
@@ -37,8 +37,8 @@ use Rattle.press_run.specs.declared.step.Kind.{Kind}
 use Rattle.press_run.specs.declared.step.Kind.TheVariants.{Filter, Action}
 use Rattle.press_run.specs.Links.{Changes, or_no_change, publishes, read_only, schedules}
 use Rattle.press_run.specs.Outcome.{job_meaning}
-use Rattle.press_run.specs.Run.{◌>>=◌, Answer, answer, State, Meaning, Stepped, within, only_if, one_turn, fits, fuel, first_text, handed_on, hook_call, or_empty, or_one_empty, tag_answer, shortcode_call, shortcode_answer, filtered_where, is_escape, answers, after_step, call_entry, run_entries, run_where, run_hook, apply_hook, do_hook, do_fires, change_site, publish, one_if, most_turns, most_open, shortcode_result, scan_rest, scan_from, scan, turn_step, counted_step, play, built_in_where, built_in, callback_where, at_depth, goes}
-use Rattle.press_run.specs.Run.Stepped.{Goes, Ends}
+use Rattle.press_run.specs.Run.{◌>>=◌, Answer, answer, State, Meaning, TurnResult, within, only_if, one_turn, fits, fuel, first_text, next_args, hook_call, or_empty, or_one_empty, tag_answer, shortcode_call, shortcode_answer, filter_answer_where, is_escape, answers, after_step, call_entry, run_entries, run_where, run_hook, apply_hook, do_hook, do_fires, change_site, publish, one_if, most_turns, most_open, shortcode_result, scan_rest, scan_from, scan, turn_step, counted_step, play, built_in_where, built_in, callback_where, at_depth, goes}
+use Rattle.press_run.specs.Run.TurnResult.{Goes, Ends}
 use Rattle.press_run.specs.Earlier as earlier
 use Rattle.press_run.specs.Earlier.{IsSwitch, KeepsProfile}
 
@@ -47,17 +47,17 @@ use Rattle.press_run.specs.Earlier.{IsSwitch, KeepsProfile}
 abbrev pub Alike : {A : Type 0} → (A → Type 0) → Option A → Option A → Type 0
 Alike P o o' = (o ≡ o') × IfSome o P
 
-binds_same : {A B : Type 0} (P : A → Type 0) (Q : B → Type 0) (o : Option A) (f g : A → Option B) → IfSome o P → ((x : A) → P x → Alike Q (f x) (g x)) → Alike Q (o >>= f) (o >>= g)
+pub binds_same : {A B : Type 0} (P : A → Type 0) (Q : B → Type 0) (o : Option A) (f g : A → Option B) → IfSome o P → ((x : A) → P x → Alike Q (f x) (g x)) → Alike Q (o >>= f) (o >>= g)
 binds_same P Q None f g p e = (refl, tt)
 binds_same P Q (Some x) f g p e = e x p
 
-binds : {A B : Type 0} (P : A → Type 0) (Q : B → Type 0) (o o' : Option A) (f g : A → Option B) → Alike P o o' → ((x : A) → P x → Alike Q (f x) (g x)) → Alike Q (o >>= f) (o' >>= g)
+pub binds : {A B : Type 0} (P : A → Type 0) (Q : B → Type 0) (o o' : Option A) (f g : A → Option B) → Alike P o o' → ((x : A) → P x → Alike Q (f x) (g x)) → Alike Q (o >>= f) (o' >>= g)
 binds P Q o o' f g h e = subst (λ x. Alike Q (o >>= f) (x >>= g)) h.0 (binds_same P Q o f g h.1 e)
 
 abbrev pub Any : {A : Type 0} → A → Type 0
 Any x = Unit {0}
 
-any : {A : Type 0} (o : Option A) → IfSome o Any
+pub any : {A : Type 0} (o : Option A) → IfSome o Any
 any None = tt
 any (Some x) = tt
 
@@ -77,7 +77,7 @@ First s = s.site.profile ≡ 1
 abbrev pub InFirst : Answer → Type 0
 InFirst a = First a.state
 
-abbrev pub StepsInFirst : Stepped → Type 0
+abbrev pub StepsInFirst : TurnResult → Type 0
 StepsInFirst (Goes call s) = First s
 StepsInFirst (Ends text s) = First s
 
@@ -88,7 +88,7 @@ AlikeCallbacks m m' = (id : List ℕ) (call : CallIn) (s : State) → First s �
 same_answer : (text : List ℕ) (s : State) → First s → Alike InFirst (answer text s) (answer text s)
 same_answer text s first = (refl, first)
 
-same_step : (x : Stepped) → StepsInFirst x → Alike StepsInFirst (Some x) (Some x)
+same_step : (x : TurnResult) → StepsInFirst x → Alike StepsInFirst (Some x) (Some x)
 same_step x p = (refl, p)
 
 -- ---- what asks for plain switch of profile
@@ -116,13 +116,13 @@ module _ (changes : Changes) (keeps : KeepsProfile changes) (m m' : Meaning) (h 
   unfolding run_entries
   entries_alike kind zero args run s first = (refl, tt)
   entries_alike kind (suc n) args run s first =
-      entry_alike (λ t s'. run_entries m kind n (handed_on kind t args) (next_run s.rows run) s') (λ t s'. run_entries m' kind n (handed_on kind t args) (next_run s.rows run) s') args s (next_entry s.rows run) first (λ t s' f. entries_alike kind n (handed_on kind t args) (next_run s.rows run) s' f)
+      entry_alike (λ t s'. run_entries m kind n (next_args kind t args) (next_run s.rows run) s') (λ t s'. run_entries m' kind n (next_args kind t args) (next_run s.rows run) s') args s (next_entry s.rows run) first (λ t s' f. entries_alike kind n (next_args kind t args) (next_run s.rows run) s' f)
 
   where_alike : (kind : Kind) (hook : List ℕ) (args : List (List ℕ)) (s : State) (b : Bool) → First s → Alike InFirst (run_where m kind hook args s b) (run_where m' kind hook args s b)
   where_alike kind hook args s false first = same_answer (first_text args) s first
   where_alike kind hook args s true first =
       let running : State = record s { doing = s.doing ++ hook ∷ [] } in
-      binds InFirst InFirst (run_entries m kind fuel args (begun hook) running) (run_entries m' kind fuel args (begun hook) running) (λ a. answer a.text (record (a.state) { doing = s.doing })) (λ a. answer a.text (record (a.state) { doing = s.doing })) (entries_alike kind fuel args (begun hook) running first) (λ a f. (refl, f))
+      binds InFirst InFirst (run_entries m kind fuel args (new_run hook) running) (run_entries m' kind fuel args (new_run hook) running) (λ a. answer a.text (record (a.state) { doing = s.doing })) (λ a. answer a.text (record (a.state) { doing = s.doing })) (entries_alike kind fuel args (new_run hook) running first) (λ a f. (refl, f))
 
   hook_alike : (kind : Kind) (hook : List ℕ) (args : List (List ℕ)) (s : State) → First s → Alike InFirst (run_hook m kind hook args s) (run_hook m' kind hook args s)
   hook_alike kind hook args s first = where_alike kind hook args s (has_rows hook s.rows) first
@@ -170,7 +170,7 @@ module _ (changes : Changes) (keeps : KeepsProfile changes) (m m' : Meaning) (h 
   as_it_is : (text : List ℕ) (c : Shortcode) (s : State) → First s → shortcode_answer m text c s ≡ tag_answer m (callback_of (cut text c.tag) s.tags) (shortcode_call text c) s
   as_it_is text c s first =
       let o = tag_answer m (callback_of (cut text c.tag) s.tags) (shortcode_call text c) s in
-      ap (λ n. o >>= λ a. filtered_where m (cut text c.tag) a (nat_eq n 2)) first ∙ some_again o
+      ap (λ n. o >>= λ a. filter_answer_where m (cut text c.tag) a (nat_eq n 2)) first ∙ some_again o
 
   result_alike : (text : List ℕ) (c : Shortcode) (s : State) (b : Bool) → First s → Alike InFirst (shortcode_result m text c s b) (earlier.shortcode_result m' text c s b)
   result_alike text c s true first = same_answer (slice_range text (c.start + 1) (c.end - 1)) s first
@@ -218,7 +218,7 @@ module _ (changes : Changes) (keeps : KeepsProfile changes) (m m' : Meaning) (h 
   step_alike call s (Shortcodes t) first = answers_alike call (scan m t s) (earlier.scan m' t s) (scan_alike t s first)
   step_alike call s (Ask q) first = (refl, first)
   step_alike call s (Echo t) first =
-      let next : List ℕ → Option Stepped = λ output. goes (record call { turn = call.turn + (1 + 0) }) (record s { output = output }) in
+      let next : List ℕ → Option TurnResult = λ output. goes (record call { turn = call.turn + (1 + 0) }) (record s { output = output }) in
       binds_same Any StepsInFirst (within (s.output ++ t)) next next (any (within (s.output ++ t))) (λ output u. (refl, first))
   step_alike call s (SetOption n t) first = answers_alike call (change_site changes m s (Some (effect.SetOption n t))) (change_site changes m' s (Some (effect.SetOption n t))) (change_alike s (Some (effect.SetOption n t)) (λ x. x) first)
   step_alike call s (Schedule after every hook t) first = answers_alike call (change_site changes m s (schedules after every hook t s.site.moment)) (change_site changes m' s (schedules after every hook t s.site.moment)) (change_alike s (schedules after every hook t s.site.moment) (schedules_none after every hook t s.site.moment) first)
@@ -230,7 +230,7 @@ module _ (changes : Changes) (keeps : KeepsProfile changes) (m m' : Meaning) (h 
       binds_same First StepsInFirst (one_turn s) (λ s'. only_if (fits turn) turn >>= λ turn'. turn_step changes m call s' turn') (λ s'. only_if (fits turn) turn >>= λ turn'. earlier.turn_step changes m' call s' turn') (only First (ltb s.turns most_turns) (record s { turns = s.turns + 1 }) first)
       (λ s' f. binds_same Any StepsInFirst (only_if (fits turn) turn) (λ turn'. turn_step changes m call s' turn') (λ turn'. earlier.turn_step changes m' call s' turn') (any (only_if (fits turn) turn)) (λ turn' u. step_alike call s' turn' f))
 
-  after_alike : (rest rest' : CallIn → State → Option Answer) (x : Stepped) → StepsInFirst x → ((call : CallIn) (s : State) → First s → Alike InFirst (rest call s) (rest' call s)) → Alike InFirst (after_step rest x) (after_step rest' x)
+  after_alike : (rest rest' : CallIn → State → Option Answer) (x : TurnResult) → StepsInFirst x → ((call : CallIn) (s : State) → First s → Alike InFirst (rest call s) (rest' call s)) → Alike InFirst (after_step rest x) (after_step rest' x)
   after_alike rest rest' (Goes call s) first again = again call s first
   after_alike rest rest' (Ends text s) first again = same_answer text s first
 
@@ -286,7 +286,7 @@ effects_keep s (effect.Move id to) plain = content_keeps s _
 effects_keep s (effect.Delete id) plain = content_keeps s _
 effects_keep s (effect.SetOption name value) plain = options_keep s _
 effects_keep s (effect.Schedule event) plain = content_keeps s _
-effects_keep s (effect.Take event) plain = content_keeps s (Ok (taking (content_of s) event s.moment))
+effects_keep s (effect.Take event) plain = content_keeps s (Ok (take_event_effect (content_of s) event s.moment))
 effects_keep s (effect.Activate plugin) plain = plugins_keep s _
 effects_keep s (effect.Deactivate plugin) plain = plugins_keep s _
 effects_keep s (effect.Profile to) plain = absurd (plain tt)

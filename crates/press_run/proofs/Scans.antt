@@ -11,7 +11,7 @@ use Rattle.press_scan.specs.FirstShortcode.{shortcode_from}
 use Rattle.press_scan.specs.Scans.{Progress, TakesText, TakesFront, TakesEscape, IsEscape, before as opens, behind}
 use Rattle.press_scan.specs.Tags.{names_of}
 use Rattle.press_run.specs.Run.{◌>>=◌, only_if, within, is_short, State, Answer, answer, Meaning, scan_from, scan_rest, shortcode_result, shortcode_answer, is_escape}
-use Rattle.press_run.specs.Frames.{put, scanned}
+use Rattle.press_run.specs.Frames.{put_answer, resume_scan}
 
 -- the laws of shortcodes
 abbrev pub ComputesSome : Type 0
@@ -56,10 +56,10 @@ not_both true true plain = absurd (plain (refl, refl))
 not_both true false plain = refl
 not_both false y plain = refl
 
-pub scan_stops : (callback : Meaning) (p : Progress) (s : State) → is_short p.output ≡ false → scanned callback p s ≡ None
+pub scan_stops : (callback : Meaning) (p : Progress) (s : State) → is_short p.output ≡ false → resume_scan callback p s ≡ None
 scan_stops callback p s h = ap (λ o. o >>= λ output. scan_from callback (suc (length p.text)) p.text p.at output s) (too_long p.output h)
 
-scan_fits : (callback : Meaning) (p : Progress) (s : State) → is_short p.output ≡ true → scanned callback p s ≡ scan_from callback (suc (length p.text)) p.text p.at p.output s
+scan_fits : (callback : Meaning) (p : Progress) (s : State) → is_short p.output ≡ true → resume_scan callback p s ≡ scan_from callback (suc (length p.text)) p.text p.at p.output s
 scan_fits callback p s h = ap (λ o. o >>= λ output. scan_from callback (suc (length p.text)) p.text p.at output s) (fitting p.output h)
 
 module _ (some : ComputesSome) (none : ComputesNone) (ends : EndsWithin) (callback : Meaning) (text : List ℕ) where
@@ -168,9 +168,9 @@ module _ (some : ComputesSome) (none : ComputesNone) (ends : EndsWithin) (callba
 
 module _ (some : ComputesSome) (none : ComputesNone) (ends : EndsWithin) (callback : Meaning) (old : Progress) (s : State) (short : is_short old.output ≡ true) where
   -- text is taken
-  pub text_taken : (new : Progress) → TakesText (names_of s.tags) old new → scanned callback new s ≡ scanned callback old s
+  pub text_taken : (new : Progress) → TakesText (names_of s.tags) old new → resume_scan callback new s ≡ resume_scan callback old s
   text_taken new takes = same takes.takes where
-    same : TakesFront (names_of s.tags) old new ⊎ TakesEscape (names_of s.tags) old new → scanned callback new s ≡ scanned callback old s
+    same : TakesFront (names_of s.tags) old new ⊎ TakesEscape (names_of s.tags) old new → resume_scan callback new s ≡ resume_scan callback old s
     same (inl f) = rw (takes.text, f.output) (sym (scan_fits callback old s short ∙ front some none ends callback old.text s (length old.text) old.at new.at old.output takes.more f.none f.first))
     same (inr f) = rw (takes.text, f.output, f.at) (sym (scan_fits callback old s short ∙ escaped some none ends callback old.text s old.at old.output f.shortcode short f.stands f.escape))
 
@@ -186,9 +186,9 @@ module _ (some : ComputesSome) (none : ComputesNone) (ends : EndsWithin) (callba
 
   -- a shortcode waits for its answer
   pub shortcode_waits : (c : Shortcode) → IsShortcode old.text (names_of s.tags) old.at c → (IsEscape c → ⊥)
-      → (shortcode_answer callback old.text c s >>= λ a. scanned callback (put (Some c) old a.text) a.state) ≡ scanned callback old s
+      → (shortcode_answer callback old.text c s >>= λ a. resume_scan callback (put_answer (Some c) old a.text) a.state) ≡ resume_scan callback old s
   shortcode_waits c stands plain = called some none ends callback old.text s old.at old.output c short stands plain ∙ sym (scan_fits callback old s short)
 
   -- nothing is left
-  pub scan_ends : old.at ≡ length old.text → answer old.output s ≡ scanned callback old s
+  pub scan_ends : old.at ≡ length old.text → answer old.output s ≡ resume_scan callback old s
   scan_ends e = sym (scan_fits callback old s short ∙ at_end some none ends callback old.text s (length old.text) old.at old.output e short)

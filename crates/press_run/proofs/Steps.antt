@@ -16,7 +16,7 @@ use Rattle.press_callbacks.specs.BuiltIns.{is_built_in}
 use Rattle.press_run.specs.declared.step.Kind.{Kind}
 use Rattle.press_posts.specs.declared.fire.Fire.{Fire}
 use Rattle.press_run.specs.Links.{Changes}
-use Rattle.press_run.specs.Run.{◌>>=◌, State, Answer, answer, Meaning, Stepped, run_entries, do_hook, do_fires, play, at_depth, call_entry, after_step, counted_step, handed_on, fuel, or_empty, without_last, built_in, callback_where, fits, most_turns, only_if, turn_step}
+use Rattle.press_run.specs.Run.{◌>>=◌, State, Answer, answer, Meaning, TurnResult, run_entries, do_hook, do_fires, play, at_depth, call_entry, after_step, counted_step, next_args, fuel, or_empty, without_last, built_in, callback_where, fits, most_turns, only_if, turn_step}
 use Rattle.press_run.specs.Outcome.{Machine, innermost, state_of}
 
 pub no_depth : (changes : Changes) (scripts : Scripts) (id : List ℕ) (call : CallIn) (s : State) → at_depth changes 0 scripts id call s ≡ None
@@ -35,7 +35,7 @@ pub no_entries : (m : Meaning) (kind : Kind) (args : List (List ℕ)) (run : Ope
 unfolding run_entries
 no_entries m kind args run s = refl
 
-pub more_entries : (m : Meaning) (kind : Kind) (n : ℕ) (args : List (List ℕ)) (run : OpenRun) (s : State) → run_entries m kind (suc n) args run s ≡ call_entry m (λ t s'. run_entries m kind n (handed_on kind t args) (next_run s.rows run) s') args s (next_entry s.rows run)
+pub more_entries : (m : Meaning) (kind : Kind) (n : ℕ) (args : List (List ℕ)) (run : OpenRun) (s : State) → run_entries m kind (suc n) args run s ≡ call_entry m (λ t s'. run_entries m kind n (next_args kind t args) (next_run s.rows run) s') args s (next_entry s.rows run)
 unfolding run_entries
 more_entries m kind n args run s = refl
 
@@ -43,7 +43,7 @@ pub no_turns : (changes : Changes) (m : Meaning) (script : List Op) (call : Call
 unfolding play
 no_turns changes m script call s = refl
 
-abbrev pub played_on : Changes → Meaning → List Op → ℕ → Stepped → Option Answer
+abbrev pub played_on : Changes → Meaning → List Op → ℕ → TurnResult → Option Answer
 played_on changes m script n step = after_step (λ call' s'. play changes m script n call' s') step
 
 pub more_turns : (changes : Changes) (m : Meaning) (script : List Op) (n : ℕ) (call : CallIn) (s : State) → play changes m script (suc n) call s ≡ (counted_step changes m call (turn_of script call) s >>= played_on changes m script n)
@@ -101,7 +101,7 @@ with_table t w = record w { hooks = t }
 -- ---- the next entry of a run
 
 module _ (m : Meaning) (kind : Kind) (args : List (List ℕ)) (id : ℕ) (w : Machine) (t : Table) (k n : ℕ) (long : k ≡ suc n) (open_run : is_innermost id w.hooks.open_runs ≡ true) (on : t ≡ run_advanced w.hooks) where
-  pub entries_step : (o : Option Entry) → o ≡ entry_next w.hooks.rows w.hooks.open_runs → run_entries m kind k args (innermost w.hooks.open_runs) (state_of w) ≡ call_entry m (λ text s'. run_entries m kind n (handed_on kind text args) (innermost t.open_runs) s') args (state_of (with_table t w)) o
+  pub entries_step : (o : Option Entry) → o ≡ entry_next w.hooks.rows w.hooks.open_runs → run_entries m kind k args (innermost w.hooks.open_runs) (state_of w) ≡ call_entry m (λ text s'. run_entries m kind n (next_args kind text args) (innermost t.open_runs) s') args (state_of (with_table t w)) o
   entries_step o e =
       let inner : innermost t.open_runs ≡ next_run w.hooks.rows (innermost w.hooks.open_runs) = ap (λ (x : Table). innermost x.open_runs) on ∙ innermost_advanced w.hooks.rows w.hooks.open_runs id open_run in
       let state : state_of (with_table t w) ≡ state_of w = ap (λ (x : Table). state_of (with_table x w)) on in

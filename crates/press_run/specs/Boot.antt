@@ -14,25 +14,25 @@ use Rattle.press_callbacks.specs.BuiltIns.{do_shortcode, check_and_publish_futur
 use Rattle.press_callbacks.specs.Kits.{plugin_of}
 
 -- the hook rows and the tags
-pub record Loaded : Type 0 where
+pub record LoadedTables : Type 0 where
   pub rows : List Row
   pub tags : List TagRow
 
-abbrev pub one_loaded : Load → Loaded → Loaded
-one_loaded (Hook h p c a) t = record t { rows = add_row h c p a t.rows }
-one_loaded (Tag n c) t = record t { tags = add_tag n c t.tags }
+abbrev pub load_one : Load → LoadedTables → LoadedTables
+load_one (Hook h p c a) t = record t { rows = add_row h c p a t.rows }
+load_one (Tag n c) t = record t { tags = add_tag n c t.tags }
 
-abbrev pub all_loaded : List Load → Loaded → Loaded
-all_loaded [] t = t
-all_loaded (l ∷ ls) t = all_loaded ls (one_loaded l t)
+abbrev pub load_all : List Load → LoadedTables → LoadedTables
+load_all [] t = t
+load_all (l ∷ ls) t = load_all ls (load_one l t)
 
 abbrev pub loads_of : Option Plugin → List Load
 loads_of None = []
 loads_of (Some p) = p.load
 
-abbrev pub plugins_loaded : List Plugin → List (List ℕ) → Loaded → Loaded
-plugins_loaded plugins [] t = t
-plugins_loaded plugins (n ∷ ns) t = plugins_loaded plugins ns (all_loaded (loads_of (plugin_of n plugins)) t)
+abbrev pub load_plugins : List Plugin → List (List ℕ) → LoadedTables → LoadedTables
+load_plugins plugins [] t = t
+load_plugins plugins (n ∷ ns) t = load_plugins plugins ns (load_all (loads_of (plugin_of n plugins)) t)
 
 abbrev pub the_content : List ℕ
 the_content = codes "the_content"
@@ -41,11 +41,11 @@ abbrev pub publish_future_post : List ℕ
 publish_future_post = codes "publish_future_post"
 
 -- the tables before any plugin
-abbrev pub fresh : Loaded
+abbrev pub fresh : LoadedTables
 fresh = record { rows = add_row publish_future_post check_and_publish_future_post (pos 10) 1 (add_row the_content do_shortcode (pos 11) 1 []); tags = [] }
 
-abbrev pub booted_with : List Plugin → List (List ℕ) → Loaded
-booted_with plugins active = plugins_loaded plugins active fresh
+abbrev pub boot_with : List Plugin → List (List ℕ) → LoadedTables
+boot_with plugins active = load_plugins plugins active fresh
 
 -- an action without arguments
 abbrev pub bare : List ℕ → Fire

@@ -19,7 +19,7 @@ use Rattle.press_site.specs.SiteView.{SiteView}
 use Rattle.press_run.specs.declared.job.Job.{Job}
 use Rattle.press_run.specs.declared.job.Job.TheVariants as job
 use Rattle.press_run.specs.Links.{Changes, or_no_change}
-use Rattle.press_run.specs.Run.{◌>>=◌, Answer, answer, State, Meaning, Stepped, within, only_if, one_turn, fits, fuel, first_text, or_empty, tag_answer, shortcode_call, is_escape, answers, after_step, publish, apply_hook, do_fires, most_open}
+use Rattle.press_run.specs.Run.{◌>>=◌, Answer, answer, State, Meaning, TurnResult, within, only_if, one_turn, fits, fuel, first_text, or_empty, tag_answer, shortcode_call, is_escape, answers, after_step, publish, apply_hook, do_fires, most_open}
 use Rattle.press_run.specs.Run as now
 
 abbrev pub shortcode_result : Meaning → List ℕ → Shortcode → State → Bool → Option Answer
@@ -49,7 +49,7 @@ scan callback text s = do
   scan_from callback (suc (length whole)) whole 0 [] s
 
 -- of the turns one has shortcodes answered
-abbrev pub turn_step : Changes → Meaning → CallIn → State → Turn → Option Stepped
+abbrev pub turn_step : Changes → Meaning → CallIn → State → Turn → Option TurnResult
 turn_step changes callback call s (Shortcodes t) = do
   a ← scan callback t s
   answers call a.text a.state
@@ -69,7 +69,7 @@ turn_step changes callback call s (Publish t) = now.turn_step changes callback c
 turn_step changes callback call s (Echo t) = now.turn_step changes callback call s (Echo t)
 turn_step changes callback call s (Return t) = now.turn_step changes callback call s (Return t)
 
-abbrev pub counted_step : Changes → Meaning → CallIn → Turn → State → Option Stepped
+abbrev pub counted_step : Changes → Meaning → CallIn → Turn → State → Option TurnResult
 counted_step changes callback call turn s = do
   s' ← one_turn s
   turn' ← only_if (fits turn) turn

@@ -25,50 +25,50 @@ use Rattle.press_run.specs.declared.step.Opened.TheVariants as called
 use Rattle.press_run.specs.declared.step.Moved.{Moved}
 use Rattle.press_run.specs.declared.step.Moved.TheVariants as moves
 use Rattle.press_run.specs.Links.{Changes}
-use Rattle.press_run.specs.Run.{◌>>=◌, without_last, Answer, answer, State, Meaning, Stepped, within, filtered, scan_from, first_text, run_hook, run_entries, do_fires, play, at_depth, or_empty, after_step, counted_step, turn_step, handed_on, next_call, most_turns}
+use Rattle.press_run.specs.Run.{◌>>=◌, without_last, Answer, answer, State, Meaning, TurnResult, within, filter_answer, scan_from, first_text, run_hook, run_entries, do_fires, play, at_depth, or_empty, after_step, counted_step, turn_step, next_args, next_call, most_turns}
 use Rattle.press_run.specs.Outcome.{Machine, Around, around, state_of, innermost, Refuses}
 
 -- ---- what a frame comes to
 
 -- what a hook answers: an action nothing
-abbrev pub shown : Kind → List ℕ → List ℕ
-shown Filter text = text
-shown Action text = []
+abbrev pub hook_answer : Kind → List ℕ → List ℕ
+hook_answer Filter text = text
+hook_answer Action text = []
 
-abbrev pub hooked : Meaning → Kind → List ℕ → List (List ℕ) → State → Option Answer
-hooked callback kind hook args s = do
+abbrev pub run_to_answer : Meaning → Kind → List ℕ → List (List ℕ) → State → Option Answer
+run_to_answer callback kind hook args s = do
   a ← run_hook callback kind hook args s
-  answer (shown kind a.text) a.state
+  answer (hook_answer kind a.text) a.state
 
 -- a scan from its place on, behind an output that is to be within the bytes
-abbrev pub scanned : Meaning → Progress → State → Option Answer
-scanned callback p s = do
+abbrev pub resume_scan : Meaning → Progress → State → Option Answer
+resume_scan callback p s = do
   output ← within p.output
   scan_from callback (suc (length p.text)) p.text p.at output s
 
 -- the answer to a shortcode in its place
-abbrev pub put : Option Shortcode → Progress → List ℕ → Progress
-put None p text = p
-put (Some c) p text = record p { at = c.end; output = p.output ++ (before c ++ (text ++ behind c)); waiting = None }
+abbrev pub put_answer : Option Shortcode → Progress → List ℕ → Progress
+put_answer None p text = p
+put_answer (Some c) p text = record p { at = c.end; output = p.output ++ (before c ++ (text ++ behind c)); waiting = None }
 
 -- an answer that came is filtered before it is put in its place
-abbrev pub scan_meant : Meaning → Filtering → Progress → State → Option Answer
-scan_meant callback Off p s = scanned callback p s
-scan_meant callback (Comes tag) p s = scanned callback p s
-scan_meant callback (Came text tag) p s = do
-  a ← filtered callback tag text s
-  scanned callback (put p.waiting p a.text) a.state
+abbrev pub scan_meaning : Meaning → Filtering → Progress → State → Option Answer
+scan_meaning callback Off p s = resume_scan callback p s
+scan_meaning callback (Comes tag) p s = resume_scan callback p s
+scan_meaning callback (Came text tag) p s = do
+  a ← filter_answer callback tag text s
+  resume_scan callback (put_answer p.waiting p a.text) a.state
 
 -- what a frame comes to as it goes on, where this stands round what is open
-abbrev pub meant : Changes → Scripts → Frame → Around → State → Option Answer
-meant changes scripts (frame.Callback c) a s = play changes (at_depth changes c.room scripts) (or_empty (script_at c.place scripts)) c.left c.call s
-meant changes scripts (frame.Hook h) a s = do
+abbrev pub frame_meaning : Changes → Scripts → Frame → Around → State → Option Answer
+frame_meaning changes scripts (frame.Callback c) a s = play changes (at_depth changes c.room scripts) (or_empty (script_at c.place scripts)) c.left c.call s
+frame_meaning changes scripts (frame.Hook h) a s = do
   x ← run_entries (at_depth changes h.room scripts) h.kind h.left h.args (innermost a.open_runs) s
-  answer (shown h.kind x.text) (record (x.state) { doing = without_last a.doing })
-meant changes scripts (frame.Fires f) a s = do
+  answer (hook_answer h.kind x.text) (record (x.state) { doing = without_last a.doing })
+frame_meaning changes scripts (frame.Fires f) a s = do
   x ← do_fires (at_depth changes f.room scripts) (drop f.done f.fires) s
   answer f.gives x.state
-meant changes scripts (frame.Scan f) a s = scan_meant (at_depth changes f.room scripts) f.filtering f.scan s
+frame_meaning changes scripts (frame.Scan f) a s = scan_meaning (at_depth changes f.room scripts) f.filtering f.scan s
 
 -- whether a shortcode's answer is filtered as it comes
 abbrev pub filtering_where : List ℕ → Bool → Filtering
@@ -76,17 +76,17 @@ filtering_where tag false = Off
 filtering_where tag true = Comes tag
 
 -- a scan with the answer that it waited for: the callback's, which is filtered first, or the one that is put in its place
-abbrev pub scan_taken : Filtering → OpenScan → List ℕ → OpenScan
-scan_taken Off f text = record f { scan = put f.scan.waiting f.scan text; filtering = Off }
-scan_taken (Comes tag) f text = record f { filtering = Came text tag }
-scan_taken (Came first tag) f text = record f { scan = put f.scan.waiting f.scan text; filtering = Off }
+abbrev pub scan_with_answer : Filtering → OpenScan → List ℕ → OpenScan
+scan_with_answer Off f text = record f { scan = put_answer f.scan.waiting f.scan text; filtering = Off }
+scan_with_answer (Comes tag) f text = record f { filtering = Came text tag }
+scan_with_answer (Came first tag) f text = record f { scan = put_answer f.scan.waiting f.scan text; filtering = Off }
 
 -- a frame that waited, with the answer that it waited for
-abbrev pub taken : Frame → List ℕ → Frame
-taken (frame.Callback c) text = frame.Callback (record c { call = next_call c.call c.call.value text 0 })
-taken (frame.Hook h) text = frame.Hook (record h { args = handed_on h.kind text h.args })
-taken (frame.Fires f) text = frame.Fires f
-taken (frame.Scan f) text = frame.Scan (scan_taken f.filtering f text)
+abbrev pub frame_with_answer : Frame → List ℕ → Frame
+frame_with_answer (frame.Callback c) text = frame.Callback (record c { call = next_call c.call c.call.value text 0 })
+frame_with_answer (frame.Hook h) text = frame.Hook (record h { args = next_args h.kind text h.args })
+frame_with_answer (frame.Fires f) text = frame.Fires f
+frame_with_answer (frame.Scan f) text = frame.Scan (scan_with_answer f.filtering f text)
 
 -- what stands round a frame
 abbrev pub round : Frame → Around → Around
@@ -96,9 +96,9 @@ round (frame.Fires f) a = a
 round (frame.Scan f) a = a
 
 -- what the waiting frames come to, the innermost first, once it has its answer
-unfoldable pub resumed : Changes → Scripts → List Frame → Around → Option Answer → Option Answer
-resumed changes scripts [] a o = o
-resumed changes scripts (f ∷ fs) a o = resumed changes scripts fs (round f a) (o >>= λ x. meant changes scripts (taken f x.text) a x.state)
+unfoldable pub resume_frames : Changes → Scripts → List Frame → Around → Option Answer → Option Answer
+resume_frames changes scripts [] a o = o
+resume_frames changes scripts (f ∷ fs) a o = resume_frames changes scripts fs (round f a) (o >>= λ x. frame_meaning changes scripts (frame_with_answer f x.text) a x.state)
 
 -- ---- frames that stand: a hook's run is the innermost of those from its frame on
 
@@ -197,34 +197,34 @@ all_wait [] = 0
 all_wait (f ∷ fs) = weight_waiting f + all_wait fs
 
 -- who begins something takes its answer at once, or waits
-abbrev pub awaited : Begun → Step
-awaited (begun.Opens f) = step.Opens f
-awaited (begun.Gives text) = step.Takes text
+abbrev pub begun_as_step : Begun → Step
+begun_as_step (begun.Opens f) = step.Opens f
+begun_as_step (begun.Gives text) = step.Takes text
 
 -- what a built-in callback begins
-abbrev pub opened : Begun → Opened
-opened (begun.Opens f) = called.Opens f
-opened (begun.Gives text) = called.Gives text
+abbrev pub begun_as_opened : Begun → Opened
+begun_as_opened (begun.Opens f) = called.Opens f
+begun_as_opened (begun.Gives text) = called.Gives text
 
 -- who calls this callback takes its answer at once, or waits
-abbrev pub moved : OpenCallback → Opened → Moved
-moved callback (called.Gives text) = moves.By (step.Takes text)
-moved callback (called.Opens f) = moves.By (step.Opens f)
-moved callback (called.Waits inner) = moves.Calls (frame.Callback callback) inner
+abbrev pub opened_as_moved : OpenCallback → Opened → Moved
+opened_as_moved callback (called.Gives text) = moves.By (step.Takes text)
+opened_as_moved callback (called.Opens f) = moves.By (step.Opens f)
+opened_as_moved callback (called.Waits inner) = moves.Calls (frame.Callback callback) inner
 
 -- ---- what a step leaves, of something that was to come to `whole` where `beside` stood round it, and less to do than the bound
 
 module _ (changes : Changes) (scripts : Scripts) (whole : Option Answer) (beside : Around) (bound : ℕ) where
   -- a frame that goes on
   pub record Goes (f : Frame) (w : Machine) : Type 0 where
-    pub same : meant changes scripts f (around w) (state_of w) ≡ whole
+    pub same : frame_meaning changes scripts f (around w) (state_of w) ≡ whole
     pub stands : round f (around w) ≡ beside
     pub ready : Ready f (around w)
     pub less : turns_left w.counts.turns + weight f < bound
 
   -- a frame that waits for another one
   pub record Opens (f : Frame) (w : Machine) (inner : Frame) : Type 0 where
-    pub same : (meant changes scripts inner (around w) (state_of w) >>= λ x. meant changes scripts (taken f x.text) (round inner (around w)) x.state) ≡ whole
+    pub same : (frame_meaning changes scripts inner (around w) (state_of w) >>= λ x. frame_meaning changes scripts (frame_with_answer f x.text) (round inner (around w)) x.state) ≡ whole
     pub stands : round f (round inner (around w)) ≡ beside
     pub waits : Waits f (round inner (around w))
     pub ready : Ready inner (around w)
@@ -232,8 +232,8 @@ module _ (changes : Changes) (scripts : Scripts) (whole : Option Answer) (beside
 
   -- a frame that waits for a callback, which waits for another one
   pub record Nests (f : Frame) (w : Machine) (callback inner : Frame) : Type 0 where
-    pub same : ((meant changes scripts inner (around w) (state_of w) >>= λ x. meant changes scripts (taken callback x.text) (round inner (around w)) x.state)
-        >>= λ y. meant changes scripts (taken f y.text) (round callback (round inner (around w))) y.state) ≡ whole
+    pub same : ((frame_meaning changes scripts inner (around w) (state_of w) >>= λ x. frame_meaning changes scripts (frame_with_answer callback x.text) (round inner (around w)) x.state)
+        >>= λ y. frame_meaning changes scripts (frame_with_answer f y.text) (round callback (round inner (around w))) y.state) ≡ whole
     pub stands : round f (round callback (round inner (around w))) ≡ beside
     pub waits : Waits f (round callback (round inner (around w)))
     pub within : Waits callback (round inner (around w))
@@ -242,7 +242,7 @@ module _ (changes : Changes) (scripts : Scripts) (whole : Option Answer) (beside
 
   -- a frame that waits for this text
   pub record Takes (f : Frame) (w : Machine) (text : List ℕ) : Type 0 where
-    pub same : meant changes scripts (taken f text) (around w) (state_of w) ≡ whole
+    pub same : frame_meaning changes scripts (frame_with_answer f text) (around w) (state_of w) ≡ whole
     pub stands : round f (around w) ≡ beside
     pub waits : Waits f (around w)
     pub less : turns_left w.counts.turns + (weight_waiting f + 1) < bound
@@ -274,14 +274,14 @@ module _ (changes : Changes) (scripts : Scripts) (whole : Option Answer) (beside
 
   -- a run without a next entry
   pub record Ends (h : OpenHook) (w : Machine) : Type 0 where
-    pub same : answer (shown h.kind (first_text h.args)) (record (state_of w) { doing = without_last w.counts.doing }) ≡ whole
+    pub same : answer (hook_answer h.kind (first_text h.args)) (record (state_of w) { doing = without_last w.counts.doing }) ≡ whole
     pub stands : round (frame.Hook h) (around w) ≡ beside
     pub ready : IsTrue (is_innermost h.run w.hooks.open_runs)
     pub less : turns_left w.counts.turns + 1 < bound
 
   abbrev pub Enters : OpenHook → OpenCallback → Machine → Option Opened → Type 0
   Enters h callback w None = Ends h w
-  Enters h callback w (Some o) = Moves (frame.Hook h) w (moved callback o)
+  Enters h callback w (Some o) = Moves (frame.Hook h) w (opened_as_moved callback o)
 
 -- what began is to come to this
 abbrev pub BeginsAs : Changes → Scripts → Option Answer → ℕ → Machine → Machine → Result Begun RunFault → Type 0
@@ -291,8 +291,8 @@ BeginsAs changes scripts whole weighs old new result =
 -- a frame makes one step
 abbrev pub Steps : Changes → Scripts → Frame → Frame → Machine → Machine → Result Step RunFault → Type 0
 Steps changes scripts f f' old new result = MatchResult result
-    (λ s. Leaves changes scripts (meant changes scripts f (around old) (state_of old)) (round f (around old)) (turns_left old.counts.turns + weight f) f' new s)
-    (λ fault. Refuses fault (meant changes scripts f (around old) (state_of old)))
+    (λ s. Leaves changes scripts (frame_meaning changes scripts f (around old) (state_of old)) (round f (around old)) (turns_left old.counts.turns + weight f) f' new s)
+    (λ fault. Refuses fault (frame_meaning changes scripts f (around old) (state_of old)))
 
 -- what was called is to come to this, where this is the callback afterwards
 abbrev pub CallsAs : Changes → Scripts → Option Answer → ℕ → OpenCallback → Machine → Machine → Result Opened RunFault → Type 0
@@ -302,18 +302,18 @@ CallsAs changes scripts whole weighs callback old new result =
 -- the innermost frame moves
 abbrev pub MovesTo : Changes → Scripts → Frame → Frame → Machine → Machine → Result Moved RunFault → Type 0
 MovesTo changes scripts f f' old new result = MatchResult result
-    (λ m. Moves changes scripts (meant changes scripts f (around old) (state_of old)) (round f (around old)) (turns_left old.counts.turns + weight f) f' new m)
-    (λ fault. Refuses fault (meant changes scripts f (around old) (state_of old)))
+    (λ m. Moves changes scripts (frame_meaning changes scripts f (around old) (state_of old)) (round f (around old)) (turns_left old.counts.turns + weight f) f' new m)
+    (λ fault. Refuses fault (frame_meaning changes scripts f (around old) (state_of old)))
 
 -- a run of a hook calls its next entry, or has none
 abbrev pub EntersAs : Changes → Scripts → OpenHook → OpenHook → OpenCallback → Machine → Machine → Result (Option Opened) RunFault → Type 0
 EntersAs changes scripts h h' callback old new result = MatchResult result
-    (λ o. Enters changes scripts (meant changes scripts (frame.Hook h) (around old) (state_of old)) (round (frame.Hook h) (around old)) (turns_left old.counts.turns + 2) h' callback new o)
-    (λ fault. Refuses fault (meant changes scripts (frame.Hook h) (around old) (state_of old)))
+    (λ o. Enters changes scripts (frame_meaning changes scripts (frame.Hook h) (around old) (state_of old)) (round (frame.Hook h) (around old)) (turns_left old.counts.turns + 2) h' callback new o)
+    (λ fault. Refuses fault (frame_meaning changes scripts (frame.Hook h) (around old) (state_of old)))
 
 -- a run at its end is closed
-abbrev pub closed : Machine → Machine
-closed w = record w { hooks = run_ended w.hooks; counts = record (w.counts) { doing = without_last w.counts.doing } }
+abbrev pub end_run : Machine → Machine
+end_run w = record w { hooks = run_ended w.hooks; counts = record (w.counts) { doing = without_last w.counts.doing } }
 
 -- what a callback's turns leave of its call
 abbrev pub KeepsCall : OpenCallback → OpenCallback → Type 0
@@ -324,17 +324,17 @@ abbrev pub IsOfHook : OpenCallback → Type 0
 IsOfHook c = (c.call.atts ≡ []) × (c.call.content ≡ []) × (c.call.tag ≡ [])
 
 -- a callback after what a turn comes to
-abbrev pub played : Changes → Scripts → OpenCallback → Stepped → Option Answer
-played changes scripts c step =
+abbrev pub play_after_step : Changes → Scripts → OpenCallback → TurnResult → Option Answer
+play_after_step changes scripts c step =
     after_step (λ call s. play changes (at_depth changes c.room scripts) (or_empty (script_at c.place scripts)) c.left call s) step
 
 -- a callback does what its turn asks for
-abbrev pub turned : Changes → Scripts → OpenCallback → Turn → State → Option Answer
-turned changes scripts c turn s = turn_step changes (at_depth changes c.room scripts) c.call s turn >>= played changes scripts c
+abbrev pub play_turn : Changes → Scripts → OpenCallback → Turn → State → Option Answer
+play_turn changes scripts c turn s = turn_step changes (at_depth changes c.room scripts) c.call s turn >>= play_after_step changes scripts c
 
 -- as it does where the turn is counted, and its texts are within the bytes
-abbrev pub counted : Changes → Scripts → OpenCallback → Turn → State → Option Answer
-counted changes scripts c turn s = counted_step changes (at_depth changes c.room scripts) c.call turn s >>= played changes scripts c
+abbrev pub play_counted_turn : Changes → Scripts → OpenCallback → Turn → State → Option Answer
+play_counted_turn changes scripts c turn s = counted_step changes (at_depth changes c.room scripts) c.call turn s >>= play_after_step changes scripts c
 
 abbrev pub PlaysAs : Changes → Scripts → Option Answer → ℕ → OpenCallback → Machine → Machine → Result Step RunFault → Type 0
 PlaysAs changes scripts whole weighs c' old new result = MatchResult result
@@ -342,7 +342,7 @@ PlaysAs changes scripts whole weighs c' old new result = MatchResult result
     (λ fault. Refuses fault whole)
 
 abbrev pub CountsAs : Changes → Scripts → OpenCallback → Turn → OpenCallback → Machine → Machine → Result Step RunFault → Type 0
-CountsAs changes scripts c turn c' old new result = PlaysAs changes scripts (counted changes scripts c turn (state_of old)) 0 c' old new result
+CountsAs changes scripts c turn c' old new result = PlaysAs changes scripts (play_counted_turn changes scripts c turn (state_of old)) 0 c' old new result
 
 -- a turn that the callback goes on from or ends by, one that begins what it waits for, one that edits the hooks, and one that edits the tags or asks
 abbrev pub group : Turn → ℕ
@@ -365,4 +365,4 @@ group (turns.Ask a) = 3
 
 -- the turn is counted already
 abbrev pub Turns : Changes → Scripts → OpenCallback → Turn → OpenCallback → Machine → Machine → Result Step RunFault → Type 0
-Turns changes scripts c turn c' old new result = PlaysAs changes scripts (turned changes scripts c turn (state_of old)) (2 ^ 70) c' old new result
+Turns changes scripts c turn c' old new result = PlaysAs changes scripts (play_turn changes scripts c turn (state_of old)) (2 ^ 70) c' old new result

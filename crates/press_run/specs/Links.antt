@@ -23,8 +23,8 @@ abbrev pub read_only : Changes
 read_only site effect = Ok (site, no_change)
 
 -- what no change of a site touches: its moment, and what became of commands
-abbrev pub kept : SiteView → SiteView
-kept s = record no_site { moment = s.moment; outcomes = s.outcomes }
+abbrev pub unchanging_part : SiteView → SiteView
+unchanging_part s = record no_site { moment = s.moment; outcomes = s.outcomes }
 
 abbrev pub does_some : Changed → Bool
 does_some c = c.did || ltb 0 (length c.fires)

@@ -2,12 +2,12 @@
 use Rattle.std.specs.Prelude.{◌≡◌, ℕ, ◌+◌, List, [], ◌∷◌, ◌++◌, Option, Some, None, IsSome, Result, Ok, Err, MatchResult, Bool, true, false, ltb}
 use Rattle.press_text.specs.Gives.{GivesOrStays}
 use Rattle.press_hooks.specs.declared.open_run.OpenRun.{OpenRun}
-use Rattle.press_hooks.specs.NextEntry.{Table, begun}
+use Rattle.press_hooks.specs.NextEntry.{Table, new_run}
 use Rattle.press_scan.specs.declared.tag_row.TagRow.{TagRow}
 use Rattle.press_callbacks.specs.declared.tables.Tables.{Tables}
 use Rattle.press_run.specs.declared.run_fault.RunFault.{RunFault}
 use Rattle.press_run.specs.declared.run_fault.RunFault.TheVariants.{Limit, NoMemory}
-use Rattle.press_run.specs.Boot.{Loaded}
+use Rattle.press_run.specs.Boot.{LoadedTables}
 use Rattle.press_run.specs.Counts.{Counts}
 use Rattle.press_run.specs.Links.{Changes}
 use Rattle.press_site.specs.SiteView.{SiteView}
@@ -52,7 +52,7 @@ GivesText meaning before after result = MatchResult result (λ text. (meaning �
 
 -- the innermost open run
 abbrev pub innermost : List OpenRun → OpenRun
-innermost [] = begun []
+innermost [] = new_run []
 innermost (r ∷ rs) = r
 
 -- a text is put at the end of an output where that stays within the bytes; out of memory comes only there
@@ -85,13 +85,13 @@ CountsTurn old new true = (ltb old.turns most_turns ≡ true) × (new ≡ record
 CountsTurn old new false = (ltb old.turns most_turns ≡ false) × (new ≡ old)
 
 -- the rows and tags of tables
-abbrev pub loaded_in : Tables → Loaded
+abbrev pub loaded_in : Tables → LoadedTables
 loaded_in t = record { rows = t.hooks.rows; tags = t.tags }
 
 -- these rows and tags, and no open run
-abbrev pub BootsWith : Loaded → Tables → Type 0
+abbrev pub BootsWith : LoadedTables → Tables → Type 0
 BootsWith loaded t = (loaded_in t ≡ loaded) × (t.hooks.open_runs ≡ [])
 
 -- a site's tables with nothing counted and nothing written
-abbrev pub started : Loaded → SiteView → State
-started tables site = record { rows = tables.rows; tags = tables.tags; did = []; doing = []; turns = 0; output = []; site = site }
+abbrev pub state_at_start : LoadedTables → SiteView → State
+state_at_start tables site = record { rows = tables.rows; tags = tables.tags; did = []; doing = []; turns = 0; output = []; site = site }

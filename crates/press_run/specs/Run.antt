@@ -8,7 +8,7 @@ use Rattle.press_hooks.specs.declared.row.Row.{Row}
 use Rattle.press_hooks.specs.declared.entry.Entry.{Entry}
 use Rattle.press_hooks.specs.declared.open_run.OpenRun.{OpenRun}
 use Rattle.press_hooks.specs.HookRows.{add_row, adds_row, remove_row, remove_rows, is_row, has_rows, priority_of}
-use Rattle.press_hooks.specs.NextEntry.{next_entry, next_run, begun}
+use Rattle.press_hooks.specs.NextEntry.{next_entry, next_run, new_run}
 use Rattle.press_scan.specs.declared.span.Span.{Span}
 use Rattle.press_scan.specs.declared.shortcode.Shortcode.{Shortcode}
 use Rattle.press_scan.specs.declared.tag_row.TagRow.{TagRow}
@@ -104,9 +104,9 @@ abbrev pub first_text : List (List ℕ) → List ℕ
 first_text [] = []
 first_text (t ∷ ts) = t
 
-abbrev pub handed_on : Kind → List ℕ → List (List ℕ) → List (List ℕ)
-handed_on Action t args = args
-handed_on Filter t args = with_first t args
+abbrev pub next_args : Kind → List ℕ → List (List ℕ) → List (List ℕ)
+next_args Action t args = args
+next_args Filter t args = with_first t args
 
 -- the call of a hook's callback on the arguments that it accepts
 abbrev pub hook_call : List (List ℕ) → CallIn
@@ -123,13 +123,13 @@ call_entry callback rest args s (Some e) = do
 unfoldable pub run_entries : Meaning → Kind → ℕ → List (List ℕ) → OpenRun → State → Option Answer
 run_entries callback kind zero args run s = None
 run_entries callback kind (suc n) args run s =
-    call_entry callback (λ t s'. run_entries callback kind n (handed_on kind t args) (next_run s.rows run) s') args s (next_entry s.rows run)
+    call_entry callback (λ t s'. run_entries callback kind n (next_args kind t args) (next_run s.rows run) s') args s (next_entry s.rows run)
 
 -- a hook without entries is not put on the stack of running hooks
 abbrev pub run_where : Meaning → Kind → List ℕ → List (List ℕ) → State → Bool → Option Answer
 run_where callback kind hook args s false = answer (first_text args) s
 run_where callback kind hook args s true = do
-  a ← run_entries callback kind fuel args (begun hook) (record s { doing = s.doing ++ hook ∷ [] })
+  a ← run_entries callback kind fuel args (new_run hook) (record s { doing = s.doing ++ hook ∷ [] })
   answer a.text (record (a.state) { doing = s.doing })
 
 abbrev pub run_hook : Meaning → Kind → List ℕ → List (List ℕ) → State → Option Answer
@@ -184,18 +184,18 @@ do_shortcode_tag = codes "do_shortcode_tag"
 abbrev pub filters_answers : SiteView → Bool
 filters_answers site = nat_eq site.profile 2
 
-abbrev pub filtered : Meaning → List ℕ → List ℕ → State → Option Answer
-filtered callback tag text s = apply_hook callback do_shortcode_tag (text ∷ tag ∷ []) s
+abbrev pub filter_answer : Meaning → List ℕ → List ℕ → State → Option Answer
+filter_answer callback tag text s = apply_hook callback do_shortcode_tag (text ∷ tag ∷ []) s
 
-abbrev pub filtered_where : Meaning → List ℕ → Answer → Bool → Option Answer
-filtered_where callback tag a false = Some a
-filtered_where callback tag a true = filtered callback tag a.text a.state
+abbrev pub filter_answer_where : Meaning → List ℕ → Answer → Bool → Option Answer
+filter_answer_where callback tag a false = Some a
+filter_answer_where callback tag a true = filter_answer callback tag a.text a.state
 
 -- what is put in a shortcode's place
 abbrev pub shortcode_answer : Meaning → List ℕ → Shortcode → State → Option Answer
 shortcode_answer callback text c s = do
   a ← tag_answer callback (callback_of (cut text c.tag) s.tags) (shortcode_call text c) s
-  filtered_where callback (cut text c.tag) a (filters_answers s.site)
+  filter_answer_where callback (cut text c.tag) a (filters_answers s.site)
 
 abbrev pub is_escape : Shortcode → Bool
 is_escape c = c.lead && c.tail
@@ -274,22 +274,22 @@ abbrev pub fits : Turn → Bool
 fits turn = list_all is_short (texts_of turn)
 
 -- what one turn comes to: the callback goes on with the next turn's call, or it ends
-pub data Stepped : Type 0 where
-  Goes : (call : CallIn) (state : State) → Stepped
-  Ends : (text : List ℕ) (state : State) → Stepped
+pub data TurnResult : Type 0 where
+  Goes : (call : CallIn) (state : State) → TurnResult
+  Ends : (text : List ℕ) (state : State) → TurnResult
 
 -- the next turn's call, with this value and last answer, so many ops further
 abbrev pub next_call : CallIn → List ℕ → List ℕ → ℕ → CallIn
 next_call call value last skipped = record call { value = value; last = last; turn = call.turn + (1 + skipped) }
 
-abbrev pub goes : CallIn → State → Option Stepped
+abbrev pub goes : CallIn → State → Option TurnResult
 goes call s = Some (Goes call s)
 
 -- the last answer is this one
-abbrev pub answers : CallIn → List ℕ → State → Option Stepped
+abbrev pub answers : CallIn → List ℕ → State → Option TurnResult
 answers call last s = goes (next_call call call.value last 0) s
 
-abbrev pub turn_step : Changes → Meaning → CallIn → State → Turn → Option Stepped
+abbrev pub turn_step : Changes → Meaning → CallIn → State → Turn → Option TurnResult
 turn_step changes callback call s (Go t) = goes (next_call call t call.last 0) s
 turn_step changes callback call s (AddHook h c p n) = answers call (one_if (adds_row h c p s.rows)) (record s { rows = add_row h c p n s.rows })
 turn_step changes callback call s (RemoveHook h c p) = answers call (one_if (list_any (is_row h p c) s.rows)) (record s { rows = remove_row h c p s.rows })
@@ -322,7 +322,7 @@ turn_step changes callback call s (Publish t) = do
 turn_step changes callback call s (Return t) = Some (Ends t s)
 
 -- a turn counts, and its texts are within the bytes
-abbrev pub counted_step : Changes → Meaning → CallIn → Turn → State → Option Stepped
+abbrev pub counted_step : Changes → Meaning → CallIn → Turn → State → Option TurnResult
 counted_step changes callback call turn s = do
   s' ← one_turn s
   turn' ← only_if (fits turn) turn
@@ -330,7 +330,7 @@ counted_step changes callback call turn s = do
 
 -- ---- callbacks
 
-abbrev pub after_step : (CallIn → State → Option Answer) → Stepped → Option Answer
+abbrev pub after_step : (CallIn → State → Option Answer) → TurnResult → Option Answer
 after_step rest (Goes call s) = rest call s
 after_step rest (Ends text s) = answer text s
 

@@ -1,7 +1,7 @@
 ghost use Rattle.std.specs.Prelude.{◌≡◌, IfOk, OnOk, IfSome, option_map};
 ghost use Rattle.press_hooks.specs.NextEntry.{with_rows};
 ghost use Rattle.press_callbacks.specs.Kits.{plugins_in};
-ghost use Rattle.press_run.specs.Boot.{boot_actions, booted_with, fresh, all_loaded, one_loaded, loads_of, the_content, publish_future_post};
+ghost use Rattle.press_run.specs.Boot.{boot_actions, boot_with, fresh, load_all, load_one, loads_of, the_content, publish_future_post};
 ghost use Rattle.press_run.specs.Outcome.{loaded_in, BootsWith};
 
 use press_callbacks::{Kit, Load, Plugin, Tables, check_and_publish_future_post, do_shortcode};
@@ -16,7 +16,7 @@ use std::alloc::{AllocError, Global};
 /// loads of the site's active plugins, in the order of their names. A plugin that the kit lacks
 /// loads nothing.
 pub fn boot(alloc: Global, kit: &Kit, site: &Site) -> Result<Tables, AllocError>
-    ensures { IfOk result (λ t. BootsWith (booted_with (plugins_in kit.now) site.now.active) t) }
+    ensures { IfOk result (λ t. BootsWith (boot_with (plugins_in kit.now) site.now.active) t) }
 {
     boot_with(alloc, kit, site.active())
 }
@@ -33,7 +33,7 @@ pub fn boot_actions(alloc: Global) -> Result<Items<Fire>, AllocError>
 
 // Fresh tables with the loads of these plugins.
 fn boot_with(alloc: Global, kit: &Kit, active: &[Name]) -> Result<Tables, AllocError>
-    ensures { IfOk result (λ t. BootsWith (booted_with (plugins_in kit.now) active.now) t) }
+    ensures { IfOk result (λ t. BootsWith (boot_with (plugins_in kit.now) active.now) t) }
 {
     let mut tables = fresh(alloc)?;
     for name in active {
@@ -72,7 +72,7 @@ fn publish_future_post(alloc: Global) -> Result<HookName, AllocError>
 
 fn load_plugin(tables: &mut Tables, plugin: Option<&Plugin>) -> Result<(), AllocError>
     ensures loads { OnOk result (loaded_in tables.new
-        ≡ all_loaded (loads_of (option_map (λ p. p.now) plugin.entry)) (loaded_in tables.old)) }
+        ≡ load_all (loads_of (option_map (λ p. p.now) plugin.entry)) (loaded_in tables.old)) }
     ensures runs { OnOk result (tables.new.hooks.open_runs ≡ tables.old.hooks.open_runs) }
 {
     match plugin {
@@ -83,7 +83,7 @@ fn load_plugin(tables: &mut Tables, plugin: Option<&Plugin>) -> Result<(), Alloc
 
 fn load_all(tables: &mut Tables, loads: &[Load]) -> Result<(), AllocError>
     ensures loads { OnOk result (loaded_in tables.new
-        ≡ all_loaded loads.now (loaded_in tables.old)) }
+        ≡ load_all loads.now (loaded_in tables.old)) }
     ensures runs { OnOk result (tables.new.hooks.open_runs ≡ tables.old.hooks.open_runs) }
 {
     for load in loads {
@@ -95,7 +95,7 @@ fn load_all(tables: &mut Tables, loads: &[Load]) -> Result<(), AllocError>
 // A row or a tag past the last that its table takes is left out.
 fn load_one(tables: &mut Tables, load: &Load) -> Result<(), AllocError>
     ensures loads { OnOk result (loaded_in tables.new
-        ≡ one_loaded load.now (loaded_in tables.old)) }
+        ≡ load_one load.now (loaded_in tables.old)) }
     ensures runs { OnOk result (tables.new.hooks.open_runs ≡ tables.old.hooks.open_runs) }
 {
     match load {

@@ -6,12 +6,12 @@ ghost use Rattle.press_run.specs.Outcome.{CountsTurn, machine, state_of};
 use crate::answers::{count_of, decimal, decimal_or_empty, has_hook, one_if, or_no_text};
 use press_callbacks::{Ask, Tables};
 use press_site::Site;
-use press_text::{HookName, Text, copied_all};
+use press_text::{HookName, Text, copy_all};
 use std::alloc::{AllocError, Global};
 use std::marker::Model;
 
-// How many turns one page or command may play.
-const MOST_TURNS: u32 = 10_000;
+/// How many turns one page or command may play.
+pub const MOST_TURNS: u32 = 10_000;
 
 /// What one boot counts: the starts of actions, the hooks that are running, and the turns played.
 #[derive(Debug)]
@@ -60,8 +60,8 @@ impl Counts {
     {
         Ok(Counts {
             alloc: self.alloc,
-            did: copied_all(self.alloc, self.did.as_slice())?,
-            doing: copied_all(self.alloc, self.doing.as_slice())?,
+            did: copy_all(self.alloc, self.did.as_slice())?,
+            doing: copy_all(self.alloc, self.doing.as_slice())?,
             turns: self.turns,
         })
     }

@@ -1,11 +1,12 @@
 //! What a run has open.
 
 ghost use Rattle.std.specs.Prelude.{◌≡◌, ◌+◌, ◌*◌, ◌<◌, ◌≤◌, ◌^◌, [], None, IfOk, OnOk, OnErr, IsSome, length, option_map, slice_get};
-ghost use Rattle.press_run.specs.Run.{handed_on, hook_call, next_call};
-ghost use Rattle.press_run.specs.Frames.{IsOfHook, PutsAnswer, TakesAnswer, scan_taken, taken};
+ghost use Rattle.press_run.specs.Run.{next_args, hook_call, next_call};
+ghost use Rattle.press_run.specs.Frames.{IsOfHook, PutsAnswer, TakesAnswer, scan_with_answer, frame_with_answer};
 ghost use Rattle.press_run.specs.declared.frame.Filtering.TheVariants.{Came};
 ghost use Rattle.press_run.specs.Waiting.{with_atts};
 
+use crate::counts::MOST_TURNS;
 use crate::held::Held;
 use crate::step::{Kind, Step};
 use crate::texts;
@@ -18,7 +19,7 @@ use std::alloc::{AllocError, Global};
 use std::mem;
 
 /// More than the turns of any run.
-pub const FUEL: u32 = 10_001;
+pub const FUEL: u32 = MOST_TURNS + 1;
 
 /// A callback, before it is opened or before its next turn.
 #[derive(Drop)]
@@ -209,7 +210,7 @@ impl OpenHook {
     /// The arguments of the next callback, after one has answered.
     pub fn take(&mut self, text: Text) -> Result<(), AllocError>
         ensures { OnOk result (self.new ≡ record self.old {
-          args = handed_on self.old.kind text self.old.args;
+          args = next_args self.old.kind text self.old.args;
         }) }
     {
         texts::hand_on(self.kind, &mut self.args, text)
@@ -244,7 +245,7 @@ impl OpenScan {
     /// Takes the answer that the scan waits for: that of a shortcode's callback, or the filter's.
     pub fn take(&mut self, text: Text) -> Result<(), AllocError>
         requires { IsSome self.old.scan.waiting }
-        ensures taken { OnOk result (self.new ≡ scan_taken self.old.filtering self.old text) }
+        ensures taken { OnOk result (self.new ≡ scan_with_answer self.old.filtering self.old text) }
         ensures memory { OnErr result (PutsAnswer self.old.filtering) }
     {
         match mem::replace(&mut self.filtering, Filtering::Off) {
@@ -272,7 +273,7 @@ impl Frame {
     /// Takes the answer that it waits for.
     pub fn take(&mut self, text: Text) -> Result<(), AllocError>
         requires { TakesAnswer self.old }
-        ensures { OnOk result (self.new ≡ taken self.old text) }
+        ensures { OnOk result (self.new ≡ frame_with_answer self.old text) }
     {
         match self {
             Frame::Callback(callback) => {

@@ -3,10 +3,10 @@
 ghost use Rattle.std.specs.Prelude.{◌≡◌, ◌<◌, ◌^◌, [], true, IfOk, IsSome, IsTrue, OnErr, OnOk, length};
 ghost use Rattle.press_hooks.specs.NextEntry.{is_innermost};
 ghost use Rattle.press_callbacks.specs.Kits.{Scripts};
-ghost use Rattle.press_run.specs.Run.{handed_on, next_call};
-ghost use Rattle.press_run.specs.Frames.{IsFew, MovesTo, PutsAnswer, ScanReady, Steps, scan_taken};
+ghost use Rattle.press_run.specs.Run.{next_args, next_call};
+ghost use Rattle.press_run.specs.Frames.{IsFew, MovesTo, PutsAnswer, ScanReady, Steps, scan_with_answer};
 ghost use Rattle.press_run.specs.Limits.{ShowsLimits};
-ghost use Rattle.press_run.specs.Standing.{standing};
+ghost use Rattle.press_run.specs.Standing.{machine_view};
 ghost use Rattle.press_run.specs.Waiting.{with_atts};
 ghost use Rattle.press_run.specs.declared.frame.Frame.TheVariants as frame;
 
@@ -61,7 +61,8 @@ impl Held<OpenCallback> {
         requires { IsFew 0 self.old }
         ensures steps { Steps L.changes (K.scripts kit.now)
             (frame.Callback self.old) (frame.Callback self.new)
-            (standing L.view L.fixed machine.old) (standing L.view L.fixed machine.new) result }
+            (machine_view L.view L.fixed machine.old)
+            (machine_view L.view L.fixed machine.new) result }
         ensures fixed { L.fixed machine.new.site ≡ L.fixed machine.old.site }
         ensures limits { ShowsLimits result machine.old machine.new }
     {
@@ -111,7 +112,8 @@ impl Held<OpenHook> {
         requires { IsTrue (is_innermost self.old.run machine.old.tables.hooks.open_runs) }
         ensures steps { MovesTo L.changes (K.scripts kit.now)
             (frame.Hook self.old) (frame.Hook self.new)
-            (standing L.view L.fixed machine.old) (standing L.view L.fixed machine.new) result }
+            (machine_view L.view L.fixed machine.old)
+            (machine_view L.view L.fixed machine.new) result }
         ensures fixed { L.fixed machine.new.site ≡ L.fixed machine.old.site }
         ensures limits { ShowsLimits result machine.old machine.new }
     {
@@ -121,7 +123,7 @@ impl Held<OpenHook> {
     /// The arguments of the next callback, after one has answered.
     pub fn take(&mut self, text: Text) -> Result<(), AllocError>
         ensures { OnOk result (self.new ≡ record self.old {
-          args = handed_on self.old.kind text self.old.args;
+          args = next_args self.old.kind text self.old.args;
         }) }
     {
         self.inside.take(text)
@@ -133,7 +135,8 @@ impl Held<OpenFires> {
     pub fn fire<L: SiteLink + Drop>(&mut self, machine: &mut Machine<L>) -> Result<Step, RunFault>
         ensures steps { (scripts : Scripts) → Steps L.changes scripts
             (frame.Fires self.old) (frame.Fires self.new)
-            (standing L.view L.fixed machine.old) (standing L.view L.fixed machine.new) result }
+            (machine_view L.view L.fixed machine.old)
+            (machine_view L.view L.fixed machine.new) result }
         ensures fixed { L.fixed machine.new.site ≡ L.fixed machine.old.site }
         ensures limits { ShowsLimits result machine.old machine.new }
     {
@@ -151,7 +154,8 @@ impl Held<OpenScan> {
         requires { ScanReady self.old.filtering self.old.scan }
         ensures steps { MovesTo L.changes (K.scripts kit.now)
             (frame.Scan self.old) (frame.Scan self.new)
-            (standing L.view L.fixed machine.old) (standing L.view L.fixed machine.new) result }
+            (machine_view L.view L.fixed machine.old)
+            (machine_view L.view L.fixed machine.new) result }
         ensures fixed { L.fixed machine.new.site ≡ L.fixed machine.old.site }
         ensures limits { ShowsLimits result machine.old machine.new }
     {
@@ -161,7 +165,7 @@ impl Held<OpenScan> {
     /// Takes the answer that the scan waits for.
     pub fn take(&mut self, text: Text) -> Result<(), AllocError>
         requires { IsSome self.old.scan.waiting }
-        ensures taken { OnOk result (self.new ≡ scan_taken self.old.filtering self.old text) }
+        ensures taken { OnOk result (self.new ≡ scan_with_answer self.old.filtering self.old text) }
         ensures memory { OnErr result (PutsAnswer self.old.filtering) }
     {
         self.inside.take(text)

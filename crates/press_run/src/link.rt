@@ -37,13 +37,13 @@ pub trait SiteLink {
 impl SiteLink for Site {
     ghost use Rattle.std.specs.Prelude.{Some};
     ghost use Rattle.press_site.specs.Effects.{effect_on};
-    ghost use Rattle.press_run.specs.Links.{kept};
+    ghost use Rattle.press_run.specs.Links.{unchanging_part};
 
     ghost changes = { effect_on };
 
     ghost view = { λ s. s };
 
-    ghost fixed = { λ s. Some (kept s) };
+    ghost fixed = { λ s. Some (unchanging_part s) };
 
     fn site(&self) -> &Site {
         self
@@ -58,13 +58,13 @@ impl SiteLink for Site {
 impl SiteLink for OpenSite {
     ghost use Rattle.std.specs.Prelude.{Some};
     ghost use Rattle.press_site.specs.Effects.{effect_on};
-    ghost use Rattle.press_site.specs.Open.{begun_of};
+    ghost use Rattle.press_site.specs.Open.{site_at_start};
 
     ghost changes = { effect_on };
 
     ghost view = { λ o. o.site };
 
-    ghost fixed = { λ o. Some (begun_of o) };
+    ghost fixed = { λ o. Some (site_at_start o) };
 
     fn site(&self) -> &Site {
         self.site()

@@ -9,11 +9,11 @@ mod turns;
 
 ghost use Rattle.std.specs.Prelude.{◌≡◌, IfOk, Some, false};
 ghost use Rattle.press_callbacks.specs.Kits.{plugins_in, scripts_in};
-ghost use Rattle.press_run.specs.Boot.{booted_with};
+ghost use Rattle.press_run.specs.Boot.{boot_with};
 ghost use Rattle.press_run.specs.Limits.{ShowsLimits};
-ghost use Rattle.press_run.specs.Links.{kept};
-ghost use Rattle.press_run.specs.Outcome.{GivesJob, Pushes, around, is_limit, job_meaning, loaded_in, started, state_of};
-ghost use Rattle.press_run.specs.Standing.{standing};
+ghost use Rattle.press_run.specs.Links.{unchanging_part};
+ghost use Rattle.press_run.specs.Outcome.{GivesJob, Pushes, around, is_limit, job_meaning, loaded_in, state_at_start, state_of};
+ghost use Rattle.press_run.specs.Standing.{machine_view};
 
 use crate::boots::boot;
 use crate::counts::Counts;
@@ -63,8 +63,8 @@ impl<L: Drop> Drop for Machine<L> {
 impl<L: SiteLink + Drop> Machine<L> {
     /// A fresh boot of the site: its tables, nothing counted and nothing written.
     pub fn new(alloc: Global, kit: &Kit, site: L) -> Result<Machine<L>, AllocError>
-        ensures started { IfOk result (λ s. state_of (standing L.view L.fixed s)
-            ≡ started (booted_with (plugins_in kit.now) (L.view site).active) (L.view site)) }
+        ensures started { IfOk result (λ s. state_of (machine_view L.view L.fixed s)
+            ≡ state_at_start (boot_with (plugins_in kit.now) (L.view site).active) (L.view site)) }
         ensures site { IfOk result (λ s. s.site ≡ site) }
         ensures limit { IfOk result (λ s. s.met_limit ≡ false) }
     {
@@ -74,8 +74,8 @@ impl<L: SiteLink + Drop> Machine<L> {
 
     /// The same over tables that were made before; takes no memory.
     pub fn over(alloc: Global, tables: Tables, site: L) -> Machine<L>
-        ensures started { state_of (standing L.view L.fixed result)
-            ≡ started (loaded_in tables) (L.view site) }
+        ensures started { state_of (machine_view L.view L.fixed result)
+            ≡ state_at_start (loaded_in tables) (L.view site) }
         ensures site { result.site ≡ site }
         ensures limit { result.met_limit ≡ false }
     {
@@ -101,8 +101,9 @@ impl<L: SiteLink + Drop> Machine<L> {
     pub fn run(&mut self, kit: &Kit, job: Job) -> Result<String, RunFault>
         ensures gives { GivesJob
             (job_meaning L.changes (scripts_in kit.now) job
-            (state_of (standing L.view L.fixed self.old)))
-            (around (standing L.view L.fixed self.old)) (standing L.view L.fixed self.new) result }
+            (state_of (machine_view L.view L.fixed self.old)))
+            (around (machine_view L.view L.fixed self.old))
+            (machine_view L.view L.fixed self.new) result }
         ensures fixed { L.fixed self.new.site ≡ L.fixed self.old.site }
         ensures limit { self.new.met_limit ≡ is_limit result }
     {
@@ -114,8 +115,9 @@ impl<L: SiteLink + Drop> Machine<L> {
     fn answer_string(&mut self, kit: &Kit, job: Job) -> Result<String, RunFault>
         ensures gives { GivesJob
             (job_meaning L.changes (scripts_in kit.now) job
-            (state_of (standing L.view L.fixed self.old)))
-            (around (standing L.view L.fixed self.old)) (standing L.view L.fixed self.new) result }
+            (state_of (machine_view L.view L.fixed self.old)))
+            (around (machine_view L.view L.fixed self.old))
+            (machine_view L.view L.fixed self.new) result }
         ensures fixed { L.fixed self.new.site ≡ L.fixed self.old.site }
         ensures limits { ShowsLimits result self.old self.new }
     {
@@ -157,8 +159,9 @@ impl<L: SiteLink + Drop> Machine<L> {
 impl Machine<Site> {
     /// A machine with the same rows, tags, counts, site and output, and no open run.
     pub fn copy(&self, alloc: Global) -> Result<Machine<Site>, AllocError>
-        ensures { IfOk result (λ s. state_of (standing (λ x. x) (λ x. Some (kept x)) s)
-            ≡ state_of (standing (λ x. x) (λ x. Some (kept x)) self.now)) }
+        ensures { IfOk result (λ s.
+            state_of (machine_view (λ x. x) (λ x. Some (unchanging_part x)) s)
+            ≡ state_of (machine_view (λ x. x) (λ x. Some (unchanging_part x)) self.now)) }
     {
         Ok(Machine {
             tables: self.tables.copy()?,

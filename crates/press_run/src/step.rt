@@ -1,5 +1,5 @@
 ghost use Rattle.std.specs.Prelude.{◌≡◌, IfOk};
-ghost use Rattle.press_run.specs.Frames.{awaited, moved, opened};
+ghost use Rattle.press_run.specs.Frames.{begun_as_step, opened_as_moved, begun_as_opened};
 
 use crate::frame::{Frame, OpenCallback};
 use crate::held::Held;
@@ -57,7 +57,7 @@ pub enum Moved {
 impl Begun {
     /// The step of the frame that waits for it.
     pub fn into_step(self) -> Step
-        ensures { result ≡ awaited self }
+        ensures { result ≡ begun_as_step self }
     {
         match self {
             Begun::Opens(frame) => Step::Opens(frame),
@@ -67,7 +67,7 @@ impl Begun {
 
     /// What a built-in callback comes to that begins with it.
     pub fn into_opened(self) -> Opened
-        ensures { result ≡ opened self }
+        ensures { result ≡ begun_as_opened self }
     {
         match self {
             Begun::Opens(frame) => Opened::Opens(frame),
@@ -79,7 +79,7 @@ impl Begun {
 impl Opened {
     /// What the frame comes to that waits for the callback. Takes memory where the callback waits.
     pub fn into_moved(self, alloc: Global, callback: OpenCallback) -> Result<Moved, AllocError>
-        ensures { IfOk result (λ m. m ≡ moved callback self) }
+        ensures { IfOk result (λ m. m ≡ opened_as_moved callback self) }
     {
         match self {
             Opened::Gives(text) => Ok(Moved::By(Step::Takes(text))),

@@ -1,12 +1,12 @@
 //! The texts of calls and turns.
 
 ghost use Rattle.std.specs.Prelude.{◌≡◌, take, IfOk, OnOk};
-ghost use Rattle.press_run.specs.Run.{first_text, handed_on, or_one_empty, is_short};
-ghost use Rattle.press_run.specs.Frames.{shown};
+ghost use Rattle.press_run.specs.Run.{first_text, next_args, or_one_empty, is_short};
+ghost use Rattle.press_run.specs.Frames.{hook_answer};
 
 use crate::out::MOST_BYTES;
 use crate::step::Kind;
-use press_text::{Text, Texts, copied_all};
+use press_text::{Text, Texts, copy_all};
 use std::alloc::{AllocError, Global};
 
 /// The first text, or the empty one.
@@ -21,7 +21,7 @@ pub fn first_text(alloc: Global, texts: &Texts) -> Result<Text, AllocError>
 
 /// What a hook returns with these arguments: an action the empty text.
 pub fn hook_answer(alloc: Global, kind: Kind, args: &Texts) -> Result<Text, AllocError>
-    ensures { IfOk result (λ t. t ≡ shown kind (first_text args.now)) }
+    ensures { IfOk result (λ t. t ≡ hook_answer kind (first_text args.now)) }
 {
     match kind {
         Kind::Action => Ok(Text::new(alloc)),
@@ -31,7 +31,7 @@ pub fn hook_answer(alloc: Global, kind: Kind, args: &Texts) -> Result<Text, Allo
 
 /// The arguments of the next callback, after one has returned.
 pub fn hand_on(kind: Kind, args: &mut Texts, answer: Text) -> Result<(), AllocError>
-    ensures { OnOk result (args.new ≡ handed_on kind answer args.old) }
+    ensures { OnOk result (args.new ≡ next_args kind answer args.old) }
 {
     match kind {
         Kind::Action => Ok(()),
@@ -56,7 +56,7 @@ pub fn accepted_args(alloc: Global, texts: &Texts, accepted: u32) -> Result<Text
 {
     let all = texts.as_slice();
     if (accepted as usize) < all.len() {
-        Texts::from_vec(copied_all(alloc, &all[..accepted as usize])?)
+        Texts::from_vec(copy_all(alloc, &all[..accepted as usize])?)
     } else {
         texts.copy()
     }

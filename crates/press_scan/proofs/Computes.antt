@@ -6,8 +6,8 @@ use Rattle.std.proofs.lemmas.Bool.{cases_lt, both_ways, and_parts, and_from, ltb
 use Rattle.press_text.specs.Names.{is_name_byte}
 use Rattle.press_scan.specs.Places.{At, AtNoName, IsFirst, NoneBetween, NoneFrom}
 use Rattle.press_scan.specs.Shortcodes.{IsHead, IsRest, IsSelfClosing, IsEnclosing, IsAlone, IsShortcode, HasShortcode, IsNext, IsClosing, IsTag, cut}
-use Rattle.press_scan.specs.Seeking.{sought}
-use Rattle.press_scan.specs.FirstShortcode.{stands, stops_name, name_from, has_lead, name_at, is_registered, opens, closes_tag, ended, with_content, with_close, with_closes, shortcode_at, first_shortcode, shortcode_from}
+use Rattle.press_scan.specs.Seeking.{first_place}
+use Rattle.press_scan.specs.FirstShortcode.{stands, stops_name, name_from, has_lead, name_at, is_registered, opens, closes_tag, shortcode_ending_at, with_content, with_close, with_closes, shortcode_at, first_shortcode, shortcode_from}
 use Rattle.press_scan.specs.declared.span.Span.{Span}
 use Rattle.press_scan.specs.declared.shortcode.Shortcode.{Shortcode}
 use Rattle.press_scan.proofs.Firsts.{none_yet, at_within}
@@ -70,7 +70,7 @@ opens_from text tags place lead tag head =
 abbrev Forms : List ℕ → ℕ → Shortcode → ℕ → Type 0
 Forms text close s after = IsSelfClosing text close s after ⊎ IsEnclosing text close s after ⊎ IsAlone text close s after
 
-rest_is : (text : List ℕ) (place : ℕ) (tag : Span) (atts_end : ℕ) (content : Option Span) (after close : ℕ) → IsFirst (At text 93) tag.end close → Forms text close (ended text place tag atts_end content after) after → IsRest text (ended text place tag atts_end content after)
+rest_is : (text : List ℕ) (place : ℕ) (tag : Span) (atts_end : ℕ) (content : Option Span) (after close : ℕ) → IsFirst (At text 93) tag.end close → Forms text close (shortcode_ending_at text place tag atts_end content after) after → IsRest text (shortcode_ending_at text place tag atts_end content after)
 rest_is text place tag atts_end content after close closes form = record {
   close = close;
   closes = closes;
@@ -89,13 +89,13 @@ content_is text place tag close (Some closing) closes no_slash first = rest_is t
 closing_within : (text name : List ℕ) (from k : ℕ) → IsClosing text name k → k < from + length text
 closing_within text name from k p = (let b : k < length text = at_within text 91 k (omega arith) p.bracket in omega arith)
 
-close_step : (text : List ℕ) (place : ℕ) (tag : Span) (close : ℕ) (b : Bool) → stands text 47 (close - 1) ≡ b → 0 < close → IsFirst (At text 93) tag.end close → IsRest text (let s : Shortcode = elim b [ true ↦ ended text place tag (close - 1) None (close + 1) | false ↦ with_content text place tag close (sought (closes_tag text (cut text tag)) (close + 1) (length text)) ] in s)
+close_step : (text : List ℕ) (place : ℕ) (tag : Span) (close : ℕ) (b : Bool) → stands text 47 (close - 1) ≡ b → 0 < close → IsFirst (At text 93) tag.end close → IsRest text (let s : Shortcode = elim b [ true ↦ shortcode_ending_at text place tag (close - 1) None (close + 1) | false ↦ with_content text place tag close (first_place (closes_tag text (cut text tag)) (close + 1) (length text)) ] in s)
 close_step text place tag close true e some closes =
     let back : close - 1 + 1 ≡ close = omega arith in
     rest_is text place tag (close - 1) None (close + 1) close closes (inl (record { slash = (stands_tells text 47 (close - 1)).0 e; atts = back; content = refl; ends = refl }))
-close_step text place tag close false e some closes = content_is text place tag close (sought (closes_tag text (cut text tag)) (close + 1) (length text)) closes (λ h. both_ways (stands text 47 (close - 1)) e ((stands_tells text 47 (close - 1)).1 h)) (is_sought (closes_tag text (cut text tag)) (IsClosing text (cut text tag)) (close + 1) (length text) (closes_tells text (cut text tag)) (closing_within text (cut text tag) (close + 1)))
+close_step text place tag close false e some closes = content_is text place tag close (first_place (closes_tag text (cut text tag)) (close + 1) (length text)) closes (λ h. both_ways (stands text 47 (close - 1)) e ((stands_tells text 47 (close - 1)).1 h)) (is_sought (closes_tag text (cut text tag)) (IsClosing text (cut text tag)) (close + 1) (length text) (closes_tells text (cut text tag)) (closing_within text (cut text tag) (close + 1)))
 
--- the parts that `ended` takes over
+-- the parts that `shortcode_ending_at` takes over
 record Kept (text : List ℕ) (place : ℕ) (name : Span) (s : Shortcode) : Type 0 where
   start : s.start ≡ place
   lead : s.lead ≡ has_lead text place
@@ -105,7 +105,7 @@ kept_content : (text : List ℕ) (place : ℕ) (tag : Span) (close : ℕ) (o : O
 kept_content text place tag close None = record { start = refl; lead = refl; tag = refl }
 kept_content text place tag close (Some closing) = record { start = refl; lead = refl; tag = refl }
 
-kept_step : (text : List ℕ) (place : ℕ) (tag : Span) (close : ℕ) (b : Bool) (o : Option ℕ) → Kept text place tag (let s : Shortcode = elim b [ true ↦ ended text place tag (close - 1) None (close + 1) | false ↦ with_content text place tag close o ] in s)
+kept_step : (text : List ℕ) (place : ℕ) (tag : Span) (close : ℕ) (b : Bool) (o : Option ℕ) → Kept text place tag (let s : Shortcode = elim b [ true ↦ shortcode_ending_at text place tag (close - 1) None (close + 1) | false ↦ with_content text place tag close o ] in s)
 kept_step text place tag close true o = record { start = refl; lead = refl; tag = refl }
 kept_step text place tag close false o = kept_content text place tag close o
 
@@ -120,7 +120,7 @@ close_late text tags place lead tag close head closes =
 
 closed_is : (text : List ℕ) (tags : List (List ℕ)) (place close : ℕ) → IsHead text tags place (has_lead text place) (name_at text place) → IsFirst (At text 93) (name_at text place).end close → IsShortcode text tags place (with_close text place (name_at text place) close)
 closed_is text tags place close head closes =
-    let kept : Kept text place (name_at text place) (with_close text place (name_at text place) close) = kept_step text place (name_at text place) close (stands text 47 (close - 1)) (sought (closes_tag text (cut text (name_at text place))) (close + 1) (length text)) in
+    let kept : Kept text place (name_at text place) (with_close text place (name_at text place) close) = kept_step text place (name_at text place) close (stands text 47 (close - 1)) (first_place (closes_tag text (cut text (name_at text place))) (close + 1) (length text)) in
     record {
       starts = kept.start;
       head = kept_head text tags place (with_close text place (name_at text place) close) kept head;
@@ -142,8 +142,8 @@ closes_step text tags place (Some close) head closes = closed_is text tags place
 bracket_within : (text : List ℕ) (from k : ℕ) → At text 93 k → k < from + length text
 bracket_within text from k here = (let b : k < length text = at_within text 93 k (omega arith) here in omega arith)
 
-at_step : (text : List ℕ) (tags : List (List ℕ)) (place : ℕ) (b : Bool) → opens text tags place ≡ b → Answers text tags place (let o : Option Shortcode = elim b [ true ↦ with_closes text place (name_at text place) (sought (stands text 93) (name_at text place).end (length text)) | false ↦ None ] in o)
-at_step text tags place true e = closes_step text tags place (sought (stands text 93) (name_at text place).end (length text)) (head_is text tags place e) (is_sought (stands text 93) (At text 93) (name_at text place).end (length text) (stands_tells text 93) (bracket_within text (name_at text place).end))
+at_step : (text : List ℕ) (tags : List (List ℕ)) (place : ℕ) (b : Bool) → opens text tags place ≡ b → Answers text tags place (let o : Option Shortcode = elim b [ true ↦ with_closes text place (name_at text place) (first_place (stands text 93) (name_at text place).end (length text)) | false ↦ None ] in o)
+at_step text tags place true e = closes_step text tags place (first_place (stands text 93) (name_at text place).end (length text)) (head_is text tags place e) (is_sought (stands text 93) (At text 93) (name_at text place).end (length text) (stands_tells text 93) (bracket_within text (name_at text place).end))
 at_step text tags place false e = λ (s, here). both_ways (opens text tags place) e (opens_from text tags place s.lead s.tag here.head)
 
 -- what is computed at a place stands there

@@ -4,10 +4,10 @@ use Rattle.std.specs.Prelude.{MatchOption, slice_index}
 use Rattle.std.proofs.lemmas.Bool.{cases_lt, both_ways, and_parts, and_from, ltb-true, ltb-false, lt-ltb, le-ltb}
 use Rattle.press_scan.specs.Places.{At, AtNoName, IsFirst, NoneFrom}
 use Rattle.press_scan.specs.Tokens.{is_space, NoSpace, Ends, StopsBare, IsNamed, IsQuoted, IsBare, IsRun, Named, Nameless, forms, FirstFits, IsToken, AreTokens, IsNamelessToken}
-use Rattle.press_scan.specs.Seeking.{first_from, sought}
+use Rattle.press_scan.specs.Seeking.{first_from, first_place}
 use Rattle.press_scan.specs.FirstShortcode.{stands, stops_name}
 use Rattle.press_scan.specs.AttributesOf.{begins, past_spaces, may_end, stops_word, name_in, closed_by, quoted_in, word_in, run_in, token_of, token_or, nameless_in, named_or, token_in, tokens_in, attributes_of}
-use Rattle.press_scan.specs.Attributes.{Found, gathered, IsAttributes}
+use Rattle.press_scan.specs.Attributes.{AttsSoFar, add_tokens, IsAttributes}
 use Rattle.press_scan.specs.declared.span.Span.{Span}
 use Rattle.press_scan.specs.declared.token.Token.{Token}
 use Rattle.press_scan.specs.declared.token.NamePart.{NamePart}
@@ -42,8 +42,8 @@ closed_is q text place (Some close) opens first = end_step q text place close (m
 quote_within : (q : ℕ) (text : List ℕ) (from k : ℕ) → 0 < q → At text q k → k < from + length text
 quote_within q text from k some here = (let b : k < length text = at_within text q k some here in omega arith)
 
-quoted_step : (q : ℕ) (text : List ℕ) (place : ℕ) (b : Bool) → 0 < q → stands text q place ≡ b → PartIs (IsQuoted q) text place (let o : Option ValuePart = elim b [ true ↦ closed_by text place (sought (stands text q) (place + 1) (length text)) | false ↦ None ] in o)
-quoted_step q text place true some e = closed_is q text place (sought (stands text q) (place + 1) (length text)) ((stands_tells text q place).0 e) (is_sought (stands text q) (At text q) (place + 1) (length text) (stands_tells text q) (λ k here. quote_within q text (place + 1) k some here))
+quoted_step : (q : ℕ) (text : List ℕ) (place : ℕ) (b : Bool) → 0 < q → stands text q place ≡ b → PartIs (IsQuoted q) text place (let o : Option ValuePart = elim b [ true ↦ closed_by text place (first_place (stands text q) (place + 1) (length text)) | false ↦ None ] in o)
+quoted_step q text place true some e = closed_is q text place (first_place (stands text q) (place + 1) (length text)) ((stands_tells text q place).0 e) (is_sought (stands text q) (At text q) (place + 1) (length text) (stands_tells text q) (λ k here. quote_within q text (place + 1) k some here))
 quoted_step q text place false some e = λ p is. both_ways (stands text q place) e ((stands_tells text q place).1 is.opens)
 
 quoted_is : (q : ℕ) (text : List ℕ) (place : ℕ) → 0 < q → PartIs (IsQuoted q) text place (quoted_in q text place)
@@ -280,14 +280,14 @@ tokens_are : (text : List ℕ) (from n : ℕ) → from ≤ length text → lengt
 tokens_are text from zero late enough = (let same : from ≡ length text = omega arith in record { after = late; holds = past_no_space text; none_before = λ k a b h. absurd (omega arith) })
 tokens_are text from (suc n) late enough = next_end text from n (ltb (past_spaces text from) (length text)) refl late enough (λ at within more. tokens_are text at n within more)
 
-abbrev none_found : Found
+abbrev none_found : AttsSoFar
 none_found = record { atts = []; next = 0 }
 
 -- the attributes of a text are those that are computed
 pub attributes_computed : (text : List ℕ) (atts : List Att) → IsAttributes text atts → atts ≡ attributes_of text
 unfolding attributes_of
 attributes_computed text atts (ts, are, e) =
-    e ∙ ap (λ (xs : List Token). (gathered text none_found xs).atts) (one_list text ts 0 (length text) are (omega arith))
+    e ∙ ap (λ (xs : List Token). (add_tokens text none_found xs).atts) (one_list text ts 0 (length text) are (omega arith))
 
 -- and the list that is computed is the list of attributes of its text
 pub attributes_stand : (text : List ℕ) → IsAttributes text (attributes_of text)

@@ -4,7 +4,7 @@ use Rattle.std.specs.Prelude.{MatchOption}
 use Rattle.std.specs.Bool.{Decides}
 use Rattle.std.proofs.lemmas.Bool.{cases_lt, both_ways}
 use Rattle.press_scan.specs.Places.{IsFirst, NoneBetween, NoneFrom}
-use Rattle.press_scan.specs.Seeking.{first_from, sought}
+use Rattle.press_scan.specs.Seeking.{first_from, first_place}
 use Rattle.press_scan.proofs.Firsts.{none_yet}
 
 pub record Seeks (test : ℕ → Bool) (from n p : ℕ) : Type 0 where
@@ -54,5 +54,5 @@ found_step test P from n p true e tells within s = record { after = s.after; hol
 found_step test P from n p false e tells within s = none_past test P from n p tells within e s
 
 -- what is sought is found, or is nowhere
-pub is_sought : (test : ℕ → Bool) (P : ℕ → Type 0) (from n : ℕ) → Tells test P → ((k : ℕ) → P k → k < from + n) → MatchOption (sought test from n) (NoneFrom P from) (λ p. IsFirst P from p)
+pub is_sought : (test : ℕ → Bool) (P : ℕ → Type 0) (from n : ℕ) → Tells test P → ((k : ℕ) → P k → k < from + n) → MatchOption (first_place test from n) (NoneFrom P from) (λ p. IsFirst P from p)
 is_sought test P from n tells within = found_step test P from n (first_from test from n) (test (first_from test from n)) refl tells within (seeks test from n)

@@ -38,32 +38,32 @@ abbrev pub with_name : List Att → List ℕ → List ℕ → List Att
 with_name atts name value = put_at atts (position (λ a. has_name a.key name) atts) (record { key = Name name; value = value })
 
 -- the attributes found so far, and the number of the next nameless one
-pub record Found : Type 0 where
+pub record AttsSoFar : Type 0 where
   pub atts : List Att
   pub next : ℕ
 
 -- One token more: a name in lower case; a nameless value with its number; nothing of an empty nameless one.
-abbrev pub taken : Found → Option (List ℕ) → List ℕ → Found
-taken found (Some name) value = record found { atts = with_name found.atts (str_to_ascii_lowercase name) value }
-taken found None [] = found
-taken found None (b ∷ bs) = record { atts = found.atts ++ record { key = Place found.next; value = b ∷ bs } ∷ []; next = found.next + 1 }
+abbrev pub add_token : AttsSoFar → Option (List ℕ) → List ℕ → AttsSoFar
+add_token found (Some name) value = record found { atts = with_name found.atts (str_to_ascii_lowercase name) value }
+add_token found None [] = found
+add_token found None (b ∷ bs) = record { atts = found.atts ++ record { key = Place found.next; value = b ∷ bs } ∷ []; next = found.next + 1 }
 
 -- the name of a token, as bytes
 abbrev pub name_of : List ℕ → Option Span → Option (List ℕ)
 name_of text (Some name) = Some (cut text name)
 name_of text None = None
 
-abbrev pub gathered : List ℕ → Found → List Token → Found
-gathered text found [] = found
-gathered text found (t ∷ ts) = gathered text (taken found (name_of text t.name) (cut text t.value)) ts
+abbrev pub add_tokens : List ℕ → AttsSoFar → List Token → AttsSoFar
+add_tokens text found [] = found
+add_tokens text found (t ∷ ts) = add_tokens text (add_token found (name_of text t.name) (cut text t.value)) ts
 
 -- the attributes of a text
 abbrev pub IsAttributes : List ℕ → List Att → Type 0
-IsAttributes text atts = (ts : List Token) × AreTokens text 0 ts × (atts ≡ (gathered text (record { atts = []; next = 0 }) ts).atts)
+IsAttributes text atts = (ts : List Token) × AreTokens text 0 ts × (atts ≡ (add_tokens text (record { atts = []; next = 0 }) ts).atts)
 
 -- one token more, as fields
 abbrev pub Gathers : List Att → ℕ → List Att → ℕ → List ℕ → Token → Type 0
-Gathers atts next atts' next' text t = let f : Found = taken (record { atts = atts; next = next }) (name_of text t.name) (cut text t.value) in (atts' ≡ f.atts) × (next' ≡ f.next)
+Gathers atts next atts' next' text t = let f : AttsSoFar = add_token (record { atts = atts; next = next }) (name_of text t.name) (cut text t.value) in (atts' ≡ f.atts) × (next' ≡ f.next)
 
 -- the parts of a token are cut between characters
 pub record IsCutAt (text : List ℕ) (t : Token) : Type 0 where

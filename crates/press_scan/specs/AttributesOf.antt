@@ -1,9 +1,9 @@
 -- The attributes of a text as a computation (Shortcode API). It says the same as the relation `IsAttributes`.
 use Rattle.std.specs.Prelude.{ℕ, zero, suc, ◌+◌, ◌&&◌, ◌||◌, List, [], ◌∷◌, length, Bool, true, false, not, ltb, leb, Option, Some, None, slice_index}
-use Rattle.press_scan.specs.Seeking.{first_from, sought}
+use Rattle.press_scan.specs.Seeking.{first_from, first_place}
 use Rattle.press_scan.specs.FirstShortcode.{stands, stops_name}
 use Rattle.press_scan.specs.Tokens.{is_space}
-use Rattle.press_scan.specs.Attributes.{gathered}
+use Rattle.press_scan.specs.Attributes.{add_tokens}
 use Rattle.press_scan.specs.declared.span.Span.{Span}
 use Rattle.press_scan.specs.declared.token.Token.{Token}
 use Rattle.press_scan.specs.declared.token.NamePart.{NamePart}
@@ -41,7 +41,7 @@ closed_by text place None = None
 closed_by text place (Some close) = elim (may_end text (close + 1)) [ true ↦ Some (record { value = record { start = place + 1; end = close }; end = close + 1 }) | false ↦ None ]
 
 abbrev pub quoted_in : ℕ → List ℕ → ℕ → Option ValuePart
-quoted_in quote text place = elim (stands text quote place) [ true ↦ closed_by text place (sought (stands text quote) (place + 1) (length text)) | false ↦ None ]
+quoted_in quote text place = elim (stands text quote place) [ true ↦ closed_by text place (first_place (stands text quote) (place + 1) (length text)) | false ↦ None ]
 
 abbrev pub word_to : List ℕ → ℕ → ℕ → Option ValuePart
 word_to text place end = elim (ltb place end && may_end text end) [ true ↦ Some (record { value = record { start = place; end = end }; end = end }) | false ↦ None ]
@@ -82,4 +82,4 @@ tokens_in text from (suc n) = elim (ltb (past_spaces text from) (length text)) [
 
 -- the attributes of a text
 unfoldable pub attributes_of : List ℕ → List Att
-attributes_of text = (gathered text (record { atts = []; next = 0 }) (tokens_in text 0 (length text))).atts
+attributes_of text = (add_tokens text (record { atts = []; next = 0 }) (tokens_in text 0 (length text))).atts

@@ -2,7 +2,7 @@
 use Rattle.std.specs.Prelude.{ℕ, zero, suc, ◌+◌, ◌-◌, ◌==◌, ◌&&◌, List, length, Bool, true, false, not, ltb, bytes_eq, Option, Some, None, slice_index, slice_range, if◌then◌else◌}
 use Rattle.std.specs.List.{list_any}
 use Rattle.press_text.specs.Names.{is_name_byte}
-use Rattle.press_scan.specs.Seeking.{first_from, sought}
+use Rattle.press_scan.specs.Seeking.{first_from, first_place}
 use Rattle.press_scan.specs.Shortcodes.{cut}
 use Rattle.press_scan.specs.declared.span.Span.{Span}
 use Rattle.press_scan.specs.declared.shortcode.Shortcode.{Shortcode}
@@ -43,8 +43,8 @@ abbrev pub closes_tag : List ℕ → List ℕ → ℕ → Bool
 closes_tag text name place = elim (stands text 91 place) [ true ↦ closes_after text name place | false ↦ false ]
 
 -- the shortcode that ends before `after`, with its optional second bracket
-abbrev pub ended : List ℕ → ℕ → Span → ℕ → Option Span → ℕ → Shortcode
-ended text place tag atts_end content after = record {
+abbrev pub shortcode_ending_at : List ℕ → ℕ → Span → ℕ → Option Span → ℕ → Shortcode
+shortcode_ending_at text place tag atts_end content after = record {
   start = place;
   end = after + (if stands text 93 after then 1 else 0);
   lead = has_lead text place;
@@ -56,14 +56,14 @@ ended text place tag atts_end content after = record {
 
 -- the content runs to the first `[/name]`, where there is one
 abbrev pub with_content : List ℕ → ℕ → Span → ℕ → Option ℕ → Shortcode
-with_content text place tag close None = ended text place tag close None (close + 1)
-with_content text place tag close (Some closing) = ended text place tag close (Some (record { start = close + 1; end = closing })) (closing + 3 + length (cut text tag))
+with_content text place tag close None = shortcode_ending_at text place tag close None (close + 1)
+with_content text place tag close (Some closing) = shortcode_ending_at text place tag close (Some (record { start = close + 1; end = closing })) (closing + 3 + length (cut text tag))
 
 -- a `/` before the `]` closes the tag itself
 abbrev pub with_close : List ℕ → ℕ → Span → ℕ → Shortcode
 with_close text place tag close = elim (stands text 47 (close - 1)) [
-  | true ↦ ended text place tag (close - 1) None (close + 1)
-  | false ↦ with_content text place tag close (sought (closes_tag text (cut text tag)) (close + 1) (length text))
+  | true ↦ shortcode_ending_at text place tag (close - 1) None (close + 1)
+  | false ↦ with_content text place tag close (first_place (closes_tag text (cut text tag)) (close + 1) (length text))
 ]
 
 -- without a `]` there is no shortcode
@@ -74,7 +74,7 @@ with_closes text place tag (Some close) = Some (with_close text place tag close)
 -- the shortcode at a place
 abbrev pub shortcode_at : List ℕ → List (List ℕ) → ℕ → Option Shortcode
 shortcode_at text tags place = elim (opens text tags place) [
-  | true ↦ with_closes text place (name_at text place) (sought (stands text 93) (name_at text place).end (length text))
+  | true ↦ with_closes text place (name_at text place) (first_place (stands text 93) (name_at text place).end (length text))
   | false ↦ None
 ]
 

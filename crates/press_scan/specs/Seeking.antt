@@ -11,5 +11,5 @@ abbrev pub found_at : (ℕ → Bool) → ℕ → Option ℕ
 found_at test place = elim (test place) [ true ↦ Some place | false ↦ None ]
 
 -- the first place of so many, where there is one
-abbrev pub sought : (ℕ → Bool) → ℕ → ℕ → Option ℕ
-sought test from n = found_at test (first_from test from n)
+abbrev pub first_place : (ℕ → Bool) → ℕ → ℕ → Option ℕ
+first_place test from n = found_at test (first_from test from n)

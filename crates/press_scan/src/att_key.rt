@@ -45,7 +45,7 @@ impl AttKey {
 }
 
 impl Copied for AttKey {
-    fn copied(&self, alloc: Global) -> Result<AttKey, AllocError> {
+    fn copy_in(&self, alloc: Global) -> Result<AttKey, AllocError> {
         match self {
             AttKey::Name(name) => Ok(AttKey::Name(name.copy(alloc)?)),
             AttKey::Place(place) => Ok(AttKey::Place(*place)),

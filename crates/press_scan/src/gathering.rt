@@ -36,10 +36,10 @@ struct Gathering {
 }
 
 impl Model for Gathering {
-    ghost use Rattle.press_scan.specs.Attributes.{Found};
+    ghost use Rattle.press_scan.specs.Attributes.{AttsSoFar};
     ghost use Rattle.press_scan.specs.Kept.{kept_atts, IsNumbered};
 
-    ghost Value = { Found };
+    ghost Value = { AttsSoFar };
 
     ghost view = { λ g. record { atts = kept_atts g.kept; next = g.next } };
 

@@ -7,7 +7,9 @@ ghost use Rattle.press_scan.specs.Shortcodes.{IsClosing, cut};
 ghost use Rattle.press_scan.specs.Missing.{AreMissing, IsMissing};
 
 use crate::find::find_closing;
-use crate::next::{Opening, alone, closes_itself, enclosing, self_closing};
+use crate::next::{
+    Opening, closes_itself, enclosing_shortcode, lone_shortcode, self_closing_shortcode,
+};
 use crate::shortcode::Shortcode;
 use crate::span::Span;
 use std::alloc::AllocError;
@@ -55,19 +57,19 @@ pub fn shortcode_of(
     ensures missing { AreMissing text.now missing.new.items }
 {
     if closes_itself(text, opening.close) {
-        return Ok(self_closing(text, opening));
+        return Ok(self_closing_shortcode(text, opening));
     }
     let tag = opening.head.tag;
     let name = &text[tag.start..tag.end];
     let from = opening.close + 1;
     if is_missing(text, missing.as_slice(), name, from) {
-        return Ok(alone(text, opening));
+        return Ok(lone_shortcode(text, opening));
     }
     match find_closing(text, name, from) {
-        Some(closing) => Ok(enclosing(text, opening, closing)),
+        Some(closing) => Ok(enclosing_shortcode(text, opening, closing)),
         None => {
             missing.push(Missing { name: tag, from })?;
-            Ok(alone(text, opening))
+            Ok(lone_shortcode(text, opening))
         }
     }
 }

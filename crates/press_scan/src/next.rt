@@ -92,7 +92,7 @@ fn with_tail(text: &[u8], opening: Opening, atts_end: usize, rest: Rest) -> Shor
 }
 
 /// `[name atts/]`.
-pub fn self_closing(text: &[u8], opening: Opening) -> Shortcode
+pub fn self_closing_shortcode(text: &[u8], opening: Opening) -> Shortcode
     requires closes { IsFirst (At text.now 93) opening.head.tag.end opening.close }
     requires within { opening.close < length text.now }
     requires slash { At text.now 47 (opening.close - 1) }
@@ -107,7 +107,7 @@ pub fn self_closing(text: &[u8], opening: Opening) -> Shortcode
 }
 
 /// `[name atts]` alone.
-pub fn alone(text: &[u8], opening: Opening) -> Shortcode
+pub fn lone_shortcode(text: &[u8], opening: Opening) -> Shortcode
     requires closes { IsFirst (At text.now 93) opening.head.tag.end opening.close }
     requires within { opening.close < length text.now }
     requires no_slash { At text.now 47 (opening.close - 1) → ⊥ }
@@ -123,7 +123,7 @@ pub fn alone(text: &[u8], opening: Opening) -> Shortcode
 }
 
 /// `[name atts]content[/name]`.
-pub fn enclosing(text: &[u8], opening: Opening, closing: usize) -> Shortcode
+pub fn enclosing_shortcode(text: &[u8], opening: Opening, closing: usize) -> Shortcode
     requires closes { IsFirst (At text.now 93) opening.head.tag.end opening.close }
     requires within { closing + 3 + length (cut text.now opening.head.tag) ≤ length text.now }
     requires name { (opening.head.tag.start ≤ opening.head.tag.end)
@@ -155,12 +155,12 @@ fn shortcode_in(text: &[u8], from: usize, tags: &TagTable) -> Option<Shortcode>
         None => return None,
     };
     if closes_itself(text, opening.close) {
-        return Some(self_closing(text, opening));
+        return Some(self_closing_shortcode(text, opening));
     }
     let tag = opening.head.tag;
     match find_closing(text, &text[tag.start..tag.end], opening.close + 1) {
-        Some(closing) => Some(enclosing(text, opening, closing)),
-        None => Some(alone(text, opening)),
+        Some(closing) => Some(enclosing_shortcode(text, opening, closing)),
+        None => Some(lone_shortcode(text, opening)),
     }
 }
 

@@ -39,7 +39,7 @@ impl TagRow {
 }
 
 impl Copied for TagRow {
-    fn copied(&self, alloc: Global) -> Result<TagRow, AllocError> {
+    fn copy_in(&self, alloc: Global) -> Result<TagRow, AllocError> {
         Ok(TagRow {
             name: self.name.copy(alloc)?,
             callback: self.callback,

@@ -5,7 +5,7 @@ ghost use Rattle.press_scan.specs.Tags.{is_tag, answered_by, add_tag, adds_tag, 
 
 use crate::places::all_name_bytes;
 use crate::tag_row::TagRow;
-use press_text::{CallbackId, Text, copied_all};
+use press_text::{CallbackId, MOST_NAME, Text, copy_all};
 use std::alloc::{AllocError, Global};
 use std::marker::Model;
 
@@ -55,7 +55,7 @@ impl TagTable {
         if self.rows.is_empty() {
             return Ok(TagTable::new(self.alloc));
         }
-        let rows = copied_all(self.alloc, self.rows.as_slice())?;
+        let rows = copy_all(self.alloc, self.rows.as_slice())?;
         Ok(TagTable {
             alloc: self.alloc,
             rows,
@@ -140,7 +140,7 @@ fn callback_of(rows: &[TagRow], name: &[u8]) -> Option<CallbackId>
 fn is_tag_name(name: &[u8]) -> bool
     ensures { result ≡ is_name 32 name.now }
 {
-    0 < name.len() && name.len() <= 32 && all_name_bytes(name)
+    0 < name.len() && name.len() <= MOST_NAME && all_name_bytes(name)
 }
 
 // Gives a registered tag its callback, or adds a new one if there is room.

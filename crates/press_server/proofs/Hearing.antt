@@ -1,7 +1,7 @@
 -- A member that hears one other member alone.
 use Rattle.std.proofs.Common.{ℕ, ◌≡◌, ◌==◌, Bool, true, false, List, [], ◌∷◌, ◌++◌, IfSome, MatchOption, None, Option, Some, if◌then◌else◌, refl, rules, subst, sym}
 use Rattle.press_acceptor.specs.Seen.{Seen}
-use Rattle.press_batch.specs.Carried.{carried}
+use Rattle.press_batch.specs.Carried.{carried_by}
 use Rattle.press_batch.specs.declared.batch.Batch.{Batch}
 use Rattle.press_member.specs.Acts.{view_of}
 use Rattle.press_member.specs.Lives.{Step}
@@ -53,8 +53,8 @@ takes_none seen from left only none = subst (λ all. TakesAll seen (letters from
 
 -- what a member said back was heard
 pub reply_heard : {S : Type 0} {t : _} {F : _} {g : _} (seen : S → Seen) (to : ℕ) (reply : List ℕ) (said : Option Batch) (old new : Member S t F g)
-    → IfSome said (λ batch. batch.from ≡ to) → IfSome said (λ batch. IsSaid reply (carried batch))
-    → MatchOption said ⊥ (λ batch. (batch.report.digests ≡ (view_of old).digests) × TakesAll seen (inputs_in (carried batch)) old new)
+    → IfSome said (λ batch. batch.from ≡ to) → IfSome said (λ batch. IsSaid reply (carried_by batch))
+    → MatchOption said ⊥ (λ batch. (batch.report.digests ≡ (view_of old).digests) × TakesAll seen (inputs_in (carried_by batch)) old new)
     → HearsReply seen to reply old new
 reply_heard seen to reply None old new from is heard = absurd heard
-reply_heard seen to reply (Some batch) old new from is heard = (carried batch, from, is, heard.0, heard.1)
+reply_heard seen to reply (Some batch) old new from is heard = (carried_by batch, from, is, heard.0, heard.1)

@@ -2,7 +2,6 @@ pub mod Blames
 pub mod Delivering
 pub mod Fronts
 mod Hearing
-pub mod Mapped
 mod Named
 mod Owing
 mod Samples

@@ -4,16 +4,16 @@ use Rattle.press_acceptor.specs.Seen.{Seen}
 use Rattle.press_member.specs.declared.input.Input.TheVariants.{Ended}
 use Rattle.press_member.specs.declared.member.Member.{Member}
 use Rattle.press_net.specs.Answering.{Credit}
-use Rattle.press_server.specs.Going.{AreKept, GoOut, counted, is_question, question_count}
+use Rattle.press_server.specs.Going.{AreKept, GoOut, u32_count, is_query, question_count}
 use Rattle.press_server.specs.Living.{HearsReply, IsToldOfEnd, MemberLives, MemberTakes}
 use Rattle.press_server.specs.declared.lanes.Waiting.{Waiting}
 use Rattle.press_wire.specs.Ranges.{member_id_of}
 
 -- one is counted, and so is what is put to it
-pub counted_more : (asked count more added : ℕ) → asked ≡ counted count → added ≡ more → min (asked + added) 4294967295 ≡ counted (count + more)
+pub counted_more : (asked count more added : ℕ) → asked ≡ u32_count count → added ≡ more → min (asked + added) 4294967295 ≡ u32_count (count + more)
 counted_more asked count more added is same = grind (arith, is, same)
 
-pub questions_behind : (items : List Waiting) (last : Waiting) → question_count (items ++ last ∷ []) ≡ question_count items + (if is_question last.message.body then 1 else 0)
+pub questions_behind : (items : List Waiting) (last : Waiting) → question_count (items ++ last ∷ []) ≡ question_count items + (if is_query last.message.body then 1 else 0)
 questions_behind [] last = omega arith
 questions_behind (first ∷ rest) last = omega (arith, questions_behind rest last)
 

@@ -24,6 +24,6 @@ abbrev pub with_count : ℕ → List Count → List Count
 with_count status counts = map (with_one status) counts
 
 -- a request that got no reply is none
-abbrev pub counted_by : Result ℕ HttpFault → List Count → List Count
-counted_by (Ok status) counts = with_count status counts
-counted_by (Err fault) counts = counts
+abbrev pub counts_after : Result ℕ HttpFault → List Count → List Count
+counts_after (Ok status) counts = with_count status counts
+counts_after (Err fault) counts = counts

@@ -1,6 +1,6 @@
 -- What waits to go out to a member (own).
 use Rattle.std.specs.Prelude.{ℕ, ◌≡◌, ◌≢◌, ◌+◌, ◌-◌, ◌==◌, ◌&&◌, ◌||◌, ◌⊎◌, ◌++◌, Bool, true, false, List, [], ◌∷◌, drop, length, min, nat_le, nat_lt, not, option_map, slice_get, unwrap_or, if◌then◌else◌}
-use Rattle.press_batch.specs.Spelling.{Written, begun, fits, with_message}
+use Rattle.press_batch.specs.Spelling.{WrittenBatch, report_alone, fits, with_message}
 use Rattle.press_batch.specs.declared.report.Report.{Report}
 use Rattle.press_wire.specs.Spelling.{is_too_long_message}
 use Rattle.press_wire.specs.declared.message.Body.{Body}
@@ -10,13 +10,13 @@ use Rattle.press_server.specs.declared.lanes.Lanes.{Lanes}
 use Rattle.press_server.specs.declared.lanes.Waiting.{Waiting}
 
 -- a question for a vote
-abbrev pub is_question : Body → Bool
-is_question (Prepare round) = false
-is_question (Promise ballot votes) = false
-is_question (Nack refused promised) = false
-is_question (Accept round value) = false
-is_question (Accepted vote) = false
-is_question Query = true
+abbrev pub is_query : Body → Bool
+is_query (Prepare round) = false
+is_query (Promise ballot votes) = false
+is_query (Nack refused promised) = false
+is_query (Accept round value) = false
+is_query (Accepted vote) = false
+is_query Query = true
 
 -- no request is on its way, or fewer than 8 are and the last has been for 20 milliseconds
 abbrev pub is_free : ℕ → Lane → Bool
@@ -45,27 +45,27 @@ HasEnded place new old = (other : ℕ) → open_at new other ≡ (if other == pl
 -- how many of these are questions
 abbrev pub question_count : List Waiting → ℕ
 question_count [] = 0
-question_count (first ∷ rest) = (if is_question first.message.body then 1 else 0) + question_count rest
+question_count (first ∷ rest) = (if is_query first.message.body then 1 else 0) + question_count rest
 
 -- looks and questions whose ends are to be told: those that wait, and those that were lost before
 -- they went out
-abbrev pub owed : Lane → ℕ
-owed lane = question_count lane.waiting.items + lane.looks + lane.lost
+abbrev pub owed_count : Lane → ℕ
+owed_count lane = question_count lane.waiting.items + lane.looks + lane.lost
 
 abbrev pub owed_at : Lanes → ℕ → ℕ
-owed_at lanes place = unwrap_or (option_map owed (slice_get lanes.all.items place)) 0
+owed_at lanes place = unwrap_or (option_map owed_count (slice_get lanes.all.items place)) 0
 
 -- a number, as far as 32 bits count
-abbrev pub counted : ℕ → ℕ
-counted n = min n 4294967295
+abbrev pub u32_count : ℕ → ℕ
+u32_count n = min n 4294967295
 
 -- so many of those that were owed went out, and the others are owed still
 abbrev pub GoOut : ℕ → ℕ → ℕ → Type 0
-GoOut asked before after = (count : ℕ) × (before ≡ count + after) × (asked ≡ counted count)
+GoOut asked before after = (count : ℕ) × (before ≡ count + after) × (asked ≡ u32_count count)
 
 -- none is forgotten, as far as they are counted
 abbrev pub AreKept : ℕ → ℕ → Type 0
-AreKept before after = counted after ≡ counted before
+AreKept before after = u32_count after ≡ u32_count before
 
 -- the messages that wait for the member at a place
 abbrev pub waiting_at : Lanes → ℕ → List Waiting
@@ -80,23 +80,23 @@ abbrev pub HasSameElsewhere : ℕ → Lanes → Lanes → Type 0
 HasSameElsewhere place new old = (other : ℕ) → other ≢ place → waiting_at new other ≡ waiting_at old other
 
 -- a batch with one message more; the same where it has no room for it, or none has
-abbrev pub with_waiting : Waiting → Written → Written
+abbrev pub with_waiting : Waiting → WrittenBatch → WrittenBatch
 with_waiting waiting batch =
     if not (is_too_long_message waiting.message) && fits (length batch.bytes) waiting.message then with_message waiting.message batch else batch
 
 -- the oldest of those that waited has gone into a batch; one that an empty batch doesn't take is lost
-abbrev pub GoesIn : List Waiting → List Waiting → Written → Written → Type 0
+abbrev pub GoesIn : List Waiting → List Waiting → WrittenBatch → WrittenBatch → Type 0
 GoesIn before after old new = (first : Waiting) × (before ≡ first ∷ after) × (new ≡ with_waiting first old) × ((new.count ≡ old.count + 1) ⊎ (old.count ≡ 0))
 
 -- some have gone into a batch, the oldest first, each as one does
-pub data GoIn : List Waiting → List Waiting → Written → Written → Type 0 where
-  none_goes : (waiting : List Waiting) (batch : Written) → GoIn waiting waiting batch batch
-  one_goes : (before between after : List Waiting) (old next new : Written) → GoIn before between old next → GoesIn between after next new → GoIn before after old new
+pub data GoIn : List Waiting → List Waiting → WrittenBatch → WrittenBatch → Type 0 where
+  none_goes : (waiting : List Waiting) (batch : WrittenBatch) → GoIn waiting waiting batch batch
+  one_goes : (before between after : List Waiting) (old next new : WrittenBatch) → GoIn before between old next → GoesIn between after next new → GoIn before after old new
 
 -- what waited, as far as it went, stands behind a head, in a batch of that member with that report
 abbrev pub Carries : List Waiting → List Waiting → ℕ → Report → List ℕ → Type 0
 Carries before after from report bytes =
-    (head : List ℕ) × (batch : Written) × GoIn before after (begun from report) batch × (bytes ≡ head ++ batch.bytes)
+    (head : List ℕ) × (batch : WrittenBatch) × GoIn before after (report_alone from report) batch × (bytes ≡ head ++ batch.bytes)
 
 -- the oldest makes room where 3,333 wait
 abbrev pub with_room : List Waiting → List Waiting
@@ -109,7 +109,7 @@ IsPut last old new = (new ≡ with_room old ++ last ∷ []) ⊎ (new ≡ with_ro
 -- the oldest is a question
 abbrev pub asks_first : List Waiting → Bool
 asks_first [] = false
-asks_first (first ∷ rest) = is_question first.message.body
+asks_first (first ∷ rest) = is_query first.message.body
 
 -- those behind the oldest ones that have waited for more than two seconds
 abbrev pub fresh_of : ℕ → List Waiting → List Waiting

@@ -3,10 +3,10 @@ use Rattle.std.specs.Prelude.{ℕ, ◌≡◌, ◌+◌, ◌==◌, Bool, IsTrue, L
 use Rattle.std.proofs.Common.{subst}
 use Rattle.std.specs.declared.alloc.AllocError.{AllocError}
 use Rattle.press_acceptor.specs.Seen.{Seen}
-use Rattle.press_batch.specs.Carried.{Carried}
+use Rattle.press_batch.specs.Carried.{BatchContent}
 use Rattle.press_http.specs.declared.fault.HttpFault.{HttpFault}
 use Rattle.press_net.specs.Answering.{Credit}
-use Rattle.press_node.specs.Nodes.{NodeMove, node_moved, state_of, store_of}
+use Rattle.press_node.specs.Nodes.{NodeMove, node_move, state_of, store_of}
 use Rattle.press_node.specs.States.{NodeState, Up}
 use Rattle.press_node.specs.declared.fault.NodeFault.{NodeFault}
 use Rattle.press_callbacks.specs.Kits.{KitView}
@@ -38,9 +38,9 @@ pub single : {T : Type 0} {Step : T → T → Type 0} (old new : T) → Step old
 single old new step = goes_on old new new step (rests new)
 
 -- some, and then some
-pub joined : {T : Type 0} {Step : T → T → Type 0} (old next new : T) → Chain Step old next → Chain Step next new → Chain Step old new
-joined old next new (rests only) rest = rest
-joined old next new (goes_on first second last step chain) rest = goes_on first second new step (joined second last new chain rest)
+pub joined_chain : {T : Type 0} {Step : T → T → Type 0} (old next new : T) → Chain Step old next → Chain Step next new → Chain Step old new
+joined_chain old next new (rests only) rest = rest
+joined_chain old next new (goes_on first second last step chain) rest = goes_on first second new step (joined_chain second last new chain rest)
 
 -- a connection is served to these bytes, by a node over the same kit
 pub record HasTurn {N : Type 0} (moved : N → N → NodeMove) (old new : N) : Type 0 where
@@ -54,7 +54,7 @@ pub record HasTurn {N : Type 0} (moved : N → N → NodeMove) (old new : N) : T
 
 -- what becomes of a node by itself: turns
 abbrev pub NodeLives : {S : Type 0} {t : _} {F : _} {g : _} → (S → Seen) → Node S t F g → Node S t F g → Type 0
-NodeLives seen = Chain (HasTurn (λ a b. node_moved seen a b))
+NodeLives seen = Chain (HasTurn (λ a b. node_move seen a b))
 
 -- what becomes of a member, as a view: a life, by its inputs
 pub record IsLife {S N : Type 0} (seen : S → Seen) (moved : N → N → NodeMove) (store : N → S) (state : N → NodeState) (old new : View N) : Type 0 where
@@ -87,7 +87,7 @@ more_come {seen = seen} {moved = moved} {store = store} {state = state} old next
 }
 
 abbrev pub MemberLives : {S : Type 0} {t : _} {F : _} {g : _} → (S → Seen) → Member S t F g → Member S t F g → Type 0
-MemberLives seen old new = IsLife seen (λ a b. node_moved seen a b) (λ node. store_of node) (λ node. state_of node) (view_of old) (view_of new)
+MemberLives seen old new = IsLife seen (λ a b. node_move seen a b) (λ node. store_of node) (λ node. state_of node) (view_of old) (view_of new)
 
 -- a member takes that input, and no other
 pub record TakesInput {S N : Type 0} (seen : S → Seen) (moved : N → N → NodeMove) (store : N → S) (state : N → NodeState) (input : Input) (old new : View N) : Type 0 where
@@ -96,7 +96,7 @@ pub record TakesInput {S N : Type 0} (seen : S → Seen) (moved : N → N → No
   pub moves : AreItsMoves seen store state input old new result
 
 abbrev pub MemberTakes : {S : Type 0} {t : _} {F : _} {g : _} → (S → Seen) → Input → Member S t F g → Member S t F g → Type 0
-MemberTakes seen input old new = TakesInput seen (λ a b. node_moved seen a b) (λ node. store_of node) (λ node. state_of node) input (view_of old) (view_of new)
+MemberTakes seen input old new = TakesInput seen (λ a b. node_move seen a b) (λ node. store_of node) (λ node. state_of node) input (view_of old) (view_of new)
 
 -- it is that member's report, or a message in its name
 abbrev pub IsOf : ℕ → Input → Type 0
@@ -127,14 +127,14 @@ letters from [] = []
 letters from (message ∷ messages) = if message.from == from then Letter message ∷ letters from messages else letters from messages
 
 -- what a batch brings: its report, and then its messages
-abbrev pub inputs_in : Carried → List Input
+abbrev pub inputs_in : BatchContent → List Input
 inputs_in batch = Report batch.from batch.report ∷ letters batch.from batch.messages
 
 -- a reply is a batch of that member, which counts the same members and runs the same kit, and all of
 -- it is heard
 abbrev pub HearsReply : {S : Type 0} {t : _} {F : _} {g : _} → (S → Seen) → ℕ → List ℕ → Member S t F g → Member S t F g → Type 0
 HearsReply seen from reply old new =
-    (batch : Carried) × (batch.from ≡ from) × IsSaid reply batch × (batch.report.digests ≡ (view_of old).digests) × TakesAll seen (inputs_in batch) old new
+    (batch : BatchContent) × (batch.from ≡ from) × IsSaid reply batch × (batch.report.digests ≡ (view_of old).digests) × TakesAll seen (inputs_in batch) old new
 
 -- a member is told last that a request to the member at that place has ended, with as many looks
 -- and questions as were in it; as one that was taken only where its reply was heard
@@ -155,11 +155,11 @@ Compares member HearOwn given = Unit {0}
 Compares member (Time now) given = Unit {0}
 
 -- by what is answered to an input
-pub compared : {N : Type 0} (member : View N) (kit : KitView) (up : Option Up) (input : Input) (refused : Option NodeFault) (given : Answer) → Answers member kit up input refused given → Compares member input given
-compared member kit up (Report from report) refused given answers = answers
-compared member kit up (Command command) refused given answers = tt
-compared member kit up (Page target) refused given answers = tt
-compared member kit up (Letter message) refused given answers = tt
-compared member kit up (Ended to asked is_taken) refused given answers = tt
-compared member kit up HearOwn refused given answers = tt
-compared member kit up (Time now) refused given answers = tt
+pub compares_by_answers : {N : Type 0} (member : View N) (kit : KitView) (up : Option Up) (input : Input) (refused : Option NodeFault) (given : Answer) → Answers member kit up input refused given → Compares member input given
+compares_by_answers member kit up (Report from report) refused given answers = answers
+compares_by_answers member kit up (Command command) refused given answers = tt
+compares_by_answers member kit up (Page target) refused given answers = tt
+compares_by_answers member kit up (Letter message) refused given answers = tt
+compares_by_answers member kit up (Ended to asked is_taken) refused given answers = tt
+compares_by_answers member kit up HearOwn refused given answers = tt
+compares_by_answers member kit up (Time now) refused given answers = tt

@@ -3,7 +3,7 @@ use Rattle.std.specs.Prelude.{ℕ, ◌≡◌, ◌+◌, ◌-◌, ◌==◌, ◌&&�
 use Rattle.std.specs.List.{starts_with}
 use Rattle.std.specs.declared.net.ip_addr.IpAddr.{IpAddr}
 use Rattle.press_acceptor.specs.StoreMap.{StoreMap}
-use Rattle.press_batch.specs.Carried.{Carried}
+use Rattle.press_batch.specs.Carried.{BatchContent}
 use Rattle.press_batch.specs.Spelling.{spelled_batch}
 use Rattle.press_net.specs.Addresses.{behind_loss, has_ip, sockets_at}
 use Rattle.press_net.specs.Answering.{Credit}
@@ -27,12 +27,12 @@ abbrev pub is_done : List ℕ → Bool
 is_done reply = starts_with nat_eq reply (codes "HTTP/1.1 200 ")
 
 -- a reply that something is done is that batch behind its head
-abbrev pub IsSaid : List ℕ → Carried → Type 0
+abbrev pub IsSaid : List ℕ → BatchContent → Type 0
 IsSaid reply batch = (is_done reply ≡ true) × (head : ℕ) × (drop head reply ≡ spelled_batch batch)
 
 -- it is a batch of that member
 abbrev pub SaysBatch : ℕ → List ℕ → Type 0
-SaysBatch member reply = (batch : Carried) × (batch.from ≡ member) × IsSaid reply batch
+SaysBatch member reply = (batch : BatchContent) × (batch.from ≡ member) × IsSaid reply batch
 
 -- where a request to the member at a place came to no batch of that member, and where it went is
 -- its first address, the next one goes to the next

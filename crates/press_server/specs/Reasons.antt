@@ -6,17 +6,17 @@ use Rattle.press_http.specs.declared.asked.Asked.TheVariants as variant
 use Rattle.press_http.specs.declared.fault.HttpFault.{HttpFault}
 use Rattle.press_http.specs.declared.fault.HttpFault.TheVariants.{BadForm}
 use Rattle.press_http.specs.declared.request.Request.{Request}
-use Rattle.press_http.specs.Forms.{first_named}
+use Rattle.press_http.specs.Forms.{first_value}
 use Rattle.press_http.specs.Requests.{IsRequest}
-use Rattle.press_http.specs.Routes.{asked}
+use Rattle.press_http.specs.Routes.{asked_by_request}
 use Rattle.press_server.specs.Screening.{is_ahead}
 use Rattle.press_server.specs.declared.reasons.Reason.{Reason}
 use Rattle.press_server.specs.declared.reasons.Reason.TheVariants.{Missing, Unfit, Ahead}
 
 -- it is about a field, which a form has, or doesn't
 abbrev pub IsOfField : List ℕ → Reason → Type 0
-IsOfField form (Missing field) = first_named field form ≡ None
-IsOfField form (Unfit field) = first_named field form ≢ None
+IsOfField form (Missing field) = first_value field form ≡ None
+IsOfField form (Unfit field) = first_value field form ≢ None
 IsOfField form (Ahead limit) = ⊥
 
 -- a command was asked for that is more seconds ahead than an operator allows
@@ -43,5 +43,5 @@ abbrev pub IsLineAbout : Option ℕ → ℕ → List ℕ → List ℕ → Type 0
 IsLineAbout most now bytes line =
     (seen : List ℕ) × (left : Option (List ℕ)) × Consumes (Some bytes) left seen
     × (r : Request) × IsRequest seen r
-    × (reason : Reason) × IsReason most now r.body (asked r.method r.target r.body) reason
+    × (reason : Reason) × IsReason most now r.body (asked_by_request r.method r.target r.body) reason
     × (line ≡ line_of reason)

@@ -17,7 +17,7 @@ use crate::replies::{refuse, tell_desk};
 use crate::turn::serve_turn;
 use press_acceptor::PromiseStore;
 use press_http::{HttpFault, Request, read_request};
-use press_net::{Answers, Errand, Outgoing, Time, Traffic, words_of};
+use press_net::{Answers, Errand, Outgoing, Time, Traffic, method_and_target_of};
 use press_node::Node;
 use std::alloc::{AllocError, Global};
 use std::net::{IpAddr, SocketAddr};
@@ -193,7 +193,7 @@ impl<S: PromiseStore> Alone<'_, S> {
         requires always { Unit {0} }
         ensures { NodeLives S.seen self.old.node self.new.node }
     {
-        let (method, target) = words_of(request);
+        let (method, target) = method_and_target_of(request);
         match self.paths.at(method, target) {
             Some(own) if self.options.has(own) => self.reply_itself(Some(own), request, told),
             _ if self.options.has_editor() && is_of_desk(target) => {
@@ -205,7 +205,7 @@ impl<S: PromiseStore> Alone<'_, S> {
 }
 
 impl<S: PromiseStore> Answers for Alone<'_, S> {
-    ghost use Rattle.press_server.specs.Living.{NodeLives, joined, stays};
+    ghost use Rattle.press_server.specs.Living.{NodeLives, joined_chain, stays};
 
     ghost answers = { λ _ _ _. Unit {0} };
 
@@ -287,5 +287,5 @@ impl<S: PromiseStore> Answers for Alone<'_, S> {
 
     ghost rests = { λ a. stays a.node };
 
-    ghost goes_on = { λ a b c. joined a.node b.node c.node };
+    ghost goes_on = { λ a b c. joined_chain a.node b.node c.node };
 }

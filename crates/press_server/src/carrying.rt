@@ -2,7 +2,7 @@
 //! which is a batch as well.
 
 ghost use Rattle.std.specs.Prelude.{ℕ, ◌≡◌, ◌++◌, IfOk, IfSome, List, drop, true};
-ghost use Rattle.press_batch.specs.Carried.{carried};
+ghost use Rattle.press_batch.specs.Carried.{carried_by};
 ghost use Rattle.press_server.specs.Members.{IsSaid, is_done};
 
 use httparse::spans::{EMPTY_HEADER_SPAN, parse_request};
@@ -85,7 +85,7 @@ fn body_of_done(reply: &[u8]) -> Option<&[u8]>
 /// The batch of a member in its reply to another.
 pub fn batch_by(alloc: Global, member: MemberId, reply: &[u8]) -> Option<Batch>
     ensures from { IfSome result (λ batch. batch.from ≡ member) }
-    ensures said { IfSome result (λ batch. IsSaid reply.now (carried batch)) }
+    ensures said { IfSome result (λ batch. IsSaid reply.now (carried_by batch)) }
 {
     match decode_batch(alloc, body_of_done(reply)?) {
         Ok(batch) if batch.from == member => Some(batch),

@@ -3,7 +3,7 @@
 
 ghost use Rattle.std.specs.Prelude.{◌≡◌, ◌≢◌, ℕ, ◌&&◌, ◌||◌, ◌++◌, ◌-◌, IfOk, IfSome, IsTrue, List, MatchBool, MatchOption, None, false, if◌then◌else◌};
 ghost use Rattle.std.specs.List.{list_any};
-ghost use Rattle.press_batch.specs.Carried.{carried};
+ghost use Rattle.press_batch.specs.Carried.{carried_by};
 ghost use Rattle.press_member.specs.Acts.{has_more, is_open, stop_in, view_of};
 ghost use Rattle.press_member.specs.Readiness.{report_of};
 ghost use Rattle.press_member.specs.declared.input.Input.TheVariants as input;
@@ -26,13 +26,13 @@ use crate::operator_options::{
 use crate::paths::{Own, Paths};
 use crate::peers::{Peers, member_at, place_of};
 use crate::reasons::{REFUSED, line_about};
-use crate::replies::{queued_reply, refuse, refuse_by, taken_reply, tell_answer, tell_desk};
+use crate::replies::{refuse, refuse_by, tell_answer, tell_desk};
 use press_acceptor::{PromiseStore, StoreFault};
 use press_batch::{Batch, BatchFault, Report, decode_batch};
 use press_http::{Asked, DeskRequest, HttpFault, Routes, read_request};
 use press_member::{Answer, Input, Member, Outputs};
-use press_net::{Answers, Errand, Outgoing, Time, Traffic, words_of};
-use press_node::NodeFault;
+use press_net::{Answers, Errand, Outgoing, Time, Traffic, method_and_target_of};
+use press_node::{NodeFault, queued_reply, taken_reply};
 use press_wire::{MemberId, Message};
 use std::alloc::{AllocError, Global};
 use std::net::{IpAddr, Ipv4Addr, SocketAddr};
@@ -262,7 +262,7 @@ impl<S: PromiseStore> Clustered<'_, S> {
             (batch.report.digests ≢ (view_of self.old.member).digests)) }
         ensures only { HearsOnly S.seen batch.from self.old.member self.new.member }
         ensures all { IfOk result (λ is_heard. IsTrue is_heard →
-            TakesAll S.seen (inputs_in (carried batch)) self.old.member self.new.member) }
+            TakesAll S.seen (inputs_in (carried_by batch)) self.old.member self.new.member) }
         ensures ways { HasSameWays self.new.lanes self.old.lanes }
         ensures peers { self.new.peers ≡ self.old.peers }
     {
@@ -366,7 +366,7 @@ impl<S: PromiseStore> Clustered<'_, S> {
     fn show_metrics(&self, told: &mut Vec<u8>) -> Result<u16, HttpFault> {
         let node = self.member.node();
         let among = Among {
-            chosen: self.member.chosen(),
+            chosen: self.member.chosen_count(),
             foreign: self.foreign.count(),
         };
         let metrics = Metrics {
@@ -432,7 +432,7 @@ impl<S: PromiseStore> Clustered<'_, S> {
         requires always { Unit {0} }
         ensures { MemberLives S.seen self.old.member self.new.member }
     {
-        let (method, target) = words_of(request);
+        let (method, target) = method_and_target_of(request);
         match self.paths.at(method, target) {
             Some(Own::Members) if !self.peers.has(from) => refuse_path(told),
             Some(Own::Members) => match body_in(request) {
@@ -445,7 +445,7 @@ impl<S: PromiseStore> Clustered<'_, S> {
 
     // A batch for the member at a place. None without memory.
     #[tactic(auto, using(crate::proofs::Owing::given_up))]
-    fn outgoing(&mut self, place: usize) -> Option<Outgoing>
+    fn outgoing_batch(&mut self, place: usize) -> Option<Outgoing>
         ensures member { self.new.member ≡ self.old.member }
         ensures carries { IfSome result (λ outgoing. Carries (waiting_at self.old.lanes place)
             (waiting_at self.new.lanes place) self.old.peers.own (report_of self.old.member)
@@ -481,7 +481,7 @@ impl<S: PromiseStore> Clustered<'_, S> {
         ensures lives { MemberLives S.seen self.old.member self.new.member }
         ensures heard { IsTrue result → MatchOption said ⊥ (λ batch.
             (batch.report.digests ≡ (view_of self.old.member).digests)
-            × TakesAll S.seen (inputs_in (carried batch)) self.old.member self.new.member) }
+            × TakesAll S.seen (inputs_in (carried_by batch)) self.old.member self.new.member) }
         ensures ways { HasSameWays self.new.lanes self.old.lanes }
         ensures peers { self.new.peers ≡ self.old.peers }
     {
@@ -532,7 +532,7 @@ impl<S: PromiseStore> Answers for Clustered<'_, S> {
     #[tactic(auto, using(crate::specs::Living::none_comes))]
     fn next_call(&mut self) -> Option<Outgoing> {
         let place = self.lanes.ready(self.time.millis)?;
-        self.outgoing(place)
+        self.outgoing_batch(place)
     }
 
     fn has_more(&self) -> bool

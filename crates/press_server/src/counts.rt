@@ -1,7 +1,7 @@
 //! How many requests were answered with each status.
 
 ghost use Rattle.std.specs.Prelude.{◌≡◌};
-ghost use Rattle.press_server.specs.Counting.{with_count, counted_by, none_of, none_yet, with_one};
+ghost use Rattle.press_server.specs.Counting.{with_count, counts_after, none_of, none_yet, with_one};
 
 use press_http::HttpFault;
 
@@ -77,7 +77,7 @@ impl Counts {
 
     /// What came of a request. One that got no reply is not counted.
     pub fn note(&mut self, replied: &Result<u16, HttpFault>)
-        ensures { self.new.all ≡ counted_by replied.now self.old.all }
+        ensures { self.new.all ≡ counts_after replied.now self.old.all }
     {
         if let Ok(status) = replied {
             note_in(&mut self.all, *status);

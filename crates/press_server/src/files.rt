@@ -11,7 +11,7 @@ pub const OWN: usize = 226;
 pub const FEWEST: usize = 64;
 
 // No server has more.
-const MOST: usize = 1024;
+const MOST_CONNECTIONS: usize = 1024;
 
 // What stands there from a place on.
 fn from(text: &[u8], place: usize) -> &[u8]
@@ -79,7 +79,7 @@ pub fn most_connections(files: Option<u64>) -> Option<usize>
     ensures { result ≡ connections_by files }
 {
     let Some(files) = files else {
-        return Some(MOST);
+        return Some(MOST_CONNECTIONS);
     };
     let left = usize::try_from(files)
         .unwrap_or(usize::MAX)
@@ -87,5 +87,5 @@ pub fn most_connections(files: Option<u64>) -> Option<usize>
     if left < FEWEST {
         return None;
     }
-    Some(left.min(MOST))
+    Some(left.min(MOST_CONNECTIONS))
 }

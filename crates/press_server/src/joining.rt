@@ -5,8 +5,8 @@ ghost use Rattle.std.specs.Prelude.{◌≡◌, ◌≢◌, IfOk, MatchResult, opt
 ghost use Rattle.press_callbacks.specs.Kits.{kit_view};
 ghost use Rattle.press_member.specs.Acts.{first_view, node_in, view_of};
 ghost use Rattle.press_member.specs.Starting.{IsItsStart};
-ghost use Rattle.press_net.specs.Addresses.{listed};
-ghost use Rattle.press_node.specs.Nodes.{kit_of, node_moved, state_of, store_of};
+ghost use Rattle.press_net.specs.Addresses.{listed_count};
+ghost use Rattle.press_node.specs.Nodes.{kit_of, node_move, state_of, store_of};
 ghost use Rattle.press_node.specs.States.{applied_count, started_at};
 ghost use Rattle.press_server.specs.Members.{IsBeforeLast, number_of};
 ghost use Rattle.press_server.specs.Turns.{HasCaughtUp};
@@ -43,7 +43,7 @@ pub struct Membership {
 
 impl Membership {
     fn members(&self) -> Result<u8, ServeFault>
-        ensures { IfOk result (λ members. members ≡ listed self.now.peers.book) }
+        ensures { IfOk result (λ members. members ≡ listed_count self.now.peers.book) }
     {
         match u8::try_from(self.peers.count()) {
             Ok(members) => Ok(members),
@@ -54,7 +54,7 @@ impl Membership {
     // Whose its file is.
     fn owner(&self) -> Result<Owner, ServeFault>
         ensures number { IfOk result (λ owner. owner.number ≡ self.now.peers.own) }
-        ensures members { IfOk result (λ owner. owner.members ≡ listed self.now.peers.book) }
+        ensures members { IfOk result (λ owner. owner.members ≡ listed_count self.now.peers.book) }
         ensures peers { IfOk result (λ owner. owner.peers ≡ self.now.peers.digest) }
     {
         Ok(Owner {
@@ -68,7 +68,7 @@ impl Membership {
     fn beginning(&self, chosen: u64) -> Result<Beginning, ServeFault>
         ensures id { IfOk result (λ beginning. beginning.id ≡ self.now.peers.own) }
         ensures members { IfOk result
-            (λ beginning. beginning.members ≡ listed self.now.peers.book) }
+            (λ beginning. beginning.members ≡ listed_count self.now.peers.book) }
     {
         let members = self.members()?;
         let digests = Digests {
@@ -92,7 +92,7 @@ fn missing_line(alloc: Global, name: &str) -> Result<String, AllocError> {
 // Tells whose name isn't found.
 fn tell_missing<E: Write>(alloc: Global, peers: &Peers, error: &mut E) {
     for place in 0..peers.count() {
-        let Some(name) = peers.missing(place) else {
+        let Some(name) = peers.missing_name(place) else {
             continue;
         };
         if let Ok(line) = missing_line(alloc, name) {
@@ -103,7 +103,7 @@ fn tell_missing<E: Write>(alloc: Global, peers: &Peers, error: &mut E) {
 
 /// The place of the member that a server is to be, which wants a file for its store. None for a
 /// node by itself.
-pub fn seat_of<E: Write>(
+pub fn membership_of<E: Write>(
     rt: &HostRuntime,
     setup: &Setup<'_>,
     error: &mut E,
@@ -172,7 +172,7 @@ fn begin_member<S: PromiseStore + Drop>(
 ) -> Result<Node<S>, ServeFault>
     ensures kit { IfOk result (λ node. kit_of node ≡ kit_view kit) }
     ensures joins { IfOk result (λ node. (S.seen (store_of node)).is_honest → state_of node
-        ≡ started_at peers.now.own (listed peers.now.book) (S.seen store).kept.last_round) }
+        ≡ started_at peers.now.own (listed_count peers.now.book) (S.seen store).kept.last_round) }
 {
     let member = peers.own();
     let Ok(count) = u8::try_from(peers.count()) else {
@@ -196,10 +196,11 @@ fn begin_caught_up<S: PromiseStore + Drop>(
 ) -> Result<Node<S>, ServeFault>
     requires always { Unit {0} }
     ensures kit { IfOk result (λ node. kit_of node ≡ kit_view kit) }
-    ensures caught_up { IfOk result (λ node. HasCaughtUp (λ a b. node_moved S.seen a b)
+    ensures caught_up { IfOk result (λ node. HasCaughtUp (λ a b. node_move S.seen a b)
         (λ n. applied_count (state_of n))
         (λ n. (S.seen (store_of n)).is_honest → state_of n
-        ≡ started_at peers.now.own (listed peers.now.book) (S.seen store).kept.last_round) node) }
+        ≡ started_at peers.now.own (listed_count peers.now.book) (S.seen store).kept.last_round)
+        node) }
 {
     let mut node = begin_member(alloc, peers, kit, store)?;
     catch_up(alloc, &mut node)?;
@@ -241,12 +242,12 @@ impl Membership {
         ensures kit { IfOk result (λ member. kit_of (node_in (view_of member)) ≡ kit_view kit) }
         ensures begins { IfOk result
             (λ member. view_of member ≡ first_view beginning (node_in (view_of member))) }
-        ensures alone { listed self.now.peers.book ≡ 1 → IfOk result
-            (λ member. HasCaughtUp (λ a b. node_moved S.seen a b)
+        ensures alone { listed_count self.now.peers.book ≡ 1 → IfOk result
+            (λ member. HasCaughtUp (λ a b. node_move S.seen a b)
             (λ n. applied_count (state_of n)) (λ n. (S.seen (store_of n)).is_honest → state_of n
-            ≡ started_at self.now.peers.own (listed self.now.peers.book)
+            ≡ started_at self.now.peers.own (listed_count self.now.peers.book)
             (S.seen store).kept.last_round) (node_in (view_of member))) }
-        ensures among { listed self.now.peers.book ≢ 1 → IfOk result
+        ensures among { listed_count self.now.peers.book ≢ 1 → IfOk result
             (λ member. IsItsStart S.seen (λ node. store_of node) (λ node. state_of node) store
             (view_of member)) }
     {

@@ -2,8 +2,8 @@
 
 ghost use Rattle.std.specs.Prelude.{ℕ, ◌≡◌, ◌<◌, ◌≤◌, ◌⊎◌, ◌+◌, ◌-◌, IfErr, IfOk, IfSome, IsTrue, MatchOption, None, drop, false, if◌then◌else◌, length, slice_get};
 ghost use Rattle.std.specs.List.{list_any};
-ghost use Rattle.press_batch.specs.Spelling.{begun};
-ghost use Rattle.press_server.specs.Going.{AreKept, GoIn, GoOut, GoesIn, HasEnded, HasSameElsewhere, HasSameWaiting, HasSameWay, HasSameWays, IsPut, asks_first, counted, fresh_of, is_free, is_question, is_ready, is_stale, owed, owed_at, question_count, waiting_at};
+ghost use Rattle.press_batch.specs.Spelling.{report_alone};
+ghost use Rattle.press_server.specs.Going.{AreKept, GoIn, GoOut, GoesIn, HasEnded, HasSameElsewhere, HasSameWaiting, HasSameWay, HasSameWays, IsPut, asks_first, u32_count, fresh_of, is_free, is_query, is_ready, is_stale, owed_count, owed_at, question_count, waiting_at};
 
 use crate::peers::place_of;
 use press_batch::{BatchFault, BatchWriter, Report};
@@ -13,10 +13,10 @@ use std::collections::VecDeque;
 
 // The most messages that wait for one member: where one more comes, the oldest is lost, as a
 // message may be.
-const MOST_WAITING: usize = 3_333;
+const MOST_MESSAGES: usize = 3_333;
 
 // The most requests that are on their way to one member.
-const MOST_OPEN: u32 = 8;
+const MOST_REQUESTS: u32 = 8;
 
 // How many milliseconds what waits leaves to the request before it: it goes out together then, and
 // often with a reply.
@@ -25,8 +25,8 @@ const SHORT: u64 = 20;
 // A message that waited for longer than so many milliseconds is lost.
 const OLDEST: u64 = 2_000;
 
-fn is_question(message: &Message) -> bool
-    ensures { result ≡ is_question message.now.body }
+fn is_query(message: &Message) -> bool
+    ensures { result ≡ is_query message.now.body }
 {
     matches!(message.body, Body::Query)
 }
@@ -72,7 +72,7 @@ impl Lane {
     fn is_free(&self, now: u64) -> bool
         ensures { result ≡ is_free now self.now }
     {
-        self.open == 0 || (self.open < MOST_OPEN && SHORT <= now.saturating_sub(self.since))
+        self.open == 0 || (self.open < MOST_REQUESTS && SHORT <= now.saturating_sub(self.since))
     }
 
     fn is_ready(&self, now: u64) -> bool
@@ -85,10 +85,10 @@ impl Lane {
     fn lose(&mut self)
         ensures lost { self.new.waiting.items ≡ drop 1 self.old.waiting.items }
         ensures same { HasSameWay self.new self.old }
-        ensures kept { AreKept (owed self.old) (owed self.new) }
+        ensures kept { AreKept (owed_count self.old) (owed_count self.new) }
     {
         if let Some(waiting) = self.waiting.pop_front() {
-            let count = u32::from(is_question(&waiting.message));
+            let count = u32::from(is_query(&waiting.message));
             self.lost = self.lost.saturating_add(count);
         }
     }
@@ -100,13 +100,13 @@ impl Lane {
         ensures most { length self.old.waiting.items ≤ 3333 →
             length self.new.waiting.items ≤ 3333 }
         ensures way { HasSameWay self.new self.old }
-        ensures kept { AreKept (owed self.old + (if is_question message.body then 1 else 0))
-            (owed self.new) }
+        ensures kept { AreKept (owed_count self.old + (if is_query message.body then 1 else 0))
+            (owed_count self.new) }
     {
-        if self.waiting.len() >= MOST_WAITING {
+        if self.waiting.len() >= MOST_MESSAGES {
             self.lose();
         }
-        let count = u32::from(is_question(&message));
+        let count = u32::from(is_query(&message));
         let waiting = Waiting {
             message,
             since: now,
@@ -129,7 +129,7 @@ impl Lane {
     // From the oldest on, as far as each has waited for too long.
     fn lose_stale(&mut self, now: u64)
         ensures way { HasSameWay self.new self.old }
-        ensures kept { AreKept (owed self.old) (owed self.new) }
+        ensures kept { AreKept (owed_count self.old) (owed_count self.new) }
         ensures fresh { self.new.waiting.items ≡ fresh_of now self.old.waiting.items }
     {
         while self.is_stale(now) {
@@ -149,7 +149,7 @@ impl Lane {
         ensures lost { self.new.lost ≡ self.old.lost }
     {
         let waiting = self.waiting.front()?;
-        let count = u32::from(is_question(&waiting.message));
+        let count = u32::from(is_query(&waiting.message));
         let is_in = match batch.push(&waiting.message) {
             Err(BatchFault::NoMemory) => return None,
             Err(_) => false,
@@ -164,7 +164,7 @@ impl Lane {
 
     // A request has ended that never went out.
     fn give_up(&mut self, asked: u32)
-        ensures kept { AreKept (owed self.old + asked) (owed self.new) }
+        ensures kept { AreKept (owed_count self.old + asked) (owed_count self.new) }
         ensures waits { self.new.waiting.items ≡ self.old.waiting.items }
         ensures way { self.new.«open» ≡ self.old.«open» - 1 }
     {
@@ -195,10 +195,11 @@ impl Lane {
     fn pack(&mut self, sender: Sender) -> Result<Parcel, BatchFault>
         ensures since { IfOk result (λ _. self.new.since ≡ sender.now) }
         ensures looks { IfOk result (λ _. self.new.looks ≡ 0) }
-        ensures way { IfOk result (λ _. self.new.«open» ≡ counted (self.old.«open» + 1)) }
-        ensures asks { IfOk result (λ parcel. GoOut parcel.asked (owed self.old) (owed self.new)) }
+        ensures way { IfOk result (λ _. self.new.«open» ≡ u32_count (self.old.«open» + 1)) }
+        ensures asks { IfOk result (λ parcel. GoOut parcel.asked (owed_count self.old)
+            (owed_count self.new)) }
         ensures goes { IfOk result (λ parcel. GoIn self.old.waiting.items self.new.waiting.items
-            (begun sender.from sender.report) parcel.batch) }
+            (report_alone sender.from sender.report) parcel.batch) }
         ensures stays { IfErr result (λ _. self.new ≡ self.old) }
     {
         let mut batch = BatchWriter::new(sender.alloc, sender.from, &sender.report)?;
@@ -216,7 +217,7 @@ impl Lane {
         ensures { result ≡ asks_first self.now.waiting.items }
     {
         match self.waiting.front() {
-            Some(waiting) => is_question(&waiting.message),
+            Some(waiting) => is_query(&waiting.message),
             None => false,
         }
     }
@@ -224,7 +225,7 @@ impl Lane {
     // Puts what waits before the first question into a batch, as much as it takes.
     fn move_said(&mut self, batch: &mut BatchWriter)
         ensures way { HasSameWay self.new self.old }
-        ensures kept { owed self.new ≡ owed self.old }
+        ensures kept { owed_count self.new ≡ owed_count self.old }
         ensures goes { GoIn self.old.waiting.items self.new.waiting.items batch.old batch.new }
     {
         for _ in 0..self.waiting.len() {
@@ -238,9 +239,9 @@ impl Lane {
     // ends are told.
     fn pack_reply(&mut self, sender: Sender) -> Result<BatchWriter, BatchFault>
         ensures way { HasSameWay self.new self.old }
-        ensures kept { AreKept (owed self.old) (owed self.new) }
+        ensures kept { AreKept (owed_count self.old) (owed_count self.new) }
         ensures goes { IfOk result (λ batch. GoIn (fresh_of sender.now self.old.waiting.items)
-            self.new.waiting.items (begun sender.from sender.report) batch) }
+            self.new.waiting.items (report_alone sender.from sender.report) batch) }
         ensures stays { IfErr result (λ _. self.new ≡ self.old) }
     {
         let mut batch = BatchWriter::new(sender.alloc, sender.from, &sender.report)?;
@@ -278,7 +279,7 @@ impl Lanes {
     pub fn put(&mut self, message: Message, now: u64)
         ensures kept { message.to - 1 < length self.old.all.items →
             AreKept (owed_at self.old (message.to - 1)
-            + (if is_question message.body then 1 else 0)) (owed_at self.new (message.to - 1)) }
+            + (if is_query message.body then 1 else 0)) (owed_at self.new (message.to - 1)) }
         ensures puts { message.to - 1 < length self.old.all.items → IsPut
             (record { message = message; since = now }) (waiting_at self.old (message.to - 1))
             (waiting_at self.new (message.to - 1)) }
@@ -336,7 +337,7 @@ impl Lanes {
         ensures asks { MatchOption result (owed_at self.new place ≡ owed_at self.old place)
             (λ parcel. GoOut parcel.asked (owed_at self.old place) (owed_at self.new place)) }
         ensures goes { IfSome result (λ parcel. GoIn (waiting_at self.old place)
-            (waiting_at self.new place) (begun sender.from sender.report) parcel.batch) }
+            (waiting_at self.new place) (report_alone sender.from sender.report) parcel.batch) }
         ensures others { HasSameElsewhere place self.new self.old }
         ensures stays { result ≡ None → HasSameWaiting self.new self.old }
         ensures there { IfSome result (λ _. place < length self.new.all.items) }
@@ -350,7 +351,7 @@ impl Lanes {
         ensures ways { HasSameWays self.new self.old }
         ensures goes { IfSome result (λ batch. GoIn
             (fresh_of sender.now (waiting_at self.old place)) (waiting_at self.new place)
-            (begun sender.from sender.report) batch) }
+            (report_alone sender.from sender.report) batch) }
         ensures others { HasSameElsewhere place self.new self.old }
         ensures stays { result ≡ None → HasSameWaiting self.new self.old }
     {

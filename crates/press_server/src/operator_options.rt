@@ -2,7 +2,7 @@
 
 ghost use Rattle.std.specs.Prelude.{◌≡◌, ◌≢◌, ◌&&◌, IfErr, IfOk, IfSome, MatchOption, MatchResult, Ok, OnErr, Some, false, is_some, true};
 ghost use Rattle.std.specs.Io.KnownBytes.{Appends};
-ghost use Rattle.press_http.specs.Desk.{desk_asked};
+ghost use Rattle.press_http.specs.Desk.{desk_request_of};
 ghost use Rattle.press_http.specs.Meanings.{Refuses};
 ghost use Rattle.press_http.specs.Replies.{fault_bytes};
 ghost use Rattle.press_server.specs.Screening.{IsOfSort, ahead_of, has_page, is_ahead, is_of_desk, sort_by, sort_named};
@@ -207,7 +207,7 @@ impl OperatorOptions {
         request: &Request,
     ) -> Option<Result<DeskRequest, HttpFault>>
         ensures asked { IfSome result (λ asked. Gives Refuses Ok asked
-            (desk_asked request.now.method request.now.target)) }
+            (desk_request_of request.now.method request.now.target)) }
         ensures desk { is_some result
             ≡ (has_page self.now && is_of_desk request.now.target) }
     {
@@ -265,12 +265,12 @@ fn tell(told: &mut Vec<u8>, line: &[u8]) -> Result<(), HttpFault> {
     }
 }
 
-const LATER: &str =
+const NOT_READY: &str =
     "HTTP/1.1 503 Service Unavailable\r\nContent-Type: text/plain; charset=UTF-8\r\nContent-Length: 14\r\nRetry-After: 1\r\nConnection: close\r\n\r\nnot ready yet\n";
 
 /// The node isn't ready yet.
 pub fn refuse_for_now(told: &mut Vec<u8>) -> Result<u16, HttpFault> {
-    tell(told, LATER.as_bytes())?;
+    tell(told, NOT_READY.as_bytes())?;
     Ok(503)
 }
 

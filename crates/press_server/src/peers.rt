@@ -1,7 +1,7 @@
 //! The members of a cluster, by their addresses.
 
 ghost use Rattle.std.specs.Prelude.{◌≡◌, ◌+◌, ◌-◌, ◌≤◌, IfOk};
-ghost use Rattle.press_net.specs.Addresses.{behind_loss, first_at, listed, sockets_at};
+ghost use Rattle.press_net.specs.Addresses.{behind_loss, first_at, listed_count, sockets_at};
 ghost use Rattle.press_server.specs.Digests.{digest_of};
 ghost use Rattle.press_server.specs.Members.{is_other_at};
 ghost use Rattle.press_wire.specs.Ranges.{member_id_of};
@@ -58,7 +58,7 @@ impl Peers {
     /// 1. The name of another may be found later.
     pub fn read<N: Net>(alloc: Global, net: &N, number: u8, text: &str) -> Result<Peers, PeersFault>
         ensures own { IfOk result (λ peers. peers.own ≡ number) }
-        ensures among { IfOk result (λ peers. peers.own ≤ listed peers.book) }
+        ensures among { IfOk result (λ peers. peers.own ≤ listed_count peers.book) }
         ensures digest { IfOk result (λ peers. peers.digest ≡ digest_of text.now) }
     {
         let mut book = AddressBook::new(alloc);
@@ -79,7 +79,7 @@ impl Peers {
 
     /// How many there are: at most 7.
     pub fn count(&self) -> usize
-        ensures { result ≡ listed self.now.book }
+        ensures { result ≡ listed_count self.now.book }
     {
         self.book.len()
     }
@@ -111,8 +111,8 @@ impl Peers {
     }
 
     /// The name of a member that isn't found.
-    pub fn missing(&self, place: usize) -> Option<&str> {
-        self.book.missing(place)
+    pub fn missing_name(&self, place: usize) -> Option<&str> {
+        self.book.missing_name(place)
     }
 
     /// Whether a member has that address.
@@ -130,7 +130,7 @@ impl Peers {
     /// A request to a member, which went there, was lost.
     pub fn lose(&mut self, place: usize, tried: Option<SocketAddr>)
         ensures own { self.new.own ≡ self.old.own }
-        ensures count { listed self.new.book ≡ listed self.old.book }
+        ensures count { listed_count self.new.book ≡ listed_count self.old.book }
         ensures lost { sockets_at self.new.book place
             ≡ behind_loss tried (sockets_at self.old.book place) }
     {

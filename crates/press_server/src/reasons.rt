@@ -3,7 +3,7 @@
 
 ghost use Rattle.std.specs.Prelude.{◌≡◌, IfOk, IfSome, string_bytes};
 ghost use Rattle.press_http.specs.Forms.{fields_of};
-ghost use Rattle.press_http.specs.Routes.{asked};
+ghost use Rattle.press_http.specs.Routes.{asked_by_request};
 ghost use Rattle.press_server.specs.Screening.{ahead_of};
 ghost use Rattle.press_server.specs.Reasons.{IsLineAbout, IsOfField, IsReason, line_of};
 
@@ -142,7 +142,7 @@ fn reason_of(
     request: &Request,
 ) -> Option<Reason>
     ensures { IfSome result (IsReason (ahead_of options.now) now request.now.body
-        (asked request.now.method request.now.target request.now.body)) }
+        (asked_by_request request.now.method request.now.target request.now.body)) }
 {
     match route(alloc, request) {
         Ok(Asked::Command(stamped)) => match options.limit_behind(stamped.at.seconds(), now) {

@@ -5,7 +5,7 @@ ghost use Rattle.std.specs.Prelude.{◌≡◌, IfErr, IfOk, OnErr, Some};
 ghost use Rattle.press_text.specs.Streams.{AppendsProperFront};
 ghost use Rattle.press_http.specs.Replies.{fault_bytes};
 ghost use Rattle.press_node.specs.Nodes.{kit_of, state_of};
-ghost use Rattle.press_node.specs.Serving.{Tells, TellsFront, queued_reply, status_of_node, taken_reply};
+ghost use Rattle.press_node.specs.Serving.{Tells, TellsFront, status_of_node};
 ghost use Rattle.press_server.specs.Desk.{ShowsDesk, ShowsDeskFront, TellsFault, TellsFaultFront};
 
 use crate::operator_options::{refuse_for_now, refuse_without_memory};
@@ -13,34 +13,8 @@ use press_http::{DeskRequest, HttpFault, write_fault, write_reply};
 use press_log::show_log;
 use press_member::Answer;
 use press_node::{Node, NodeFault};
-use press_page::{ContentKind, Reply};
-use press_text::Text;
+use press_page::Reply;
 use std::alloc::Global;
-
-/// The reply that a command waits to be chosen. Its body is short, so it takes no memory.
-pub fn queued_reply(alloc: Global) -> Reply
-    ensures { result ≡ queued_reply }
-{
-    let Ok(body) = Text::from_str(alloc, "{\"queued\":true}") else {
-        unreachable!()
-    };
-    Reply {
-        status: 202,
-        kind: ContentKind::Json,
-        body,
-    }
-}
-
-/// The reply that a message was taken.
-pub fn taken_reply(alloc: Global) -> Reply
-    ensures { result ≡ taken_reply }
-{
-    Reply {
-        status: 200,
-        kind: ContentKind::Text,
-        body: Text::new(alloc),
-    }
-}
 
 /// A request is refused; the connection of one that isn't whole is closed without a reply.
 pub fn refuse(fault: HttpFault, told: &mut Vec<u8>) -> Result<u16, HttpFault>

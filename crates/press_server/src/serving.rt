@@ -4,7 +4,7 @@
 ghost use Rattle.std.specs.Prelude.{◌≡◌, IfOk, string_bytes};
 ghost use Rattle.press_text.specs.Streams.{AppendsFront};
 ghost use Rattle.press_callbacks.specs.Kits.{kit_view};
-ghost use Rattle.press_node.specs.Nodes.{kit_of, node_moved, state_of, store_of};
+ghost use Rattle.press_node.specs.Nodes.{kit_of, node_move, state_of, store_of};
 ghost use Rattle.press_node.specs.States.{applied_count, started_at};
 ghost use Rattle.press_server.specs.Listening.{listening_line, where_of};
 ghost use Rattle.press_server.specs.Listening.Where.{alone_at, member_of};
@@ -12,7 +12,7 @@ ghost use Rattle.press_server.specs.Turns.{HasCaughtUp};
 
 use crate::alone::Alone;
 use crate::files::{FEWEST, OWN, most_connections, open_files};
-use crate::joining::{Joiner, Membership, join, seat_of, tie};
+use crate::joining::{Joiner, Membership, join, membership_of, tie};
 use crate::operator_options::OperatorOptions;
 use crate::serve_fault::ServeFault;
 use crate::setup::{Role, Setup};
@@ -71,7 +71,7 @@ fn begin_caught_up<S: PromiseStore + Drop>(
 ) -> Result<Node<S>, StoreFault>
     requires always { Unit {0} }
     ensures kit { IfOk result (λ node. kit_of node ≡ kit_view kit) }
-    ensures caught_up { IfOk result (λ node. HasCaughtUp (λ a b. node_moved S.seen a b)
+    ensures caught_up { IfOk result (λ node. HasCaughtUp (λ a b. node_move S.seen a b)
         (λ n. applied_count (state_of n))
         (λ n. (S.seen (store_of n)).is_honest → state_of n
         ≡ started_at 1 1 (S.seen store).kept.last_round) node) }
@@ -330,7 +330,7 @@ impl Setup<'_> {
         ensures { AppendsFront (W.contents writer.old) (W.contents writer.new)
             (listening_line (where_of self.now.place)) }
     {
-        let seat = seat_of(rt, self, error)?;
+        let seat = membership_of(rt, self, error)?;
         let most = most_open(rt, error)?;
         let start = Start {
             rt,

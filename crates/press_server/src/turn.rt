@@ -1,11 +1,10 @@
 //! One turn of a server: a connection, and after a command that was taken a wake with what the node
 //! sends to itself.
 
-ghost use Rattle.std.specs.Prelude.{◌≡◌, ◌++◌, OnOk, MatchOption, false};
+ghost use Rattle.std.specs.Prelude.{◌≡◌, ◌++◌, OnOk};
 ghost use Rattle.press_acceptor.specs.Seen.{fault_in};
-ghost use Rattle.press_node.specs.Faults.{of_store, stops};
-ghost use Rattle.press_node.specs.Nodes.{kit_of, node_moved, state_of};
-ghost use Rattle.press_node.specs.Plays.{sent};
+ghost use Rattle.press_node.specs.Nodes.{kit_of, node_move, state_of};
+ghost use Rattle.press_node.specs.Plays.{messages_of_result};
 ghost use Rattle.press_node.specs.States.{applied_count};
 ghost use Rattle.press_server.specs.Turns.{CatchesUp, Delivers, ServesTurn, Wakes, fault_of};
 
@@ -25,7 +24,8 @@ const MOST_DELIVERIES: u32 = 22;
 fn play_event<S: PromiseStore>(node: &mut Node<S>, event: Event) -> Result<Vec<Message>, NodeFault>
     requires always { Unit {0} }
     ensures kit { kit_of node.new ≡ kit_of node.old }
-    ensures plays { (node_moved S.seen node.old node.new).plays event (sent (λ v. v.items) result) }
+    ensures plays { (node_move S.seen node.old node.new).plays event
+        (messages_of_result (λ v. v.items) result) }
 {
     match node.on(event) {
         Ok(out) => Ok(out),
@@ -51,7 +51,7 @@ fn deliver<S: PromiseStore>(
 ) -> Result<(), NodeFault>
     requires always { Unit {0} }
     ensures kit { kit_of node.new ≡ kit_of node.old }
-    ensures delivers { Delivers (λ a b. node_moved S.seen a b) most waiting.old.items
+    ensures delivers { Delivers (λ a b. node_move S.seen a b) most waiting.old.items
         node.old node.new (fault_of result) }
 {
     for count in 0..most {
@@ -74,7 +74,7 @@ fn deliver<S: PromiseStore>(
 pub fn wake<S: PromiseStore>(alloc: Global, node: &mut Node<S>) -> Result<(), NodeFault>
     requires always { Unit {0} }
     ensures kit { kit_of node.new ≡ kit_of node.old }
-    ensures wakes { Wakes (λ a b. node_moved S.seen a b) node.old node.new (fault_of result) }
+    ensures wakes { Wakes (λ a b. node_move S.seen a b) node.old node.new (fault_of result) }
 {
     match play_event(node, Event::Wake) {
         Err(fault) => Err(fault),
@@ -88,34 +88,18 @@ pub fn wake<S: PromiseStore>(alloc: Global, node: &mut Node<S>) -> Result<(), No
     }
 }
 
-/// What stopped the node, where the fault is more than a refusal.
-pub fn stop_of(fault: NodeFault) -> Option<StoreFault>
-    ensures { MatchOption result (stops fault ≡ false) (λ by. fault ≡ of_store by) }
-{
-    match fault {
-        NodeFault::NoMemory => Some(StoreFault::NoMemory),
-        NodeFault::Disk => Some(StoreFault::Disk),
-        NodeFault::Damaged => Some(StoreFault::Damaged),
-        NodeFault::Down
-        | NodeFault::TooLong
-        | NodeFault::Full
-        | NodeFault::SlotsUsedUp
-        | NodeFault::RoundsUsedUp => None,
-    }
-}
-
 /// Has what its store keeps chosen again, and applied: wakes it until a wake applies nothing more
 /// or is refused. Out of memory, or a fault of the store, in one of them is returned.
 pub fn catch_up<S: PromiseStore>(alloc: Global, node: &mut Node<S>) -> Result<(), StoreFault>
     requires always { Unit {0} }
     ensures kit { kit_of node.new ≡ kit_of node.old }
-    ensures catches_up { CatchesUp (λ a b. node_moved S.seen a b)
+    ensures catches_up { CatchesUp (λ a b. node_move S.seen a b)
         (λ n. applied_count (state_of n)) node.old node.new (fault_in result) }
 {
     'wakes: loop {
         let applied = node.applied();
         if let Err(fault) = wake(alloc, node) {
-            return match stop_of(fault) {
+            return match fault.stop() {
                 Some(stop) => Err(stop),
                 None => Ok(()),
             };
@@ -136,7 +120,7 @@ pub fn serve_turn<S: PromiseStore, R: Read, W: Write>(
 ) -> Result<u16, HttpFault>
     requires always { Unit {0} }
     ensures kit { kit_of node.new ≡ kit_of node.old }
-    ensures turn { ServesTurn (λ a b. node_moved S.seen a b) node.old node.new
+    ensures turn { ServesTurn (λ a b. node_move S.seen a b) node.old node.new
         (R.remaining reader.old) (R.remaining reader.new)
         (W.contents writer.old) (W.contents writer.new) result }
 {

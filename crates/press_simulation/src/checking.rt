@@ -34,8 +34,8 @@ impl<A: Actor> World<A> {
 
     /// Looks at what a member says of how many are chosen, and whether it opens.
     pub fn check(&mut self, place: usize, standing: Standing) -> Result<(), AllocError> {
-        if standing.chosen > self.judge.chosen() {
-            let (said, chosen) = (standing.chosen, self.judge.chosen());
+        if standing.chosen > self.judge.chosen_count() {
+            let (said, chosen) = (standing.chosen, self.judge.chosen_count());
             let text = format!(in self.alloc; "says {said}, and {chosen} are chosen")?;
             self.complain(place, text.as_str())?;
         }

@@ -8,8 +8,8 @@ const LATELY: u64 = 2_001;
 // Who told how far it is within so many milliseconds is believed by any member.
 const FRESH: u64 = 1_990;
 
-// The most members.
-const MOST: usize = 8;
+// Room for more members than a cluster has, which are seven at most.
+const MEMBER_ROOM: usize = 8;
 
 // How far a member said it is, when, and by how much the clock of who heard it went forward since.
 #[derive(Clone, Copy, Drop)]
@@ -90,7 +90,7 @@ struct Ear {
 impl Ear {
     fn new(alloc: Global, is_known: bool) -> Result<Ear, AllocError> {
         let mut words = Vec::new(alloc);
-        for _ in 0..MOST {
+        for _ in 0..MEMBER_ROOM {
             words.push(Word::none())?;
         }
         Ok(Ear {

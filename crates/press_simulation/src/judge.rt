@@ -5,7 +5,7 @@ use crate::note::Note;
 use std::alloc::{AllocError, Global};
 
 // More complaints than these aren't kept.
-const MOST: usize = 8;
+const MOST_COMPLAINTS: usize = 8;
 
 // Votes of one ballot.
 #[derive(Clone, Copy, Drop)]
@@ -179,7 +179,7 @@ impl Judge {
 
     /// Something doesn't hold.
     pub fn complain(&mut self, text: String) {
-        if self.complaints.len() < MOST {
+        if self.complaints.len() < MOST_COMPLAINTS {
             let _ = self.complaints.push(text);
         }
     }
@@ -190,7 +190,7 @@ impl Judge {
     }
 
     /// Of so many slots, the first ones, each is chosen.
-    pub fn chosen(&self) -> u64 {
+    pub fn chosen_count(&self) -> u64 {
         self.chosen
     }
 

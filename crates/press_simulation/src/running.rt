@@ -117,7 +117,7 @@ impl<'a, A: Actor> Run<'a, A> {
     }
 
     fn tell_forms(&mut self) -> Result<(), AllocError> {
-        let (forms, chosen) = (self.world.forms.count(), self.world.judge.chosen());
+        let (forms, chosen) = (self.world.forms.count(), self.world.judge.chosen_count());
         let line = format!(in self.alloc; "{forms} forms, {chosen} chosen")?;
         self.lines.push(line)?;
         Ok(())
@@ -284,7 +284,7 @@ impl<A: Actor> Run<'_, A> {
     fn settle_calm(&mut self) -> Result<bool, AllocError>
         requires always { Unit {0} }
     {
-        let within = self.time_for(self.world.waiting());
+        let within = self.time_for(self.world.waiting_form_count());
         self.times.calm = self.settle(within)?;
         if self.times.calm < u64::MAX || self.world.is_settled(1) {
             return Ok(true);
@@ -325,9 +325,9 @@ impl<A: Actor> Run<'_, A> {
         requires always { Unit {0} }
     {
         self.rest()?;
-        let before = self.world.judge.chosen();
+        let before = self.world.judge.chosen_count();
         self.rest()?;
-        if self.world.judge.chosen() != before {
+        if self.world.judge.chosen_count() != before {
             let text = format!(in self.alloc; "slots are chosen though nothing waits")?;
             self.world.judge.complain(text);
         }

@@ -11,7 +11,7 @@ impl<A: Actor> World<A> {
         let standing = self.standing(place);
         standing.is_running
             && !standing.is_waiting
-            && standing.applied.saturating_add(but) >= self.judge.chosen()
+            && standing.applied.saturating_add(but) >= self.judge.chosen_count()
             && self.seats.get(place).is_some_and(|seat| seat.is_ready())
     }
 
@@ -27,7 +27,7 @@ impl<A: Actor> World<A> {
 
     // What a member lacks.
     fn complain_of(&mut self, place: usize, within: u64) -> Result<(), AllocError> {
-        let (standing, all) = (self.standing(place), self.judge.chosen());
+        let (standing, all) = (self.standing(place), self.judge.chosen_count());
         let (applied, said, waits) = (standing.applied, standing.chosen, standing.is_waiting);
         let text = format!(in self.alloc;
             "is not done within {within} ms: applied {applied} of {all}, says {said}, waits {waits}"
@@ -57,7 +57,7 @@ impl<A: Actor> World<A> {
     }
 
     /// How many forms wait at the members that took them.
-    pub fn waiting(&self) -> u64 {
+    pub fn waiting_form_count(&self) -> u64 {
         let mut count: u64 = 0;
         for at in 0..self.forms.count() {
             if let Some(form) = self.forms.at(at) {

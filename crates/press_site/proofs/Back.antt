@@ -7,7 +7,7 @@ use Rattle.press_events.specs.Shifts.{MayGoBack}
 use Rattle.press_posts.specs.declared.fault.PostFault.{PostFault}
 use Rattle.press_posts.specs.declared.post.Post.{Post}
 use Rattle.press_posts.specs.PostChange as post
-use Rattle.press_posts.specs.Restored.{restored, changed_id, stood, IsRestorable, IsTakenBack}
+use Rattle.press_posts.specs.Restored.{restore_post, changed_id, post_before, IsRestorable, IsTakenBack}
 use Rattle.press_posts.specs.declared.fire.Fire.{Fire}
 use Rattle.press_site.specs.declared.changed.Changed.{Changed}
 use Rattle.press_site.specs.declared.fault.SiteFault.{SiteFault}
@@ -21,9 +21,9 @@ use Rattle.press_site.specs.declared.stood.Stood.TheVariants.{OfPost}
 use Rattle.press_site.specs.declared.stood.Undone.{Undone}
 
 abbrev pub TakesBack : ℕ → Option Post → List (Option Post) → List (Option Post) → Type 0
-TakesBack id p new posts = IsRestorable id p new × (restored id p new ≡ posts)
+TakesBack id p new posts = IsRestorable id p new × (restore_post id p new ≡ posts)
 
-pub taken : {A : Type 0} (part : post.Changed → A) (answer : A) (new posts : List (Option Post)) (change : post.Change) (meant : Result post.Changed PostFault) → IfOk meant (IsTakenBack change posts) → post.Done part answer new meant → TakesBack (changed_id change posts) (stood change posts) new posts
+pub taken : {A : Type 0} (part : post.ChangeResult → A) (answer : A) (new posts : List (Option Post)) (change : post.Change) (meant : Result post.ChangeResult PostFault) → IfOk meant (IsTakenBack change posts) → post.GivesPart part answer new meant → TakesBack (changed_id change posts) (post_before change posts) new posts
 taken part answer new posts change (Ok c) t d = rw (d.1, sym t.id) (t.may, t.back)
 taken part answer new posts change (Err f) t d = absurd d
 
@@ -42,11 +42,11 @@ went undone new old id p posts s a f n t e = record { may = rw (s, n) (t.0, tt);
 
 module _ (result : Result Done SiteFault) (id : ℕ) (p : Option Post) (posts : List (Option Post)) (es : List Event) (fires : List Fire) (new old : ContentView) (back : TakesBack id p posts old.posts) where
   pub ended_does : (meant : Result (ContentView × Changed) SiteFault) → meant ≡ answered posts es id true fires → OnOk result (new ≡ record { posts = posts; events = es }) → IfOk result (λ d. d.changed ≡ record { id = id; did = true; fires = fires })
-      → IfErr result (λ f. (f ≡ NoMemory) × (new ≡ record { posts = restored id p posts; events = old.events })) → Does result meant old new
+      → IfErr result (λ f. (f ≡ NoMemory) × (new ≡ record { posts = restore_post id p posts; events = old.events })) → Does result meant old new
   ended_does meant m n c e = by result n c e
     where
       by : (r : Result Done SiteFault) → OnOk r (new ≡ record { posts = posts; events = es }) → IfOk r (λ d. d.changed ≡ record { id = id; did = true; fires = fires })
-          → IfErr r (λ f. (f ≡ NoMemory) × (new ≡ record { posts = restored id p posts; events = old.events })) → Does r meant old new
+          → IfErr r (λ f. (f ≡ NoMemory) × (new ≡ record { posts = restore_post id p posts; events = old.events })) → Does r meant old new
       by (Ok d) n c e = rw (m, n, c) refl
       by (Err f) n c e = rw (e.0, m) (tt, e.1 ∙ ap (λ (ps : List (Option Post)). record { posts = ps; events = old.events }) back.1)
 

@@ -7,7 +7,7 @@ use Rattle.std.proofs.lemmas.List.{length-append}
 use Rattle.std.proofs.lemmas.List.Folds.{list_all-append}
 use Rattle.press_text.specs.declared.name_fault.NameFault.TheVariants.{BadName, TooLong}
 use Rattle.press_text.specs.Names.{IsName, is_name_byte, name_fault}
-use Rattle.press_site.specs.Options.{added_name, updated_name}
+use Rattle.press_site.specs.Options.{option_add_name, option_update_name}
 
 chosen : (empty long all : Bool) → empty ≡ false → long ≡ false → all ≡ true → (if empty then Some BadName else (if long then Some TooLong else (if all then None else Some BadName))) ≡ None
 chosen empty long all e l a = rw (e, l, a) refl
@@ -22,8 +22,8 @@ fits front name some short all is =
     (le-ltb 64 (length (front ++ name)) (omega arith))
     (list_all-append is_name_byte front name ∙ ap (λ b. b && list_all is_name_byte name) all ∙ p.1)
 
-pub updated_fits : (name : List ℕ) → IsName 32 name → name_fault 64 (updated_name name) ≡ None
+pub updated_fits : (name : List ℕ) → IsName 32 name → name_fault 64 (option_update_name name) ≡ None
 updated_fits name is = fits (codes "update_option_") name (omega arith) (omega arith) refl is
 
-pub added_fits : (name : List ℕ) → IsName 32 name → name_fault 64 (added_name name) ≡ None
+pub added_fits : (name : List ℕ) → IsName 32 name → name_fault 64 (option_add_name name) ≡ None
 added_fits name is = fits (codes "add_option_") name (omega arith) (omega arith) refl is

@@ -7,7 +7,7 @@ use Rattle.press_events.specs.declared.shift.Shift.TheVariants.{Came, Moved, Wen
 use Rattle.press_posts.specs.declared.post.Post.{Post}
 use Rattle.press_site.specs.Back.{Does, GoesBack, Keeps, MayEventBack, MayEventsGoBack, MayPostsGoBack, event_back, events_back, options_back, posts_back, site_back}
 use Rattle.press_site.specs.Becomes.{Becomes, MayGrow}
-use Rattle.press_site.specs.Log.{Log, all_of, fills, first_kept, more_shifts, noted, told, where_filled, with_stood}
+use Rattle.press_site.specs.Log.{Log, all_of, fills, first_kept, more_shifts, note_change, stood_before, where_filled, with_stood}
 use Rattle.press_site.specs.Options.{Values}
 use Rattle.press_site.specs.SiteView.{SiteView}
 use Rattle.press_site.specs.declared.changed.Changed.{Changed}
@@ -40,9 +40,9 @@ filled_same None true events = refl
 filled_same None false events = refl
 filled_same (Some stood) b events = refl
 
-kept_same : {A : Type 0} (kept told : Option A) (b : Bool) (x y : A) → ((is_none kept || b) ≡ true → unwrap_or told x ≡ y) → unwrap_or (first_kept kept told) x ≡ unwrap_or kept y
-kept_same None told b x y e = e refl
-kept_same (Some k) told b x y e = refl
+kept_same : {A : Type 0} (kept was : Option A) (b : Bool) (x y : A) → ((is_none kept || b) ≡ true → unwrap_or was x ≡ y) → unwrap_or (first_kept kept was) x ≡ unwrap_or kept y
+kept_same None was b x y e = e refl
+kept_same (Some k) was b x y e = refl
 
 events_same : (kept : Option (List Event)) (ws : List Shift) (shift : Option Shift) (b : Bool) (new old : List Event) → ((is_none kept || b) ≡ true → event_back shift new ≡ old)
     → events_back (more_shifts kept shift ws) (unwrap_or (first_kept kept (all_of shift)) new) ≡ events_back ws (unwrap_or kept old)
@@ -71,7 +71,7 @@ same_site a b m p e o s f k =
 
 -- ---- a change
 
-keeps_noted : (log : Log) (undone : Undone) (before after : SiteView) → GoesBack (is_none log.events) undone after before → Keeps log before (noted undone after.events log) after
+keeps_noted : (log : Log) (undone : Undone) (before after : SiteView) → GoesBack (is_none log.events) undone after before → Keeps log before (note_change undone after.events log) after
 keeps_noted log undone before after g = let filled = filled_same (first_kept log.events (all_of undone.shift)) (is_none log.events && fills undone.shift log.shifts) after.events in record {
   same =
       same_site _ _ g.same_moment
@@ -102,7 +102,7 @@ module _ (meant : Result (SiteView × Changed) SiteFault) (before after : SiteVi
   pub refused : (f : SiteFault) (done : Result Done SiteFault) → done ≡ Err f → Does done meant before after → Ends (Err f) after log
   refused f done e d = let h = subst (λ (r : Result Done SiteFault). Does r meant before after) e d in ((h.0, h.1), keeps_same log before after h.1)
 
-  pub done_well : (x : Done) (new : Log) → new ≡ noted x.undone after.events log → meant ≡ Ok (after, x.changed) → GoesBack (is_none log.events) x.undone after before → Ends (Ok x.changed) after new
+  pub done_well : (x : Done) (new : Log) → new ≡ note_change x.undone after.events log → meant ≡ Ok (after, x.changed) → GoesBack (is_none log.events) x.undone after before → Ends (Ok x.changed) after new
   done_well x new n m g = (m, subst (λ (l : Log). Keeps log before l after) (sym n) (keeps_noted log x.undone before after g))
 
   grows : (x : SiteView × Changed) → meant ≡ Ok x → MayGrow meant
@@ -113,7 +113,7 @@ module _ (meant : Result (SiteView × Changed) SiteFault) (before after : SiteVi
       let same = b ∙ went_back (is_none log.events) x.undone after before g s in
       ((grows (after, x.changed) m, same), subst (λ (l : Log). Keeps log before l back) (sym n) (keeps_same log before back same))
 
-pub may_of : (done : Result Done SiteFault) (w : Bool) (new old : SiteView) → IfOk done (λ d. GoesBack w d.undone new old) → IfOk done (λ d. MayPostsGoBack (told d.undone) new.posts × MayEventBack d.undone.shift new.events)
+pub may_of : (done : Result Done SiteFault) (w : Bool) (new old : SiteView) → IfOk done (λ d. GoesBack w d.undone new old) → IfOk done (λ d. MayPostsGoBack (stood_before d.undone) new.posts × MayEventBack d.undone.shift new.events)
 may_of (Ok d) w new old g = (g.may, g.may_events)
 may_of (Err f) w new old g = tt
 

@@ -18,7 +18,7 @@ use Rattle.press_site.specs.declared.fault.SiteFault.TheVariants.{NoMemory}
 use Rattle.press_site.specs.declared.options.SetDone.{SetDone}
 use Rattle.press_site.specs.Becomes.{MayGrow}
 use Rattle.press_site.specs.Sets.{Changes, Sets, set_back}
-use Rattle.press_site.specs.Options.{Values, by_bytes, option_of, put_back, put_option, set_option, set_over, updated_fire}
+use Rattle.press_site.specs.Options.{Values, by_bytes, option_of, put_back, put_option, set_option, set_over, option_update_fire}
 
 module _ (name value : List ℕ) where
   abbrev out : Values → Values
@@ -107,7 +107,7 @@ module _ {S : Type 0} (name value old new : List ℕ) (es : List (String S × Li
   already = Ok (by_bytes es, None)
 
   abbrev over : Result (Values × Option (List Fire)) SiteFault
-  over = Ok (put_option name value (by_bytes es), Some (updated_fire name old value ∷ []))
+  over = Ok (put_option name value (by_bytes es), Some (option_update_fire name old value ∷ []))
 
   pub sets_there : (result : Result (Option SetDone) SiteFault) → IsStrictlySortedBy string_cmp (keys_of es) → option_of name (by_bytes es) ≡ Some old → after ≡ put_back name (Some new) (by_bytes es)
       → IfOk result (λ s. Changes name value s old new) → IfErr result (λ f. (f ≡ NoMemory) × (new ≡ old)) → Sets result (set_over (Some old) name value (by_bytes es)) (by_bytes es) after

@@ -4,7 +4,7 @@ use Rattle.press_events.specs.declared.event.Event.{Event}
 use Rattle.press_events.specs.declared.shift.Shift.{Shift}
 use Rattle.press_events.specs.Shifts.{MayShiftBack, shift_back}
 use Rattle.press_posts.specs.declared.post.Post.{Post}
-use Rattle.press_posts.specs.Restored.{restored, IsRestorable}
+use Rattle.press_posts.specs.Restored.{restore_post, IsRestorable}
 use Rattle.press_text.specs.Gives.{GivesOrStays}
 use Rattle.press_site.specs.declared.changed.Changed.{Changed}
 use Rattle.press_site.specs.declared.stood.Done.{Done}
@@ -16,14 +16,14 @@ use Rattle.press_site.specs.declared.fault.SiteFault.TheVariants.{NoMemory}
 use Rattle.press_site.specs.Becomes.{Becomes, Refuses}
 use Rattle.press_site.specs.Contents.{ChangesSome}
 use Rattle.press_site.specs.ContentView.{ContentView}
-use Rattle.press_site.specs.Log.{Log, note_grows, told}
+use Rattle.press_site.specs.Log.{Log, note_grows, stood_before}
 use Rattle.press_site.specs.Options.{Values, put_back}
 use Rattle.press_site.specs.SiteView.{SiteView}
 
 -- ---- what stood at one place: of a post it leaves the options, of an option the posts
 
 abbrev pub post_back : Stood → List (Option Post) → List (Option Post)
-post_back (OfPost id post) posts = restored id post posts
+post_back (OfPost id post) posts = restore_post id post posts
 post_back (OfOption name value) posts = posts
 
 abbrev pub option_back : Stood → Values → Values
@@ -71,30 +71,30 @@ MayEventBack (Some shift) events = MayShiftBack shift events
 
 abbrev pub site_back : Undone → SiteView → SiteView
 site_back u s = record s {
-  posts = posts_back (told u) s.posts;
+  posts = posts_back (stood_before u) s.posts;
   events = event_back u.shift s.events;
-  options = options_back (told u) s.options;
+  options = options_back (stood_before u) s.options;
   active = unwrap_or u.active s.active;
   profile = unwrap_or u.profile s.profile;
 }
 
 -- with what a change of posts and events answers it may be taken back; events alone are told only where they are wanted
 pub record ContentGoesBack (wants : Bool) (undone : Undone) (new old : ContentView) : Type 0 where
-  pub may : MayPostsGoBack (told undone) new.posts
-  pub same_posts : posts_back (told undone) new.posts ≡ old.posts
+  pub may : MayPostsGoBack (stood_before undone) new.posts
+  pub same_posts : posts_back (stood_before undone) new.posts ≡ old.posts
   pub may_events : MayEventBack undone.shift new.events
   pub same_events : (wants || is_some undone.stood) ≡ true → event_back undone.shift new.events ≡ old.events
-  pub no_options : (options : Values) → options_back (told undone) options ≡ options
+  pub no_options : (options : Values) → options_back (stood_before undone) options ≡ options
   pub no_active : undone.active ≡ None
   pub no_profile : undone.profile ≡ None
 
 -- with what any change answers; without what stood at a place, events are told only where they are wanted
 pub record GoesBack (wants : Bool) (undone : Undone) (new old : SiteView) : Type 0 where
-  pub may : MayPostsGoBack (told undone) new.posts
-  pub same_posts : posts_back (told undone) new.posts ≡ old.posts
+  pub may : MayPostsGoBack (stood_before undone) new.posts
+  pub same_posts : posts_back (stood_before undone) new.posts ≡ old.posts
   pub may_events : MayEventBack undone.shift new.events
   pub same_events : (wants || is_some undone.stood) ≡ true → event_back undone.shift new.events ≡ old.events
-  pub same_options : options_back (told undone) new.options ≡ old.options
+  pub same_options : options_back (stood_before undone) new.options ≡ old.options
   pub same_active : unwrap_or undone.active new.active ≡ old.active
   pub same_profile : unwrap_or undone.profile new.profile ≡ old.profile
   pub same_moment : new.moment ≡ old.moment

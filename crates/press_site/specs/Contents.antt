@@ -4,7 +4,7 @@ use Rattle.std.specs.Prelude.{◌≡◌, ℕ, List, [], length, Bool, true, fals
 use Rattle.press_text.specs.declared.every.Every.TheVariants.{Once}
 use Rattle.press_events.specs.declared.event.Event.{Event}
 use Rattle.press_events.specs.declared.fault.EventFault.{EventFault}
-use Rattle.press_events.specs.DueEvents.{add_event, cancelled, place_of, scheduled, take_event}
+use Rattle.press_events.specs.DueEvents.{add_event, cancel_events, place_of, insert_event, take_event}
 use Rattle.press_posts.specs.declared.fault.PostFault.{PostFault}
 use Rattle.press_posts.specs.declared.post.Move.{Move}
 use Rattle.press_posts.specs.declared.post.Post.{Post}
@@ -20,23 +20,23 @@ abbrev pub publish_event : ℕ → ℕ → Event
 publish_event id date = record { time = date; hook = codes "publish_future_post"; arg = decimal id; every = Once }
 
 abbrev pub events_without : ℕ → List Event → List Event
-events_without id events = cancelled (codes "publish_future_post") (decimal id) events
+events_without id events = cancel_events (codes "publish_future_post") (decimal id) events
 
 -- the events beside a post, given the moment of the one that comes
 abbrev pub events_of : Option ℕ → ℕ → List Event → Result (List Event) SiteFault
 events_of None id events = Ok (events_without id events)
 events_of (Some date) id events =
-    if nat_le 4096 (length (events_without id events)) then Err TooManyEvents else Ok (scheduled (publish_event id date) (events_without id events))
+    if nat_le 4096 (length (events_without id events)) then Err TooManyEvents else Ok (insert_event (publish_event id date) (events_without id events))
 
 abbrev pub events_where : Bool → Option ℕ → ℕ → List Event → Result (List Event) SiteFault
 events_where true comes id events = events_of comes id events
 events_where false comes id events = Ok events
 
-abbrev pub beside : post.Changed → Result (List Event) SiteFault → Result (ContentView × Changed) SiteFault
+abbrev pub beside : post.ChangeResult → Result (List Event) SiteFault → Result (ContentView × Changed) SiteFault
 beside c (Ok events) = Ok (record { posts = c.posts; events = events }, record { id = c.id; did = c.goes; fires = c.fires })
 beside c (Err fault) = Err fault
 
-abbrev pub with_events : Result post.Changed PostFault → List Event → Result (ContentView × Changed) SiteFault
+abbrev pub with_events : Result post.ChangeResult PostFault → List Event → Result (ContentView × Changed) SiteFault
 with_events (Ok c) events = beside c (events_where c.goes c.comes c.id events)
 with_events (Err fault) events = Err (of_posts fault)
 
@@ -56,7 +56,7 @@ beside_status (Err fault) date id events = Err (of_posts fault)
 
 abbrev pub beside_move : Option Post → Move → ℕ → List Event → Result (Option (List Event)) SiteFault
 beside_move None to id events = Err NoSuchPost
-beside_move (Some p) to id events = beside_status (post.status_moved to p) p.date id events
+beside_move (Some p) to id events = beside_status (post.status_after_move to p) p.date id events
 
 -- whether the move changes it
 abbrev pub MovesPost : Result (Option (List Event)) SiteFault → Type 0
@@ -78,8 +78,8 @@ abbrev pub put_in : Result (List Event × Bool) EventFault → ContentView → R
 put_in (Ok after) v = Ok (record v { events = after.0 }, no_post after.1)
 put_in (Err fault) v = Err (of_events fault)
 
-abbrev pub scheduling : ContentView → Event → Result (ContentView × Changed) SiteFault
-scheduling v event = put_in (add_event event v.events) v
+abbrev pub add_event_effect : ContentView → Event → Result (ContentView × Changed) SiteFault
+add_event_effect v event = put_in (add_event event v.events) v
 
-abbrev pub taking : ContentView → Event → ℕ → ContentView × Changed
-taking v event now = (record v { events = take_event event now v.events }, no_post (is_some (place_of event v.events)))
+abbrev pub take_event_effect : ContentView → Event → ℕ → ContentView × Changed
+take_event_effect v event now = (record v { events = take_event event now v.events }, no_post (is_some (place_of event v.events)))

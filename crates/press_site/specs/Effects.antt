@@ -7,11 +7,11 @@ use Rattle.press_site.specs.declared.changed.Changed.{Changed}
 use Rattle.press_site.specs.declared.effect.Effect.{Effect}
 use Rattle.press_site.specs.declared.effect.Effect.TheVariants.{Insert, Edit, Move, Delete, SetOption, Schedule, Take, Activate, Deactivate, Profile}
 use Rattle.press_site.specs.declared.fault.SiteFault.{SiteFault}
-use Rattle.press_site.specs.Contents.{post_effect, scheduling, taking, no_post}
+use Rattle.press_site.specs.Contents.{post_effect, add_event_effect, take_event_effect, no_post}
 use Rattle.press_site.specs.ContentView.{ContentView}
 use Rattle.press_site.specs.Options.{Values, set_option}
-use Rattle.press_site.specs.Plugins.{activated, deactivated}
-use Rattle.press_site.specs.Profile.{switched}
+use Rattle.press_site.specs.Plugins.{activate_plugin, deactivate_plugin}
+use Rattle.press_site.specs.Profile.{switch_profile}
 use Rattle.press_site.specs.SiteView.{SiteView}
 
 abbrev pub no_site : SiteView
@@ -29,12 +29,12 @@ with_content s (Ok after) = Ok (record s { posts = after.0.posts; events = after
 with_content s (Err fault) = Err fault
 
 -- an option that has its value already changes nothing
-abbrev pub fired : Option (List Fire) → Changed
-fired None = no_post false
-fired (Some fires) = record { id = 0; did = true; fires = fires }
+abbrev pub option_change : Option (List Fire) → Changed
+option_change None = no_post false
+option_change (Some fires) = record { id = 0; did = true; fires = fires }
 
 abbrev pub with_options : SiteView → Result (Values × Option (List Fire)) SiteFault → Result (SiteView × Changed) SiteFault
-with_options s (Ok after) = Ok (record s { options = after.0 }, fired after.1)
+with_options s (Ok after) = Ok (record s { options = after.0 }, option_change after.1)
 with_options s (Err fault) = Err fault
 
 abbrev pub with_plugins : SiteView → Result (List (List ℕ)) SiteFault → Result (SiteView × Changed) SiteFault
@@ -51,8 +51,8 @@ effect_on s (Edit id draft) = with_content s (post_effect (content_of s) (PostEd
 effect_on s (Move id to) = with_content s (post_effect (content_of s) (PostMoves id to) s.moment)
 effect_on s (Delete id) = with_content s (post_effect (content_of s) (PostDelete id) s.moment)
 effect_on s (SetOption name value) = with_options s (set_option name value s.options)
-effect_on s (Schedule event) = with_content s (scheduling (content_of s) event)
-effect_on s (Take event) = with_content s (Ok (taking (content_of s) event s.moment))
-effect_on s (Activate plugin) = with_plugins s (activated plugin s.active)
-effect_on s (Deactivate plugin) = with_plugins s (deactivated plugin s.active)
-effect_on s (Profile to) = with_profile s (switched to s.profile)
+effect_on s (Schedule event) = with_content s (add_event_effect (content_of s) event)
+effect_on s (Take event) = with_content s (Ok (take_event_effect (content_of s) event s.moment))
+effect_on s (Activate plugin) = with_plugins s (activate_plugin plugin s.active)
+effect_on s (Deactivate plugin) = with_plugins s (deactivate_plugin plugin s.active)
+effect_on s (Profile to) = with_profile s (switch_profile to s.profile)

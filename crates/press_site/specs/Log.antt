@@ -27,8 +27,8 @@ with_stood None ws = ws
 with_stood (Some w) ws = ws ++ w ∷ []
 
 -- what stood before one change, if it was at one place
-abbrev pub told : Undone → List Stood
-told undone = with_stood undone.stood []
+abbrev pub stood_before : Undone → List Stood
+stood_before undone = with_stood undone.stood []
 
 -- ---- the way back of a change of events: by places, or all that stood
 
@@ -73,8 +73,8 @@ abbrev pub note_grows : Undone → Bool
 note_grows undone = is_some undone.stood || is_some undone.shift
 
 -- after a change, and with the events that stand then
-abbrev pub noted : Undone → List Event → Log → Log
-noted undone events log = record {
+abbrev pub note_change : Undone → List Event → Log → Log
+note_change undone events log = record {
   stood = with_stood undone.stood log.stood;
   shifts = more_shifts log.events undone.shift log.shifts;
   events = first_kept (first_kept log.events (all_of undone.shift)) (where_filled (is_none log.events && fills undone.shift log.shifts) events);

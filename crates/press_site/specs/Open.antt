@@ -8,5 +8,5 @@ pub record Open : Type 0 where
   pub log : Log
 
 -- what stood when it was begun
-abbrev pub begun_of : Open → SiteView
-begun_of o = log_back o.log o.site
+abbrev pub site_at_start : Open → SiteView
+site_at_start o = log_back o.log o.site

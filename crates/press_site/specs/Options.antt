@@ -33,25 +33,25 @@ put_back name None values = remove_entry (is_at (slice_cmp nat_cmp name)) values
 
 -- ---- what is fired
 
-abbrev pub updated_name : List ℕ → List ℕ
-updated_name name = codes "update_option_" ++ name
+abbrev pub option_update_name : List ℕ → List ℕ
+option_update_name name = codes "update_option_" ++ name
 
-abbrev pub updated_fire : List ℕ → List ℕ → List ℕ → Fire
-updated_fire name old new = record { hook = updated_name name; args = old ∷ new ∷ name ∷ [] }
+abbrev pub option_update_fire : List ℕ → List ℕ → List ℕ → Fire
+option_update_fire name old new = record { hook = option_update_name name; args = old ∷ new ∷ name ∷ [] }
 
-abbrev pub added_name : List ℕ → List ℕ
-added_name name = codes "add_option_" ++ name
+abbrev pub option_add_name : List ℕ → List ℕ
+option_add_name name = codes "add_option_" ++ name
 
-abbrev pub added_fire : List ℕ → List ℕ → Fire
-added_fire name value = record { hook = added_name name; args = name ∷ value ∷ [] }
+abbrev pub option_add_fire : List ℕ → List ℕ → Fire
+option_add_fire name value = record { hook = option_add_name name; args = name ∷ value ∷ [] }
 
 -- ---- setting an option, given the value that it has: the options after it and what is fired, if anything, or its refusal
 
 abbrev pub set_over : Option (List ℕ) → List ℕ → List ℕ → Values → Result (Values × Option (List Fire)) SiteFault
 set_over (Some old) name value values =
-    if bytes_eq old value then Ok (values, None) else Ok (put_option name value values, Some (updated_fire name old value ∷ []))
+    if bytes_eq old value then Ok (values, None) else Ok (put_option name value values, Some (option_update_fire name old value ∷ []))
 set_over None name value values =
-    if nat_le 1024 (length values) then Err TooManyOptions else Ok (put_option name value values, Some (added_fire name value ∷ []))
+    if nat_le 1024 (length values) then Err TooManyOptions else Ok (put_option name value values, Some (option_add_fire name value ∷ []))
 
 abbrev pub set_option : List ℕ → List ℕ → Values → Result (Values × Option (List Fire)) SiteFault
 set_option name value values = if nat_lt 4096 (length value) then Err TooLong else set_over (option_of name values) name value values

@@ -4,5 +4,5 @@ use Rattle.press_site.specs.declared.fault.SiteFault.{SiteFault}
 use Rattle.press_site.specs.declared.fault.SiteFault.TheVariants.{BadProfile}
 
 -- the profile after a switch to one from another
-abbrev pub switched : ℕ → ℕ → Result ℕ SiteFault
-switched to from = if to == 2 && from == 1 then Ok 2 else Err BadProfile
+abbrev pub switch_profile : ℕ → ℕ → Result ℕ SiteFault
+switch_profile to from = if to == 2 && from == 1 then Ok 2 else Err BadProfile

@@ -6,14 +6,14 @@ ghost use Rattle.press_events.specs.Shifts.{IsOnly, MayGoBack, MayShiftBack, shi
 ghost use Rattle.press_posts.specs.PostChange.{comes, post_at};
 ghost use Rattle.press_posts.specs.PostChange.Change.{Insert, Edit, Moves, Delete};
 ghost use Rattle.press_posts.specs.Published.{published};
-ghost use Rattle.press_posts.specs.Restored.{restored, IsRestorable};
+ghost use Rattle.press_posts.specs.Restored.{restore_post, IsRestorable};
 ghost use Rattle.press_site.specs.declared.stood.Stood.TheVariants.{OfPost};
 ghost use Rattle.press_site.specs.Back.{ContentGoesBack, Does};
 ghost use Rattle.press_site.specs.declared.fault.SiteFault.TheVariants.{NoMemory};
 ghost use Rattle.press_site.specs.Becomes.{Refuses};
 ghost use Rattle.press_site.specs.Beside.{MayStandBeside, events_beside};
 ghost use Rattle.press_text.specs.Gives.{Gives};
-ghost use Rattle.press_site.specs.Contents.{ChangesSome, MovesPost, beside_move, events_of, events_without, post_effect, publish_event, scheduling, taking};
+ghost use Rattle.press_site.specs.Contents.{ChangesSome, MovesPost, beside_move, events_of, events_without, post_effect, publish_event, add_event_effect, take_event_effect};
 
 use crate::changed::Changed;
 use crate::fault::SiteFault;
@@ -141,7 +141,7 @@ impl Content {
         }
         let near = post.date;
         let beside = self.beside(id, draft.status.settle(draft.date, now), draft.date, near)?;
-        let stood = self.standing(id)?;
+        let stood = self.copy_of_post(id)?;
         let fires = self.posts.edit(id, draft, now)?;
         changes_are_taken_back();
         self.end(id, fires, stood, beside)
@@ -174,7 +174,7 @@ impl Content {
         }
         let near = post.date;
         let beside = self.beside_none(id, near)?;
-        let stood = self.standing(id)?;
+        let stood = self.copy_of_post(id)?;
         self.posts.delete(id)?;
         changes_are_taken_back();
         let fires = Items::new(self.alloc);
@@ -183,36 +183,37 @@ impl Content {
 
     /// Schedules an event.
     pub fn schedule(&mut self, event: Event) -> Result<Done, SiteFault>
-        ensures does { Does result (scheduling self.old event) self.old self.new }
+        ensures does { Does result (add_event_effect self.old event) self.old self.new }
         ensures back { IfOk result (λ d. ContentGoesBack true d.undone self.new self.old) }
-        ensures memory { result ≡ Err NoMemory → ChangesSome (scheduling self.old event) }
+        ensures memory { result ≡ Err NoMemory → ChangesSome (add_event_effect self.old event) }
     {
         let came = self.events.enter(event)?;
-        Ok(done_alone(self.alloc, came.is_some(), came))
+        Ok(events_done(self.alloc, came.is_some(), came))
     }
 
     /// Takes an event. Where it goes, the way back is told if it is wanted; nothing else takes
     /// memory.
     pub fn take(&mut self, event: &Event, now: Moment, wants: bool) -> Result<Done, SiteFault>
-        ensures does { Does result (Ok (taking self.old event.now now)) self.old self.new }
+        ensures does { Does result (Ok (take_event_effect self.old event.now now))
+            self.old self.new }
         ensures back { IfOk result (λ d. ContentGoesBack wants d.undone self.new self.old) }
         ensures memory { OnErr result (is_some (place_of event.now self.old.events) ≡ true) }
     {
         if let Some(shift) = self.events.take_again(event, now) {
-            return Ok(done_alone(self.alloc, true, Some(shift)));
+            return Ok(events_done(self.alloc, true, Some(shift)));
         }
         if wants {
             let went = self.events.take_away(event)?;
-            return Ok(done_alone(self.alloc, went.is_some(), went));
+            return Ok(events_done(self.alloc, went.is_some(), went));
         }
         let did = self.events.take(event, now);
-        Ok(done_alone(self.alloc, did, None))
+        Ok(events_done(self.alloc, did, None))
     }
 
     /// Puts what stood at a post's place there again.
     pub fn restore(&mut self, id: u64, post: Option<Post>)
         requires { IsRestorable id post self.old.posts }
-        ensures { self.new ≡ record self.old { posts = restored id post self.old.posts } }
+        ensures { self.new ≡ record self.old { posts = restore_post id post self.old.posts } }
     {
         self.posts.restore(id, post);
     }
@@ -252,7 +253,7 @@ impl Content {
             self.new }
         ensures back { IfOk result (λ d. ContentGoesBack true d.undone self.new self.old) }
     {
-        let stood = self.standing(id)?;
+        let stood = self.copy_of_post(id)?;
         let fires = self.posts.set_status(id, to)?;
         changes_are_taken_back();
         self.end(id, fires, stood, beside)
@@ -279,10 +280,10 @@ impl Content {
         ensures events { IfOk result (λ d. MayGoBack d.undone.shift
             self.new.events self.old.events) }
         ensures err { IfErr result (λ f. (f ≡ NoMemory) × (self.new ≡ record self.old
-            { posts = restored id post self.old.posts })) }
+            { posts = restore_post id post self.old.posts })) }
     {
         match self.swap(beside) {
-            Ok(shift) => Ok(done(id, fires, post, shift)),
+            Ok(shift) => Ok(post_done(id, fires, post, shift)),
             Err(fault) => {
                 self.posts.restore(id, post);
                 Err(fault)
@@ -308,11 +309,11 @@ impl Content {
     }
 
     // What stands at a post's place.
-    fn standing(&self, id: u64) -> Result<Option<Post>, AllocError>
+    fn copy_of_post(&self, id: u64) -> Result<Option<Post>, AllocError>
         ensures { IfOk result (λ p. p ≡ post_at self.now.posts id) }
     {
         match self.posts.get(id) {
-            Some(post) => Ok(Some(post.copied(self.alloc)?)),
+            Some(post) => Ok(Some(post.copy_in(self.alloc)?)),
             None => Ok(None),
         }
     }
@@ -328,7 +329,7 @@ impl Content {
         let Some(post) = self.posts.get(id) else {
             return Err(SiteFault::NoSuchPost);
         };
-        let Some(status) = post.moved(to)? else {
+        let Some(status) = post.status_after_move(to)? else {
             return Ok(None);
         };
         Ok(Some(self.beside(id, status, post.date, post.date)?))
@@ -468,7 +469,7 @@ enum Beside {
 }
 
 // A change that is done to a post.
-fn done(id: u64, fires: Items<Fire>, post: Option<Post>, shift: Option<Shift>) -> Done
+fn post_done(id: u64, fires: Items<Fire>, post: Option<Post>, shift: Option<Shift>) -> Done
     ensures { result ≡ record {
       changed = record { id = id; did = true; fires = fires };
       undone = record
@@ -495,7 +496,7 @@ fn no_change(alloc: Global, id: u64) -> Done
 }
 
 // A change of events alone.
-fn done_alone(alloc: Global, did: bool, shift: Option<Shift>) -> Done
+fn events_done(alloc: Global, did: bool, shift: Option<Shift>) -> Done
     ensures { result ≡ record {
       changed = record { id = 0; did = did; fires = [] };
       undone = record { stood = None; shift = shift; active = None; profile = None };

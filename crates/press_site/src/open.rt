@@ -5,8 +5,8 @@ ghost use Rattle.press_site.specs.Back.{MayEventBack, MayPostsGoBack, Notes, Not
 ghost use Rattle.press_site.specs.Becomes.{Becomes};
 ghost use Rattle.press_site.specs.Contents.{ChangesSome};
 ghost use Rattle.press_site.specs.Effects.{effect_on};
-ghost use Rattle.press_site.specs.Log.{told};
-ghost use Rattle.press_site.specs.Open.{begun_of};
+ghost use Rattle.press_site.specs.Log.{stood_before};
+ghost use Rattle.press_site.specs.Open.{site_at_start};
 ghost use Rattle.press_site.specs.Outcomes.{outcome_of, with_outcome};
 ghost use Rattle.press_site.specs.declared.fault.SiteFault.TheVariants.{NoMemory};
 
@@ -47,7 +47,7 @@ impl Model for OpenSite {
 impl OpenSite {
     pub(crate) fn of(alloc: Global, site: Site) -> OpenSite
         ensures site { result.site ≡ site }
-        ensures begun { begun_of result ≡ site }
+        ensures begun { site_at_start result ≡ site }
     {
         let undo = Undo::new(alloc);
         OpenSite { site, undo }
@@ -65,7 +65,7 @@ impl OpenSite {
     pub fn effect(&mut self, effect: Effect) -> Result<Changed, SiteFault>
         ensures does { Becomes result (effect_on self.old.site effect)
             self.old.site self.new.site }
-        ensures begun { begun_of self.new ≡ begun_of self.old }
+        ensures begun { site_at_start self.new ≡ site_at_start self.old }
         ensures memory { result ≡ Err NoMemory → ChangesSome (effect_on self.old.site effect) }
         ensures profile { (to : ℕ) → effect ≡ Effect.Profile to → result ≢ Err NoMemory }
     {
@@ -87,7 +87,7 @@ impl OpenSite {
     pub fn settle_with(self, token: Token, outcome: Outcome) -> Result<Site, Site>
         ensures ok { IfOk result (λ s. s ≡ record (self.site)
             { outcomes = with_outcome token outcome self.site.outcomes }) }
-        ensures err { IfErr result (λ s. s ≡ begun_of self) }
+        ensures err { IfErr result (λ s. s ≡ site_at_start self) }
         ensures memory { OnErr result (outcome_of token self.site.outcomes ≡ None) }
     {
         let OpenSite { site, undo } = self;
@@ -103,7 +103,7 @@ impl OpenSite {
 
     /// Gives the site as it was begun. Takes no memory.
     pub fn back(self) -> Site
-        ensures { result ≡ begun_of self }
+        ensures { result ≡ site_at_start self }
     {
         let OpenSite { site, undo } = self;
         let (mut site, mut undo) = (site, undo);
@@ -118,7 +118,7 @@ fn note(
     undo: &mut Undo,
     done: Result<Done, SiteFault>,
 ) -> Result<Changed, SiteFault>
-    requires { IfOk done (λ d. MayPostsGoBack (told d.undone) site.old.posts
+    requires { IfOk done (λ d. MayPostsGoBack (stood_before d.undone) site.old.posts
         × MayEventBack d.undone.shift site.old.events) }
     ensures notes { Notes done result site.old site.new undo.old undo.new }
     ensures memory { NotesSome done result site.old }

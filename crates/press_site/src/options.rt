@@ -1,6 +1,6 @@
 ghost use Rattle.std.specs.Prelude.{◌≡◌, [], ◌∷◌, ◌<◌, ◌++◌, length, None, Some, Ok, Err, false, bytes_eq, IfOk, IfErr, OnOk, OnErr, map, option_map, codes, string_bytes};
 ghost use Rattle.press_site.specs.Sets.{Changes, Sets, set_back};
-ghost use Rattle.press_site.specs.Options.{SetsSome, option_of, set_option_of, put_back, put_option, set_option, set_over, added_fire, updated_fire, added_name, updated_name};
+ghost use Rattle.press_site.specs.Options.{SetsSome, option_of, set_option_of, put_back, put_option, set_option, set_over, option_add_fire, option_update_fire, option_add_name, option_update_name};
 ghost use Rattle.press_site.specs.declared.fault.SiteFault.TheVariants.{NoMemory};
 
 use crate::fault::SiteFault;
@@ -138,7 +138,7 @@ impl Options {
         if self.values.len() >= MOST_OPTIONS {
             return Err(SiteFault::TooManyOptions);
         }
-        let fire = added_fire(self.alloc, name, value.as_str())?;
+        let fire = option_add_fire(self.alloc, name, value.as_str())?;
         let fires = Items::from_vec(vec![in self.alloc; fire]?);
         self.put(name.as_str(), value)?;
         let stood = None;
@@ -194,61 +194,66 @@ fn change(
     if stands.as_str() == value.as_str() {
         return Ok(None);
     }
-    let fire = updated_fire(alloc, name, stands.as_str(), value.as_str())?;
+    let fire = option_update_fire(alloc, name, stands.as_str(), value.as_str())?;
     let fires = Items::from_vec(vec![in alloc; fire]?);
     let stood = Some(mem::replace(stands, value));
     Ok(Some(SetDone { fires, stood }))
 }
 
-fn updated_fire(alloc: Global, name: &OptName, old: &str, new: &str) -> Result<Fire, AllocError>
-    ensures { IfOk result (λ f. f ≡ updated_fire name.now old.now new.now) }
+fn option_update_fire(
+    alloc: Global,
+    name: &OptName,
+    old: &str,
+    new: &str,
+) -> Result<Fire, AllocError>
+    ensures { IfOk result (λ f. f ≡ option_update_fire name.now old.now new.now) }
 {
     let old = Text::from_str(alloc, old)?;
     let new = Text::from_str(alloc, new)?;
     let last = Text::from_str(alloc, name.as_str())?;
     let args = Texts::from_vec(vec![in alloc; old, new, last]?)?;
     Ok(Fire {
-        hook: updated_hook(alloc, name)?,
+        hook: option_update_hook(alloc, name)?,
         args,
     })
 }
 
-fn added_fire(alloc: Global, name: &OptName, value: &str) -> Result<Fire, AllocError>
-    ensures { IfOk result (λ f. f ≡ added_fire name.now value.now) }
+fn option_add_fire(alloc: Global, name: &OptName, value: &str) -> Result<Fire, AllocError>
+    ensures { IfOk result (λ f. f ≡ option_add_fire name.now value.now) }
 {
     let first = Text::from_str(alloc, name.as_str())?;
     let value = Text::from_str(alloc, value)?;
     let args = Texts::from_vec(vec![in alloc; first, value]?)?;
     Ok(Fire {
-        hook: added_hook(alloc, name)?,
+        hook: option_add_hook(alloc, name)?,
         args,
     })
 }
 
 #[tactic(auto, using(crate::proofs::Hooks::updated_fits))]
-fn updated_hook(alloc: Global, name: &OptName) -> Result<HookName, AllocError>
-    ensures { IfOk result (λ h. h ≡ updated_name name.now) }
+fn option_update_hook(alloc: Global, name: &OptName) -> Result<HookName, AllocError>
+    ensures { IfOk result (λ h. h ≡ option_update_name name.now) }
 {
-    let hook = updated_name(alloc, name.as_str())?;
+    let hook = option_update_name(alloc, name.as_str())?;
     HookName::from_valid(alloc, hook.as_str())
 }
 
-fn updated_name(alloc: Global, name: &str) -> Result<String, AllocError>
-    ensures { IfOk result (λ t. string_bytes t ≡ updated_name name.now) }
+fn option_update_name(alloc: Global, name: &str) -> Result<String, AllocError>
+    ensures { IfOk result (λ t. string_bytes t ≡ option_update_name name.now) }
 {
     format!(in alloc; "update_option_{name}")
 }
 
 #[tactic(auto, using(crate::proofs::Hooks::added_fits))]
-fn added_hook(alloc: Global, name: &OptName) -> Result<HookName, AllocError>
-    ensures { IfOk result (λ h. h ≡ added_name name.now) }
+fn option_add_hook(alloc: Global, name: &OptName) -> Result<HookName, AllocError>
+    ensures { IfOk result (λ h. h ≡ option_add_name name.now) }
 {
-    let hook = added_name(alloc, name.as_str())?;
+    let hook = option_add_name(alloc, name.as_str())?;
     HookName::from_valid(alloc, hook.as_str())
 }
 
-fn added_name(alloc: Global, name: &str) -> Result<String, AllocError>
-    ensures { IfOk result (λ t. string_bytes t ≡ added_name name.now) }
+fn option_add_name(alloc: Global, name: &str) -> Result<String, AllocError>
+    ensures { IfOk result (λ t. string_bytes t ≡ option_add_name name.now) }
 {
     format!(in alloc; "add_option_{name}")
 }

@@ -2,7 +2,8 @@ ghost use Rattle.std.specs.Prelude.{◌≡◌, [], ◌<◌, ◌≤◌, length, t
 ghost use Rattle.std.specs.List.Sorted.{IsPartitionPoint};
 ghost use Rattle.press_site.specs.InOrder.{in_order};
 ghost use Rattle.press_site.specs.Becomes.{Turns};
-ghost use Rattle.press_site.specs.Plugins.{is_active, is_before, place_in, activated, deactivated, without};
+ghost use Rattle.press_text.specs.NameOrder.{is_before};
+ghost use Rattle.press_site.specs.Plugins.{is_active, place_in, activate_plugin, deactivate_plugin, without};
 
 use crate::fault::SiteFault;
 use press_text::Name;
@@ -69,7 +70,7 @@ impl Plugins {
 
     /// Puts a plugin among the active ones; those that were. Refused by AlreadyActive.
     pub fn activate(&mut self, plugin: Name) -> Result<Plugins, SiteFault>
-        ensures does { Turns result (activated plugin self.old) self.old self.new }
+        ensures does { Turns result (activate_plugin plugin self.old) self.old self.new }
         ensures stood { IfOk result (λ names. names ≡ self.old) }
     {
         if has_name(self.names.as_slice(), &plugin) {
@@ -82,7 +83,7 @@ impl Plugins {
 
     /// Takes a plugin off the active ones; those that were. Refused by NotActive.
     pub fn deactivate(&mut self, plugin: &Name) -> Result<Plugins, SiteFault>
-        ensures does { Turns result (deactivated plugin.now self.old) self.old self.new }
+        ensures does { Turns result (deactivate_plugin plugin.now self.old) self.old self.new }
         ensures stood { IfOk result (λ names. names ≡ self.old) }
     {
         if !has_name(self.names.as_slice(), plugin) {

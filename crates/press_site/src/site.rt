@@ -9,9 +9,9 @@ ghost use Rattle.press_site.specs.Back.{log_back, site_back};
 ghost use Rattle.press_site.specs.Becomes.{Becomes};
 ghost use Rattle.press_site.specs.Contents.{ChangesSome, no_post};
 ghost use Rattle.press_site.specs.Effects.{no_site, effect_on, size};
-ghost use Rattle.press_site.specs.Log.{told};
+ghost use Rattle.press_site.specs.Log.{stood_before};
 ghost use Rattle.press_site.specs.Options.{option_of, set_option_of};
-ghost use Rattle.press_site.specs.Open.{begun_of};
+ghost use Rattle.press_site.specs.Open.{site_at_start};
 ghost use Rattle.press_site.specs.Outcomes.{outcome_of, with_outcome};
 ghost use Rattle.press_site.specs.declared.fault.SiteFault.TheVariants.{NoMemory};
 ghost use Rattle.press_site.specs.declared.stood.Stood.TheVariants.{OfOption};
@@ -192,7 +192,7 @@ impl Site {
     }
 
     /// The scheduled events, by time, then in the order in which they were scheduled.
-    pub fn scheduled(&self) -> &[Event]
+    pub fn all_events(&self) -> &[Event]
         ensures { result.now ≡ self.now.events }
     {
         self.content.events().as_slice()
@@ -233,7 +233,7 @@ impl Site {
     /// Opens the site: what changes from now on is taken back by `back`. Takes no memory.
     pub fn begin(self) -> OpenSite
         ensures site { result.site ≡ self }
-        ensures begun { begun_of result ≡ self }
+        ensures begun { site_at_start result ≡ self }
     {
         OpenSite::of(self.alloc, self)
     }
@@ -274,7 +274,7 @@ impl Site {
 
     /// Takes the last change back. Takes no memory.
     pub(crate) fn take_back(&mut self, undone: Undone)
-        requires posts { MayPostsGoBack (told undone) self.old.posts }
+        requires posts { MayPostsGoBack (stood_before undone) self.old.posts }
         requires events { MayEventBack undone.shift self.old.events }
         ensures { self.new ≡ site_back undone self.old }
     {

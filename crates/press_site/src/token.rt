@@ -87,7 +87,7 @@ impl Ord for Token {
 }
 
 impl Copied for Token {
-    fn copied(&self, alloc: Global) -> Result<Token, AllocError> {
+    fn copy_in(&self, alloc: Global) -> Result<Token, AllocError> {
         Ok(Token {
             editor: self.editor.copy(alloc)?,
             seq: self.seq,

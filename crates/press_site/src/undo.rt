@@ -2,7 +2,7 @@
 
 ghost use Rattle.std.specs.Prelude.{◌≡◌, ◌<◌, [], ◌∷◌, ◌++◌, ◌||◌, ◌&&◌, Some, None, true, is_none, is_some, vec_len, vec_capacity, OnOk, OnErr, IfErr, IfOk, unwrap_or};
 ghost use Rattle.press_site.specs.Back.{MayEventsGoBack, MayLogGoBack, MayPostsGoBack, events_back, options_back, posts_back};
-ghost use Rattle.press_site.specs.Log.{all_of, fills, first_kept, fresh, note_grows, noted, where_filled, with_shift, with_stood};
+ghost use Rattle.press_site.specs.Log.{all_of, fills, first_kept, fresh, note_grows, note_change, where_filled, with_shift, with_stood};
 
 use crate::content::Content;
 use crate::options::Options;
@@ -72,7 +72,7 @@ impl Undo {
     /// Keeps what stood before a change, after which these events stand; without memory it comes
     /// back.
     pub fn note(&mut self, undone: Undone, events: &Events) -> Result<(), Undone>
-        ensures ok { OnOk result (self.new ≡ noted undone events.now self.old) }
+        ensures ok { OnOk result (self.new ≡ note_change undone events.now self.old) }
         ensures err { IfErr result (λ u. u ≡ undone) }
         ensures stays { OnErr result (self.new ≡ self.old) }
         ensures why { OnErr result ((is_none self.old.events || is_some undone.stood) ≡ true) }

@@ -16,7 +16,7 @@ use Rattle.press_acceptor.specs.InMemory.{map_of}
 use Rattle.press_acceptor.proofs.Maps.{IsSlot, map_same}
 use Rattle.press_store.specs.Tables.{Moved, old_schema}
 use Rattle.press_store.specs.Shown.{promise_over, promise_at, vote_at, most_rounds, number_in, round_at, round_in, is_last_round, is_version, old_rows, block_rows, vote_rows, meta_rows, store_of, IsOldVersion}
-use Rattle.press_store.specs.Slots.{read_at, row_at, greater, ballot_voted, ballot_of_row, greatest_to, greatest_at}
+use Rattle.press_store.specs.Slots.{read_at, row_at, greater, ballot_of_vote, ballot_of_row, greatest_to, greatest_at}
 use Rattle.press_store.specs.Stands.{or_else, store_with, store_in}
 use Rattle.press_store.specs.Moving.{EndAt, HasNumber, block_at}
 use Rattle.press_store.specs.Migrated.{Migrated, IsMigrated}
@@ -34,7 +34,7 @@ none_left None (Some b) h = absurd (let e = h in cc)
 none_left (Some a) None h = absurd (let e = h in cc)
 none_left (Some a) (Some b) h = absurd (let e = h in cc)
 
-none_in : (v : Option Vote) → ballot_voted v ≡ None → v ≡ None
+none_in : (v : Option Vote) → ballot_of_vote v ≡ None → v ≡ None
 none_in None h = refl
 none_in (Some v) h = absurd (let e = h in cc)
 

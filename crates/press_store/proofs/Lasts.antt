@@ -22,11 +22,12 @@ use Rattle.sqlite_value.proofs.OrderLemmas.{value_cmp-Int, value_cmp_total, then
 use Rattle.sqlite_sql.proofs.QueryLemmas.{output_cmp_total}
 use Rattle.press_acceptor.specs.StoreMap.{vote_of}
 use Rattle.press_acceptor.proofs.Maps.{IsSlot}
+use Rattle.press_wire.specs.Ranges.{last_slot}
 use Rattle.press_store.specs.Tables.{Layout, vote_tree}
-use Rattle.press_store.specs.Shown.{number_in, voted_in, vote_at, store_of, block_rows, vote_rows, meta_rows}
+use Rattle.press_store.specs.Shown.{number_in, vote_in_rows, vote_at, store_of, block_rows, vote_rows, meta_rows}
 use Rattle.press_store.specs.Stands.{store_in}
 use Rattle.press_store.specs.Attempt.{AreTables}
-use Rattle.press_store.specs.Voted.{most_slots, IsLastVote, last_in}
+use Rattle.press_store.specs.Voted.{IsLastVote, last_in}
 use Rattle.press_store.proofs.Maps.{vote_got, vote_outside}
 use Rattle.press_store.proofs.Put.{is_equal, same_int}
 use Rattle.press_store.proofs.Queries.{outputs, all_pass, plain_vote}
@@ -113,7 +114,7 @@ some_filtered p (s ∷ rows) r (inr has) on none = elim (cases_Bool (p s)) [
   | inr off ↦ some_filtered p rows r has on (rw off at none)
 ]
 
-voted_some : (rows : List Row) → (rows ≡ [] → ⊥) → IsSome (voted_in rows)
+voted_some : (rows : List Row) → (rows ≡ [] → ⊥) → IsSome (vote_in_rows rows)
 voted_some [] some = absurd (some refl)
 voted_some (r ∷ []) some = refl
 voted_some (r ∷ s ∷ rows) some = refl
@@ -121,14 +122,14 @@ voted_some (r ∷ s ∷ rows) some = refl
 in_slots : (slot : ℕ) → IsSlot slot ⊎ ((slot < 1) ⊎ (1000001 ≤ slot))
 in_slots slot = elim (leb_tells 1 slot) [
   | inr low ↦ inr (inl (omega (arith, low.1)))
-  | inl some ↦ elim (leb_tells slot most_slots) [ inl high ↦ inl (some.1, high.1) | inr past ↦ inr (inr (omega (arith, past.1))) ]
+  | inl some ↦ elim (leb_tells slot last_slot) [ inl high ↦ inl (some.1, high.1) | inr past ↦ inr (inr (omega (arith, past.1))) ]
 ]
 
 module _ (blocks votes meta : List Row) where
   slot_without : (slot : ℕ) → filter (has_rowid (pos slot)) votes ≡ [] → vote_of (store_of blocks votes meta) slot ≡ None
   unfolding vote_at
   slot_without slot none = elim (in_slots slot) [
-    | inl is ↦ vote_got blocks votes meta slot is ∙ ap voted_in none
+    | inl is ↦ vote_got blocks votes meta slot is ∙ ap vote_in_rows none
     | inr out ↦ vote_outside blocks votes meta slot out
   ]
 
@@ -138,17 +139,17 @@ module _ (blocks votes meta : List Row) where
       let own : has_rowid (pos slot) r ≡ true = rw at (same_int (pos slot)) in
       subst IsSome (sym (vote_got blocks votes meta slot is)) (voted_some (filter (has_rowid (pos slot)) votes) (some_filtered (has_rowid (pos slot)) votes r has own))
 
-  up_to : (last : Value) (r : Row) → Has votes r → column r 0 ≡ last → NoneBehind last votes → IfSome (option_map Some (number_in 1 most_slots last)) (IsLastVote (store_of blocks votes meta))
-  up_to (Int (pos n)) r has at h = elim (cases_Bool (nat_le 1 n && nat_le n most_slots)) [
+  up_to : (last : Value) (r : Row) → Has votes r → column r 0 ≡ last → NoneBehind last votes → IfSome (option_map Some (number_in 1 last_slot last)) (IsLastVote (store_of blocks votes meta))
+  up_to (Int (pos n)) r has at h = elim (cases_Bool (nat_le 1 n && nat_le n last_slot)) [
     | inl slot ↦ rw slot (slot_with n r (within slot) has at, λ s less. slot_without s (none_behind_slot n s votes less h))
     | inr other ↦ rw other tt
   ]
     where
-      within : (nat_le 1 n && nat_le n most_slots) ≡ true → IsSlot n
-      within e = go (nat_le 1 n) refl (nat_le n most_slots) refl e
+      within : (nat_le 1 n && nat_le n last_slot) ≡ true → IsSlot n
+      within e = go (nat_le 1 n) refl (nat_le n last_slot) refl e
         where
-          go : (a : Bool) → nat_le 1 n ≡ a → (b : Bool) → nat_le n most_slots ≡ b → (a && b) ≡ true → IsSlot n
-          go true a true b e = (leb-true 1 n a, leb-true n most_slots b)
+          go : (a : Bool) → nat_le 1 n ≡ a → (b : Bool) → nat_le n last_slot ≡ b → (a && b) ≡ true → IsSlot n
+          go true a true b e = (leb-true 1 n a, leb-true n last_slot b)
           go true a false b e = absurd (let x = e in cc)
           go false a b f e = absurd (let x = e in cc)
   up_to (Int (negsuc n)) r has at h = tt

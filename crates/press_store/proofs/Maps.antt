@@ -20,7 +20,7 @@ use Rattle.press_acceptor.specs.InMemory.{at, with_entry, entries_at, all_slots,
 use Rattle.press_acceptor.specs.StoreMap.{new_store, promise_of, vote_of, block_votes, with_promise, with_round}
 use Rattle.press_acceptor.proofs.Maps.{IsSlot, get_at, map_get, map_same, map_set, map_none}
 use Rattle.press_store.specs.Saving.{AddsVote}
-use Rattle.press_store.specs.Shown.{promise_in, voted_in, promise_over, vote_at, promise_at, round_at, store_of}
+use Rattle.press_store.specs.Shown.{promise_in, vote_in_rows, promise_over, vote_at, promise_at, round_at, store_of}
 
 -- ---- a number that is no slot has nothing
 
@@ -108,14 +108,14 @@ promises_on None [] is h some = absurd (let e = h in cc)
 promises_on None (v ∷ was) [] h some = absurd (some refl)
 promises_on None (v ∷ was) (w ∷ is) h some = refl
 
-module _ (blocks votes new meta : List Row) (slot : ℕ) (row : Row) (vote : Vote) (i : IsSlot slot) (shows : voted_in (row ∷ []) ≡ Some vote) (h : IsReplaced slot row votes new) where
+module _ (blocks votes new meta : List Row) (slot : ℕ) (row : Row) (vote : Vote) (i : IsSlot slot) (shows : vote_in_rows (row ∷ []) ≡ Some vote) (h : IsReplaced slot row votes new) where
   here : vote_at new slot ≡ Some vote
   unfolding vote_at
-  here = ap voted_in h.here ∙ shows
+  here = ap vote_in_rows h.here ∙ shows
 
   there : (q : ℕ) → IsSlot q → q ≢ slot → vote_at new q ≡ vote_at votes q
   unfolding vote_at
-  there q s apart = ap voted_in (h.there q apart (λ zero_is. omega (arith, s.0, zero_is)))
+  there q s apart = ap vote_in_rows (h.there q apart (λ zero_is. omega (arith, s.0, zero_is)))
 
   has_vote : (block : ℕ) → block ≤ slot → slot < block + 16 → votes_at (vote_at new) (slots_of block) ≡ [] → ⊥
   has_vote block low high none =

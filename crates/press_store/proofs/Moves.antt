@@ -13,7 +13,7 @@ use Rattle.press_wire.specs.declared.vote.Vote.{Vote}
 use Rattle.press_wire.specs.Held.{IsBallot}
 use Rattle.press_wire.specs.Reading.{read_command}
 use Rattle.press_store.specs.Tables.{Moved, schema_of, save_promise_text, save_vote_text}
-use Rattle.press_store.specs.Shown.{vote_as, promise_in, voted_in, damaged_ballot, damaged_vote, vote_at}
+use Rattle.press_store.specs.Shown.{vote_as, promise_in, vote_in_rows, damaged_ballot, damaged_vote, vote_at}
 use Rattle.press_store.specs.Moving.{VotePut, BallotPut, block_at}
 use Rattle.press_store.proofs.Puts.{ballot_back}
 use Rattle.press_store.proofs.Replaced.{Replaces, block_row, vote_row, block_replaced, vote_replaced}
@@ -24,7 +24,7 @@ module _ (slot : ℕ) (vote : Vote) (bytes : List ℕ) (h : IsBallot vote.ballot
   unfolding vote_at
   vote_put =
       let row = vote_row slot vote.ballot.round vote.ballot.node bytes in
-      let shows : voted_in (row ∷ []) ≡ Some vote = rw (ballot_back vote.ballot h) (ap (λ v. Some (unwrap_or (vote_as vote.ballot v) damaged_vote)) reads) in
+      let shows : vote_in_rows (row ∷ []) ≡ Some vote = rw (ballot_back vote.ballot h) (ap (λ v. Some (unwrap_or (vote_as vote.ballot v) damaged_vote)) reads) in
       record {
         stay = record {
           slots = put.others 0 (λ e. absurd (omega (arith, e))) (λ e. absurd (omega (arith, e)), tt);
@@ -32,8 +32,8 @@ module _ (slot : ℕ) (vote : Vote) (bytes : List ℕ) (h : IsBallot vote.ballot
           listed = put.others catalog_tree (λ e. absurd (omega (arith, e))) (λ e. absurd (omega (arith, e)), tt);
         };
         blocks = put.others 3 (λ e. absurd (omega (arith, e))) (λ e. absurd (omega (arith, e)), tt);
-        here = ap voted_in put.here ∙ shows;
-        there = λ s low other. ap voted_in (put.there s other (λ e. omega (arith, low, e)));
+        here = ap vote_in_rows put.here ∙ shows;
+        there = λ s low other. ap vote_in_rows (put.there s other (λ e. omega (arith, low, e)));
       }
 
 module _ (first : ℕ) (ballot : Ballot) (h : IsBallot ballot) (old new : Trees) (put : Replaces (schema_of Moved) 3 first (block_row first ballot.round ballot.node) old new) where

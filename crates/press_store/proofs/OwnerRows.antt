@@ -32,7 +32,7 @@ use Rattle.press_store.specs.Shown.{block_rows, vote_rows, promise_at, vote_at, 
 use Rattle.press_store.specs.Stands.{store_in}
 use Rattle.press_store.specs.Attempt.{AreTables}
 use Rattle.press_store.specs.Moving.{is_named}
-use Rattle.press_store.specs.Owned.{signed, unsigned, int_in, entry_of, entry_in, owner_from, owner_by, owner_in, shown_entry}
+use Rattle.press_store.specs.Owned.{signed_number, unsigned_number, int_in, entry_of, entry_in, owner_from, owner_by, owner_in, shown_entry}
 use Rattle.press_store.proofs.Put.{went, same_value, cast_int, cast_null, put_among, put_other, not_true}
 use Rattle.press_store.proofs.Queries.{picked, equals_text, plain_meta}
 use Rattle.press_store.proofs.Rounds.{meta_found, meta_work}
@@ -79,14 +79,14 @@ has_name id n name = ap is_eq (tied_itself value_cmp_total (Text name))
 half_less : (n : ℕ) → n < 2 ^ 64 → 2 ^ 64 - 1 - (2 ^ 64 - 1 - n) ≡ n
 half_less n less = omega (arith, less)
 
-signed_back : (n : ℕ) → n < 2 ^ 64 → unsigned (signed n) ≡ n
+signed_back : (n : ℕ) → n < 2 ^ 64 → unsigned_number (signed_number n) ≡ n
 signed_back n less = elim (cases_Bool (nat_lt n (2 ^ 63))) [
   | inl low ↦ rw low
   | inr high ↦ rw high (half_less n less)
 ]
 
 pub owner_back : (owner : Owner) → (1 ≤ owner.number) × (owner.number ≤ 7) → owner.members ≤ 255 → owner.peers < 2 ^ 64
-    → owner_by (Some (Some (pos owner.number))) (Some (Some (pos owner.members))) (Some (Some (signed owner.peers))) ≡ Some (Some owner)
+    → owner_by (Some (Some (pos owner.number))) (Some (Some (pos owner.members))) (Some (Some (signed_number owner.peers))) ≡ Some (Some owner)
 owner_back owner (low, high) small less = rw (le-leb 1 owner.number low, le-leb owner.number 7 high, leb-zero owner.members, le-leb owner.members 255 small, signed_back owner.peers less)
 
 -- ---- nobody's file has none of the rows
@@ -134,7 +134,7 @@ pub record IsMember (owner : Owner) : Type 0 where
   pub peers : owner.peers < 2 ^ 64
 
 abbrev pub owner_params : Owner → Row
-owner_params owner = Int (pos owner.number) ∷ Int (pos owner.members) ∷ Int (signed owner.peers) ∷ []
+owner_params owner = Int (pos owner.number) ∷ Int (pos owner.members) ∷ Int (signed_number owner.peers) ∷ []
 
 -- nobody's file becomes the owner's, and nothing else that the tables stand for is changed
 pub record OwnerPut (owner : Owner) (old new : Trees) : Type 0 where
@@ -157,7 +157,7 @@ module _ (l : Layout) (owner : Owner) (is_member : IsMember owner) (limit : Opti
   two = Int (next_rowid (put_row one rows)) ∷ Text (codes "members") ∷ Int (pos owner.members) ∷ []
 
   abbrev three : Row
-  three = Int (next_rowid (put_row two (put_row one rows))) ∷ Text (codes "peers") ∷ Int (signed owner.peers) ∷ []
+  three = Int (next_rowid (put_row two (put_row one rows))) ∷ Text (codes "peers") ∷ Int (signed_number owner.peers) ∷ []
 
   abbrev edit : List Row → Edit
   edit sources = edit_of now.trees (meta_on tree) [] Chosen 0 sources
@@ -179,7 +179,7 @@ module _ (l : Layout) (owner : Owner) (is_member : IsMember owner) (limit : Opti
       let counted = went written.2 in
       let trees : done.0.trees ≡ written.0 = ap (λ (it : Written). it.trees) (same_value counted.2) ∙ same_value counted.1 in (
         given.0,
-        ap (λ sources. (edit sources).news) given.1.1 ∙ rw (cast_null, cast_int (pos owner.number), cast_int (pos owner.members), cast_int (signed owner.peers)),
+        ap (λ sources. (edit sources).news) given.1.1 ∙ rw (cast_null, cast_int (pos owner.number), cast_int (pos owner.members), cast_int (signed_number owner.peers)),
         subst (Applies (schema_of l) mode.keys now.trees (edit given.0)) (sym trees)
             (one_step (schema_of l) mode.keys now.trees written.0 (edit given.0) (meta_work l tree mode.keys (taken_by now.trees (edit given.0)) (edit given.0).news) written.1),
       )
@@ -236,7 +236,7 @@ module _ (l : Layout) (owner : Owner) (is_member : IsMember owner) (limit : Opti
       ∙ second_put rows one two three fresh p (ap is_eq (value_cmp-Text (codes "member") (codes "members"))) (has_name (column two 0) (column two 2) (codes "members")) (ap is_eq (value_cmp-Text (codes "peers") (codes "members")))
       (ap (filter p) (sym was_meta) ∙ none))
 
-  peers_is : Free (codes "peers") → entry_in (codes "peers") after.trees ≡ Some (Some (signed owner.peers))
+  peers_is : Free (codes "peers") → entry_in (codes "peers") after.trees ≡ Some (Some (signed_number owner.peers))
   peers_is none =
       let p = is_named (codes "peers") in
       ap (λ xs. entry_of (map (λ r. column r 2) xs))

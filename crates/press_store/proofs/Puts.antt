@@ -22,7 +22,7 @@ use Rattle.press_acceptor.specs.StoreMap.{StoreMap, promise_of, with_promise, wi
 use Rattle.press_acceptor.proofs.Maps.{IsSlot, get_here}
 use Rattle.press_store.specs.Tables.{Layout, schema_of, save_promise_text, save_vote_text}
 use Rattle.press_store.specs.Saving.{PutsPromise, AddsVote}
-use Rattle.press_store.specs.Shown.{most_rounds, ballot_in, vote_as, promise_in, voted_in, damaged_ballot, damaged_vote, block_rows, vote_rows, meta_rows, store_of}
+use Rattle.press_store.specs.Shown.{most_rounds, ballot_in, vote_as, promise_in, vote_in_rows, damaged_ballot, damaged_vote, block_rows, vote_rows, meta_rows, store_of}
 use Rattle.press_store.specs.Stands.{store_in}
 use Rattle.press_store.specs.Attempt.{AreTables}
 use Rattle.press_store.proofs.Maps.{IsReplaced, promise_saved, vote_saved}
@@ -72,7 +72,7 @@ module _ (slot : ℕ) (vote : Vote) (bytes : List ℕ) (i : IsSlot slot) (h : Is
         here = ap (filter (has_rowid (pos slot))) is.votes ∙ put.here;
         there = λ s other some. ap (filter (has_rowid (pos s))) is.votes ∙ put.there s other some ∙ ap (filter (has_rowid (pos s))) (sym was.votes);
       } in
-      let shows : voted_in (row ∷ []) ≡ Some vote = rw (ballot_back vote.ballot h) (ap (λ v. Some (unwrap_or (vote_as vote.ballot v) damaged_vote)) reads) in (
+      let shows : vote_in_rows (row ∷ []) ≡ Some vote = rw (ballot_back vote.ballot h) (ap (λ v. Some (unwrap_or (vote_as vote.ballot v) damaged_vote)) reads) in (
         tables_still l now after schema change.listed change.old_stay (kept_still now.trees after.trees change.meta has.kept) has,
         subst (AddsVote slot vote (store_in now.trees)) (as_newer after.trees (change.old_stay ∙ has.emptied)) (subst (λ store. AddsVote slot vote store (newer_in after.trees)) (as_newer now.trees has.emptied)
             (λ promised. ap₂ (λ b m. store_of b (vote_rows after.trees) m) change.blocks change.meta ∙ vote_saved (block_rows now.trees) (vote_rows now.trees) (vote_rows after.trees) (meta_rows now.trees) slot row vote i shows replaced promised)),

@@ -35,7 +35,7 @@ use Rattle.sqlite_schema.specs.declared.command.Conflict.TheVariants.{Replace}
 use Rattle.sqlite_schema.specs.declared.schema.Keys.{Keys}
 use Rattle.sqlite_schema.specs.declared.schema.Column.{Column}
 use Rattle.sqlite.proofs.Callers.{one_step}
-use Rattle.press_store.specs.Tables.{keyed, Layout, Fresh, Moved, schema_of, block_columns, block_tree, block_place, block_on, vote_columns, vote_tree, vote_place, vote_on}
+use Rattle.press_store.specs.Tables.{keyed_table, Layout, Fresh, Moved, schema_of, block_columns, block_tree, block_place, block_on, vote_columns, vote_tree, vote_place, vote_on}
 use Rattle.std.proofs.Common.{codes}
 use Rattle.press_store.proofs.Texts.{promise_terms, vote_terms, promise_insert, vote_insert}
 use Rattle.press_store.proofs.Queries.{equals_int}
@@ -81,18 +81,18 @@ pub record Replaces (schema : Schema) (tree n : ℕ) (new : Row) (old next : Tre
   pub there : (s : ℕ) → (s ≡ n → ⊥) → (s ≡ 0 → ⊥) → filter (has_rowid (pos s)) (next tree) ≡ filter (has_rowid (pos s)) (old tree)
   pub others : (t : ℕ) → (t ≡ tree → ⊥) → IsNoIndex schema t → next t ≡ old t
 
-module _ (schema : Schema) (at : ℕ) (name : List ℕ) (tree : ℕ) (columns : List Column) (found : slice_get schema.tables at ≡ Some (keyed name tree columns))
+module _ (schema : Schema) (at : ℕ) (name : List ℕ) (tree : ℕ) (columns : List Column) (found : slice_get schema.tables at ≡ Some (keyed_table name tree columns))
     (quiet : (keys : Keys) (olds news : List Row) → works schema keys 0 tree olds news ≡ [])
-    (alike : (new r : Row) → conflicts None schema.indexes (keyed name tree columns) new r ≡ true → is_true (binary (by.Compare Eq Binary) (rowid r) (rowid new)) ≡ true)
-    (terms : List Term) (width n : ℕ) (params src new : Row) (given : value_rows (stamped (keyed name tree columns) params) width (length terms / width) terms ≡ src ∷ [])
-    (mends : mended Replace (keyed name tree columns) src ≡ src) (casts : cast_row (keyed name tree columns) src ≡ new) (again : cast_row (keyed name tree columns) new ≡ new) (numbered : rowid new ≡ Int (pos n))
+    (alike : (new r : Row) → conflicts None schema.indexes (keyed_table name tree columns) new r ≡ true → is_true (binary (by.Compare Eq Binary) (rowid r) (rowid new)) ≡ true)
+    (terms : List Term) (width n : ℕ) (params src new : Row) (given : value_rows (stamped (keyed_table name tree columns) params) width (length terms / width) terms ≡ src ∷ [])
+    (mends : mended Replace (keyed_table name tree columns) src ≡ src) (casts : cast_row (keyed_table name tree columns) src ≡ new) (again : cast_row (keyed_table name tree columns) new ≡ new) (numbered : rowid new ≡ Int (pos n))
     (limit : Option ℕ) (mode : Mode) (now after : Database) (tally : Tally) (has : now.schema ≡ schema) (text : List ℕ)
     (does : Does limit mode params now text None (InsertOr at Replace (Values terms width) []) (Ok (tally, after))) where
   abbrev table : Table
-  table = keyed name tree columns
+  table = keyed_table name tree columns
 
   abbrev task : Task
-  task = record { limit = limit; keys = mode.keys; schema = schema; table = keyed name tree columns; params = params }
+  task = record { limit = limit; keys = mode.keys; schema = schema; table = keyed_table name tree columns; params = params }
 
   parts : Does limit mode params (record now { schema = schema }) text None (InsertOr at Replace (Values terms width) []) (Ok (tally, after))
   parts = subst (λ s. Does limit mode params (record now { schema = s }) text None (InsertOr at Replace (Values terms width) []) (Ok (tally, after))) has does

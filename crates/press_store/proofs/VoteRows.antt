@@ -27,7 +27,7 @@ use Rattle.press_wire.proofs.Collected.{block_collected, block_same}
 use Rattle.press_acceptor.specs.StoreMap.{block_votes}
 use Rattle.press_acceptor.proofs.Maps.{IsSlot}
 use Rattle.press_store.specs.Tables.{Layout, vote_tree}
-use Rattle.press_store.specs.Shown.{number_in, ballot_in, vote_in, voted_in, damaged_vote, vote_at, slot_vote_of, shown_vote, before, shown_votes, block_rows, vote_rows, meta_rows}
+use Rattle.press_store.specs.Shown.{number_in, ballot_in, vote_in, vote_in_rows, damaged_vote, vote_at, slot_vote_of, shown_vote, before, shown_votes, block_rows, vote_rows, meta_rows}
 use Rattle.press_store.specs.Stands.{store_in}
 use Rattle.press_store.specs.Attempt.{AreTables}
 use Rattle.press_store.proofs.Maps.{votes_got}
@@ -182,7 +182,7 @@ in_range first last slot r low high own =
 abbrev project : Row → Row
 project r = column r 0 ∷ column r 2 ∷ column r 3 ∷ column r 4 ∷ []
 
-one_voted : (xs : List Row) (v : Row) (x : Vote) → IsPermutation (map project xs) (v ∷ []) → vote_of_row v ≡ Some x → voted_in xs ≡ Some x
+one_voted : (xs : List Row) (v : Row) (x : Vote) → IsPermutation (map project xs) (v ∷ []) → vote_of_row v ≡ Some x → vote_in_rows xs ≡ Some x
 one_voted [] v x h is = absurd (omega (arith, length_permutation _ _ h))
 one_voted (r ∷ []) v x h is =
     let same : v ≡ project r = ap (λ rows. get_or rows 0 []) (one_permutation (project r) (v ∷ []) h) in
@@ -202,7 +202,7 @@ module _ (first last : ℕ) (table rows : List Row) (h : IsPermutation (map proj
   voted : (votes : List SlotVote) → Reads first last rows votes → (slot : ℕ) → first ≤ slot → slot ≤ last → vote_for votes slot ≡ vote_at table slot
   unfolding vote_at
   voted votes r slot low high = elim (r.tells slot) [
-    | inl none ↦ none.1 ∙ sym (ap voted_in (none_of project (filter (has_rowid (pos slot)) table) (subst (IsPermutation (map project (filter (has_rowid (pos slot)) table))) none.0 (at_slot slot low high))))
+    | inl none ↦ none.1 ∙ sym (ap vote_in_rows (none_of project (filter (has_rowid (pos slot)) table) (subst (IsPermutation (map project (filter (has_rowid (pos slot)) table))) none.0 (at_slot slot low high))))
     | inr some ↦ some.4 ∙ sym (one_voted (filter (has_rowid (pos slot)) table) some.0 some.1 (subst (IsPermutation (map project (filter (has_rowid (pos slot)) table))) some.2 (at_slot slot low high)) some.3)
   ]
 

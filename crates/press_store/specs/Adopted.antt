@@ -6,6 +6,7 @@ use Rattle.sqlite.specs.Store.{Ghosts}
 use Rattle.sqlite.specs.Tree.{Trees}
 use Rattle.sqlite.specs.State.{State, HasCleanDisk}
 use Rattle.sqlite.specs.Held.{Held, state}
+use Rattle.press_wire.specs.Ranges.{last_slot}
 use Rattle.press_acceptor.specs.StoreMap.{Only, NoMore, new_store}
 use Rattle.press_store.specs.Tables.{Layout, Fresh, Moved, no_schema, old_schema, schema_of}
 use Rattle.press_store.specs.Shown.{IsEmptied, IsKept, IsOldVersion, IsOurVersion, is_last_round, meta_rows, old_rows, round_in}
@@ -49,7 +50,7 @@ is_half schema = has_any schema && not (has_all schema || is_unmoved schema)
 
 -- each row of version 1 has the number of a slot, and can be read, and so can the last round, of which there is one
 abbrev pub AreSound : Trees → Type 0
-AreSound db = EndAt 1000000 (old_rows db) × ((slot : ℕ) → 1 ≤ slot → slot ≤ 1000000 → IsSome (read_at (old_rows db) slot))
+AreSound db = EndAt last_slot (old_rows db) × ((slot : ℕ) → 1 ≤ slot → slot ≤ last_slot → IsSome (read_at (old_rows db) slot))
     × IsKept db × IsSome (round_in (filter is_last_round (meta_rows db)))
 
 -- The tables stand for the maps for which they stood, of whichever version they were; an empty database is a new store. A crash leaves nothing else. Tables that were there had their

@@ -7,6 +7,7 @@ use Rattle.sqlite.specs.State.{State, HasCleanDisk}
 use Rattle.sqlite.specs.Held.{Held, state}
 use Rattle.sqlite_trees.specs.Objects.{catalog_tree}
 use Rattle.sqlite_catalog.specs.Listing.{Lists}
+use Rattle.press_wire.specs.Ranges.{last_slot}
 use Rattle.press_store.specs.Tables.{Moved, schema_of, old_schema}
 use Rattle.press_store.specs.Shown.{vote_at, most_rounds, number_in, IsOurVersion}
 use Rattle.press_store.specs.Stands.{store_in}
@@ -19,9 +20,9 @@ pub record Migrated (old new : Trees) : Type 0 where
   pub listed : Lists (new catalog_tree) (schema_of Moved)
   pub emptied : new 0 ≡ []
   pub promises : (j : ℕ) → j < 62500 → block_at (new 3) (first_behind j) ≡ greatest_to (old 0) (first_behind j) 16
-  pub votes : (s : ℕ) → 1 ≤ s → s ≤ 1000000 → vote_at (new 4) s ≡ (row_at (old 0) s).vote
-  pub sound : (s : ℕ) → 1 ≤ s → s ≤ 1000000 → IsSome (read_at (old 0) s)
-  pub ends : EndAt 1000000 (old 0)
+  pub votes : (s : ℕ) → 1 ≤ s → s ≤ last_slot → vote_at (new 4) s ≡ (row_at (old 0) s).vote
+  pub sound : (s : ℕ) → 1 ≤ s → s ≤ last_slot → IsSome (read_at (old 0) s)
+  pub ends : EndAt last_slot (old 0)
   pub round : ℤ
   pub round_sound : IsSome (number_in 0 most_rounds (Int round))
   pub was : HasNumber (codes "last_round") round old

@@ -9,16 +9,17 @@ use Rattle.press_store.specs.declared.owner.Tie.{Tie}
 use Rattle.press_store.specs.declared.owner.Tie.TheVariants.{Own, Taken, Foreign}
 use Rattle.press_store.specs.Moving.{is_named}
 use Rattle.press_store.specs.Shown.{meta_rows, number_in}
+use Rattle.press_wire.specs.Ranges.{most_members}
 
 -- ---- the rows
 
 -- the signed number of the same 64 bits, and the number of the bits of a signed one
-abbrev pub signed : ℕ → ℤ
-signed n = if nat_lt n (2 ^ 63) then pos n else negsuc (2 ^ 64 - 1 - n)
+abbrev pub signed_number : ℕ → ℤ
+signed_number n = if nat_lt n (2 ^ 63) then pos n else negsuc (2 ^ 64 - 1 - n)
 
-abbrev pub unsigned : ℤ → ℕ
-unsigned (pos n) = n
-unsigned (negsuc n) = 2 ^ 64 - 1 - n
+abbrev pub unsigned_number : ℤ → ℕ
+unsigned_number (pos n) = n
+unsigned_number (negsuc n) = 2 ^ 64 - 1 - n
 
 abbrev pub int_in : Value → Option ℤ
 int_in (Int n) = Some n
@@ -39,7 +40,7 @@ owner_of _ _ peers = None
 
 -- the member that three numbers name, or damage
 abbrev pub owner_from : (number members peers : ℤ) → Option Owner
-owner_from number members peers = owner_of (number_in 1 7 (Int number)) (number_in 0 255 (Int members)) (unsigned peers)
+owner_from number members peers = owner_of (number_in 1 most_members (Int number)) (number_in 0 255 (Int members)) (unsigned_number peers)
 
 -- nobody without a row, and damage with some of them
 abbrev pub owner_by : (number members peers : Option (Option ℤ)) → Option (Option Owner)

@@ -18,6 +18,7 @@ use Rattle.press_acceptor.specs.InMemory.{map_of}
 use Rattle.press_acceptor.specs.StoreMap.{StoreMap, promise_of, block_votes}
 use Rattle.press_acceptor.specs.declared.block.Block.{Block}
 use Rattle.press_store.specs.Named.{rows_of}
+use Rattle.press_wire.specs.Ranges.{most_members}
 
 -- ---- the values of a row
 
@@ -35,7 +36,7 @@ ballot_of _ _ = None
 
 -- a ballot, or damaged
 abbrev pub ballot_in : Value → Value → Option Ballot
-ballot_in round node = ballot_of (number_in 1 most_rounds round) (number_in 1 7 node)
+ballot_in round node = ballot_of (number_in 1 most_rounds round) (number_in 1 most_members node)
 
 -- the vote for the value that was read
 abbrev pub vote_as : Ballot → Result Chosen WireFault → Option Vote
@@ -67,10 +68,10 @@ promise_in (r ∷ []) = Some (unwrap_or (ballot_in (column r 2) (column r 3)) da
 promise_in (r ∷ s ∷ more) = Some damaged_ballot
 
 -- the vote in the row of a slot, where there is one
-abbrev pub voted_in : List Row → Option Vote
-voted_in [] = None
-voted_in (r ∷ []) = Some (unwrap_or (vote_in (ballot_in (column r 2) (column r 3)) (column r 4)) damaged_vote)
-voted_in (r ∷ s ∷ more) = Some damaged_vote
+abbrev pub vote_in_rows : List Row → Option Vote
+vote_in_rows [] = None
+vote_in_rows (r ∷ []) = Some (unwrap_or (vote_in (ballot_in (column r 2) (column r 3)) (column r 4)) damaged_vote)
+vote_in_rows (r ∷ s ∷ more) = Some damaged_vote
 
 -- a block promises by its row; votes in a block without one are damage
 abbrev pub promise_over : Option Ballot → List SlotVote → Option Ballot
@@ -79,7 +80,7 @@ promise_over None [] = None
 promise_over None (v ∷ votes) = Some damaged_ballot
 
 unfoldable pub vote_at : List Row → ℕ → Option Vote
-vote_at votes slot = voted_in (filter (has_rowid (pos slot)) votes)
+vote_at votes slot = vote_in_rows (filter (has_rowid (pos slot)) votes)
 
 unfoldable pub promise_at : List Row → List Row → ℕ → Option Ballot
 promise_at blocks votes first = if is_first first then promise_over (promise_in (filter (has_rowid (pos first)) blocks)) (votes_at (vote_at votes) (slots_of first)) else None

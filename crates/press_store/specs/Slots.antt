@@ -65,13 +65,13 @@ greater None b = b
 greater (Some a) None = Some a
 greater (Some a) (Some b) = Some (if is_less a b then b else a)
 
-abbrev pub ballot_voted : Option Vote → Option Ballot
-ballot_voted None = None
-ballot_voted (Some v) = Some v.ballot
+abbrev pub ballot_of_vote : Option Vote → Option Ballot
+ballot_of_vote None = None
+ballot_of_vote (Some v) = Some v.ballot
 
 -- the greater one of what a row promises and where it voted
 abbrev pub ballot_of_row : SlotRow → Option Ballot
-ballot_of_row r = greater r.promised (ballot_voted r.vote)
+ballot_of_row r = greater r.promised (ballot_of_vote r.vote)
 
 -- the greatest one in so many slots from this one on
 unfoldable pub greatest_to : List Row → (first count : ℕ) → Option Ballot

@@ -81,8 +81,8 @@ abbrev pub column_of : List ℕ → Kind → Bool → Column
 column_of name kind not_null = record { name = name; kind = kind; is_strict = true; not_null = not_null; default = Null; collation = Binary }
 
 -- a table whose first column is its rowid
-abbrev pub keyed : List ℕ → ℕ → List Column → Table
-keyed name tree columns = record {
+abbrev pub keyed_table : List ℕ → ℕ → List Column → Table
+keyed_table name tree columns = record {
   name = name;
   tree = tree;
   columns = columns;
@@ -109,13 +109,13 @@ abbrev pub vote_columns : List Column
 vote_columns = column_of (codes "slot") Integer false ∷ column_of (codes "round") Integer true ∷ column_of (codes "node") Integer true ∷ column_of (codes "value") Blob true ∷ []
 
 abbrev pub promise : Table
-promise = keyed (codes "promise") 0 promise_columns
+promise = keyed_table (codes "promise") 0 promise_columns
 
 abbrev pub block_on : ℕ → Table
-block_on tree = keyed (codes "block") tree block_columns
+block_on tree = keyed_table (codes "block") tree block_columns
 
 abbrev pub vote_on : ℕ → Table
-vote_on tree = keyed (codes "vote") tree vote_columns
+vote_on tree = keyed_table (codes "vote") tree vote_columns
 
 abbrev pub meta_on : ℕ → Table
 meta_on tree = record {

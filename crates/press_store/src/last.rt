@@ -2,10 +2,11 @@
 
 ghost use Rattle.std.specs.Prelude.{◌≡◌, IfSome};
 ghost use Rattle.sqlite.specs.Order.{column};
+ghost use Rattle.press_wire.specs.Ranges.{last_slot};
 ghost use Rattle.press_store.specs.Attempt.{Answers, Doubts, Looks, StaysReady};
 ghost use Rattle.press_store.specs.Shown.{number_in};
 ghost use Rattle.press_store.specs.Voted as spec;
-ghost use Rattle.press_store.specs.Voted.{most_slots, IsLastVote};
+ghost use Rattle.press_store.specs.Voted.{IsLastVote};
 
 use crate::rows::slot;
 use crate::statement::read;
@@ -27,7 +28,7 @@ fn find_last<S: Alter>(conn: &mut Connection<S>) -> Result<Vec<Shown>, Error>
 }
 
 fn slot_of(row: &Shown) -> Option<Slot>
-    ensures { result ≡ number_in 1 most_slots (column row.now 0) }
+    ensures { result ≡ number_in 1 last_slot (column row.now 0) }
 {
     match row.get_ref(0) {
         Ok(value) => slot(value, 1, LAST_SLOT),

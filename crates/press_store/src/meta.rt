@@ -9,7 +9,7 @@ ghost use Rattle.press_store.specs.Shown.{most_rounds, number_in, IsRoundRow};
 
 use crate::rows::round_value;
 use crate::statement::{read, write};
-use press_wire::Round;
+use press_wire::{GREATEST_ROUND, Round};
 use sqlite::types::ValueRef;
 use sqlite::{Alter, Connection, Error, Row as Shown};
 
@@ -48,7 +48,7 @@ pub fn number(value: ValueRef<'_>) -> Option<u64>
         return None;
     }
     let n = n as u64;
-    if n <= 1 << 40 { Some(n) } else { None }
+    if n <= GREATEST_ROUND { Some(n) } else { None }
 }
 
 fn round_of(row: &Shown) -> Option<u64>

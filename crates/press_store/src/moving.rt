@@ -4,6 +4,7 @@ ghost use Rattle.std.specs.Prelude.{◌≡◌, ◌≤◌, ◌<◌, ◌+◌, ◌*
 ghost use Rattle.sqlite.specs.State.{Survives};
 ghost use Rattle.sqlite.specs.Held.{state};
 ghost use Rattle.press_wire.specs.Blocks.{is_first};
+ghost use Rattle.press_wire.specs.Ranges.{last_slot};
 ghost use Rattle.press_store.specs.Moving.{AreEmpty, BlockMoved, BlocksMoved, Does, EndAt, IsDamagedOr, RowMoved, SlotMoved, VotesMoved, first_behind};
 ghost use Rattle.press_store.specs.Slots.{shown_row};
 ghost use Rattle.press_store.specs.Steps.{GoesOn, Keeps};
@@ -13,10 +14,13 @@ use crate::version_1_rows::{
     damage, find_slot, greater, last_slot, perhaps_ballot, rows_outside, spelled_vote,
 };
 use crate::vote::add_vote;
-use press_wire::{Ballot, LAST_SLOT, Slot};
+use press_wire::{BLOCK_SLOTS, Ballot, LAST_SLOT, Slot};
 use sqlite::types::ValueRef;
 use sqlite::{Alter, Error, Row as Shown, Transaction};
 use std::alloc::Global;
+
+// How many blocks there are.
+const BLOCKS: u32 = LAST_SLOT / BLOCK_SLOTS;
 
 // Moves the vote of a row, and returns its greatest ballot.
 fn move_row<S: Alter>(
@@ -75,7 +79,7 @@ fn slot_behind(count: u32, n: u32) -> Slot
     requires { (count < 62500) × (n < 16) }
     ensures { result ≡ first_behind count + n }
 {
-    let Some(slot) = Slot::new(16 * count + 1 + n) else {
+    let Some(slot) = Slot::new(BLOCK_SLOTS * count + 1 + n) else {
         unreachable!()
     };
     slot
@@ -106,7 +110,7 @@ fn move_votes<S: Alter>(
         (λ _. ⊥) }
 {
     let mut greatest = None;
-    for n in 0..16u32 {
+    for n in 0..BLOCK_SLOTS {
         let here = move_slot(alloc, tx, slot_behind(count, n))?;
         greatest = greater(greatest, here);
     }
@@ -163,8 +167,10 @@ fn blocks_to(rows: &[Shown]) -> u32
         return 0;
     };
     match row.get_ref(0) {
-        Ok(ValueRef::Int(n)) if 1 <= n && n <= LAST_SLOT as i64 => (n as u32 + 15) / 16,
-        _ => 62_500,
+        Ok(ValueRef::Int(n)) if 1 <= n && n <= LAST_SLOT as i64 => {
+            (n as u32 + (BLOCK_SLOTS - 1)) / BLOCK_SLOTS
+        }
+        _ => BLOCKS,
     }
 }
 
@@ -180,14 +186,14 @@ pub fn move_all_blocks<S: Alter>(alloc: Global, tx: &mut Transaction<'_, S>) -> 
     ensures kept { Keeps S.Store tx.old.conn.now tx.new.conn.now }
     ensures goes_on { GoesOn S.Store tx.old.conn.now tx.new.conn.now result }
     ensures moved { Does S.Store tx.old.conn.now tx.new.conn.now result
-        (λ old new _. AreEmpty old → BlocksMoved 62500 old new × EndAt 1000000 (old 0)) }
+        (λ old new _. AreEmpty old → BlocksMoved 62500 old new × EndAt last_slot (old 0)) }
     ensures survives { Survives (state S.Store tx.old.conn.now) (state S.Store tx.new.conn.now)
         (λ _. ⊥) }
 {
     let last = last_slot(tx)?;
     let count = blocks_to(&last);
     move_blocks(alloc, tx, count)?;
-    let outside = rows_outside(tx, 16 * count)?;
+    let outside = rows_outside(tx, BLOCK_SLOTS * count)?;
     if !is_none(&outside) {
         return Err(damage());
     }

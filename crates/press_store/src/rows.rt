@@ -5,6 +5,7 @@ ghost use Rattle.sqlite.specs.Value.{owned};
 ghost use Rattle.sqlite.specs.declared.types.Value.TheVariants.{Int, Blob};
 ghost use Rattle.press_store.specs.Owned as spec;
 ghost use Rattle.press_store.specs.Shown.{ballot_in, most_rounds, number_in};
+ghost use Rattle.press_wire.specs.Ranges.{last_slot, most_members};
 
 use press_wire::{Ballot, MOST_MEMBERS, MemberId, Round, Slot};
 use sqlite::types::ValueRef;
@@ -18,7 +19,7 @@ fn int_of(n: u64) -> i64
 
 pub fn slot_value<'a>(slot: Slot) -> ValueRef<'a>
     ensures value { owned result ≡ Int (pos slot) }
-    ensures range { (1 ≤ slot) × (slot ≤ 1000000) }
+    ensures range { (1 ≤ slot) × (slot ≤ last_slot) }
 {
     ValueRef::Int(i64::from(slot.number()))
 }
@@ -32,7 +33,7 @@ pub fn round_value<'a>(round: Round) -> ValueRef<'a>
 
 pub fn node_value<'a>(node: MemberId) -> ValueRef<'a>
     ensures value { owned result ≡ Int (pos node) }
-    ensures range { (1 ≤ node) × (node ≤ 7) }
+    ensures range { (1 ≤ node) × (node ≤ most_members) }
 {
     ValueRef::Int(i64::from(node.number()))
 }
@@ -44,8 +45,8 @@ pub fn small_value<'a>(n: u8) -> ValueRef<'a>
     ValueRef::Int(i64::from(n))
 }
 
-fn signed(n: u64) -> i64
-    ensures { result ≡ spec.signed n }
+fn signed_number(n: u64) -> i64
+    ensures { result ≡ spec.signed_number n }
 {
     if n < 1 << 63 {
         n as i64
@@ -55,8 +56,8 @@ fn signed(n: u64) -> i64
 }
 
 /// The number of the same 64 bits.
-pub fn unsigned(n: i64) -> u64
-    ensures { result ≡ spec.unsigned n }
+pub fn unsigned_number(n: i64) -> u64
+    ensures { result ≡ spec.unsigned_number n }
 {
     if n < 0 {
         u64::MAX - (-1 - n) as u64
@@ -66,10 +67,10 @@ pub fn unsigned(n: i64) -> u64
 }
 
 pub fn digest_value<'a>(digest: u64) -> ValueRef<'a>
-    ensures value { owned result ≡ Int (spec.signed digest) }
+    ensures value { owned result ≡ Int (spec.signed_number digest) }
     ensures range { digest < 2 ^ 64 }
 {
-    ValueRef::Int(signed(digest))
+    ValueRef::Int(signed_number(digest))
 }
 
 pub fn bytes_value(bytes: &[u8]) -> ValueRef<'_>
@@ -80,7 +81,7 @@ pub fn bytes_value(bytes: &[u8]) -> ValueRef<'_>
 
 /// A slot from the least one to the last; None where it is damaged.
 pub fn slot(value: ValueRef<'_>, least: u32, last: u32) -> Option<Slot>
-    requires { (1 ≤ least) × (last ≤ 1000000) }
+    requires { (1 ≤ least) × (last ≤ last_slot) }
     ensures { result ≡ number_in least last (owned value.entry) }
 {
     let ValueRef::Int(n) = value else {
@@ -103,7 +104,7 @@ fn round(value: ValueRef<'_>) -> Option<Round>
 }
 
 pub fn member_number(n: i64) -> Option<MemberId>
-    ensures { result ≡ number_in 1 7 (Int n) }
+    ensures { result ≡ number_in 1 most_members (Int n) }
 {
     node(ValueRef::Int(n))
 }
@@ -119,7 +120,7 @@ pub fn member_count(n: i64) -> Option<u8>
 }
 
 fn node(value: ValueRef<'_>) -> Option<MemberId>
-    ensures { result ≡ number_in 1 7 (owned value.entry) }
+    ensures { result ≡ number_in 1 most_members (owned value.entry) }
 {
     let ValueRef::Int(n) = value else {
         return None;

@@ -10,7 +10,9 @@ ghost use Rattle.press_store.specs.Tying.{Fails, Finds, KeepsVersion, Owns, Spar
 
 use crate::marking::name_value;
 use crate::owner::{Owner, Tie, tie_of};
-use crate::rows::{digest_value, member_count, member_number, node_value, small_value, unsigned};
+use crate::rows::{
+    digest_value, member_count, member_number, node_value, small_value, unsigned_number,
+};
 use crate::statement::{read, write};
 use sqlite::types::ValueRef;
 use sqlite::{Alter, Connection, Error, Row as Shown};
@@ -69,7 +71,7 @@ fn owner_from(number: i64, members: i64, peers: i64) -> Option<Owner>
     Some(Owner {
         number,
         members,
-        peers: unsigned(peers),
+        peers: unsigned_number(peers),
     })
 }
 

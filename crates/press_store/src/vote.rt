@@ -6,6 +6,7 @@ ghost use Rattle.sqlite.specs.State.{Survives};
 ghost use Rattle.sqlite.specs.Held.{state};
 ghost use Rattle.sqlite.specs.Value.{owned};
 ghost use Rattle.press_wire.specs.Blocks.{is_first};
+ghost use Rattle.press_wire.specs.Ranges.{last_slot};
 ghost use Rattle.press_wire.specs.Reading.{read_command};
 ghost use Rattle.press_wire.specs.Spelling.{spelled_command};
 ghost use Rattle.press_acceptor.specs.StoreMap.{block_votes};
@@ -94,7 +95,7 @@ fn vote(alloc: Global, ballot: Option<Ballot>, bytes: ValueRef<'_>) -> Result<Op
 
 // The vote in a row, for a slot from the least one to the last; None where it is damaged.
 fn slot_vote(alloc: Global, row: &Shown, least: u32, last: u32) -> Result<Option<SlotVote>, Error>
-    requires { (1 ≤ least) × (last ≤ 1000000) }
+    requires { (1 ≤ least) × (last ≤ last_slot) }
     ensures { IfOk result (λ found. found ≡ shown_vote least last row.now) }
 {
     let slot = slot(row.get_ref(0)?, least, last);

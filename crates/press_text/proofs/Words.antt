@@ -12,7 +12,7 @@ use Rattle.std.proofs.lemmas.Bool.{and_parts}
 use Rattle.std.proofs.lemmas.List.{length-drop}
 use Rattle.std.proofs.lemmas.Cmp.{ranked, nat_cmp_total, tied_itself}
 use Rattle.press_text.specs.Names.{is_name_byte, IsName}
-use Rattle.press_text.specs.Padded.{AreBytes, eight, number, padded, IsKept}
+use Rattle.press_text.specs.Padded.{AreBytes, eight, number, padded_name, IsKept}
 
 -- what begins less stays less
 less : (m n : ℕ) (xs ys : List ℕ) → length xs ≡ length ys → AreBytes xs → AreBytes ys → m < n → number m xs < number n ys
@@ -203,7 +203,7 @@ kept_bytes bytes len k =
     subst AreBytes k.padded (bytes_joined name (tail name) (named_bytes name (name_named name k.name)) (zero_bytes (tail name) (tail_zeros name)))
 
 -- the bytes of a name are its own, and zeros up to 32
-pub kept_word : (bytes : List ℕ) (len i : ℕ) → IsKept bytes len → number 0 (eight (8 * i) bytes) ≡ number 0 (eight (8 * i) (padded (take len bytes)))
+pub kept_word : (bytes : List ℕ) (len i : ℕ) → IsKept bytes len → number 0 (eight (8 * i) bytes) ≡ number 0 (eight (8 * i) (padded_name (take len bytes)))
 kept_word bytes len i k = ap (λ xs. number 0 (eight (8 * i) xs)) (sym k.padded)
 
 pub kept_order : (a b : List ℕ) (m n : ℕ) → IsKept a m → IsKept b n → slice_cmp nat_cmp a b ≡ slice_cmp nat_cmp (take m a) (take n b)

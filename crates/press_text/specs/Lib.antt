@@ -4,6 +4,7 @@ pub mod Faults
 pub mod Gives
 pub mod Lists
 pub mod Moments
+pub mod NameOrder
 pub mod Names
 pub mod Padded
 pub mod Streams

@@ -3,13 +3,13 @@ use Rattle.std.specs.Prelude.{◌≡◌, ◌<◌, ℕ, ◌+◌, ◌*◌, List, [
 use Rattle.std.specs.List.{AllByRecursion}
 use Rattle.press_text.specs.Names.{IsName}
 
-abbrev pub padded : List ℕ → List ℕ
-padded name = name ++ drop (length name) (replicate 32 0)
+abbrev pub padded_name : List ℕ → List ℕ
+padded_name name = name ++ drop (length name) (replicate 32 0)
 
 -- so many of these bytes are a name, and the others are zeros
 pub record IsKept (bytes : List ℕ) (len : ℕ) : Type 0 where
   pub name : IsName 32 (take len bytes)
-  pub padded : padded (take len bytes) ≡ bytes
+  pub padded : padded_name (take len bytes) ≡ bytes
   pub long : length (take len bytes) ≡ len
 
 abbrev pub AreBytes : List ℕ → Type 0

@@ -14,10 +14,10 @@ bytes_of (Inline s) = s
 bytes_of (Shared rc) = bytes_in rc.value
 
 -- the bytes with more behind them, where that was done
-abbrev pub appended : Bool → List ℕ → List ℕ → List ℕ
-appended true old more = old ++ more
-appended false old more = old
+abbrev pub append_where : Bool → List ℕ → List ℕ → List ℕ
+append_where true old more = old ++ more
+append_where false old more = old
 
 -- an append that is done where there is room says whether it was, and a fault leaves the bytes as they were
-abbrev pub Appended : {E : Type 0} → Result Bool E → List ℕ → List ℕ → List ℕ → Type 0
-Appended result old new more = MatchResult result (λ done. new ≡ appended done old more) (λ fault. new ≡ old)
+abbrev pub AppendsIfRoom : {E : Type 0} → Result Bool E → List ℕ → List ℕ → List ℕ → Type 0
+AppendsIfRoom result old new more = MatchResult result (λ done. new ≡ append_where done old more) (λ fault. new ≡ old)

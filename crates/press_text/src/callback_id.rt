@@ -2,9 +2,9 @@ ghost use Rattle.std.specs.Prelude.{◌≡◌, ◌*◌, ◌<◌, ◌≤◌, leng
 ghost use Rattle.std.specs.Cmp.Lexicographic.{slice_cmp};
 ghost use Rattle.std.specs.Ordering.{nat_cmp};
 ghost use Rattle.press_text.specs.Names.{CallbackGives, IsName};
-ghost use Rattle.press_text.specs.Padded.{AreBytes, eight, number, padded};
+ghost use Rattle.press_text.specs.Padded.{AreBytes, eight, number, padded_name};
 
-use crate::class::fault_of;
+use crate::class::{MOST_NAME, fault_of};
 use crate::name_fault::NameFault;
 use std::cmp::Ordering;
 use std::marker::Model;
@@ -13,7 +13,7 @@ use std::marker::Model;
 /// takes no memory.
 #[derive(Clone, Copy, Debug)]
 pub struct CallbackId {
-    bytes: [u8; 32],
+    bytes: [u8; MOST_NAME],
     len: u8,
 }
 
@@ -22,13 +22,13 @@ impl Model for CallbackId {
 
     ghost Value = { List ℕ };
 
-    ghost use Rattle.press_text.specs.Padded.{padded, IsKept};
+    ghost use Rattle.press_text.specs.Padded.{padded_name, IsKept};
 
     ghost view = { λ c. take c.len c.bytes };
 
     ghost invariant = { λ c. IsKept c.bytes c.len };
 
-    ghost inverse = { λ n. record { bytes = padded n; len = length n } };
+    ghost inverse = { λ n. record { bytes = padded_name n; len = length n } };
 
     ghost inverse_ok = { λ a h i. record { bytes = h.padded i; len = h.long i } };
 }
@@ -39,10 +39,10 @@ impl CallbackId {
     pub fn new(text: &str) -> Result<CallbackId, NameFault>
         ensures { CallbackGives result text.now }
     {
-        if let Some(fault) = fault_of(32, text.as_bytes()) {
+        if let Some(fault) = fault_of(MOST_NAME, text.as_bytes()) {
             return Err(fault);
         }
-        let bytes = padded(text.as_bytes());
+        let bytes = padded_name(text.as_bytes());
         Ok(CallbackId {
             bytes,
             len: text.len() as u8,
@@ -61,7 +61,7 @@ impl CallbackId {
     #[tactic(auto, using(crate::proofs::Words::kept_word))]
     pub fn word(&self, i: usize) -> u64
         requires { i < 4 }
-        ensures { result ≡ number 0 (eight (8 * i) (padded self.now)) }
+        ensures { result ≡ number 0 (eight (8 * i) (padded_name self.now)) }
     {
         word(&self.bytes, i)
     }
@@ -83,7 +83,7 @@ impl CallbackId {
 }
 
 // The order byte by byte, found eight bytes at a time.
-fn order_by_words(a: &[u8; 32], b: &[u8; 32]) -> Ordering
+fn order_by_words(a: &[u8; MOST_NAME], b: &[u8; MOST_NAME]) -> Ordering
     requires a { AreBytes a.now }
     requires b { AreBytes b.now }
     ensures { result ≡ slice_cmp nat_cmp a.now b.now }
@@ -99,7 +99,7 @@ fn order_by_words(a: &[u8; 32], b: &[u8; 32]) -> Ordering
 
 // The number that eight bytes spell, the greatest first; so many words lie before them.
 // In this order of the sum a compiler makes one load of it.
-fn word(bytes: &[u8; 32], i: usize) -> u64
+fn word(bytes: &[u8; MOST_NAME], i: usize) -> u64
     requires { i < 4 }
     ensures { result ≡ number 0 (eight (8 * i) bytes.now) }
 {
@@ -115,11 +115,11 @@ fn word(bytes: &[u8; 32], i: usize) -> u64
 }
 
 // The bytes of a name, and zeros up to 32.
-fn padded(name: &[u8]) -> [u8; 32]
+fn padded_name(name: &[u8]) -> [u8; MOST_NAME]
     requires { length name.now ≤ 32 }
-    ensures { result ≡ padded name.now }
+    ensures { result ≡ padded_name name.now }
 {
-    let mut bytes = [0u8; 32];
+    let mut bytes = [0u8; MOST_NAME];
     bytes[..name.len()].copy_from_slice(name);
     bytes
 }

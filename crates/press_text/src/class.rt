@@ -7,6 +7,9 @@ ghost use Rattle.press_text.specs.declared.name_fault.NameFault.TheVariants.{NoM
 
 use crate::name_fault::NameFault;
 
+/// The most bytes of the name of a shortcode, an option, a plugin, an editor or a callback.
+pub const MOST_NAME: usize = 32;
+
 fn is_name_byte(b: u8) -> bool
     ensures { result ≡ name_byte b }
 {

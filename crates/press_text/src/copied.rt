@@ -8,37 +8,37 @@ use std::alloc::{AllocError, Global};
 /// A value that can be copied.
 pub trait Copied {
     /// A copy of the value.
-    fn copied(&self, alloc: Global) -> Result<Self, AllocError>
+    fn copy_in(&self, alloc: Global) -> Result<Self, AllocError>
     where
         Self: Sized,
         ensures { IfOk result (λ x. x ≡ self.now) };
 }
 
 impl Copied for Text {
-    fn copied(&self, alloc: Global) -> Result<Text, AllocError> {
+    fn copy_in(&self, alloc: Global) -> Result<Text, AllocError> {
         self.copy(alloc)
     }
 }
 
 impl Copied for HookName {
-    fn copied(&self, alloc: Global) -> Result<HookName, AllocError> {
+    fn copy_in(&self, alloc: Global) -> Result<HookName, AllocError> {
         self.copy(alloc)
     }
 }
 
 /// A copy of each of these.
-pub fn copied_all<T: Copied + Drop>(alloc: Global, items: &[T]) -> Result<Vec<T>, AllocError>
+pub fn copy_all<T: Copied + Drop>(alloc: Global, items: &[T]) -> Result<Vec<T>, AllocError>
     ensures { IfOk result (λ v. v.items ≡ items.now) }
 {
     let mut copies = Vec::new(alloc);
     for item in items {
-        copies.push(item.copied(alloc)?)?;
+        copies.push(item.copy_in(alloc)?)?;
     }
     Ok(copies)
 }
 
 impl<T: Copied + Drop> Copied for Items<T> {
-    fn copied(&self, alloc: Global) -> Result<Items<T>, AllocError> {
-        Ok(Items::from_vec(copied_all(alloc, self.as_slice())?))
+    fn copy_in(&self, alloc: Global) -> Result<Items<T>, AllocError> {
+        Ok(Items::from_vec(copy_all(alloc, self.as_slice())?))
     }
 }

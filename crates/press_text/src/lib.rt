@@ -25,9 +25,10 @@ mod text;
 mod texts;
 
 pub use callback_id::CallbackId;
-pub use copied::{Copied, copied_all};
+pub use class::MOST_NAME;
+pub use copied::{Copied, copy_all};
 pub use decimal::dec_u64;
-pub use escape::esc_html;
+pub use escape::{esc_html, escape_of};
 pub use every::Every;
 pub use growth::make_room;
 pub use hook_name::HookName;

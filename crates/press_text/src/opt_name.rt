@@ -1,7 +1,7 @@
 ghost use Rattle.std.specs.Prelude.{◌≡◌, IfOk, bytes_eq};
 ghost use Rattle.press_text.specs.Names.{NameGives, IsName};
 
-use crate::class::fault_of;
+use crate::class::{MOST_NAME, fault_of};
 use crate::name_fault::NameFault;
 use std::alloc::{AllocError, Global};
 use std::marker::Model;
@@ -35,7 +35,7 @@ impl OptName {
     pub fn new(alloc: Global, text: &str) -> Result<OptName, NameFault>
         ensures { NameGives 32 result text.now }
     {
-        if let Some(fault) = fault_of(32, text.as_bytes()) {
+        if let Some(fault) = fault_of(MOST_NAME, text.as_bytes()) {
             return Err(fault);
         }
         let inside = String::from_str(alloc, text)?;

@@ -1,5 +1,5 @@
 ghost use Rattle.std.specs.Prelude.{◌≡◌, ◌<◌, ◌≤◌, [], ◌+◌, ◌++◌, ◌==◌, length, string_bytes, OnOk, OnErr, IfOk};
-ghost use Rattle.press_text.specs.Texts.{Appended, appended, bytes_in, bytes_of};
+ghost use Rattle.press_text.specs.Texts.{AppendsIfRoom, append_where, bytes_in, bytes_of};
 
 use crate::growth::make_room;
 use crate::short::{MOST, MOST_HERE, Short};
@@ -34,7 +34,7 @@ impl Long {
 
     // Appends, unless a text that lies here would grow past its block.
     fn push(&mut self, more: &str) -> Result<bool, AllocError>
-        ensures { Appended result (bytes_in self.old) (bytes_in self.new) more.now }
+        ensures { AppendsIfRoom result (bytes_in self.old) (bytes_in self.new) more.now }
     {
         match self {
             Long::Here(short) => Ok(push_short(short, more)),
@@ -50,7 +50,7 @@ impl Long {
 impl Held {
     // Appends, unless the bytes have another holder or no room.
     fn push(&mut self, more: &str) -> Result<bool, AllocError>
-        ensures { Appended result (bytes_of self.old) (bytes_of self.new) more.now }
+        ensures { AppendsIfRoom result (bytes_of self.old) (bytes_of self.new) more.now }
     {
         match self {
             Held::Inline(short) => Ok(push_short(short, more)),
@@ -65,7 +65,7 @@ impl Held {
 // Appends where there is room.
 fn push_short<const N: usize>(short: &mut Short<N>, more: &str) -> bool
     requires { N < 256 }
-    ensures { short.new ≡ appended result short.old more.now }
+    ensures { short.new ≡ append_where result short.old more.now }
 {
     let fits = more.len() <= N - short.as_str().len();
     if fits {

@@ -1,7 +1,7 @@
 ghost use Rattle.std.specs.Prelude.{◌≡◌, ◌≢◌, [], ◌∷◌, length, IfOk, OnOk, OnErr};
 ghost use Rattle.press_text.specs.Lists.{with_first};
 
-use crate::copied::copied_all;
+use crate::copied::copy_all;
 use crate::text::Text;
 use std::alloc::{AllocError, Global};
 use std::marker::Model;
@@ -132,7 +132,7 @@ impl Texts {
                 return put_first(own, first);
             }
         }
-        let mut own = copied_all(self.alloc, self.as_slice())?;
+        let mut own = copy_all(self.alloc, self.as_slice())?;
         put_first(&mut own, first)?;
         *self = Texts::from_vec(own)?;
         Ok(())

@@ -3,7 +3,7 @@ use Rattle.std.proofs.Common.{◌≡◌, ℕ, suc, ◌+◌, Bool, true, false, c
 use Rattle.std.proofs.lemmas.Bool.{cases_lt, eqb-true}
 use Rattle.std.proofs.lemmas.List.{get_or-drop, get_or-take, get_or_past, length-take, take_at}
 use Rattle.press_wire.specs.declared.fault.WireFault.{WireFault}
-use Rattle.press_wire.specs.Fields.{◌>>=◌, or_fault, checked}
+use Rattle.press_wire.specs.Fields.{◌>>=◌, or_fault, checked_at}
 use Rattle.press_wire.specs.Held.{IsBytes}
 use Rattle.press_wire.specs.Ranges.{only}
 
@@ -79,7 +79,7 @@ or_ok fault None rest y e = absurd cc
 or_ok fault (Some x) rest y e = let same = ok_is (x, rest) y e in (ap (λ (p : _ × List ℕ). Some p.0) same, ap (λ (p : _ × List ℕ). p.1) same)
 
 pub checked_codec : {A B : Type 0} {at : List ℕ → Result (A × List ℕ) WireFault} {spell : A → List ℕ} {Fits : A → Type 0} (codec : Codec at spell Fits) (fault : WireFault) (of : A → Option B) (name : B → A)
-    → ((a : A) (b : B) → of a ≡ Some b → a ≡ name b) → Codec (checked fault of at) (λ b. spell (name b)) (λ b. Fits (name b) × (of (name b) ≡ Some b))
+    → ((a : A) (b : B) → of a ≡ Some b → a ≡ name b) → Codec (checked_at fault of at) (λ b. spell (name b)) (λ b. Fits (name b) × (of (name b) ≡ Some b))
 checked_codec {A = A} {spell = spell} {Fits = Fits} codec fault of name named = record {
   takes = λ bytes v rest fits e.
       let s = step codec (λ x. or_fault fault (of x.0) x.1) (v, rest) bytes fits e in

@@ -13,7 +13,7 @@ use Rattle.press_posts.specs.declared.status.Status.TheVariants as status
 use Rattle.press_wire.specs.declared.ballot.Ballot.{Ballot}
 use Rattle.press_wire.specs.declared.fault.WireFault.{WireFault}
 use Rattle.press_wire.specs.declared.fault.WireFault.TheVariants.{Short, BadField}
-use Rattle.press_wire.specs.Fields.{checked, counted, byte_at, bytes_at, number_at, number4_at, number8_at, short_at, name_at, text_at, moment_at, status_at, node_at, slot_at, round_at, ballot_at}
+use Rattle.press_wire.specs.Fields.{checked_at, counted_bytes_at, byte_at, bytes_at, number_at, number4_at, number8_at, short_at, name_at, text_at, moment_at, status_at, node_at, slot_at, round_at, ballot_at}
 use Rattle.press_wire.specs.Held.{IsBytes, IsText, IsMoment, IsRound, IsNode, IsSlot, IsBallot}
 use Rattle.press_wire.specs.Kinds.{status_of, status_number}
 use Rattle.press_wire.specs.Ranges.{only, is_at_most, is_within, member_id_of, slot_of, round_of}
@@ -103,7 +103,7 @@ number8_codec = recast (number_codec w64 (2 ^ 64) number8 wide8) number8_at numb
 abbrev pub spell_counted : (ℕ → List ℕ) → List ℕ → List ℕ
 spell_counted spell s = spell (length s) ++ s
 
-pub counted_codec : {at : List ℕ → Result (ℕ × List ℕ) WireFault} {spell : ℕ → List ℕ} {Fits : ℕ → Type 0} (codec : Codec at spell Fits) → Codec (counted at) (spell_counted spell) (λ s. Fits (length s))
+pub counted_codec : {at : List ℕ → Result (ℕ × List ℕ) WireFault} {spell : ℕ → List ℕ} {Fits : ℕ → Type 0} (codec : Codec at spell Fits) → Codec (counted_bytes_at at) (spell_counted spell) (λ s. Fits (length s))
 counted_codec {at = at} {spell = spell} {Fits = Fits} codec = record {
   takes = λ bytes v rest fits e.
       let s = step codec (λ n. bytes_at n.0 n.1) (v, rest) bytes fits e in
@@ -117,7 +117,7 @@ counted_codec {at = at} {spell = spell} {Fits = Fits} codec = record {
       subst (λ (p : List ℕ × List ℕ). Takes (spell_counted spell) (λ x. Fits (length x)) bytes p.0 p.1) g.1 found;
   again = λ v rest fits.
       let long : ltb (length (v ++ rest)) (length v) ≡ false = le-ltb _ _ (omega (arith, length-append v rest)) in
-      ap (λ (b : List ℕ). counted at b) (append_assoc (spell (length v)) v rest) ∙ step_again codec (λ n. bytes_at n.0 n.1) (length v) (v ++ rest) fits ∙ rw (long, take_at v rest (length v) refl, drop_at v rest (length v) refl) refl;
+      ap (λ (b : List ℕ). counted_bytes_at at b) (append_assoc (spell (length v)) v rest) ∙ step_again codec (λ n. bytes_at n.0 n.1) (length v) (v ++ rest) fits ∙ rw (long, take_at v rest (length v) refl, drop_at v rest (length v) refl) refl;
 }
 
 -- ---- numbers in their ranges
@@ -188,9 +188,9 @@ name_codec = recast (checked_codec short_codec BadField (only (is_name 32)) same
     (λ s fits. ((grind (arith, nat_tests), grind (arith, nat_tests)), passes_only (is_name 32) s fits))
 
 -- so many bytes at most behind their length
-pub sized_codec : (most : ℕ) → most < 2 ^ 32 → Codec (counted (checked BadField (only (is_at_most most)) number4_at)) text (λ s. length s ≤ most)
+pub sized_codec : (most : ℕ) → most < 2 ^ 32 → Codec (counted_bytes_at (checked_at BadField (only (is_at_most most)) number4_at)) text (λ s. length s ≤ most)
 unfolding text
-sized_codec most small = recast (counted_codec (checked_codec number4_codec BadField (only (is_at_most most)) same_number (only_named (is_at_most most)))) (counted (checked BadField (only (is_at_most most)) number4_at)) text (λ s. length s ≤ most)
+sized_codec most small = recast (counted_codec (checked_codec number4_codec BadField (only (is_at_most most)) same_number (only_named (is_at_most most)))) (counted_bytes_at (checked_at BadField (only (is_at_most most)) number4_at)) text (λ s. length s ≤ most)
     (λ bytes. refl) (λ s. refl) (λ s fits. let t = only_passes (is_at_most most) (length s) (length s) fits.1 in grind (arith, nat_tests))
     (λ s fits. (omega (arith, fits, small), passes_only (is_at_most most) (length s) (grind (arith, nat_tests))))
 

@@ -13,7 +13,7 @@ use Rattle.press_wire.specs.declared.message.Body.{Body}
 use Rattle.press_wire.specs.declared.message.Body.TheVariants.{Prepare, Promise, Nack, Accept, Accepted, Query}
 use Rattle.press_wire.specs.declared.message.Message.{Message}
 use Rattle.press_wire.specs.declared.vote.Vote.{Vote}
-use Rattle.press_wire.specs.Fields.{◌>>=◌, byte_at, slot_at, checked}
+use Rattle.press_wire.specs.Fields.{◌>>=◌, byte_at, slot_at, checked_at}
 use Rattle.std.specs.Prelude.{IfOk}
 use Rattle.press_text.specs.Gives.{Gives}
 use Rattle.press_wire.specs.Refusals.{Refuses}
@@ -22,7 +22,7 @@ use Rattle.press_wire.specs.Kinds.{message_number, message_kind_of, kind_of_body
 use Rattle.press_wire.specs.Ranges.{only, is_at_most, is_between}
 use Rattle.press_wire.specs.Votes.{IsWithin}
 use Rattle.press_wire.specs.declared.votes.SlotVote.{SlotVote}
-use Rattle.press_wire.specs.Reading.{ended, inside, read_value, value_at, vote_at, slot_vote_at, slot_votes_at, report_at, slot_for, promise_at, nack_at, accept_at, body_at, message_at, read_message}
+use Rattle.press_wire.specs.Reading.{or_extra, inside, read_value, value_at, vote_at, slot_vote_at, slot_votes_at, report_at, slot_for, promise_at, nack_at, accept_at, body_at, message_at, read_message}
 use Rattle.press_wire.specs.Spelling.{number4, text, value, vote, slot_vote, slot_votes, report, body, spelled_command, spelled_message, longest, most_votes, is_too_long, has_long_vote, is_too_long_body, is_too_long_message}
 use Rattle.press_wire.proofs.Codec.{IsBytes-front, IsBytes-back, Takes, Codec, step, step_again, join, bind_ok, ok_is, checked_codec, or_next, or_none, only_named, only_passes, passes_only, recast, mapped_codec, paired_codec}
 use Rattle.press_wire.proofs.FieldLaws.{one, byte_codec, round_codec, node_codec, slot_codec, ballot_codec, sized_codec}
@@ -79,8 +79,8 @@ FitsSlotVote first last v = IsSlot v.slot × ((first ≤ v.slot) × (v.slot < la
 abbrev same_slot : ℕ → ℕ
 same_slot n = n
 
-between_codec : (first last : ℕ) → Codec (checked BadField (only (is_between first last)) slot_at) number4 (λ n. IsSlot n × ((first ≤ n) × (n < last)))
-between_codec first last = recast (checked_codec slot_codec BadField (only (is_between first last)) same_slot (only_named (is_between first last))) (checked BadField (only (is_between first last)) slot_at) number4 (λ n. IsSlot n × ((first ≤ n) × (n < last)))
+between_codec : (first last : ℕ) → Codec (checked_at BadField (only (is_between first last)) slot_at) number4 (λ n. IsSlot n × ((first ≤ n) × (n < last)))
+between_codec first last = recast (checked_codec slot_codec BadField (only (is_between first last)) same_slot (only_named (is_between first last))) (checked_at BadField (only (is_between first last)) slot_at) number4 (λ n. IsSlot n × ((first ≤ n) × (n < last)))
     (λ bytes. refl) (λ n. refl) (λ n fits. let t = only_passes (is_between first last) n n fits.1 in (fits.0, (grind (arith, nat_tests), grind (arith, nat_tests))))
     (λ n fits. (fits.0, passes_only (is_between first last) n (grind (arith, nat_tests))))
 
@@ -135,8 +135,8 @@ some_codec count first last = record { takes = some_takes count first last; agai
 abbrev FitsReport : ℕ → List SlotVote → Type 0
 FitsReport block votes = (length votes ≤ most_votes) × FitsVotes block (block + 16) votes
 
-count_codec : Codec (checked BadField (only (is_at_most most_votes)) byte_at) one (λ n. n ≤ most_votes)
-count_codec = recast (checked_codec byte_codec BadField (only (is_at_most most_votes)) same_slot (only_named (is_at_most most_votes))) (checked BadField (only (is_at_most most_votes)) byte_at) one (λ n. n ≤ most_votes)
+count_codec : Codec (checked_at BadField (only (is_at_most most_votes)) byte_at) one (λ n. n ≤ most_votes)
+count_codec = recast (checked_codec byte_codec BadField (only (is_at_most most_votes)) same_slot (only_named (is_at_most most_votes))) (checked_at BadField (only (is_at_most most_votes)) byte_at) one (λ n. n ≤ most_votes)
     (λ bytes. refl) (λ n. refl) (λ n fits. let t = only_passes (is_at_most most_votes) n n fits.1 in grind (arith, nat_tests))
     (λ n fits. (omega (arith, fits), passes_only (is_at_most most_votes) n (grind (arith, nat_tests))))
 
@@ -241,8 +241,8 @@ message_known about.Accept = (omega arith, refl)
 message_known about.Accepted = (omega arith, refl)
 message_known about.Query = (omega arith, refl)
 
-message_kind_codec : Codec (checked BadKind message_kind_of byte_at) (λ k. one (message_number k)) (λ k. Unit {0})
-message_kind_codec = recast (checked_codec byte_codec BadKind message_kind_of message_number message_named) (checked BadKind message_kind_of byte_at) (λ k. one (message_number k)) (λ k. Unit {0})
+message_kind_codec : Codec (checked_at BadKind message_kind_of byte_at) (λ k. one (message_number k)) (λ k. Unit {0})
+message_kind_codec = recast (checked_codec byte_codec BadKind message_kind_of message_number message_named) (checked_at BadKind message_kind_of byte_at) (λ k. one (message_number k)) (λ k. Unit {0})
     (λ bytes. refl) (λ k. refl) (λ k fits. tt) (λ k fits. message_known k)
 
 abbrev pub FitsMessage : Message → Type 0
@@ -283,14 +283,14 @@ message_codec = record { takes = message_takes; again = message_again }
 message_takes_all : (bytes : List ℕ) (m : Message) → IsBytes bytes → read_message bytes ≡ Ok m → FitsMessage m × (bytes ≡ spelled_message m)
 unfolding read_message
 message_takes_all bytes m fits e =
-    let s = step message_codec ended m bytes fits e in
+    let s = step message_codec or_extra m bytes fits e in
     let g = ended_ok (s.value, s.rest) (eqb (length s.rest) 0) m s.next in
     let nothing : s.rest ≡ [] = nil_from_length s.rest (eqb-true _ _ g.0) in
     subst (λ (x : Message). FitsMessage x × (bytes ≡ spelled_message x)) g.1 (s.took.fits, s.took.parts ∙ ap (λ (t : List ℕ). spelled_message s.value ++ t) nothing ∙ append-nil (spelled_message s.value))
 
 message_again_all : (m : Message) → FitsMessage m → read_message (spelled_message m) ≡ Ok m
 unfolding read_message
-message_again_all m fits = ap (λ (t : List ℕ). message_at t >>= ended) (sym (append-nil (spelled_message m))) ∙ step_again message_codec ended m [] fits
+message_again_all m fits = ap (λ (t : List ℕ). message_at t >>= or_extra) (sym (append-nil (spelled_message m))) ∙ step_again message_codec or_extra m [] fits
 
 -- ---- what the types hold
 

@@ -15,7 +15,7 @@ use Rattle.press_apply.specs.declared.kind.CommandKind.{CommandKind}
 use Rattle.press_apply.specs.declared.kind.CommandKind.TheVariants as kind
 use Rattle.press_wire.specs.declared.kind.ValueKind.{ValueKind}
 use Rattle.press_wire.specs.declared.kind.ValueKind.TheVariants as value
-use Rattle.press_wire.specs.Fields.{◌>>=◌, byte_at, checked}
+use Rattle.press_wire.specs.Fields.{◌>>=◌, byte_at, checked_at}
 use Rattle.std.specs.Prelude.{IfOk}
 use Rattle.press_text.specs.Gives.{Gives}
 use Rattle.press_wire.specs.Refusals.{Refuses}
@@ -23,7 +23,7 @@ use Rattle.press_wire.specs.Measures.{Measures}
 use Rattle.press_wire.specs.Held.{IsBytes, IsMoment, IsCommand, IsValue, HasShortTexts, IsShort}
 use Rattle.press_apply.specs.Kinds.{command_number, command_kind_of, kind_of_command}
 use Rattle.press_wire.specs.Kinds.{value_kind_of}
-use Rattle.press_wire.specs.Reading.{ended, draft_at, insert_at, update_at, option_at, fields_at, stamped_at, behind_kind, command_at, read_value, read_command}
+use Rattle.press_wire.specs.Reading.{or_extra, draft_at, insert_at, update_at, option_at, fields_at, stamped_at, behind_kind, command_at, read_value, read_command}
 use Rattle.press_wire.specs.Spelling.{number8, name, text, draft, fields, stamped, spelled_command, longest, is_too_long}
 use Rattle.press_wire.proofs.Codec.{Takes, Codec, step, step_again, join, ok_is, checked_codec, or_next, or_none, recast, mapped_codec, paired_codec}
 use Rattle.press_wire.proofs.FieldLaws.{one, byte_codec, number8_codec, moment_codec, status_codec, name_codec, FitsText, text_codec}
@@ -211,8 +211,8 @@ value_known (value.Cmd kind.Deactivate) = (omega arith, refl)
 value_known (value.Cmd kind.Tick) = (omega arith, refl)
 value_known (value.Cmd kind.Profile) = (omega arith, refl)
 
-value_kind_codec : Codec (checked BadKind value_kind_of byte_at) (λ k. one (value_number k)) (λ k. Unit {0})
-value_kind_codec = recast (checked_codec byte_codec BadKind value_kind_of value_number value_named) (checked BadKind value_kind_of byte_at) (λ k. one (value_number k)) (λ k. Unit {0})
+value_kind_codec : Codec (checked_at BadKind value_kind_of byte_at) (λ k. one (value_number k)) (λ k. Unit {0})
+value_kind_codec = recast (checked_codec byte_codec BadKind value_kind_of value_number value_named) (checked_at BadKind value_kind_of byte_at) (λ k. one (value_number k)) (λ k. Unit {0})
     (λ bytes. refl) (λ k. refl) (λ k fits. tt) (λ k fits. value_known k)
 
 abbrev behind : Value → List ℕ
@@ -275,14 +275,14 @@ ended_ok x false y e = absurd cc
 pub whole_takes : (bytes : List ℕ) (v : Value) → IsBytes bytes → read_value bytes ≡ Ok v → FitsValue v × (bytes ≡ spelled_command v)
 unfolding read_value
 whole_takes bytes v fits e =
-    let s = step command_codec ended v bytes fits e in
+    let s = step command_codec or_extra v bytes fits e in
     let g = ended_ok (s.value, s.rest) (eqb (length s.rest) 0) v s.next in
     let nothing : s.rest ≡ [] = nil_from_length s.rest (eqb-true _ _ g.0) in
     subst (λ (x : Value). FitsValue x × (bytes ≡ spelled_command x)) g.1 (s.took.fits, s.took.parts ∙ ap (λ (t : List ℕ). spelled_command s.value ++ t) nothing ∙ append-nil (spelled_command s.value))
 
 pub whole_again : (v : Value) → FitsValue v → read_value (spelled_command v) ≡ Ok v
 unfolding read_value
-whole_again v fits = ap (λ (t : List ℕ). command_at t >>= ended) (sym (append-nil (spelled_command v))) ∙ step_again command_codec ended v [] fits
+whole_again v fits = ap (λ (t : List ℕ). command_at t >>= or_extra) (sym (append-nil (spelled_command v))) ∙ step_again command_codec or_extra v [] fits
 
 guard : {A : Type 0} (b : Bool) (r : Result A WireFault) (y : A) → cond b (Err TooLong) r ≡ Ok y → r ≡ Ok y
 guard true r y e = absurd cc

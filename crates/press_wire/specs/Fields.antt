@@ -38,11 +38,11 @@ abbrev pub or_fault : {A : Type 0} → WireFault → Option A → List ℕ → R
 or_fault fault None rest = Err fault
 or_fault fault (Some x) rest = Ok (x, rest)
 
-abbrev pub checked : {A B : Type 0} → WireFault → (A → Option B) → Reading A → Reading B
-checked fault of at bytes = at bytes >>= λ x. or_fault fault (of x.0) x.1
+abbrev pub checked_at : {A B : Type 0} → WireFault → (A → Option B) → Reading A → Reading B
+checked_at fault of at bytes = at bytes >>= λ x. or_fault fault (of x.0) x.1
 
-abbrev pub counted : Reading ℕ → Reading (List ℕ)
-counted at bytes = at bytes >>= λ n. bytes_at n.0 n.1
+abbrev pub counted_bytes_at : Reading ℕ → Reading (List ℕ)
+counted_bytes_at at bytes = at bytes >>= λ n. bytes_at n.0 n.1
 
 -- ---- the fields of values and messages
 
@@ -54,28 +54,28 @@ number8_at bytes = number_at w64 bytes
 
 -- a length, and that many bytes of a name
 unfoldable pub short_at : Reading (List ℕ)
-short_at bytes = counted (checked BadField (only (is_within 1 32)) byte_at) bytes
+short_at bytes = counted_bytes_at (checked_at BadField (only (is_within 1 32)) byte_at) bytes
 
 unfoldable pub name_at : Reading (List ℕ)
-name_at bytes = checked BadField (only (is_name 32)) short_at bytes
+name_at bytes = checked_at BadField (only (is_name 32)) short_at bytes
 
 unfoldable pub text_at : Reading (List ℕ)
-text_at bytes = checked BadField (only is_utf8) (counted (checked BadField (only (is_at_most 65536)) number4_at)) bytes
+text_at bytes = checked_at BadField (only is_utf8) (counted_bytes_at (checked_at BadField (only (is_at_most 65536)) number4_at)) bytes
 
 unfoldable pub moment_at : Reading ℕ
-moment_at bytes = checked BadField moment_of number8_at bytes
+moment_at bytes = checked_at BadField moment_of number8_at bytes
 
 unfoldable pub status_at : Reading Status
-status_at bytes = checked BadField status_of byte_at bytes
+status_at bytes = checked_at BadField status_of byte_at bytes
 
 unfoldable pub node_at : Reading ℕ
-node_at bytes = checked BadField member_id_of byte_at bytes
+node_at bytes = checked_at BadField member_id_of byte_at bytes
 
 unfoldable pub slot_at : Reading ℕ
-slot_at bytes = checked BadField slot_of number4_at bytes
+slot_at bytes = checked_at BadField slot_of number4_at bytes
 
 unfoldable pub round_at : Reading ℕ
-round_at bytes = checked BadField round_of number8_at bytes
+round_at bytes = checked_at BadField round_of number8_at bytes
 
 unfoldable pub ballot_at : Reading Ballot
 ballot_at bytes = do

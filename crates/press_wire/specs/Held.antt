@@ -15,6 +15,7 @@ use Rattle.press_wire.specs.declared.message.Message.{Message}
 use Rattle.press_wire.specs.declared.vote.Vote.{Vote}
 use Rattle.press_wire.specs.declared.votes.SlotVote.{SlotVote}
 use Rattle.press_wire.specs.Blocks.{is_first}
+use Rattle.press_wire.specs.Ranges.{last_slot, most_members}
 use Rattle.press_wire.specs.Votes.{IsWithin}
 use Rattle.press_wire.specs.Spelling.{longest}
 
@@ -54,10 +55,10 @@ abbrev pub IsRound : ℕ → Type 0
 IsRound n = (1 ≤ n) × (n ≤ 2 ^ 40)
 
 abbrev pub IsNode : ℕ → Type 0
-IsNode n = (1 ≤ n) × (n ≤ 7)
+IsNode n = (1 ≤ n) × (n ≤ most_members)
 
 abbrev pub IsSlot : ℕ → Type 0
-IsSlot n = (1 ≤ n) × (n ≤ 1000000)
+IsSlot n = (1 ≤ n) × (n ≤ last_slot)
 
 abbrev pub IsBallot : Ballot → Type 0
 IsBallot b = IsRound b.round × IsNode b.node

@@ -8,7 +8,7 @@ use Rattle.press_wire.specs.declared.kind.ValueKind.{ValueKind}
 use Rattle.press_wire.specs.declared.kind.ValueKind.TheVariants as value
 use Rattle.press_wire.specs.declared.kind.MessageKind.{MessageKind}
 use Rattle.press_wire.specs.declared.kind.MessageKind.TheVariants as about
-use Rattle.press_wire.specs.Fields.{Reading, ◌>>=◌, byte_at, number4_at, number8_at, checked, counted, name_at, text_at, node_at, round_at, ballot_at}
+use Rattle.press_wire.specs.Fields.{Reading, ◌>>=◌, byte_at, number4_at, number8_at, checked_at, counted_bytes_at, name_at, text_at, node_at, round_at, ballot_at}
 use Rattle.press_wire.specs.Kinds.{value_kind_of, message_kind_of}
 use Rattle.press_wire.specs.Ranges.{only, is_at_most, is_within}
 use Rattle.press_wire.specs.Reading.{slot_for}
@@ -39,14 +39,14 @@ editor_behind (value.Cmd kind) bytes = name_at bytes
 
 unfoldable pub editor_at : Reading (List ℕ)
 editor_at bytes = do
-  kind ← checked BadKind value_kind_of byte_at bytes
+  kind ← checked_at BadKind value_kind_of byte_at bytes
   editor_behind kind.0 kind.1
 
 -- ---- messages
 
 unfoldable pub editor_inside : Reading (List ℕ)
 editor_inside bytes = do
-  spelled ← counted (checked BadField (only (is_at_most longest)) number4_at) bytes
+  spelled ← counted_bytes_at (checked_at BadField (only (is_at_most longest)) number4_at) bytes
   editor_at spelled.0
 
 unfoldable pub editor_of_vote : Reading (List ℕ)
@@ -55,13 +55,13 @@ editor_of_vote bytes = do
   editor_inside ballot.1
 
 -- how many votes a report has, where it has any: their list takes memory
-unfoldable pub votes_counted : Reading ℕ
-votes_counted bytes = checked BadField (only (is_within 1 most_votes)) byte_at bytes
+unfoldable pub vote_count_at : Reading ℕ
+vote_count_at bytes = checked_at BadField (only (is_within 1 most_votes)) byte_at bytes
 
 unfoldable pub votes_of_promise : Reading ℕ
 votes_of_promise bytes = do
   ballot ← ballot_at bytes
-  votes_counted ballot.1
+  vote_count_at ballot.1
 
 unfoldable pub editor_of_accept : Reading (List ℕ)
 editor_of_accept bytes = do
@@ -82,7 +82,7 @@ editor_of_body about.Query bytes = Err BadKind
 
 unfoldable pub editor_of_message : Reading (List ℕ)
 editor_of_message bytes = do
-  kind ← checked BadKind message_kind_of byte_at bytes
+  kind ← checked_at BadKind message_kind_of byte_at bytes
   from ← node_at kind.1
   to ← node_at from.1
   slot ← slot_for kind.0 to.1

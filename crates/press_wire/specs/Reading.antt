@@ -19,14 +19,14 @@ use Rattle.press_wire.specs.declared.message.Body.TheVariants.{Prepare, Promise,
 use Rattle.press_wire.specs.declared.message.Message.{Message}
 use Rattle.press_wire.specs.declared.vote.Vote.{Vote}
 use Rattle.press_wire.specs.declared.votes.SlotVote.{SlotVote}
-use Rattle.press_wire.specs.Fields.{Reading, ◌>>=◌, byte_at, number4_at, checked, counted, name_at, text_at, number8_at, moment_at, status_at, node_at, slot_at, round_at, ballot_at}
+use Rattle.press_wire.specs.Fields.{Reading, ◌>>=◌, byte_at, number4_at, checked_at, counted_bytes_at, name_at, text_at, number8_at, moment_at, status_at, node_at, slot_at, round_at, ballot_at}
 use Rattle.press_wire.specs.Kinds.{value_kind_of, may_be_about, message_kind_of}
 use Rattle.press_wire.specs.Ranges.{only, is_at_most, is_between}
 use Rattle.press_wire.specs.Spelling.{longest, most_votes}
 
 -- nothing is left
-abbrev pub ended : {A : Type 0} → A × List ℕ → Result A WireFault
-ended x = if length x.1 == 0 then Ok x.0 else Err Extra
+abbrev pub or_extra : {A : Type 0} → A × List ℕ → Result A WireFault
+or_extra x = if length x.1 == 0 then Ok x.0 else Err Extra
 
 -- ---- commands
 
@@ -87,12 +87,12 @@ behind_kind (value.Cmd kind) bytes = stamped_at kind bytes >>= λ s. Ok (Cmd s.0
 
 unfoldable pub command_at : Reading Value
 command_at bytes = do
-  kind ← checked BadKind value_kind_of byte_at bytes
+  kind ← checked_at BadKind value_kind_of byte_at bytes
   behind_kind kind.0 kind.1
 
 -- all of the bytes as one value
 unfoldable pub read_value : List ℕ → Result Value WireFault
-read_value bytes = command_at bytes >>= ended
+read_value bytes = command_at bytes >>= or_extra
 
 unfoldable pub read_command : List ℕ → Result Value WireFault
 read_command bytes = if nat_lt longest (length bytes) then Err TooLong else read_value bytes
@@ -106,7 +106,7 @@ inside (Err fault) rest = Err BadField
 
 unfoldable pub value_at : Reading Value
 value_at bytes = do
-  spelled ← counted (checked BadField (only (is_at_most longest)) number4_at) bytes
+  spelled ← counted_bytes_at (checked_at BadField (only (is_at_most longest)) number4_at) bytes
   inside (read_value spelled.0) spelled.1
 
 unfoldable pub vote_at : Reading Vote
@@ -118,7 +118,7 @@ vote_at bytes = do
 -- a vote for a slot from the first number on, and below the last
 unfoldable pub slot_vote_at : ℕ → ℕ → Reading SlotVote
 slot_vote_at first last bytes = do
-  slot ← checked BadField (only (is_between first last)) slot_at bytes
+  slot ← checked_at BadField (only (is_between first last)) slot_at bytes
   vote ← vote_at slot.1
   Ok (record { slot = slot.0; vote = vote.0 }, vote.1)
 
@@ -133,7 +133,7 @@ slot_votes_at (suc more) first last bytes = do
 -- votes for slots of the block, at most one for each
 unfoldable pub report_at : ℕ → Reading (List SlotVote)
 report_at block bytes = do
-  count ← checked BadField (only (is_at_most most_votes)) byte_at bytes
+  count ← checked_at BadField (only (is_at_most most_votes)) byte_at bytes
   slot_votes_at count.0 block (block + 16) count.1
 
 unfoldable pub promise_at : ℕ → Reading Body
@@ -164,11 +164,11 @@ body_at about.Query slot bytes = Ok (Query, bytes)
 
 -- the slot of a message of the kind
 unfoldable pub slot_for : MessageKind → Reading ℕ
-slot_for kind bytes = checked BadField (only (may_be_about kind)) slot_at bytes
+slot_for kind bytes = checked_at BadField (only (may_be_about kind)) slot_at bytes
 
 unfoldable pub message_at : Reading Message
 message_at bytes = do
-  kind ← checked BadKind message_kind_of byte_at bytes
+  kind ← checked_at BadKind message_kind_of byte_at bytes
   from ← node_at kind.1
   to ← node_at from.1
   slot ← slot_for kind.0 to.1
@@ -177,4 +177,4 @@ message_at bytes = do
 
 -- all of the bytes as one message
 unfoldable pub read_message : List ℕ → Result Message WireFault
-read_message bytes = message_at bytes >>= ended
+read_message bytes = message_at bytes >>= or_extra

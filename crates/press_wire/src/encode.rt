@@ -10,6 +10,7 @@ ghost use Rattle.press_wire.specs.Spelling.{spelled_command, spelled_message, is
 use crate::fault::WireFault;
 use crate::held::{hold_message, hold_value};
 use crate::message::{Body, Message};
+use crate::slot::BLOCK_SLOTS;
 use crate::votes::SlotVote;
 use crate::write_value::{spelled_len, stamped_len};
 use crate::writer::Writer;
@@ -108,7 +109,7 @@ fn len_of_votes(votes: &[SlotVote]) -> Option<usize>
     ensures { MatchOption result (is_too_long_report votes.now ≡ true)
         (λ len. (is_too_long_report votes.now ≡ false) × (len ≤ 524288)) }
 {
-    if votes.len() > 16 {
+    if votes.len() > BLOCK_SLOTS as usize {
         return None;
     }
     let mut len = 0;

@@ -33,7 +33,7 @@ pub use laws::{
 };
 pub use member_id::{MOST_MEMBERS, MemberId};
 pub use message::{Body, Message};
-pub use round::Round;
-pub use slot::{LAST_SLOT, Slot, is_first};
+pub use round::{GREATEST_ROUND, Round};
+pub use slot::{BLOCK_SLOTS, LAST_SLOT, Slot, is_first};
 pub use vote::Vote;
 pub use votes::{SlotVote, Votes};

@@ -1,5 +1,5 @@
 ghost use Rattle.std.specs.Prelude.{◌≡◌, ◌≤◌};
-ghost use Rattle.press_wire.specs.Ranges.{member_id_of};
+ghost use Rattle.press_wire.specs.Ranges.{member_id_of, most_members};
 
 use std::marker::Model;
 
@@ -14,12 +14,13 @@ pub struct MemberId {
 
 impl Model for MemberId {
     ghost use Rattle.std.specs.Prelude.{ℕ, ◌≤◌};
+    ghost use Rattle.press_wire.specs.Ranges.{most_members};
 
     ghost Value = { ℕ };
 
     ghost view = { λ x. x.number };
 
-    ghost invariant = { λ x. (1 ≤ x.number) × (x.number ≤ 7) };
+    ghost invariant = { λ x. (1 ≤ x.number) × (x.number ≤ most_members) };
 
     ghost inverse = { λ n. record { number = n } };
 }
@@ -39,7 +40,7 @@ impl MemberId {
     /// From 1 to 7.
     pub fn number(self) -> u8
         ensures value { result ≡ self }
-        ensures range { (1 ≤ result) × (result ≤ 7) }
+        ensures range { (1 ≤ result) × (result ≤ most_members) }
     {
         self.number
     }

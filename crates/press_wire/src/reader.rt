@@ -14,12 +14,10 @@ use crate::round::Round;
 use crate::slot::Slot;
 use crate::status::status_from_number;
 use press_posts::Status;
-use press_text::{Moment, Name, NameFault, OptName, Text};
+use press_text::{MOST_NAME, Moment, Name, NameFault, OptName, Text};
 use std::alloc::Global;
 use std::marker::Model;
 use std::str;
-
-const MOST_NAME: u8 = 32;
 
 const MOST_TEXT: u32 = 65_536;
 
@@ -104,7 +102,7 @@ impl<'a> Reader<'a> {
         ensures memory { result ≢ Err WireFault.NoMemory }
     {
         let len = self.byte()?;
-        if len < 1 || MOST_NAME < len {
+        if len < 1 || MOST_NAME < len as usize {
             return Err(WireFault::BadField);
         }
         self.cut(len as usize)

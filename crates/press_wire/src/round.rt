@@ -3,7 +3,8 @@ ghost use Rattle.press_wire.specs.Ranges.{round_of};
 
 use std::marker::Model;
 
-const MOST: u64 = 1 << 40;
+/// The greatest round.
+pub const GREATEST_ROUND: u64 = 1 << 40;
 
 /// A round of ballots: 1 to 2^40.
 #[derive(Clone, Copy, Debug, PartialEq, Eq, PartialOrd, Ord)]
@@ -28,7 +29,7 @@ impl Round {
     pub fn new(number: u64) -> Option<Round>
         ensures { result ≡ round_of number }
     {
-        if 1 <= number && number <= MOST {
+        if 1 <= number && number <= GREATEST_ROUND {
             Some(Round { number })
         } else {
             None

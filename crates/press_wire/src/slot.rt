@@ -1,11 +1,14 @@
 ghost use Rattle.std.specs.Prelude.{◌≡◌, ◌≤◌, true};
 ghost use Rattle.press_wire.specs.Blocks.{block_of, is_first, is_last};
-ghost use Rattle.press_wire.specs.Ranges.{slot_of};
+ghost use Rattle.press_wire.specs.Ranges.{slot_of, last_slot};
 
 use std::marker::Model;
 
 /// The last slot: a cluster chooses no more values.
 pub const LAST_SLOT: u32 = 1_000_000;
+
+/// How many slots a block has, which share a promise.
+pub const BLOCK_SLOTS: u32 = 16;
 
 /// The place of a value among those chosen: 1 to 1,000,000.
 #[derive(Clone, Copy, Debug, PartialEq, Eq, PartialOrd, Ord)]
@@ -15,12 +18,13 @@ pub struct Slot {
 
 impl Model for Slot {
     ghost use Rattle.std.specs.Prelude.{ℕ, ◌≤◌};
+    ghost use Rattle.press_wire.specs.Ranges.{last_slot};
 
     ghost Value = { ℕ };
 
     ghost view = { λ x. x.number };
 
-    ghost invariant = { λ x. (1 ≤ x.number) × (x.number ≤ 1000000) };
+    ghost invariant = { λ x. (1 ≤ x.number) × (x.number ≤ last_slot) };
 
     ghost inverse = { λ n. record { number = n } };
 }
@@ -40,7 +44,7 @@ impl Slot {
     /// From 1 to 1,000,000.
     pub fn number(self) -> u32
         ensures value { result ≡ self }
-        ensures range { (1 ≤ result) × (result ≤ 1000000) }
+        ensures range { (1 ≤ result) × (result ≤ last_slot) }
     {
         self.number
     }
@@ -52,7 +56,7 @@ impl Slot {
         ensures first { is_first result ≡ true }
     {
         let number = self.number();
-        let Some(first) = Slot::new(number - (number - 1) % 16) else {
+        let Some(first) = Slot::new(number - (number - 1) % BLOCK_SLOTS) else {
             unreachable!()
         };
         first
@@ -63,7 +67,7 @@ impl Slot {
     pub fn is_last(self) -> bool
         ensures { result ≡ is_last self }
     {
-        self.number() % 16 == 0
+        self.number() % BLOCK_SLOTS == 0
     }
 }
 

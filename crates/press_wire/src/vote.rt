@@ -36,7 +36,7 @@ impl Vote {
 }
 
 impl Copied for Vote {
-    fn copied(&self, alloc: Global) -> Result<Vote, AllocError> {
+    fn copy_in(&self, alloc: Global) -> Result<Vote, AllocError> {
         self.copy(alloc)
     }
 }

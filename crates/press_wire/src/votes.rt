@@ -30,7 +30,7 @@ impl SlotVote {
 }
 
 impl Copied for SlotVote {
-    fn copied(&self, alloc: Global) -> Result<SlotVote, AllocError> {
+    fn copy_in(&self, alloc: Global) -> Result<SlotVote, AllocError> {
         self.copy(alloc)
     }
 }

@@ -10,8 +10,8 @@ use Rattle.press_acceptor.specs.InMemory.{EndsInMemory}
 use Rattle.press_acceptor.specs.Plans.{answer_calls}
 use Rattle.press_acceptor.specs.Seen.{Call, Seen, SavesIf}
 use Rattle.press_acceptor.specs.Seen.Call.{LoadsBlock, SavesPromise, SavesVote, LoadsRound, SavesRound}
-use Rattle.press_acceptor.specs.StoreMap.{StoreMap, Save, saved_if}
-use Rattle.press_acceptor.specs.Turned.{Trusts, LastEnds, Turned, TurnedBy, moved}
+use Rattle.press_acceptor.specs.StoreMap.{StoreMap, Save, with_any_save}
+use Rattle.press_acceptor.specs.Turned.{Trusts, LastEnds, Turned, TurnedBy, store_move}
 use Rattle.press_acceptor.specs.declared.fault.StoreFault.{StoreFault}
 use Rattle.press_acceptor.specs.declared.fault.StoreFault.TheVariants as store_fault
 use Rattle.press_learner.specs.Chosen.{has_gap}
@@ -26,8 +26,8 @@ use Rattle.press_node.specs.declared.fault.NodeFault.{NodeFault}
 use Rattle.press_node.specs.declared.fault.NodeFault.TheVariants.{Down, TooLong, Full, SlotsUsedUp, RoundsUsedUp, NoMemory}
 use Rattle.press_node.specs.EventPlans.{calls_where, event_calls, event_plan, WantsRound}
 use Rattle.press_node.specs.Faults.{of_store, stops}
-use Rattle.press_node.specs.NodeEvent.{Running, quiet, is_for, on_body, on_event}
-use Rattle.press_node.specs.Plays.{IsStopped, IsLast, PlaysUp, PlaysWhere, sent, state_moved}
+use Rattle.press_node.specs.NodeEvent.{RunningNode, quiet, is_for, on_body, on_event}
+use Rattle.press_node.specs.Plays.{IsStopped, IsLast, PlaysUp, PlaysWhere, messages_of_result, state_move}
 use Rattle.press_node.specs.Refusals.{is_at_end, or_next, refusal, refusal_up, refusal_by_rounds}
 use Rattle.press_node.specs.States.{NodeState, Up, answer_in, running_in}
 use Rattle.press_world.specs.Acts.{DoesAt, Fails, FailsAt}
@@ -53,11 +53,11 @@ last_end t (c ∷ cs) f (inl e) = one_end t c f e
 last_end t (c ∷ cs) f (inr e) = last_end t cs f e
 
 module _ (s t : StoreMap) where
-  trusts : (calls : List Call) → Trusts calls (moved memory_seen s t)
+  trusts : (calls : List Call) → Trusts calls (store_move memory_seen s t)
   trusts [] = tt
   trusts (c ∷ cs) = tt
 
-  memory_wanted : (calls : List Call) (takes : StoreMap → Type 0) (save : StoreMap → Option Save) (f : StoreFault) → TurnedBy calls takes save (moved memory_seen s t) (Some f) → f ≡ store_fault.NoMemory
+  memory_wanted : (calls : List Call) (takes : StoreMap → Type 0) (save : StoreMap → Option Save) (f : StoreFault) → TurnedBy calls takes save (store_move memory_seen s t) (Some f) → f ≡ store_fault.NoMemory
   memory_wanted [] takes save f turned = turned.1.0
   memory_wanted (c ∷ cs) takes save f turned = go turned.ends
     where
@@ -66,7 +66,7 @@ module _ (s t : StoreMap) where
       go (inr e) = e.0
 
   -- the last round is always told
-  round_told : (f : StoreFault) → Turned last_round_plan (moved memory_seen s t) (Some f) → ⊥
+  round_told : (f : StoreFault) → Turned last_round_plan (store_move memory_seen s t) (Some f) → ⊥
   round_told f turned = go turned.ends
     where
       go : ((Some f ≡ None) ⊎ ⊥) ⊎ ((f ≡ store_fault.NoMemory) × (Unit {0} → ⊥) × ((◌≡◌ {A = Option StoreFault} None None) ⊎ ⊥)) → ⊥
@@ -76,24 +76,24 @@ module _ (s t : StoreMap) where
 
   -- ---- what is saved
 
-  done_store : (calls : List Call) (takes : StoreMap → Type 0) (save : StoreMap → Option Save) → (calls ≡ [] → save s ≡ None) → TurnedBy calls takes save (moved memory_seen s t) None → t ≡ saved_if s (save s)
-  done_store [] takes save still turned = turned.0 ∙ ap (saved_if s) (sym (still refl))
+  done_store : (calls : List Call) (takes : StoreMap → Type 0) (save : StoreMap → Option Save) → (calls ≡ [] → save s ≡ None) → TurnedBy calls takes save (store_move memory_seen s t) None → t ≡ with_any_save s (save s)
+  done_store [] takes save still turned = turned.0 ∙ ap (with_any_save s) (sym (still refl))
   done_store (c ∷ cs) takes save still turned = by (save s) (turned.saves tt)
     where
-      by : (o : Option Save) → SavesIf o (memory_seen s) (memory_seen t) None → t ≡ saved_if s o
+      by : (o : Option Save) → SavesIf o (memory_seen s) (memory_seen t) None → t ≡ with_any_save s o
       by None looks = looks.same refl
       by (Some x) d = d.kept
 
-  left_store : (calls : List Call) (takes : StoreMap → Type 0) (save : StoreMap → Option Save) (f : StoreFault) → TurnedBy calls takes save (moved memory_seen s t) (Some f) → (t ≡ s) ⊎ (t ≡ saved_if s (save s))
+  left_store : (calls : List Call) (takes : StoreMap → Type 0) (save : StoreMap → Option Save) (f : StoreFault) → TurnedBy calls takes save (store_move memory_seen s t) (Some f) → (t ≡ s) ⊎ (t ≡ with_any_save s (save s))
   left_store [] takes save f turned = inl turned.0
   left_store (c ∷ cs) takes save f turned = by (save s) (turned.saves tt)
     where
-      by : (o : Option Save) → SavesIf o (memory_seen s) (memory_seen t) (Some f) → (t ≡ s) ⊎ (t ≡ saved_if s o)
+      by : (o : Option Save) → SavesIf o (memory_seen s) (memory_seen t) (Some f) → (t ≡ s) ⊎ (t ≡ with_any_save s o)
       by None looks = inl (looks.same refl)
       by (Some x) d = d.kept refl
 
 -- an event that doesn't ask the store saves nothing
-body_still : (n id : ℕ) (store : StoreMap) (node : Running) (m : Message) (body : Body) → answer_calls m.slot body ≡ [] → (on_body n id store node m body).save ≡ None
+body_still : (n id : ℕ) (store : StoreMap) (node : RunningNode) (m : Message) (body : Body) → answer_calls m.slot body ≡ [] → (on_body n id store node m body).save ≡ None
 body_still n id store node m (Prepare round) e = cc
 body_still n id store node m (Promise ballot votes) e = promise_saves node m.from m.slot ballot votes
 body_still n id store node m (Nack refused promised) e = refl
@@ -101,7 +101,7 @@ body_still n id store node m (Accept round value) e = cc
 body_still n id store node m (Accepted vote) e = refl
 body_still n id store node m Query e = cc
 
-still : (n id : ℕ) (store : StoreMap) (node : Running) (event : Event) → event_calls n id node event ≡ [] → (on_event n id store node event).save ≡ None
+still : (n id : ℕ) (store : StoreMap) (node : RunningNode) (event : Event) → event_calls n id node event ≡ [] → (on_event n id store node event).save ≡ None
 still n id store node (Submit command) e = refl
 still n id store node Wake e = go (is_content node.proposer (has_gap node.learner)) (can_ask node.proposer.phase (node.learner.applied + 1)) e
   where
@@ -118,7 +118,7 @@ still n id store node (Deliver m) e = go (is_for n id m) e
 
 -- ---- what is refused
 
-pub calm : (node : Running) (event : Event) (fault : NodeFault) → refusal_up node event ≡ Some fault → stops fault ≡ false
+pub calm : (node : RunningNode) (event : Event) (fault : NodeFault) → refusal_up node event ≡ Some fault → stops fault ≡ false
 calm node (Submit command) fault e = go (is_too_long (Cmd command)) (is_full node.proposer.queue) e
   where
     go : (a b : Bool) → cond a (Some TooLong) (cond b (Some Full) None) ≡ Some fault → stops fault ≡ false
@@ -132,7 +132,7 @@ calm node Wake fault e = go (is_at_end node) e
     go false e = let q : None ≡ Some fault = e in cc
 calm node (Deliver m) fault e = let q : None ≡ Some fault = e in cc
 
-pub by_rounds : (store : StoreMap) (node : Running) (event : Event) (fault : NodeFault) → refusal_by_rounds store node event ≡ Some fault → fault ≡ RoundsUsedUp
+pub by_rounds : (store : StoreMap) (node : RunningNode) (event : Event) (fault : NodeFault) → refusal_by_rounds store node event ≡ Some fault → fault ≡ RoundsUsedUp
 by_rounds store node (Submit command) fault e = let q : None ≡ Some fault = e in cc
 by_rounds store node Wake fault e = go (is_used_up store node.proposer node.learner.applied (has_gap node.learner)) e
   where
@@ -152,11 +152,11 @@ module _ (s t : StoreMap) (old new : NodeState) (event : Event) where
   abbrev place : Place
   place = record { store = t; up = running_in new }
 
-  pub does_plays : (out : List Message) → PlaysWhere (running_in old) (moved memory_seen s t) (state_moved old new) event (Ok out) →
+  pub does_plays : (out : List Message) → PlaysWhere (running_in old) (store_move memory_seen s t) (state_move old new) event (Ok out) →
       DoesAt old.members old.id s (running_in old) event None out (record { store = t; up = running_in new })
   does_plays out p = go (running_in old) p
     where
-      up : (node : Running) (r : Option NodeFault) → refusal_up node event ≡ r → PlaysUp r node (moved memory_seen s t) (state_moved old new) event (Ok out) →
+      up : (node : RunningNode) (r : Option NodeFault) → refusal_up node event ≡ r → PlaysUp r node (store_move memory_seen s t) (state_move old new) event (Ok out) →
           DoesAt old.members old.id s (Some node) event None out (record { store = t; up = running_in new })
       up node (Some f) e p = let q : Ok out ≡ Err f = p.0 in cc
       up node None e p =
@@ -169,23 +169,23 @@ module _ (s t : StoreMap) (old new : NodeState) (event : Event) where
             up = p.memory trusted;
           }
 
-      go : (o : Option Running) → PlaysWhere o (moved memory_seen s t) (state_moved old new) event (Ok out) → DoesAt old.members old.id s o event None out (record { store = t; up = running_in new })
+      go : (o : Option RunningNode) → PlaysWhere o (store_move memory_seen s t) (state_move old new) event (Ok out) → DoesAt old.members old.id s o event None out (record { store = t; up = running_in new })
       go None p = let q : Ok out ≡ Err Down = p.0 in cc
       go (Some node) p = up node (refusal_up node event) refl p
 
-  same_place : (o : Option Running) → running_in old ≡ o → new ≡ old → t ≡ s → place ≡ record { store = s; up = o }
+  same_place : (o : Option RunningNode) → running_in old ≡ o → new ≡ old → t ≡ s → place ≡ record { store = s; up = o }
   same_place o e p q = λ i. record { store = q i; up = (ap running_in p ∙ e) i }
 
-  pub fails_plays : (fault : NodeFault) → PlaysWhere (running_in old) (moved memory_seen s t) (state_moved old new) event (Err fault) →
+  pub fails_plays : (fault : NodeFault) → PlaysWhere (running_in old) (store_move memory_seen s t) (state_move old new) event (Err fault) →
       FailsAt old.members old.id s (running_in old) event None fault (record { store = t; up = running_in new })
   fails_plays fault p = go (running_in old) refl p
     where
-      refused : (node : Running) → running_in old ≡ Some node → stops fault ≡ false → refusal s (Some node) event ≡ Some fault → new ≡ old → t ≡ s → FailsAt old.members old.id s (Some node) event None fault place
+      refused : (node : RunningNode) → running_in old ≡ Some node → stops fault ≡ false → refusal s (Some node) event ≡ Some fault → new ≡ old → t ≡ s → FailsAt old.members old.id s (Some node) event None fault place
       refused node e c r x y =
           subst (λ b. Fails (on_event old.members old.id s node event) (refusal s (Some node) event) fault b (record { store = s; up = Some node }) place) (sym c) (r, same_place (Some node) e x y)
 
-      stopped : (node : Running) (r : Option NodeFault) → refusal_up node event ≡ None → refusal_by_rounds s node event ≡ r →
-          IsStopped (event_plan old.members old.id node event) (λ kept. refusal_by_rounds kept node event) (moved memory_seen s t) (state_moved old new) fault →
+      stopped : (node : RunningNode) (r : Option NodeFault) → refusal_up node event ≡ None → refusal_by_rounds s node event ≡ r →
+          IsStopped (event_plan old.members old.id node event) (λ kept. refusal_by_rounds kept node event) (store_move memory_seen s t) (state_move old new) fault →
           FailsAt old.members old.id s (Some node) event None fault place
       stopped node (Some f) e r p = absurd (round_told s t p.by (p.last tt (r ∙ ap Some (by_rounds s node event f r))))
       stopped node None e r p =
@@ -200,12 +200,12 @@ module _ (s t : StoreMap) (old new : NodeState) (event : Event) where
             left_store s t calls _ save p.by p.turned,
           )
 
-      last : (node : Running) → running_in old ≡ Some node → refusal_up node event ≡ None → IsLast (WantsRound node event) (λ kept. refusal_by_rounds kept node event) (moved memory_seen s t) (state_moved old new) fault →
+      last : (node : RunningNode) → running_in old ≡ Some node → refusal_up node event ≡ None → IsLast (WantsRound node event) (λ kept. refusal_by_rounds kept node event) (store_move memory_seen s t) (state_move old new) fault →
           FailsAt old.members old.id s (Some node) event None fault place
       last node is e p =
           refused node is (ap stops p.is) (ap (λ o. or_next o (refusal_by_rounds s node event)) e ∙ p.none_left tt ∙ ap Some (sym p.is)) p.same ((p.turned.saves tt).same refl)
 
-      up : (node : Running) (r : Option NodeFault) → running_in old ≡ Some node → refusal_up node event ≡ r → PlaysUp r node (moved memory_seen s t) (state_moved old new) event (Err fault) →
+      up : (node : RunningNode) (r : Option NodeFault) → running_in old ≡ Some node → refusal_up node event ≡ r → PlaysUp r node (store_move memory_seen s t) (state_move old new) event (Err fault) →
           FailsAt old.members old.id s (Some node) event None fault place
       up node (Some f) is e p =
           let q : fault ≡ f = cc in
@@ -214,7 +214,7 @@ module _ (s t : StoreMap) (old new : NodeState) (event : Event) where
       up node None is e (inl p) = stopped node (refusal_by_rounds s node event) e refl p
       up node None is e (inr p) = last node is e p
 
-      go : (o : Option Running) → running_in old ≡ o → PlaysWhere o (moved memory_seen s t) (state_moved old new) event (Err fault) → FailsAt old.members old.id s o event None fault place
+      go : (o : Option RunningNode) → running_in old ≡ o → PlaysWhere o (store_move memory_seen s t) (state_move old new) event (Err fault) → FailsAt old.members old.id s o event None fault place
       go None is p = let q : fault ≡ Down = cc in (q, same_place None is p.1 p.2)
       go (Some node) is p = up node (refusal_up node event) is refl p
 
@@ -230,7 +230,7 @@ few_sent s old event out new few d = go old.up few d
 
 module _ {T : Type 0} (items : T → List Message) (s t : StoreMap) (old new : NodeState) (event : Event) where
   abbrev Played : Result T NodeFault → Type 0
-  Played r = PlaysWhere (running_in old) (moved memory_seen s t) (state_moved old new) event (sent items r)
+  Played r = PlaysWhere (running_in old) (store_move memory_seen s t) (state_move old new) event (messages_of_result items r)
 
   pub ok_on : (r : Result T NodeFault) → Played r → IfOk r (λ out. DoesAt old.members old.id s (running_in old) event None (items out) (record { store = t; up = running_in new }))
   ok_on (Ok out) p = does_plays s t old new event (items out) p

@@ -4,20 +4,19 @@ mod Counting
 mod Counts
 mod Entries
 mod Events
-mod Fronts
 mod Growing
-mod Lists
+pub mod Lists
 pub mod Looking
-mod Members
+pub mod Members
 mod Nodes
-mod Onward
+pub mod Onward
 pub mod Outcomes
 mod Playing
 mod Proposals
 mod Readings
 mod Refused
-mod Replayed
-mod Started
+pub mod Replayed
+pub mod Started
 mod Steps
 mod Stored
 mod Taking

@@ -8,14 +8,14 @@ use Rattle.press_acceptor.proofs.Agreement.{one_chosen, chosen_later}
 use Rattle.press_callbacks.specs.Kits.{KitView}
 use Rattle.press_node.specs.declared.fault.NodeFault.{NodeFault}
 use Rattle.press_node.specs.Faults.{stops}
-use Rattle.press_node.specs.NodeEvent.{Running}
+use Rattle.press_node.specs.NodeEvent.{RunningNode}
 use Rattle.press_world.specs.Adding.{Adds}
 use Rattle.press_world.specs.Agreeing.{Agrees, UpAgrees}
 use Rattle.press_world.specs.Entries.{IsWithin}
-use Rattle.press_world.specs.Refusing.{refused_step}
+use Rattle.press_world.specs.Refusing.{step_refusal}
 use Rattle.press_world.specs.Sound.{IsSound}
 use Rattle.press_world.specs.Stepped.{cut_of, FailsBy, IsCut, Steps, with_cut}
-use Rattle.press_world.specs.Stored.{Stored, world_of, stored_run, stored_step}
+use Rattle.press_world.specs.Stored.{StoredWorld, world_of, stored_run, stored_step}
 use Rattle.press_world.specs.Whole.{AppliesChosen, HasApplied, HasValues}
 use Rattle.press_world.specs.Worlds.{Place, World, run, step}
 use Rattle.press_world.specs.declared.fault.WorldFault.{WorldFault}
@@ -28,7 +28,7 @@ use Rattle.press_world.proofs.Stored.{step_stored}
 use Rattle.press_world.proofs.Votes.{Learns}
 use Rattle.press_world.proofs.Worlds.{step_agrees}
 
-pub sound_step : Learns → (n : ℕ) (s : Stored) (x : Step) → n ≡ length s.places → IsSound s → IsSound (stored_step n s x)
+pub sound_step : Learns → (n : ℕ) (s : StoredWorld) (x : Step) → n ≡ length s.places → IsSound s → IsSound (stored_step n s x)
 sound_step law n s x e sound =
     let a = subst (λ m. Agrees m (world_of s)) (sym e) sound.agrees in
     let h = step_stored n s x a sound.within in
@@ -37,14 +37,14 @@ sound_step law n s x e sound =
     record { agrees = subst (λ m. Agrees m (world_of (stored_step n s x))) (sym after.size) after; within = h.1 }
 
 -- facts are only added
-pub adds_step : (n : ℕ) (s : Stored) (x : Step) → n ≡ length s.places → IsSound s → Adds (world_of s).trace (world_of (stored_step n s x)).trace
+pub adds_step : (n : ℕ) (s : StoredWorld) (x : Step) → n ≡ length s.places → IsSound s → Adds (world_of s).trace (world_of (stored_step n s x)).trace
 adds_step n s x e sound =
     let a = subst (λ m. Agrees m (world_of s)) (sym e) sound.agrees in
     let h = step_stored n s x a sound.within in
     subst (λ (w : World). Adds (world_of s).trace w.trace) (sym h.0) (step_adds n (world_of s) x)
 
 -- after a list of steps
-pub run_stored : Learns → (n : ℕ) (steps : List Step) (s : Stored) → Agrees n (world_of s) → AllByRecursion (IsWithin (length s.sent)) s.entries → world_of (stored_run n steps s) ≡ run n steps (world_of s)
+pub run_stored : Learns → (n : ℕ) (steps : List Step) (s : StoredWorld) → Agrees n (world_of s) → AllByRecursion (IsWithin (length s.sent)) s.entries → world_of (stored_run n steps s) ≡ run n steps (world_of s)
 run_stored law n [] s a w = refl
 run_stored law n (x ∷ steps) s a w =
     let h = step_stored n s x a w in
@@ -54,7 +54,7 @@ run_stored law n (x ∷ steps) s a w =
 -- ---- an event
 
 -- an event that was done, refused or ended keeps a world sound
-pub turn_sound : Learns → {T : Type 0} (r : Result T NodeFault) (n : ℕ) (s t : Stored) (cut : Option Cut) (does : Option Cut → Stored) (o : Option WorldFault) → ((stop : Option Cut) → (x : Step) × (stored_step n s x ≡ does stop)) →
+pub turn_sound : Learns → {T : Type 0} (r : Result T NodeFault) (n : ℕ) (s t : StoredWorld) (cut : Option Cut) (does : Option Cut → StoredWorld) (o : Option WorldFault) → ((stop : Option Cut) → (x : Step) × (stored_step n s x ≡ does stop)) →
     OnOk r (t ≡ does cut) → IfErr r (λ fault. FailsBy s does o fault (stops fault) t) → n ≡ length s.places → IsSound s → IsSound t
 turn_sound law {T} r n s t cut does o step e f k sound = go r e f
   where
@@ -80,20 +80,20 @@ pub once_by : (n : ℕ) (earlier trace : List Fact) → Legal n block_of trace �
 once_by n earlier trace l a slot v w x y = one_chosen n block_of trace l slot v w (subst (λ t. Chosen n t slot v) a.1 (chosen_later n a.0 earlier slot v x)) y
 
 -- facts are only added, whatever comes of the step
-pub steps_add : (kit : KitView) (n : ℕ) (s t : Stored) (x : Step) (r : Result Played WorldFault) → n ≡ length s.places → IsSound s → Steps kit n s x t r → Adds (world_of s).trace (world_of t).trace
+pub steps_add : (kit : KitView) (n : ℕ) (s t : StoredWorld) (x : Step) (r : Result Played WorldFault) → n ≡ length s.places → IsSound s → Steps kit n s x t r → Adds (world_of s).trace (world_of t).trace
 steps_add kit n s t x r k sound h = go r h
   where
     same : t ≡ s → Adds (world_of s).trace (world_of t).trace
-    same h = subst (λ (u : Stored). Adds (world_of s).trace (world_of u).trace) (sym h) ([], refl)
+    same h = subst (λ (u : StoredWorld). Adds (world_of s).trace (world_of u).trace) (sym h) ([], refl)
 
     by : (y : Step) → t ≡ stored_step n s y → Adds (world_of s).trace (world_of t).trace
-    by y h = subst (λ (u : Stored). Adds (world_of s).trace (world_of u).trace) (sym h) (adds_step n s y k sound)
+    by y h = subst (λ (u : StoredWorld). Adds (world_of s).trace (world_of u).trace) (sym h) (adds_step n s y k sound)
 
     ended : (t ≡ s) ⊎ IsCut (λ stop. stored_step n s (with_cut x stop)) t → Adds (world_of s).trace (world_of t).trace
     ended (inl h) = same h
     ended (inr h) = by (with_cut x (Some (cut_of h.0))) h.1
 
-    refused : (b : Bool) (fault : NodeFault) → FailsBy s (λ stop. stored_step n s (with_cut x stop)) (refused_step s x) fault b t → Adds (world_of s).trace (world_of t).trace
+    refused : (b : Bool) (fault : NodeFault) → FailsBy s (λ stop. stored_step n s (with_cut x stop)) (step_refusal s x) fault b t → Adds (world_of s).trace (world_of t).trace
     refused true fault h = ended h.2
     refused false fault h = same h.1
 
@@ -105,10 +105,10 @@ steps_add kit n s t x r k sound h = go r h
 
 -- ---- what a node has applied
 
-pub applies_chosen : (s : Stored) → IsSound s → AppliesChosen (length s.places) (world_of s).trace s.places
+pub applies_chosen : (s : StoredWorld) → IsSound s → AppliesChosen (length s.places) (world_of s).trace s.places
 applies_chosen s sound index values h i v at = place (slice_get s.places index) refl h
   where
-    up : (o : Option Running) → UpAgrees (length s.places) (index + 1) o (world_of s).trace → HasValues o values → Chosen (length s.places) (world_of s).trace (i + 1) v
+    up : (o : Option RunningNode) → UpAgrees (length s.places) (index + 1) o (world_of s).trace → HasValues o values → Chosen (length s.places) (world_of s).trace (i + 1) v
     up None a h = absurd h
     up (Some node) a h = a.applied i v (ap (λ vs. slice_get vs i) h ∙ at)
 
@@ -123,7 +123,7 @@ same_lists (v ∷ vs) [] e h = cc
 same_lists (v ∷ vs) (w ∷ ws) e h = ap₂ (λ x xs. x ∷ xs) (h 0 v w refl refl) (same_lists vs ws (omega (arith, e)) (λ i x y p q. h (suc i) x y p q))
 
 -- two nodes with as many values have the same
-pub same_values : (s t : Stored) → IsSound s → IsSound t → length t.places ≡ length s.places → Adds (world_of s).trace (world_of t).trace → (i j : ℕ) (vs ws : List Value) →
+pub same_values : (s t : StoredWorld) → IsSound s → IsSound t → length t.places ≡ length s.places → Adds (world_of s).trace (world_of t).trace → (i j : ℕ) (vs ws : List Value) →
     HasApplied (slice_get s.places i) vs → HasApplied (slice_get t.places j) ws → length vs ≡ length ws → vs ≡ ws
 same_values s t a b size adds i j vs ws h k e =
     same_lists vs ws e (λ index v w p q.

@@ -8,13 +8,13 @@ use Rattle.press_acceptor.specs.Trace.{Chosen}
 use Rattle.press_callbacks.specs.Kits.{KitView}
 use Rattle.press_page.specs.declared.reply.Reply.{Reply}
 use Rattle.press_page.specs.declared.reply.Target.{Target}
-use Rattle.press_node.specs.NodeEvent.{Running}
+use Rattle.press_node.specs.NodeEvent.{RunningNode}
 use Rattle.press_world.specs.Adding.{Adds}
 use Rattle.press_world.specs.Refusing.{place_numbered}
 use Rattle.press_world.specs.Seats.{Static}
 use Rattle.press_world.specs.Sound.{AreMembers, IsSound}
 use Rattle.press_world.specs.Stepped.{Steps}
-use Rattle.press_world.specs.Stored.{Stored, world_of}
+use Rattle.press_world.specs.Stored.{StoredWorld, world_of}
 use Rattle.press_world.specs.Telling.{reply_at, reply_where}
 use Rattle.press_world.specs.Whole.{AppliesChosen, ChoosesOnce, HasApplied, HaveKit, IsAnswered, IsPage}
 use Rattle.press_world.specs.Worlds.{Place, index_of}
@@ -32,20 +32,20 @@ have_kit : (kit : KitView) (xs : List Static) → ((i : ℕ) (x : Static) → sl
 have_kit kit [] h = tt
 have_kit kit (x ∷ xs) h = (h 0 x refl, have_kit kit xs (λ i y e. h (suc i) y e))
 
-pub added_by : (n : ℕ) (s t : Stored) (statics : List Static) (x : Step) (r : Result Played WorldFault) → n ≡ length s.places → ∥ IsSound s ∥₁ → ∥ ((kit : KitView) × AreMembers kit statics) ∥₁ →
+pub added_by : (n : ℕ) (s t : StoredWorld) (statics : List Static) (x : Step) (r : Result Played WorldFault) → n ≡ length s.places → ∥ IsSound s ∥₁ → ∥ ((kit : KitView) × AreMembers kit statics) ∥₁ →
     ((kit : KitView) → HaveKit kit statics → Steps kit n s x t r) → ∥ Adds (world_of s).trace (world_of t).trace ∥₁
 added_by n s t statics x r size sound members steps =
     ∥∥₁_map₂ sound members (λ a m. steps_add m.0 n s t x r size a (steps m.0 (have_kit m.0 statics (λ i y e. (m.1.1 i y e).alike))))
 
-pub chosen_of : (n : ℕ) (s : Stored) → n ≡ length s.places → ∥ IsSound s ∥₁ → ∥ AppliesChosen n (world_of s).trace s.places ∥₁
+pub chosen_of : (n : ℕ) (s : StoredWorld) → n ≡ length s.places → ∥ IsSound s ∥₁ → ∥ AppliesChosen n (world_of s).trace s.places ∥₁
 chosen_of n s size sound = ∥∥₁_map sound (λ a. subst (λ k. AppliesChosen k (world_of s).trace s.places) (sym size) (applies_chosen s a))
 
-pub once_of : (n : ℕ) (s t : Stored) → n ≡ length t.places → ∥ IsSound t ∥₁ → ∥ Adds (world_of s).trace (world_of t).trace ∥₁ → ChoosesOnce n (world_of s).trace (world_of t).trace
+pub once_of : (n : ℕ) (s t : StoredWorld) → n ≡ length t.places → ∥ IsSound t ∥₁ → ∥ Adds (world_of s).trace (world_of t).trace ∥₁ → ChoosesOnce n (world_of s).trace (world_of t).trace
 once_of n s t size sound adds slot v w h k =
     ∥∥₁_elim (∥∥₁_map₂ sound adds (λ a b. once_by (length t.places) (world_of s).trace (world_of t).trace a.agrees.legal b slot v w (subst (λ m. Chosen m (world_of s).trace slot v) size h) (subst (λ m. Chosen m (world_of t).trace slot w) size k)))
     (Coded-set value_code v w) (λ e. e)
 
-pub values_of : (s t : Stored) → length t.places ≡ length s.places → ∥ IsSound s ∥₁ → ∥ IsSound t ∥₁ → ∥ Adds (world_of s).trace (world_of t).trace ∥₁ → (i j : ℕ) (vs ws : List Value) →
+pub values_of : (s t : StoredWorld) → length t.places ≡ length s.places → ∥ IsSound s ∥₁ → ∥ IsSound t ∥₁ → ∥ Adds (world_of s).trace (world_of t).trace ∥₁ → (i j : ℕ) (vs ws : List Value) →
     HasApplied (slice_get s.places i) vs → HasApplied (slice_get t.places j) ws → length vs ≡ length ws → vs ≡ ws
 values_of s t size a b adds i j vs ws h k e =
     ∥∥₁_elim a (Coded-set (coded_list value_code) vs ws) (λ x.
@@ -53,11 +53,11 @@ values_of s t size a b adds i j vs ws h k e =
 
 -- ---- the reply to a request for a page
 
-page_at : (kit : KitView) (s : Stored) (place : Option Place) (index : ℕ) (target : Target) (reply : Reply) → IsSound s → slice_get s.places index ≡ place → reply_at kit place target ≡ Some reply → IsPage (length s.places) (world_of s).trace place kit target reply
+page_at : (kit : KitView) (s : StoredWorld) (place : Option Place) (index : ℕ) (target : Target) (reply : Reply) → IsSound s → slice_get s.places index ≡ place → reply_at kit place target ≡ Some reply → IsPage (length s.places) (world_of s).trace place kit target reply
 page_at kit s None index target reply sound at e = let q : None ≡ Some reply = e in cc
 page_at kit s (Some place) index target reply sound at e = go place.up refl e
   where
-    go : (o : Option Running) → place.up ≡ o → reply_where kit o target ≡ Some reply → IsPage (length s.places) (world_of s).trace (Some place) kit target reply
+    go : (o : Option RunningNode) → place.up ≡ o → reply_where kit o target ≡ Some reply → IsPage (length s.places) (world_of s).trace (Some place) kit target reply
     go None is f = let q : None ≡ Some reply = f in cc
     go (Some node) is f =
         let own : HasApplied (Some place) node.values = subst (λ o. HasApplied (Some (record { store = place.store; up = o })) node.values) (sym is) refl in
@@ -68,7 +68,7 @@ page_at kit s (Some place) index target reply sound at e = go place.up refl e
           page = cc;
         }
 
-pub answered_by : (kit : KitView) (m n : ℕ) (s t : Stored) (x : Step) (r : Result Played WorldFault) → n ≡ length t.places → ∥ IsSound t ∥₁ → Steps kit m s x t r → IsAnswered kit n (world_of t).trace t x r
+pub answered_by : (kit : KitView) (m n : ℕ) (s t : StoredWorld) (x : Step) (r : Result Played WorldFault) → n ≡ length t.places → ∥ IsSound t ∥₁ → Steps kit m s x t r → IsAnswered kit n (world_of t).trace t x r
 answered_by kit m n s t (Submit number command cut) r size sound h = submitted r
   where
     submitted : (r : Result Played WorldFault) → IsAnswered kit n (world_of t).trace t (Submit number command cut) r
@@ -96,7 +96,7 @@ answered_by kit m n s t (Get number target) (Ok played) size sound h = subst (λ
     Page reply = ∥ IsPage n (world_of t).trace (place_numbered t number) kit target reply ∥₁
 
     reply : played.reply ≡ reply_at kit (place_numbered t number) target
-    reply = ap (λ (p : Played). p.reply) h.2 ∙ ap (λ (u : Stored). reply_at kit (place_numbered u number) target) (sym h.1)
+    reply = ap (λ (p : Played). p.reply) h.2 ∙ ap (λ (u : StoredWorld). reply_at kit (place_numbered u number) target) (sym h.1)
 
     at : (o : Option ℕ) → index_of (length t.places) number ≡ o → (r : Reply) → reply_at kit (option_and_then (slice_get t.places) o) target ≡ Some r → ∥ IsPage n (world_of t).trace (option_and_then (slice_get t.places) o) kit target r ∥₁
     at None e r f = let q : None ≡ Some r = f in cc

@@ -2,14 +2,14 @@
 use Rattle.std.specs.Prelude.{ℕ, List, length}
 use Rattle.press_acceptor.specs.Trace.{Fact}
 use Rattle.press_world.specs.Seats.{Static, statics_of, stored_of}
-use Rattle.press_world.specs.Stored.{Stored, world_of}
+use Rattle.press_world.specs.Stored.{StoredWorld, world_of}
 use Rattle.press_world.specs.declared.cluster.Cluster.{Cluster}
 use Rattle.press_world.specs.declared.world.World.{World}
 
-abbrev pub kept_in : {t : _} {F : _} {g : _} → Cluster t F g → Stored
+abbrev pub kept_in : {t : _} {F : _} {g : _} → Cluster t F g → StoredWorld
 kept_in cluster = stored_of cluster.seats.items cluster.sent.items cluster.trace.items
 
-abbrev pub model : {t : _} {F : _} {g : _} → World t F g → Stored
+abbrev pub model : {t : _} {F : _} {g : _} → World t F g → StoredWorld
 model world = kept_in world.cluster
 
 abbrev pub statics : {t : _} {F : _} {g : _} → World t F g → List Static

@@ -6,9 +6,9 @@ use Rattle.press_callbacks.specs.Kits.{KitView}
 use Rattle.press_kit.specs.declared.place.Place as file
 use Rattle.press_text.specs.Streams.{AppendsFront}
 use Rattle.press_world.specs.ReadingFiles.{Has}
-use Rattle.press_world.specs.Refusing.{message_numbered, refused_step}
-use Rattle.press_world.specs.Stored.{Stored, new_stored, stored_step}
-use Rattle.press_world.specs.Telling.{applied_at, step_result}
+use Rattle.press_world.specs.Refusing.{message_numbered, step_refusal}
+use Rattle.press_world.specs.Stored.{StoredWorld, new_stored, stored_step}
+use Rattle.press_world.specs.Telling.{applied_count_at, step_result}
 use Rattle.press_world.specs.Transcript.{end_line, step_line}
 use Rattle.press_world.specs.declared.fault.WorldFault.{WorldFault}
 use Rattle.press_world.specs.declared.played.Played.{Played}
@@ -24,11 +24,11 @@ outcome_where None played = Ok played
 outcome_where (Some fault) played = Err fault
 
 -- what comes of a step of n nodes of this kit
-abbrev pub outcome : KitView → ℕ → Stored → Step → Result Played WorldFault
-outcome kit n s x = outcome_where (refused_step s x) (step_result kit s (stored_step n s x) x)
+abbrev pub outcome : KitView → ℕ → StoredWorld → Step → Result Played WorldFault
+outcome kit n s x = outcome_where (step_refusal s x) (step_result kit s (stored_step n s x) x)
 
 -- the node that a delivered message is to
-abbrev pub to_in : Stored → Step → Option ℕ
+abbrev pub to_in : StoredWorld → Step → Option ℕ
 to_in s (Deliver number cut) = option_map (λ message. message.to) (message_numbered s number)
 to_in s (Submit number command cut) = None
 to_in s (Wake number cut) = None
@@ -36,12 +36,12 @@ to_in s (Restart number) = None
 to_in s (Get number target) = None
 
 -- the line of a step
-abbrev pub line_of : KitView → ℕ → ℕ → Stored → Step → List ℕ
+abbrev pub line_of : KitView → ℕ → ℕ → StoredWorld → Step → List ℕ
 line_of kit n number s x = step_line (to_in (stored_step n s x) x) number x (outcome kit n s x)
 
 -- the lines of the steps from this one on, and the last line
-abbrev pub lines : KitView → ℕ → ℕ → Stored → List Step → List ℕ
-lines kit n number s [] = end_line (map applied_at s.places)
+abbrev pub lines : KitView → ℕ → ℕ → StoredWorld → List Step → List ℕ
+lines kit n number s [] = end_line (map applied_count_at s.places)
 lines kit n number s (x ∷ xs) = line_of kit n number s x ++ lines kit n (number + 1) (stored_step n s x) xs
 
 -- of a schedule: so many nodes, and their steps

@@ -7,7 +7,7 @@ use Rattle.serde_json.specs.Find.{get, as_str}
 use Rattle.press_page.specs.declared.reply.Target.{Target}
 use Rattle.press_kit.specs.declared.place.Place.{Place}
 use Rattle.press_kit.specs.declared.place.Place.TheVariants as place
-use Rattle.press_kit.specs.Fields.{◌>>=◌, made, or_bad, number_in, number_at, below, default, list_at, each}
+use Rattle.press_kit.specs.Fields.{◌>>=◌, map_ok, or_bad, number_in, number_at, below, default, list_at, each}
 use Rattle.press_kit.specs.KitFile.{file_in}
 use Rattle.press_kit.specs.PlayFile.{target_of}
 use Rattle.press_kit.specs.SiteFile.{command_of}
@@ -84,7 +84,7 @@ unfoldable pub step_by : StepKind → Place → Data → Result Step Place
 step_by kind.Submit at d = submit_of at d
 step_by kind.Wake at d = wake_of at d
 step_by kind.Deliver at d = deliver_of at d
-step_by kind.Restart at d = made step.Restart (number_at at (codes "node") d)
+step_by kind.Restart at d = map_ok step.Restart (number_at at (codes "node") d)
 step_by kind.Get at d = get_of at d
 
 unfoldable pub step_of : Place → Data → Result Step Place

@@ -8,10 +8,10 @@ use Rattle.press_callbacks.specs.Kits.{KitView}
 use Rattle.press_page.specs.Page.{page_of}
 use Rattle.press_page.specs.declared.reply.Reply.{Reply}
 use Rattle.press_page.specs.declared.reply.Target.{Target}
-use Rattle.press_node.specs.NodeEvent.{Running}
+use Rattle.press_node.specs.NodeEvent.{RunningNode}
 use Rattle.press_world.specs.Refusing.{place_numbered}
 use Rattle.press_world.specs.Seats.{Static}
-use Rattle.press_world.specs.Stored.{Stored}
+use Rattle.press_world.specs.Stored.{StoredWorld}
 use Rattle.press_world.specs.Worlds.{Place}
 use Rattle.press_world.specs.declared.fault.WorldFault.{WorldFault}
 use Rattle.press_world.specs.declared.played.Played.{Played}
@@ -19,7 +19,7 @@ use Rattle.press_world.specs.declared.step.Step.{Step}
 use Rattle.press_world.specs.declared.step.Step.TheVariants.{Submit, Wake, Deliver, Restart, Get}
 
 -- the node has applied these values
-abbrev pub HasValues : Option Running → List Value → Type 0
+abbrev pub HasValues : Option RunningNode → List Value → Type 0
 HasValues None values = ⊥
 HasValues (Some node) values = node.values ≡ values
 
@@ -57,7 +57,7 @@ pub record IsPage (n : ℕ) (trace : List Fact) (place : Option Place) (kit : Ki
   pub page : reply ≡ page_of kit (site_after kit values) target
 
 -- the reply of a request for a page is one
-abbrev pub IsAnswered : KitView → ℕ → List Fact → Stored → Step → Result Played WorldFault → Type 0
+abbrev pub IsAnswered : KitView → ℕ → List Fact → StoredWorld → Step → Result Played WorldFault → Type 0
 IsAnswered kit n trace s (Get number target) (Ok played) = IfSome played.reply (λ reply. ∥ IsPage n trace (place_numbered s number) kit target reply ∥₁)
 IsAnswered kit n trace s (Get number target) (Err fault) = Unit {0}
 IsAnswered kit n trace s (Submit number command cut) result = Unit {0}

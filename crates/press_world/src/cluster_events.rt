@@ -6,13 +6,14 @@ ghost use Rattle.press_node.specs.Faults.{stops};
 ghost use Rattle.press_world.specs.Acts.{DoesAt, FailsAt};
 ghost use Rattle.press_world.specs.Changes.{IsActed};
 ghost use Rattle.press_world.specs.Models.{kept_in};
-ghost use Rattle.press_world.specs.Refusing.{refused_at};
+ghost use Rattle.press_world.specs.Refusing.{event_refusal};
 ghost use Rattle.press_world.specs.Seats.{places_of, statics_of};
 ghost use Rattle.press_world.specs.Stepped.{FailsBy};
 ghost use Rattle.press_world.specs.Seen.{IsAbout, seen_at};
 ghost use Rattle.press_world.specs.Sound.{AreMembers};
-ghost use Rattle.press_world.specs.Stored.{stored_does, stored_restarted};
+ghost use Rattle.press_world.specs.Stored.{stored_does, stored_restarts};
 ghost use Rattle.press_world.specs.Worlds.{Place};
+ghost use Rattle.press_wire.specs.Ranges.{most_members};
 
 use crate::cluster::Cluster;
 use crate::seat::Seat;
@@ -32,7 +33,7 @@ pub(crate) struct EventAtSlot {
 
 /// The member at this index.
 pub(crate) fn member_at(index: usize) -> MemberId
-    requires { index < 7 }
+    requires { index < most_members }
     ensures { result ≡ index + 1 }
 {
     let Some(member) = MemberId::new(index as u8 + 1) else {
@@ -51,7 +52,7 @@ fn act(
     requires inside { index < length seats.old.items }
     requires members { ∥ ((kit : KitView) × AreMembers kit (statics_of seats.old.items)) ∥₁ }
     ensures statics { statics_of seats.new.items ≡ statics_of seats.old.items }
-    ensures few { IfOk result (λ out. length out.items ≤ 7) }
+    ensures few { IfOk result (λ out. length out.items ≤ most_members) }
     ensures ok { IfOk result (λ out.
         IsActed index (places_of seats.old.items) (places_of seats.new.items)
         (λ old new. DoesAt (length seats.old.items) (index + 1) old.store old.up event cut
@@ -85,10 +86,10 @@ impl Cluster {
         requires inside { index < length self.old.seats.items }
         requires members { ∥ ((kit : KitView)
             × AreMembers kit (statics_of self.old.seats.items)) ∥₁ }
-        requires few { length self.old.seats.items ≤ 7 }
+        requires few { length self.old.seats.items ≤ most_members }
         requires about { (p : Place) → slice_get (places_of self.old.seats.items) index ≡ Some p →
             IsAbout p.up coming.event coming.slot }
-        requires passes { refused_at
+        requires passes { event_refusal
             (slice_get (places_of self.old.seats.items) index) coming.event cut ≡ None }
         ensures statics { statics_of self.new.seats.items ≡ statics_of self.old.seats.items }
         ensures count { IfOk result (λ count.
@@ -97,10 +98,11 @@ impl Cluster {
             stored_does (length self.old.seats.items) (kept_in self.old) coming.message_index index
             (slice_get (places_of self.old.seats.items) index) coming.event cut) }
         ensures err { IfErr result (λ fault. FailsBy (kept_in self.old)
-            (λ stop. stored_does (length self.old.seats.items) (kept_in self.old) coming.message_index index
+            (λ stop. stored_does (length self.old.seats.items) (kept_in self.old)
+            coming.message_index index
             (slice_get (places_of self.old.seats.items) index) coming.event stop)
-            (refused_at (slice_get (places_of self.old.seats.items) index) coming.event cut) fault
-            (stops fault) (kept_in self.new)) }
+            (event_refusal (slice_get (places_of self.old.seats.items) index) coming.event cut)
+            fault (stops fault) (kept_in self.new)) }
     {
         let EventAtSlot {
             event,
@@ -146,7 +148,7 @@ impl Cluster {
         requires members { ∥ ((kit : KitView)
             × AreMembers kit (statics_of self.old.seats.items)) ∥₁ }
         ensures statics { statics_of self.new.seats.items ≡ statics_of self.old.seats.items }
-        ensures restarted { kept_in self.new ≡ stored_restarted (length self.old.seats.items)
+        ensures restarted { kept_in self.new ≡ stored_restarts (length self.old.seats.items)
             (kept_in self.old) index (slice_get (places_of self.old.seats.items) index) }
     {
         let members = self.seats.len() as u8;

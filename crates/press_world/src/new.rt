@@ -7,6 +7,7 @@ ghost use Rattle.press_world.specs.Seats.{places_of, statics_of};
 ghost use Rattle.press_world.specs.Starts.{AreKit, statics_from, views_of};
 ghost use Rattle.press_world.specs.Stored.{new_stored};
 ghost use Rattle.press_world.specs.Worlds.{new_places};
+ghost use Rattle.press_wire.specs.Ranges.{most_members};
 
 use crate::cluster::Cluster;
 use crate::cluster_events::member_at;
@@ -18,7 +19,7 @@ use std::alloc::{AllocError, Global};
 
 // A node for each kit.
 fn start_all(alloc: Global, kits: Vec<Kit>, members: u8) -> Result<Vec<Seat>, AllocError>
-    requires few { members ≤ 7 }
+    requires few { members ≤ most_members }
     requires count { length kits.items ≤ members }
     ensures places { IfOk result (λ seats.
         places_of seats.items ≡ new_places members 1 (length kits.items)) }
@@ -37,7 +38,7 @@ impl World {
     /// A cluster of new nodes, one for each kit. A message has not been sent yet.
     pub fn new(alloc: Global, kits: Vec<Kit>) -> Result<World, AllocError>
         requires some { 1 ≤ length kits.items }
-        requires few { length kits.items ≤ 7 }
+        requires few { length kits.items ≤ most_members }
         requires alike { (kit : KitView) × AreKit kit (views_of kits.items) }
         ensures new { IfOk result (λ world. model world ≡ new_stored (length kits.items)) }
         ensures statics { IfOk result (λ world.

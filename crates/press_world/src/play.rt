@@ -5,13 +5,13 @@ ghost use Rattle.press_callbacks.specs.Kits.{KitView};
 ghost use Rattle.press_world.specs.Adding.{Adds};
 ghost use Rattle.press_world.specs.Happening.{Happens};
 ghost use Rattle.press_world.specs.Models.{facts, model, size, statics};
-ghost use Rattle.press_world.specs.Refusing.{message_numbered, place_numbered, refused_at, TakesMemory};
+ghost use Rattle.press_world.specs.Refusing.{message_numbered, place_numbered, event_refusal, TakesMemory};
 ghost use Rattle.press_world.specs.Seats.{place_of};
 ghost use Rattle.press_world.specs.Seen.{IsAbout};
 ghost use Rattle.press_world.specs.Sound.{IsSound};
 ghost use Rattle.press_world.specs.Stepped.{FailsBy, Steps};
 ghost use Rattle.press_world.specs.Stored.{stored_does, stored_step};
-ghost use Rattle.press_world.specs.Telling.{applied_in, first_of, is_cut, or_none};
+ghost use Rattle.press_world.specs.Telling.{applied_count_in, first_of, is_cut, or_none};
 ghost use Rattle.press_world.specs.Whole.{AppliesChosen, ChoosesOnce, HaveKit, IsAnswered, ShowsAlike};
 ghost use Rattle.press_world.specs.Worlds.{Place, index_of};
 ghost use Rattle.press_world.specs.declared.step.Step.{Step};
@@ -23,6 +23,7 @@ ghost use Rattle.press_world.specs.declared.step.Step.TheVariants.{
   Get,
 };
 ghost use Rattle.press_node.specs.Faults.{stops};
+ghost use Rattle.press_wire.specs.Ranges.{last_slot};
 
 use crate::cluster_events::EventAtSlot;
 use crate::fault::WorldFault;
@@ -60,7 +61,7 @@ fn first_slot() -> Slot
 
 // The slot after this many; the last one where there is none.
 fn slot_after(applied: u64) -> Slot
-    ensures { applied < 1000000 → applied + 1 ≡ result }
+    ensures { applied < last_slot → applied + 1 ≡ result }
 {
     let next = if applied < SLOTS { applied + 1 } else { SLOTS };
     let Some(slot) = Slot::new(next as u32) else {
@@ -97,7 +98,7 @@ impl World {
 
     /// How many slots a node has applied since its start; None where it is down or doesn't exist.
     pub fn applied(&self, node: u64) -> Option<u64>
-        ensures { result ≡ applied_in (place_numbered (model self.now) node) }
+        ensures { result ≡ applied_count_in (place_numbered (model self.now) node) }
     {
         let index = index_of(node, self.cluster.seats.len())?;
         self.cluster.seats.as_slice().get(index)?.applied_where_up()
@@ -120,7 +121,7 @@ impl World {
         requires inside { index < size self.old }
         requires about { (p : Place) → slice_get (model self.old).places index ≡ Some p →
             IsAbout p.up coming.event coming.slot }
-        requires passes { refused_at (slice_get (model self.old).places index) coming.event cut
+        requires passes { event_refusal (slice_get (model self.old).places index) coming.event cut
             ≡ None }
         requires step { (stop : _) → (x : Step) × (stored_step (size self.old) (model self.old) x ≡
             stored_does (size self.old) (model self.old) coming.message_index index
@@ -134,7 +135,7 @@ impl World {
         ensures err { IfErr result (λ fault. FailsBy (model self.old)
             (λ stop. stored_does (size self.old) (model self.old) coming.message_index index
             (slice_get (model self.old).places index) coming.event stop)
-            (refused_at (slice_get (model self.old).places index) coming.event cut) fault
+            (event_refusal (slice_get (model self.old).places index) coming.event cut) fault
             (stops fault) (model self.new)) }
     {
         chosen_by_majority();
@@ -151,7 +152,7 @@ impl World {
           first = first_of before count;
           count = count;
           stopped = is_cut cut;
-          applied = or_none (applied_in (slice_get (model self.now).places index));
+          applied = or_none (applied_count_in (slice_get (model self.now).places index));
           reply = None;
         } }
     {
@@ -176,7 +177,7 @@ impl World {
         requires inside { index < size self.old }
         requires about { (p : Place) → slice_get (model self.old).places index ≡ Some p →
             IsAbout p.up coming.event coming.slot }
-        requires passes { refused_at (slice_get (model self.old).places index) coming.event cut
+        requires passes { event_refusal (slice_get (model self.old).places index) coming.event cut
             ≡ None }
         requires step { (stop : _) → (x : Step) × (stored_step (size self.old) (model self.old) x ≡
             stored_does (size self.old) (model self.old) coming.message_index index

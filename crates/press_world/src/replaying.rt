@@ -18,9 +18,10 @@ ghost use Rattle.press_world.specs.ScheduleFile.{schedule_in};
 ghost use Rattle.press_world.specs.Seats.{places_of};
 ghost use Rattle.press_world.specs.Starts.{AreKit, views_of};
 ghost use Rattle.press_world.specs.Stored.{new_stored, stored_step};
-ghost use Rattle.press_world.specs.Telling.{applied_at};
+ghost use Rattle.press_world.specs.Telling.{applied_count_at};
 ghost use Rattle.press_world.specs.Transcript.{end_line, step_line};
 ghost use Rattle.press_world.specs.Whole.{HaveKit};
+ghost use Rattle.press_wire.specs.Ranges.{most_members};
 
 use crate::fault::WorldFault;
 use crate::played::Played;
@@ -54,7 +55,7 @@ impl World {
 
 // What each node has applied, where it is up.
 fn counts(alloc: Global, seats: &[Seat]) -> Result<Vec<Option<u64>>, AllocError>
-    ensures { IfOk result (λ counts. counts.items ≡ map applied_at (places_of seats.now)) }
+    ensures { IfOk result (λ counts. counts.items ≡ map applied_count_at (places_of seats.now)) }
 {
     let mut counts = Vec::new(alloc);
     for seat in seats {
@@ -92,9 +93,9 @@ pub fn write_step<W: Write>(
 /// Writes the last line of a transcript: what each node has applied.
 pub fn write_end<W: Write>(writer: &mut W, world: &World) -> Result<(), ReplayFault>
     ensures ok { OnOk result (Appends (W.contents writer.old) (W.contents writer.new)
-        (end_line (map applied_at (model world.now).places))) }
+        (end_line (map applied_count_at (model world.now).places))) }
     ensures err { OnErr result (AppendsFront (W.contents writer.old) (W.contents writer.new)
-        (end_line (map applied_at (model world.now).places))) }
+        (end_line (map applied_count_at (model world.now).places))) }
     ensures fault { IfErr result (λ e. (e ≡ ReplayFault.WriteFault)
         ⊎ (e ≡ ReplayFault.NoMemory)) }
 {
@@ -161,7 +162,7 @@ fn play_new<W: Write>(
     writer: &mut W,
 ) -> Result<(), ReplayFault>
     requires some { 1 ≤ length kits.items }
-    requires few { length kits.items ≤ 7 }
+    requires few { length kits.items ≤ most_members }
     requires alike { (kit : KitView) × AreKit kit (views_of kits.items) }
     ensures lines { (kit : KitView) → AreKit kit (views_of kits.items) →
         WritesLines (transcript kit (length kits.items, steps.now))
@@ -184,7 +185,7 @@ pub fn replay<R: Read, W: Write>(
     reader: &mut R,
     writer: &mut W,
 ) -> Result<(), ReplayFault>
-    requires few { length kits.items ≤ 7 }
+    requires few { length kits.items ≤ most_members }
     requires alike { (kit : KitView) × AreKit kit (views_of kits.items) }
     ensures took { TakesAtMost (R.remaining reader.old) (R.remaining reader.new) (file_limit + 1) }
     ensures replays { (kit : KitView) → AreKit kit (views_of kits.items) →

@@ -121,7 +121,7 @@ fn kind(value: &Value) -> Option<StepKind>
 {
     match value.get("do").and_then(Value::as_str) {
         None => None,
-        Some(word) => StepKind::named(word),
+        Some(word) => StepKind::by_word(word),
     }
 }
 

@@ -8,15 +8,16 @@ ghost use Rattle.press_node.specs.Refusals.{refusal};
 ghost use Rattle.press_node.specs.States.{IsWhole, applied_count, is_down, running_in};
 ghost use Rattle.press_node.specs.declared.event.Event.TheVariants.{Submit, Wake, Deliver};
 ghost use Rattle.press_world.specs.Acts.{DoesAt, FailsAt};
-ghost use Rattle.press_world.specs.Refusing.{refused_where};
+ghost use Rattle.press_world.specs.Refusing.{refusal_where};
 ghost use Rattle.press_world.specs.Seats.{place_of, static_of};
-ghost use Rattle.press_world.specs.Telling.{applied_at};
+ghost use Rattle.press_world.specs.Telling.{applied_count_at};
 ghost use Rattle.press_world.specs.Worlds.{restarted_place};
 ghost use Rattle.press_world.specs.declared.step.Cut.TheVariants.{
   BeforeSave,
   AfterSave,
   AfterMessages,
 };
+ghost use Rattle.press_wire.specs.Ranges.{most_members};
 
 use crate::seat::Seat;
 use crate::step::Cut;
@@ -46,7 +47,7 @@ fn first_of(out: Vec<Message>, count: u32) -> Vec<Message>
 impl Seat {
     /// Starts the node `id` of `members` over an empty store.
     pub(crate) fn start(alloc: Global, id: MemberId, members: u8, kit: Kit) -> Seat
-        requires few { members ≤ 7 }
+        requires few { members ≤ most_members }
         requires member { id ≤ members }
         ensures place { place_of result ≡ restarted_place members id new_store }
         ensures fixed { static_of result ≡
@@ -64,7 +65,7 @@ impl Seat {
 
     /// Starts it again over its store.
     pub(crate) fn restart(&mut self, id: MemberId, members: u8)
-        requires few { members ≤ 7 }
+        requires few { members ≤ most_members }
         requires member { id ≤ members }
         requires id { self.old.state.id ≡ id }
         requires members { self.old.state.members ≡ members }
@@ -90,7 +91,7 @@ impl Seat {
 
     /// How many values it has applied since its start, where it is up.
     pub(crate) fn applied_where_up(&self) -> Option<u64>
-        ensures { result ≡ applied_at (place_of self.now) }
+        ensures { result ≡ applied_count_at (place_of self.now) }
     {
         if self.is_down() {
             None
@@ -116,7 +117,7 @@ impl Seat {
     fn unless_first(&self, cut: Option<Cut>, fault: Option<NodeFault>) -> Option<NodeFault>
         ensures { (event : Event) →
             fault ≡ refusal self.now.store (running_in self.now.state) event →
-            result ≡ refused_where self.now.store (running_in self.now.state) event cut }
+            result ≡ refusal_where self.now.store (running_in self.now.state) event cut }
     {
         if self.is_down() {
             return Some(NodeFault::Down);
@@ -133,7 +134,7 @@ impl Seat {
         command: &Stamped,
         cut: Option<Cut>,
     ) -> Option<NodeFault>
-        ensures { result ≡ refused_where self.now.store (running_in self.now.state)
+        ensures { result ≡ refusal_where self.now.store (running_in self.now.state)
             (Submit command.now) cut }
     {
         self.unless_first(cut, self.state.refusal_of_command(command))
@@ -141,7 +142,7 @@ impl Seat {
 
     /// Why a wake is refused, if it is. It takes no memory.
     pub(crate) fn refusal_of_wake(&self, cut: Option<Cut>) -> Option<NodeFault>
-        ensures { result ≡ refused_where self.now.store (running_in self.now.state) Wake cut }
+        ensures { result ≡ refusal_where self.now.store (running_in self.now.state) Wake cut }
     {
         self.unless_first(cut, self.state.refusal_of_wake(self.store.round()))
     }
@@ -149,7 +150,7 @@ impl Seat {
     /// Why a message is refused, if it is.
     pub(crate) fn refusal_of_message(&self, cut: Option<Cut>) -> Option<NodeFault>
         ensures { (message : Message) → result ≡
-            refused_where self.now.store (running_in self.now.state) (Deliver message) cut }
+            refusal_where self.now.store (running_in self.now.state) (Deliver message) cut }
     {
         self.unless_first(cut, self.state.refusal_of_message())
     }
@@ -157,7 +158,7 @@ impl Seat {
     // Plays an event, without a stop.
     fn on(&mut self, event: Event) -> Result<Vec<Message>, NodeFault>
         ensures fixed { static_of self.new ≡ static_of self.old }
-        ensures few { IfOk result (λ out. length out.items ≤ 7) }
+        ensures few { IfOk result (λ out. length out.items ≤ most_members) }
         ensures ok { IfOk result (λ out. DoesAt self.old.state.members self.old.state.id
             self.old.store (running_in self.old.state) event None out.items (place_of self.new)) }
         ensures err { IfErr result (λ fault. FailsAt self.old.state.members self.old.state.id
@@ -180,7 +181,7 @@ impl Seat {
     // Plays an event, with a stop after the first messages.
     fn on_first(&mut self, event: Event, count: u32) -> Result<Vec<Message>, NodeFault>
         ensures fixed { static_of self.new ≡ static_of self.old }
-        ensures few { IfOk result (λ out. length out.items ≤ 7) }
+        ensures few { IfOk result (λ out. length out.items ≤ most_members) }
         ensures ok { IfOk result (λ out. DoesAt self.old.state.members self.old.state.id
             self.old.store (running_in self.old.state) event (Some (AfterMessages count))
             out.items (place_of self.new)) }
@@ -200,7 +201,7 @@ impl Seat {
     // Plays an event, with a stop after its save.
     fn on_silent(&mut self, event: Event) -> Result<Vec<Message>, NodeFault>
         ensures fixed { static_of self.new ≡ static_of self.old }
-        ensures few { IfOk result (λ out. length out.items ≤ 7) }
+        ensures few { IfOk result (λ out. length out.items ≤ most_members) }
         ensures ok { IfOk result (λ out. DoesAt self.old.state.members self.old.state.id
             self.old.store (running_in self.old.state) event (Some AfterSave) out.items
             (place_of self.new)) }
@@ -220,7 +221,7 @@ impl Seat {
     // Stops before an event. A node that is down refuses it, and nothing changes.
     fn stop_before(&mut self, event: Event) -> Result<Vec<Message>, NodeFault>
         ensures fixed { static_of self.new ≡ static_of self.old }
-        ensures few { IfOk result (λ out. length out.items ≤ 7) }
+        ensures few { IfOk result (λ out. length out.items ≤ most_members) }
         ensures ok { IfOk result (λ out. DoesAt self.old.state.members self.old.state.id
             self.old.store (running_in self.old.state) event (Some BeforeSave) out.items
             (place_of self.new)) }
@@ -245,7 +246,7 @@ impl Seat {
     /// Plays an event, which a stop may cut; returns its messages.
     pub(crate) fn act(&mut self, event: Event, cut: Option<Cut>) -> Result<Vec<Message>, NodeFault>
         ensures fixed { static_of self.new ≡ static_of self.old }
-        ensures few { IfOk result (λ out. length out.items ≤ 7) }
+        ensures few { IfOk result (λ out. length out.items ≤ most_members) }
         ensures ok { IfOk result (λ out. DoesAt self.old.state.members self.old.state.id
             self.old.store (running_in self.old.state) event cut out.items (place_of self.new)) }
         ensures err { IfErr result (λ fault. FailsAt self.old.state.members self.old.state.id

@@ -13,7 +13,7 @@ pub(crate) enum StepKind {
 
 impl StepKind {
     /// The kind of that word.
-    pub fn named(word: &str) -> Option<StepKind>
+    pub fn by_word(word: &str) -> Option<StepKind>
         ensures { result ≡ kind_by_word word.now }
     {
         if word == "submit" {

@@ -1,4 +1,4 @@
-use press_client::{Entry, Limits, LogFault, Piece, SiteFile, SiteFiles, Teller, export};
+use press_client::{Limits, LogEntry, LogFault, Piece, SiteFile, SiteFiles, Teller, export};
 use press_site::Token;
 use press_text::{Name, Text};
 use std::alloc::Global;
@@ -10,12 +10,12 @@ const LIMITS: Limits = Limits {
     commands: 2,
 };
 
-fn tick(alloc: Global, seq: u64, at: u64) -> Result<Entry, LogFault> {
+fn tick(alloc: Global, seq: u64, at: u64) -> Result<LogEntry, LogFault> {
     let Ok(editor) = Name::new(alloc, "ann") else {
         return Err(LogFault::NoMemory);
     };
     let fields = format!(in alloc; "\"editor\":\"ann\",\"kind\":\"tick\",\"seq\":{seq}}}")?;
-    Ok(Entry::Command {
+    Ok(LogEntry::Command {
         token: Token { editor, seq },
         at,
         fields: Text::from_string(fields)?,
@@ -34,10 +34,10 @@ fn are(files: &[SiteFile], texts: &[&str]) -> bool {
 #[test]
 fn fillers_move_the_moment_alone(rt: HostRuntime) -> Result<(), Fail> {
     let mut files = SiteFiles::new(rt.alloc(), LIMITS)?;
-    files.put(Entry::Filler { at: 5 })?;
+    files.put(LogEntry::Filler { at: 5 })?;
     files.put(tick(rt.alloc(), 1, 3)?)?;
-    files.put(Entry::Filler { at: 4 })?;
-    files.put(Entry::Filler { at: 9 })?;
+    files.put(LogEntry::Filler { at: 4 })?;
+    files.put(LogEntry::Filler { at: 9 })?;
     files.put(tick(rt.alloc(), 2, 7)?)?;
     let files = files.into_files()?;
     assert!(rt;

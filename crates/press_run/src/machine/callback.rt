@@ -5,11 +5,11 @@ ghost use Rattle.press_callbacks.specs.Kits.{Scripts, script_at};
 ghost use Rattle.press_callbacks.specs.Turns.{turn_of};
 ghost use Rattle.press_callbacks.specs.declared.script.Turn.TheVariants as turn;
 ghost use Rattle.press_callbacks.specs.declared.script.Turn.TheVariants.{Echo};
-ghost use Rattle.press_run.specs.Frames.{BeginsAs, CallsAs, CountsAs, IsFew, KeepsCall, Steps, Turns, meant};
+ghost use Rattle.press_run.specs.Frames.{BeginsAs, CallsAs, CountsAs, IsFew, KeepsCall, Steps, Turns, frame_meaning};
 ghost use Rattle.press_run.specs.Run.{at_depth, built_in, fits, most_turns, one_turn, or_empty, within};
 ghost use Rattle.press_run.specs.Outcome.{around, is_limit, state_of};
 ghost use Rattle.press_run.specs.Limits.{ShowsLimits};
-ghost use Rattle.press_run.specs.Standing.{standing};
+ghost use Rattle.press_run.specs.Standing.{machine_view};
 ghost use Rattle.press_run.specs.declared.frame.Frame.TheVariants as frame;
 
 use super::{Machine, StepAt};
@@ -36,9 +36,9 @@ impl<L: SiteLink + Drop> Machine<L> {
         ensures shut { room ≡ 0 → IsErrOf result RunFault.Limit }
         ensures begins { CallsAs L.changes (K.scripts kit.now)
             (at_depth L.changes room (K.scripts kit.now) id callback.old.call
-            (state_of (standing L.view L.fixed self.old)))
+            (state_of (machine_view L.view L.fixed self.old)))
             1 callback.new
-            (standing L.view L.fixed self.old) (standing L.view L.fixed self.new) result }
+            (machine_view L.view L.fixed self.old) (machine_view L.view L.fixed self.new) result }
         ensures called { KeepsCall callback.old callback.new }
         ensures fixed { L.fixed self.new.site ≡ L.fixed self.old.site }
         ensures limits { ShowsLimits result self.old self.new }
@@ -65,11 +65,11 @@ impl<L: SiteLink + Drop> Machine<L> {
     ) -> Result<Opened, RunFault>
         requires { IsFew 0 callback.old }
         ensures begins { CallsAs L.changes (K.scripts kit.now)
-            (meant L.changes (K.scripts kit.now) (frame.Callback callback.old)
-            (around (standing L.view L.fixed self.old))
-            (state_of (standing L.view L.fixed self.old)))
+            (frame_meaning L.changes (K.scripts kit.now) (frame.Callback callback.old)
+            (around (machine_view L.view L.fixed self.old))
+            (state_of (machine_view L.view L.fixed self.old)))
             1 callback.new
-            (standing L.view L.fixed self.old) (standing L.view L.fixed self.new) result }
+            (machine_view L.view L.fixed self.old) (machine_view L.view L.fixed self.new) result }
         ensures called { KeepsCall callback.old callback.new }
         ensures fixed { L.fixed self.new.site ≡ L.fixed self.old.site }
         ensures limits { ShowsLimits result self.old self.new }
@@ -89,12 +89,12 @@ impl<L: SiteLink + Drop> Machine<L> {
     // One of the built-in callbacks on its first argument: one turn.
     #[inline(never)]
     fn open_built_in(&mut self, room: u32, id: CallbackId, call: &CallIn) -> Result<Begun, RunFault>
-        ensures late { one_turn (state_of (standing L.view L.fixed self.old)) ≡ None
+        ensures late { one_turn (state_of (machine_view L.view L.fixed self.old)) ≡ None
             → IsErrOf result RunFault.Limit }
         ensures begins { (scripts : Scripts) → BeginsAs L.changes scripts
             (built_in L.changes (at_depth L.changes room scripts) id call.now
-            (state_of (standing L.view L.fixed self.old)))
-            1 (standing L.view L.fixed self.old) (standing L.view L.fixed self.new) result }
+            (state_of (machine_view L.view L.fixed self.old)))
+            1 (machine_view L.view L.fixed self.old) (machine_view L.view L.fixed self.new) result }
         ensures fixed { L.fixed self.new.site ≡ L.fixed self.old.site }
         ensures limits { ShowsLimits result self.old self.new }
     {
@@ -119,9 +119,9 @@ impl<L: SiteLink + Drop> Machine<L> {
         requires { IsFew 0 callback.old }
         ensures steps { Steps L.changes (K.scripts kit.now)
             (frame.Callback callback.old) (frame.Callback callback.new)
-            (standing L.view L.fixed self.old) (standing L.view L.fixed self.new) result }
+            (machine_view L.view L.fixed self.old) (machine_view L.view L.fixed self.new) result }
         ensures spent { callback.old.left ≡ 0 → IsErrOf result RunFault.Limit }
-        ensures late { one_turn (state_of (standing L.view L.fixed self.old)) ≡ None
+        ensures late { one_turn (state_of (machine_view L.view L.fixed self.old)) ≡ None
             → IsErrOf result RunFault.Limit }
         ensures long { fits (turn_of (or_empty (script_at callback.old.place (K.scripts kit.now)))
             callback.old.call) ≡ false → IsErrOf result RunFault.Limit }
@@ -159,7 +159,7 @@ impl<L: SiteLink + Drop> Machine<L> {
         requires short { fits (turn.Go value) ≡ true }
         ensures steps { (scripts : Scripts) → CountsAs L.changes scripts
             callback.old (turn.Go value) callback.new
-            (standing L.view L.fixed self.old) (standing L.view L.fixed self.new) result }
+            (machine_view L.view L.fixed self.old) (machine_view L.view L.fixed self.new) result }
         ensures called { KeepsCall callback.old callback.new }
         ensures fixed { L.fixed self.new.site ≡ L.fixed self.old.site }
         ensures limits { ShowsLimits result self.old self.new }
@@ -173,7 +173,7 @@ impl<L: SiteLink + Drop> Machine<L> {
         requires { IsFew 1 callback.old }
         ensures steps { (scripts : Scripts) → Turns L.changes scripts
             callback.old (turn.Go value) callback.new
-            (standing L.view L.fixed self.now) (standing L.view L.fixed self.now) result }
+            (machine_view L.view L.fixed self.now) (machine_view L.view L.fixed self.now) result }
         ensures called { KeepsCall callback.old callback.new }
         ensures limits { is_limit result ≡ false }
     {
@@ -187,7 +187,7 @@ impl<L: SiteLink + Drop> Machine<L> {
         requires short { fits (turn.Return text) ≡ true }
         ensures steps { (scripts : Scripts) → CountsAs L.changes scripts
             callback.now (turn.Return text) callback.now
-            (standing L.view L.fixed self.old) (standing L.view L.fixed self.new) result }
+            (machine_view L.view L.fixed self.old) (machine_view L.view L.fixed self.new) result }
         ensures fixed { L.fixed self.new.site ≡ L.fixed self.old.site }
         ensures limits { ShowsLimits result self.old self.new }
     {
@@ -205,7 +205,7 @@ impl<L: SiteLink + Drop> Machine<L> {
             → IsErrOf result RunFault.Limit }
         ensures steps { (scripts : Scripts) → CountsAs L.changes scripts
             callback.old turn callback.new
-            (standing L.view L.fixed self.old) (standing L.view L.fixed self.new) result }
+            (machine_view L.view L.fixed self.old) (machine_view L.view L.fixed self.new) result }
         ensures called { KeepsCall callback.old callback.new }
         ensures fixed { L.fixed self.new.site ≡ L.fixed self.old.site }
         ensures limits { ShowsLimits result self.old self.new }

@@ -7,7 +7,7 @@ ghost use Rattle.press_run.specs.Links.{AsksSome, publishes};
 ghost use Rattle.press_run.specs.Run.{at_depth, change_site, publish};
 ghost use Rattle.press_run.specs.Outcome.{state_of};
 ghost use Rattle.press_run.specs.Limits.{ShowsLimits};
-ghost use Rattle.press_run.specs.Standing.{standing};
+ghost use Rattle.press_run.specs.Standing.{machine_view};
 ghost use Rattle.press_run.specs.declared.frame.Frame.TheVariants as frame;
 
 use super::Machine;
@@ -33,8 +33,9 @@ impl<L: SiteLink + Drop> Machine<L> {
     ) -> Result<Begun, RunFault>
         ensures begins { (scripts : Scripts) → BeginsAs L.changes scripts
             (change_site L.changes (at_depth L.changes room scripts)
-            (state_of (standing L.view L.fixed self.old)) effect)
-            (2 ^ 66) (standing L.view L.fixed self.old) (standing L.view L.fixed self.new) result }
+            (state_of (machine_view L.view L.fixed self.old)) effect)
+            (2 ^ 66) (machine_view L.view L.fixed self.old)
+            (machine_view L.view L.fixed self.new) result }
         ensures memory { result ≡ Err RunFault.NoMemory
             → AsksSome L.changes (L.view self.old.site) effect }
         ensures fixed { L.fixed self.new.site ≡ L.fixed self.old.site }
@@ -58,8 +59,9 @@ impl<L: SiteLink + Drop> Machine<L> {
     pub(super) fn begin_publish(&mut self, room: u32, id: Text) -> Result<Begun, RunFault>
         ensures begins { (scripts : Scripts) → BeginsAs L.changes scripts
             (publish L.changes (at_depth L.changes room scripts) id
-            (state_of (standing L.view L.fixed self.old)))
-            (2 ^ 66) (standing L.view L.fixed self.old) (standing L.view L.fixed self.new) result }
+            (state_of (machine_view L.view L.fixed self.old)))
+            (2 ^ 66) (machine_view L.view L.fixed self.old)
+            (machine_view L.view L.fixed self.new) result }
         ensures memory { result ≡ Err RunFault.NoMemory → AsksSome L.changes (L.view self.old.site)
             (publishes id (L.view self.old.site).moment) }
         ensures fixed { L.fixed self.new.site ≡ L.fixed self.old.site }
@@ -82,7 +84,7 @@ impl<L: SiteLink + Drop> Machine<L> {
     pub(crate) fn fire(&mut self, fires: &mut OpenFires) -> Result<Step, RunFault>
         ensures steps { (scripts : Scripts) → Steps L.changes scripts
             (frame.Fires fires.old) (frame.Fires fires.new)
-            (standing L.view L.fixed self.old) (standing L.view L.fixed self.new) result }
+            (machine_view L.view L.fixed self.old) (machine_view L.view L.fixed self.new) result }
         ensures fixed { L.fixed self.new.site ≡ L.fixed self.old.site }
         ensures limits { ShowsLimits result self.old self.new }
     {

@@ -3,11 +3,11 @@
 ghost use Rattle.std.specs.Prelude.{◌≡◌, IfOk, IsErrOf, IsTrue, OnOk};
 ghost use Rattle.press_hooks.specs.NextEntry.{is_innermost};
 ghost use Rattle.press_callbacks.specs.Kits.{Scripts};
-ghost use Rattle.press_run.specs.Frames.{BeginsAs, EntersAs, IsOfHook, MovesTo, closed, hooked, shown};
+ghost use Rattle.press_run.specs.Frames.{BeginsAs, EntersAs, IsOfHook, MovesTo, end_run, run_to_answer, hook_answer};
 ghost use Rattle.press_run.specs.Run.{at_depth, do_hook, first_text};
 ghost use Rattle.press_run.specs.Outcome.{state_of};
 ghost use Rattle.press_run.specs.Limits.{ShowsLimits};
-ghost use Rattle.press_run.specs.Standing.{standing};
+ghost use Rattle.press_run.specs.Standing.{machine_view};
 ghost use Rattle.press_run.specs.declared.frame.Frame.TheVariants as frame;
 
 use super::Machine;
@@ -32,9 +32,9 @@ impl<L: SiteLink + Drop> Machine<L> {
         args: Texts,
     ) -> Result<Begun, RunFault>
         ensures begins { (scripts : Scripts) → BeginsAs L.changes scripts
-            (hooked (at_depth L.changes room scripts) kind hook.now args
-            (state_of (standing L.view L.fixed self.old)))
-            3 (standing L.view L.fixed self.old) (standing L.view L.fixed self.new) result }
+            (run_to_answer (at_depth L.changes room scripts) kind hook.now args
+            (state_of (machine_view L.view L.fixed self.old)))
+            3 (machine_view L.view L.fixed self.old) (machine_view L.view L.fixed self.new) result }
         ensures fixed { L.fixed self.new.site ≡ L.fixed self.old.site }
         ensures limits { ShowsLimits result self.old self.new }
     {
@@ -65,8 +65,8 @@ impl<L: SiteLink + Drop> Machine<L> {
     ) -> Result<Begun, RunFault>
         ensures begins { (scripts : Scripts) → BeginsAs L.changes scripts
             (do_hook (at_depth L.changes room scripts) hook.now args
-            (state_of (standing L.view L.fixed self.old)))
-            3 (standing L.view L.fixed self.old) (standing L.view L.fixed self.new) result }
+            (state_of (machine_view L.view L.fixed self.old)))
+            3 (machine_view L.view L.fixed self.old) (machine_view L.view L.fixed self.new) result }
         ensures fixed { L.fixed self.new.site ≡ L.fixed self.old.site }
         ensures limits { ShowsLimits result self.old self.new }
     {
@@ -86,7 +86,7 @@ impl<L: SiteLink + Drop> Machine<L> {
         ensures spent { run.old.left ≡ 0 → IsErrOf result RunFault.Limit }
         ensures steps { MovesTo L.changes (K.scripts kit.now)
             (frame.Hook run.old) (frame.Hook run.new)
-            (standing L.view L.fixed self.old) (standing L.view L.fixed self.new) result }
+            (machine_view L.view L.fixed self.old) (machine_view L.view L.fixed self.new) result }
         ensures fixed { L.fixed self.new.site ≡ L.fixed self.old.site }
         ensures limits { ShowsLimits result self.old self.new }
     {
@@ -121,7 +121,7 @@ impl<L: SiteLink + Drop> Machine<L> {
         requires hook { IsOfHook callback.old }
         ensures spent { run.old.left ≡ 0 → IsErrOf result RunFault.Limit }
         ensures steps { EntersAs L.changes (K.scripts kit.now) run.old run.new callback.new
-            (standing L.view L.fixed self.old) (standing L.view L.fixed self.new) result }
+            (machine_view L.view L.fixed self.old) (machine_view L.view L.fixed self.new) result }
         ensures hook { IsOfHook callback.new }
         ensures fixed { L.fixed self.new.site ≡ L.fixed self.old.site }
         ensures limits { ShowsLimits result self.old self.new }
@@ -144,9 +144,9 @@ impl<L: SiteLink + Drop> Machine<L> {
     // Closes a run, and gives its answer.
     fn end_run(&mut self, run: &OpenHook) -> Result<Text, AllocError>
         requires { IsTrue (is_innermost run.now.run self.old.tables.hooks.open_runs) }
-        ensures text { IfOk result (λ t. t ≡ shown run.now.kind (first_text run.now.args)) }
-        ensures closed { OnOk result (standing L.view L.fixed self.new
-            ≡ closed (standing L.view L.fixed self.old)) }
+        ensures text { IfOk result (λ t. t ≡ hook_answer run.now.kind (first_text run.now.args)) }
+        ensures closed { OnOk result (machine_view L.view L.fixed self.new
+            ≡ end_run (machine_view L.view L.fixed self.old)) }
         ensures fixed { L.fixed self.new.site ≡ L.fixed self.old.site }
         ensures limits { self.new.met_limit ≡ self.old.met_limit }
     {

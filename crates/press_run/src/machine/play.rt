@@ -2,10 +2,10 @@
 
 ghost use Rattle.std.specs.Prelude.{◌≡◌, ◌^◌};
 ghost use Rattle.press_callbacks.specs.Kits.{Scripts};
-ghost use Rattle.press_run.specs.Frames.{BeginsAs, MovesTo, Ready, meant, round};
+ghost use Rattle.press_run.specs.Frames.{BeginsAs, MovesTo, Ready, frame_meaning, round};
 ghost use Rattle.press_run.specs.Outcome.{GivesText, around, job_meaning, state_of};
 ghost use Rattle.press_run.specs.Limits.{ShowsLimits};
-ghost use Rattle.press_run.specs.Standing.{standing};
+ghost use Rattle.press_run.specs.Standing.{machine_view};
 
 use super::Machine;
 use crate::callbacks::Callbacks;
@@ -26,8 +26,9 @@ impl<L: SiteLink + Drop> Machine<L> {
     /// What a job begins with.
     pub(super) fn begin_job(&mut self, job: Job) -> Result<Begun, RunFault>
         ensures begins { (scripts : Scripts) → BeginsAs L.changes scripts
-            (job_meaning L.changes scripts job (state_of (standing L.view L.fixed self.old)))
-            (2 ^ 66) (standing L.view L.fixed self.old) (standing L.view L.fixed self.new) result }
+            (job_meaning L.changes scripts job (state_of (machine_view L.view L.fixed self.old)))
+            (2 ^ 66) (machine_view L.view L.fixed self.old)
+            (machine_view L.view L.fixed self.new) result }
         ensures fixed { L.fixed self.new.site ≡ L.fixed self.old.site }
         ensures limits { ShowsLimits result self.old self.new }
     {
@@ -48,8 +49,9 @@ impl<L: SiteLink + Drop> Machine<L> {
     /// The answer of a job.
     pub(super) fn answer<K: Callbacks>(&mut self, kit: &K, job: Job) -> Result<Text, RunFault>
         ensures gives { GivesText (job_meaning L.changes (K.scripts kit.now) job
-            (state_of (standing L.view L.fixed self.old)))
-            (around (standing L.view L.fixed self.old)) (standing L.view L.fixed self.new) result }
+            (state_of (machine_view L.view L.fixed self.old)))
+            (around (machine_view L.view L.fixed self.old))
+            (machine_view L.view L.fixed self.new) result }
         ensures fixed { L.fixed self.new.site ≡ L.fixed self.old.site }
         ensures limits { ShowsLimits result self.old self.new }
     {
@@ -61,12 +63,12 @@ impl<L: SiteLink + Drop> Machine<L> {
 
     // The outermost frame, and all that it opens, until it has answered.
     fn play<K: Callbacks>(&mut self, kit: &K, mut top: Frame) -> Result<Text, RunFault>
-        requires { Ready top (around (standing L.view L.fixed self.old)) }
-        ensures gives { GivesText (meant L.changes (K.scripts kit.now) top
-            (around (standing L.view L.fixed self.old))
-            (state_of (standing L.view L.fixed self.old)))
-            (round top (around (standing L.view L.fixed self.old)))
-            (standing L.view L.fixed self.new) result }
+        requires { Ready top (around (machine_view L.view L.fixed self.old)) }
+        ensures gives { GivesText (frame_meaning L.changes (K.scripts kit.now) top
+            (around (machine_view L.view L.fixed self.old))
+            (state_of (machine_view L.view L.fixed self.old)))
+            (round top (around (machine_view L.view L.fixed self.old)))
+            (machine_view L.view L.fixed self.new) result }
         ensures fixed { L.fixed self.new.site ≡ L.fixed self.old.site }
         ensures limits { ShowsLimits result self.old self.new }
     {
@@ -94,9 +96,9 @@ impl<L: SiteLink + Drop> Machine<L> {
     // The innermost frame goes on by one turn, action or piece, or by entries up to one that it
     // waits for.
     fn step<K: Callbacks>(&mut self, kit: &K, top: &mut Frame) -> Result<Moved, RunFault>
-        requires { Ready top.old (around (standing L.view L.fixed self.old)) }
+        requires { Ready top.old (around (machine_view L.view L.fixed self.old)) }
         ensures steps { MovesTo L.changes (K.scripts kit.now) top.old top.new
-            (standing L.view L.fixed self.old) (standing L.view L.fixed self.new) result }
+            (machine_view L.view L.fixed self.old) (machine_view L.view L.fixed self.new) result }
         ensures fixed { L.fixed self.new.site ≡ L.fixed self.old.site }
         ensures limits { ShowsLimits result self.old self.new }
     {

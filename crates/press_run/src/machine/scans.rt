@@ -5,10 +5,10 @@ ghost use Rattle.press_scan.specs.Shortcodes.{IsShortcode, cut};
 ghost use Rattle.press_scan.specs.Tags.{callback_of, names_of};
 ghost use Rattle.press_callbacks.specs.Kits.{Scripts};
 ghost use Rattle.press_run.specs.Frames.{Awaits, BeginsAs, CallsAs, GoesOn, IsCame, MovesTo, ScanReady, filtering_where};
-ghost use Rattle.press_run.specs.Run.{at_depth, filtered, filters_answers, is_short, scan, tag_answer};
+ghost use Rattle.press_run.specs.Run.{at_depth, filter_answer, filters_answers, is_short, scan, tag_answer};
 ghost use Rattle.press_run.specs.Outcome.{state_of};
 ghost use Rattle.press_run.specs.Limits.{ShowsLimits};
-ghost use Rattle.press_run.specs.Standing.{standing};
+ghost use Rattle.press_run.specs.Standing.{machine_view};
 ghost use Rattle.press_run.specs.declared.frame.Frame.TheVariants as frame;
 ghost use Rattle.press_run.specs.declared.frame.Filtering.TheVariants.{Off};
 
@@ -35,8 +35,9 @@ impl<L: SiteLink + Drop> Machine<L> {
         ensures long { is_short text ≡ false → IsErrOf result RunFault.Limit }
         ensures begins { (scripts : Scripts) → BeginsAs L.changes scripts
             (scan (at_depth L.changes room scripts) text
-            (state_of (standing L.view L.fixed self.old)))
-            (2 ^ 24) (standing L.view L.fixed self.old) (standing L.view L.fixed self.new) result }
+            (state_of (machine_view L.view L.fixed self.old)))
+            (2 ^ 24) (machine_view L.view L.fixed self.old)
+            (machine_view L.view L.fixed self.new) result }
         ensures fixed { L.fixed self.new.site ≡ L.fixed self.old.site }
         ensures limits { ShowsLimits result self.old self.new }
     {
@@ -68,7 +69,7 @@ impl<L: SiteLink + Drop> Machine<L> {
             → IsErrOf result RunFault.Limit }
         ensures steps { MovesTo L.changes (K.scripts kit.now)
             (frame.Scan scan.old) (frame.Scan scan.new)
-            (standing L.view L.fixed self.old) (standing L.view L.fixed self.new) result }
+            (machine_view L.view L.fixed self.old) (machine_view L.view L.fixed self.new) result }
         ensures fixed { L.fixed self.new.site ≡ L.fixed self.old.site }
         ensures limits { ShowsLimits result self.old self.new }
     {
@@ -86,7 +87,7 @@ impl<L: SiteLink + Drop> Machine<L> {
         ensures long { is_short scan.old.scan.output ≡ false → IsErrOf result RunFault.Limit }
         ensures steps { MovesTo L.changes (K.scripts kit.now)
             (frame.Scan scan.old) (frame.Scan scan.new)
-            (standing L.view L.fixed self.old) (standing L.view L.fixed self.new) result }
+            (machine_view L.view L.fixed self.old) (machine_view L.view L.fixed self.new) result }
         ensures fixed { L.fixed self.new.site ≡ L.fixed self.old.site }
         ensures limits { ShowsLimits result self.old self.new }
     {
@@ -121,7 +122,7 @@ impl<L: SiteLink + Drop> Machine<L> {
         requires came { IsCame scan.old.filtering }
         ensures steps { (scripts : Scripts) → MovesTo L.changes scripts
             (frame.Scan scan.old) (frame.Scan scan.new)
-            (standing L.view L.fixed self.old) (standing L.view L.fixed self.new) result }
+            (machine_view L.view L.fixed self.old) (machine_view L.view L.fixed self.new) result }
         ensures fixed { L.fixed self.new.site ≡ L.fixed self.old.site }
         ensures limits { ShowsLimits result self.old self.new }
     {
@@ -137,9 +138,9 @@ impl<L: SiteLink + Drop> Machine<L> {
     // where the hook has none, the answer stays as it is.
     fn begin_filter(&mut self, room: u32, answer: Text, tag: Text) -> Result<Begun, RunFault>
         ensures begins { (scripts : Scripts) → BeginsAs L.changes scripts
-            (filtered (at_depth L.changes room scripts) tag answer
-            (state_of (standing L.view L.fixed self.old)))
-            3 (standing L.view L.fixed self.old) (standing L.view L.fixed self.new) result }
+            (filter_answer (at_depth L.changes room scripts) tag answer
+            (state_of (machine_view L.view L.fixed self.old)))
+            3 (machine_view L.view L.fixed self.old) (machine_view L.view L.fixed self.new) result }
         ensures fixed { L.fixed self.new.site ≡ L.fixed self.old.site }
         ensures limits { ShowsLimits result self.old self.new }
     {
@@ -178,9 +179,9 @@ impl<L: SiteLink + Drop> Machine<L> {
         ensures begins { CallsAs L.changes (K.scripts kit.now)
             (tag_answer (at_depth L.changes room (K.scripts kit.now))
             (callback_of callback.old.call.tag self.old.tables.tags)
-            callback.old.call (state_of (standing L.view L.fixed self.old)))
+            callback.old.call (state_of (machine_view L.view L.fixed self.old)))
             2 callback.new
-            (standing L.view L.fixed self.old) (standing L.view L.fixed self.new) result }
+            (machine_view L.view L.fixed self.old) (machine_view L.view L.fixed self.new) result }
         ensures fixed { L.fixed self.new.site ≡ L.fixed self.old.site }
         ensures limits { ShowsLimits result self.old self.new }
     {

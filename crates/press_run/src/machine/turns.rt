@@ -6,7 +6,7 @@ ghost use Rattle.press_callbacks.specs.declared.script.Turn.TheVariants.{Echo};
 ghost use Rattle.press_run.specs.Frames.{IsFew, KeepsCall, Turns, group};
 ghost use Rattle.press_run.specs.Run.{within};
 ghost use Rattle.press_run.specs.Limits.{ShowsLimits};
-ghost use Rattle.press_run.specs.Standing.{standing};
+ghost use Rattle.press_run.specs.Standing.{machine_view};
 
 use super::Machine;
 use crate::answers::one_if;
@@ -30,7 +30,7 @@ impl<L: SiteLink + Drop> Machine<L> {
         ensures full { (text : List ℕ) → turn ≡ Echo text → within (self.old.out ++ text) ≡ None
             → IsErrOf result RunFault.Limit }
         ensures steps { (scripts : Scripts) → Turns L.changes scripts callback.old turn callback.new
-            (standing L.view L.fixed self.old) (standing L.view L.fixed self.new) result }
+            (machine_view L.view L.fixed self.old) (machine_view L.view L.fixed self.new) result }
         ensures called { KeepsCall callback.old callback.new }
         ensures fixed { L.fixed self.new.site ≡ L.fixed self.old.site }
         ensures limits { ShowsLimits result self.old self.new }
@@ -62,7 +62,7 @@ impl<L: SiteLink + Drop> Machine<L> {
         requires few { IsFew 1 callback.old }
         requires begins { 1 ≤ group turn }
         ensures steps { (scripts : Scripts) → Turns L.changes scripts callback.old turn callback.new
-            (standing L.view L.fixed self.old) (standing L.view L.fixed self.new) result }
+            (machine_view L.view L.fixed self.old) (machine_view L.view L.fixed self.new) result }
         ensures called { KeepsCall callback.old callback.new }
         ensures fixed { L.fixed self.new.site ≡ L.fixed self.old.site }
         ensures limits { ShowsLimits result self.old self.new }
@@ -114,7 +114,7 @@ impl<L: SiteLink + Drop> Machine<L> {
         requires few { IsFew 1 callback.old }
         requires edits { 2 ≤ group turn }
         ensures steps { (scripts : Scripts) → Turns L.changes scripts callback.old turn callback.new
-            (standing L.view L.fixed self.old) (standing L.view L.fixed self.new) result }
+            (machine_view L.view L.fixed self.old) (machine_view L.view L.fixed self.new) result }
         ensures called { KeepsCall callback.old callback.new }
         ensures fixed { L.fixed self.new.site ≡ L.fixed self.old.site }
         ensures limits { ShowsLimits result self.old self.new }
@@ -159,7 +159,7 @@ impl<L: SiteLink + Drop> Machine<L> {
         requires few { IsFew 1 callback.old }
         requires tells { 3 ≤ group turn }
         ensures steps { (scripts : Scripts) → Turns L.changes scripts callback.old turn callback.new
-            (standing L.view L.fixed self.old) (standing L.view L.fixed self.new) result }
+            (machine_view L.view L.fixed self.old) (machine_view L.view L.fixed self.new) result }
         ensures called { KeepsCall callback.old callback.new }
         ensures fixed { L.fixed self.new.site ≡ L.fixed self.old.site }
         ensures limits { ShowsLimits result self.old self.new }

@@ -283,7 +283,7 @@ fn told_at(kit: &[u8], cluster: &Cluster<'_>, at: u64, how: How) -> Result<Told,
         let parts = read_kit_file(alloc, kit)?;
         let mut callbacks: Vec<Stored> = Vec::new(alloc);
         for scripted in parts.callbacks.into_vec() {
-            let own = scripted.script.copied(alloc)?;
+            let own = scripted.script.copy_in(alloc)?;
             let fuse = cluster.fuse.clone()?;
             let call: BoxedTurns = Box::new(
                 alloc,

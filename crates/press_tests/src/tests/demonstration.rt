@@ -79,7 +79,7 @@ fn the_demonstration_kit_of_a_file(rt: HostRuntime) -> Result<(), Fail> {
     let file = read_kit_file(alloc, DEMONSTRATION.as_bytes())?;
     let mut callbacks = Vec::new(alloc);
     for scripted in file.callbacks.into_vec() {
-        let own = scripted.script.copied(alloc)?;
+        let own = scripted.script.copy_in(alloc)?;
         let call: BoxedTurns = Box::new(alloc, move |i: &CallIn| script_turn(alloc, &own, i))?;
         callbacks.push(Stored::new(scripted.id, scripted.script, call))?;
     }

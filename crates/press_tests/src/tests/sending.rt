@@ -3,7 +3,9 @@
 ghost use Rattle.std.specs.Prelude.{None};
 
 use press_apply::Stamped;
-use press_client::{Ending, Newsroom, Taken, Told, deliver, report, taken_by, told_by};
+use press_client::{
+    Ending, FormAnswer, Newsroom, OutcomeAnswer, deliver, report, taken_by, told_by,
+};
 use press_kit::read_site_file;
 use press_site::{Outcome, Token};
 use press_text::Items;
@@ -96,34 +98,34 @@ impl<'a> Scripted<'a> {
 impl Newsroom for Scripted<'_> {
     ghost said = { λ _. None };
 
-    fn submit(&mut self, place: usize, command: &Stamped) -> Result<Taken, AllocError> {
+    fn submit(&mut self, place: usize, command: &Stamped) -> Result<FormAnswer, AllocError> {
         match self.trouble(place) {
-            Some(Trouble::Away) => return Ok(Taken::Lost),
-            Some(Trouble::Busy) => return Ok(Taken::Busy),
+            Some(Trouble::Away) => return Ok(FormAnswer::Lost),
+            Some(Trouble::Busy) => return Ok(FormAnswer::Busy),
             _ => {}
         }
         let seq = command.token.seq;
         if seq == TOO_LONG {
-            return Ok(Taken::Refused(413));
+            return Ok(FormAnswer::Refused(413));
         }
         if let Some(queue) = self.queues.get_mut(place) {
             queue.push(seq)?;
         }
-        Ok(Taken::Queued)
+        Ok(FormAnswer::Queued)
     }
 
-    fn outcome(&mut self, place: usize, token: &Token) -> Result<Told, AllocError> {
+    fn outcome(&mut self, place: usize, token: &Token) -> Result<OutcomeAnswer, AllocError> {
         if self.trouble(place) == Some(Trouble::Away) {
-            return Ok(Told::Lost);
+            return Ok(OutcomeAnswer::Lost);
         }
         self.apply(place)?;
         if !self.applied.contains(&token.seq) {
-            return Ok(Told::NotYet);
+            return Ok(OutcomeAnswer::NotYet);
         }
         if token.seq == UNKNOWN {
-            return Ok(Told::Outcome(Outcome::Refused(15)));
+            return Ok(OutcomeAnswer::Outcome(Outcome::Refused(15)));
         }
-        Ok(Told::Outcome(Outcome::Done(token.seq)))
+        Ok(OutcomeAnswer::Outcome(Outcome::Done(token.seq)))
     }
 
     fn note(&mut self, told: usize) {
@@ -249,29 +251,29 @@ fn who_is_not_done_is_named(rt: HostRuntime) -> Result<(), Fail> {
 
 #[test]
 fn replies_are_read(rt: HostRuntime) -> Result<(), Fail> {
-    assert!(rt; taken_by(b"HTTP/1.1 202 Accepted\r\n\r\n{\"queued\":true}") == Taken::Queued);
-    assert!(rt; taken_by(b"HTTP/1.1 503 Service Unavailable\r\n\r\n") == Taken::Busy);
-    assert!(rt; taken_by(b"HTTP/1.1 413 Payload Too Large\r\n\r\n") == Taken::Refused(413));
+    assert!(rt; taken_by(b"HTTP/1.1 202 Accepted\r\n\r\n{\"queued\":true}") == FormAnswer::Queued);
+    assert!(rt; taken_by(b"HTTP/1.1 503 Service Unavailable\r\n\r\n") == FormAnswer::Busy);
+    assert!(rt; taken_by(b"HTTP/1.1 413 Payload Too Large\r\n\r\n") == FormAnswer::Refused(413));
     for reply in [
         &b""[..],
         b"HTTP/1.1 20",
         b"HTTP/1.1 200 OK\r\n\r\n",
         b"HTTP/1.1 502 Bad Gateway\r\n",
     ] {
-        assert!(rt; taken_by(reply) == Taken::Lost);
+        assert!(rt; taken_by(reply) == FormAnswer::Lost);
     }
-    let done = Told::Outcome(Outcome::Done(7));
+    let done = OutcomeAnswer::Outcome(Outcome::Done(7));
     assert!(rt; told_by(b"HTTP/1.1 200 OK\r\nContent-Length: 10\r\n\r\n{\"done\":7}") == done);
-    let refused = Told::Outcome(Outcome::Refused(20));
+    let refused = OutcomeAnswer::Outcome(Outcome::Refused(20));
     assert!(rt; told_by(b"HTTP/1.1 200 OK\r\n\r\n{\"refused\":20}") == refused);
-    assert!(rt; told_by(b"HTTP/1.1 404 Not Found\r\n\r\n{\"code\":404}") == Told::NotYet);
+    assert!(rt; told_by(b"HTTP/1.1 404 Not Found\r\n\r\n{\"code\":404}") == OutcomeAnswer::NotYet);
     for reply in [
         &b""[..],
         b"HTTP/1.1 200 OK\r\n\r\n{\"done\":7",
         b"HTTP/1.1 200 OK\r\n\r\n{\"refused\":256}",
         b"HTTP/1.1 503 Service Unavailable\r\n\r\n",
     ] {
-        assert!(rt; told_by(reply) == Told::Lost);
+        assert!(rt; told_by(reply) == OutcomeAnswer::Lost);
     }
     Ok(())
 }

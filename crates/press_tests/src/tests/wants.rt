@@ -333,7 +333,7 @@ fn counts_of(
     let fuse = Rc::new(alloc, Fuse::new())?;
     let mut callbacks: Vec<Stored> = Vec::new(alloc);
     for scripted in scripts.into_vec() {
-        let own = scripted.script.copied(alloc)?;
+        let own = scripted.script.copy_in(alloc)?;
         let fuse = fuse.clone()?;
         let call: BoxedTurns = Box::new(
             alloc,

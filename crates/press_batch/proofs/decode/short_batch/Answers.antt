@@ -1,5 +1,5 @@
 use Rattle.std.proofs.Common.{◌≡◌, Ok, arith}
-use Rattle.press_batch.specs.Carried.{carried}
+use Rattle.press_batch.specs.Carried.{carried_by}
 use Rattle.press_batch.specs.Reading.{head_at}
 use Rattle.press_batch.proofs.Taken.{batch_taken}
 use Rattle.press_batch.proofs.decode.short_batch.Goals as goal
@@ -9,4 +9,4 @@ returns-clause-spelled c =
     let new = c.new-reader.ensures in
     let was = c.in_ok-from.ensures.read in
     let read : head_at c.args.bytes.now ≡ Ok ((c.in_ok-from.from, c.in_ok-from.report), c.head.new.self) = cc in
-    batch_taken c.args.bytes.now c.head.new.self (carried (record { from = c.in_ok-from.from; report = c.in_ok-from.report; messages = c.in_ok-messages.messages })) (λ i. omega (arith, c.type_inv.bytes i)) read c.in_ok-messages.ensures.read
+    batch_taken c.args.bytes.now c.head.new.self (carried_by (record { from = c.in_ok-from.from; report = c.in_ok-from.report; messages = c.in_ok-messages.messages })) (λ i. omega (arith, c.type_inv.bytes i)) read c.in_ok-messages.ensures.read

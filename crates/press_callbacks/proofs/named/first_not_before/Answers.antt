@@ -1,6 +1,6 @@
 use Rattle.std.proofs.Common.{rules}
 use Rattle.std.proofs.lemmas.List.Sorted.{IsPartitionPoint-from_clause}
-use Rattle.press_callbacks.specs.Order.{is_before}
+use Rattle.press_text.specs.NameOrder.{is_before}
 use Rattle.press_callbacks.proofs.Halves.{parted}
 use Rattle.press_callbacks.proofs.named.first_not_before.Goals as goal
 

@@ -1,6 +1,6 @@
 use Rattle.std.proofs.Common.{rules}
 use Rattle.std.proofs.lemmas.List.Sorted.{answers_always}
-use Rattle.press_callbacks.specs.Order.{is_before}
+use Rattle.press_text.specs.NameOrder.{is_before}
 use Rattle.press_callbacks.proofs.Ordered.{order_of, in_order_sorted}
 use Rattle.press_callbacks.proofs.named.sorted_by_name.Goals as goal
 

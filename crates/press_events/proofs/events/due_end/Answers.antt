@@ -1,7 +1,8 @@
 use Rattle.std.proofs.Common.{rules}
 use Rattle.std.proofs.lemmas.List.Sorted.{IsPartitionPoint-from_clause}
 use Rattle.press_events.specs.DueEvents.{is_due}
-use Rattle.press_events.proofs.Halves.{parted_due, front_kept}
+use Rattle.press_text.proofs.Parted.{front_kept}
+use Rattle.press_events.proofs.Halves.{parted_due}
 use Rattle.press_events.proofs.events.due_end.Goals as goal
 
 pub returns-clause-front : goal.returns-clause-front

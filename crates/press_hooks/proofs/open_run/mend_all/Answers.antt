@@ -1,4 +1,4 @@
-use Rattle.press_hooks.proofs.Lists.{mapped_step}
+use Rattle.press_text.proofs.Mapped.{mapped_step}
 use Rattle.press_hooks.proofs.open_run.mend_all.Goals as goal
 
 pub loop-run-preserved : goal.loop-run-preserved

@@ -1,5 +1,5 @@
 use Rattle.std.proofs.lemmas.Result.{err_from_is_err_and}
-use Rattle.press_http.proofs.Fronts.{in_first, in_second, left_in_first, left_in_second}
+use Rattle.press_text.proofs.Fronts.{in_first, in_second, left_in_first, left_in_second}
 use Rattle.press_http.proofs.reply.write_both.Goals as goal
 
 pub returns-in_err-write_bytes-clause-err : goal.returns-in_err-write_bytes-clause-err

@@ -6,7 +6,8 @@ use Rattle.press_world.specs.Replays.{transcript, WritesLines}
 use Rattle.press_world.specs.ScheduleFile.{schedule_in}
 use Rattle.press_world.specs.Starts.{AreKit, views_of}
 use Rattle.press_world.specs.declared.step.Step.{Step}
-use Rattle.press_loop.proofs.Carried.{first_alike, length_take, map_take, looped, unread}
+use Rattle.press_world.proofs.Replayed.{first_alike, length_take, map_take}
+use Rattle.press_loop.proofs.Carried.{looped, unread}
 use Rattle.press_loop.proofs.looping.loop_over.Goals as goal
 
 pub returns-in_err-nodes-clause-loops : goal.returns-in_err-nodes-clause-loops

@@ -1,7 +1,7 @@
 use Rattle.std.proofs.Common.{rules, ◌≡◌, ◌≤◌, ◌+◌, ◌∙◌, ap, sym, take, get_or, if◌then◌else◌}
 use Rattle.press_net.specs.Talking.{count_of, is_late, is_unheard, kept_unless, meets}
 use Rattle.press_net.proofs.Counted.{count_more, one}
-use Rattle.press_net.proofs.Mapped.{mapped_step, untouched}
+use Rattle.press_text.proofs.Mapped.{mapped_step, untouched}
 use Rattle.press_net.proofs.connections.end_all_late.Goals as goal
 
 pub loop-slot-preserved : goal.loop-slot-preserved

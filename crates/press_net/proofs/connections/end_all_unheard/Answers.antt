@@ -1,4 +1,4 @@
-use Rattle.press_net.proofs.Mapped.{mapped_step}
+use Rattle.press_text.proofs.Mapped.{mapped_step}
 use Rattle.press_net.proofs.connections.end_all_unheard.Goals as goal
 
 pub loop-slot-preserved : goal.loop-slot-preserved

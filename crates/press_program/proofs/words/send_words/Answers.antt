@@ -5,8 +5,8 @@ use Rattle.press_program.proofs.words.send_words.Goals as goal
 
 pub returns-clause-app : goal.returns-clause-app
 returns-clause-app c =
-    let file_is : rule_of c.required-file.result ≡ spec.needed (codes "FILE") = search rules in
-    let members_is : rule_of c.required-members.result ≡ spec.needed (codes "MEMBERS") = search rules in
-    let helpless_is : app_of c.disable_help_flag.result ≡ spec.helpless (codes "send") = search rules in
+    let file_is : rule_of c.required-file.result ≡ spec.needed_rule (codes "FILE") = search rules in
+    let members_is : rule_of c.required-members.result ≡ spec.needed_rule (codes "MEMBERS") = search rules in
+    let helpless_is : app_of c.disable_help_flag.result ≡ spec.helpless_app (codes "send") = search rules in
     let one = c.in_ok-arg.ensures.shape (search rules) ∙ ap₂ with_rule helpless_is file_is in
     c.in_ok-send.ensures.shape (search rules) ∙ ap₂ with_rule one members_is

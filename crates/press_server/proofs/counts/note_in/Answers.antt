@@ -1,4 +1,4 @@
-use Rattle.press_server.proofs.Mapped.{mapped_step}
+use Rattle.press_text.proofs.Mapped.{mapped_step}
 use Rattle.press_server.proofs.counts.note_in.Goals as goal
 
 pub loop-count-preserved : goal.loop-count-preserved

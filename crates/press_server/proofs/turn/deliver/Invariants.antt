@@ -1,5 +1,5 @@
 use Rattle.std.proofs.Common.{◌≡◌, ◌+◌, ℕ}
-use Rattle.press_node.specs.Nodes.{kit_of, node_moved}
+use Rattle.press_node.specs.Nodes.{kit_of, node_move}
 use Rattle.press_server.specs.Turns.{Delivers}
 use Rattle.press_server.proofs.turn.deliver.Given as goal
 
@@ -9,6 +9,6 @@ invariant-loop-count g l = record {
   kit : kit_of l.node ≡ kit_of l.initial.node;
   whole : (left : ℕ) × (left + l.count ≡ l.most)
       × ((after : _) → (fault : _)
-      → Delivers (λ a b. node_moved g.S.PromiseStore.seen a b) left l.waiting.items l.node after fault
-      → Delivers (λ a b. node_moved g.S.PromiseStore.seen a b) l.most l.initial.waiting.items l.initial.node after fault);
+      → Delivers (λ a b. node_move g.S.PromiseStore.seen a b) left l.waiting.items l.node after fault
+      → Delivers (λ a b. node_move g.S.PromiseStore.seen a b) l.most l.initial.waiting.items l.initial.node after fault);
 }

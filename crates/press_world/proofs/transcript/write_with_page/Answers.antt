@@ -1,5 +1,5 @@
 use Rattle.std.proofs.lemmas.Result.{err_from_is_err_and, on_err_weaker}
-use Rattle.press_world.proofs.Fronts.{in_first, in_second}
+use Rattle.press_text.proofs.Fronts.{in_first, in_second}
 use Rattle.press_world.proofs.transcript.write_with_page.Goals as goal
 
 pub returns-in_err-write_once-clause-err : goal.returns-in_err-write_once-clause-err

@@ -1,7 +1,7 @@
 use Rattle.std.proofs.Common.{◌≡◌, ◌∙◌, ◌<◌, ◌≤◌, ap, sym, subst, refl, false, length, List}
 use Rattle.std.specs.Prelude.{insert, remove, slice_index_or}
 use Rattle.press_events.specs.Shifts.{ShiftsBack}
-use Rattle.press_events.specs.DueEvents.{scheduled, stands}
+use Rattle.press_events.specs.DueEvents.{insert_event, stands}
 use Rattle.press_events.specs.declared.event.Event.{Event}
 use Rattle.press_events.specs.declared.shift.Shift.TheVariants.{Moved}
 use Rattle.press_events.proofs.ByTime.{by_time_remove}
@@ -31,9 +31,9 @@ returns-clause-after c = λ d.
     let es : List Event = c.self.inside.events.items in
     let lt : c.args.place < length es = subst (λ (es : List Event). c.args.place < length es) (sym c.self.view_is) c.requires.within in
     let new : Event = record c.remove-event.result { time = c.args.time; every = c.args.every } in
-    c.put_over-to.ensures.after ∙ ap (scheduled new) c.remove-event.ensures.items
-    ∙ ap (λ (e : Event). scheduled (record e { time = c.args.time; every = c.args.every }) (remove es c.args.place)) (c.remove-event.ensures.value ∙ any_default es c.args.place c.remove-event.result d lt)
-    ∙ ap (λ (xs : List Event). scheduled (record (slice_index_or xs c.args.place d) { time = c.args.time; every = c.args.every }) (remove xs c.args.place)) c.self.view_is
+    c.put_over-to.ensures.after ∙ ap (insert_event new) c.remove-event.ensures.items
+    ∙ ap (λ (e : Event). insert_event (record e { time = c.args.time; every = c.args.every }) (remove es c.args.place)) (c.remove-event.ensures.value ∙ any_default es c.args.place c.remove-event.result d lt)
+    ∙ ap (λ (xs : List Event). insert_event (record (slice_index_or xs c.args.place d) { time = c.args.time; every = c.args.every }) (remove xs c.args.place)) c.self.view_is
 
 pub returns-clause-back : goal.returns-clause-back
 returns-clause-back c =

@@ -1,5 +1,5 @@
 use Rattle.std.proofs.Common.{ap, subst, arith}
-use Rattle.press_learner.specs.Kept.{Kept, IsWindow}
+use Rattle.press_learner.specs.Kept.{KeptVotes, IsWindow}
 use Rattle.press_learner.proofs.Majorities.{chosen_before_last}
 use Rattle.press_learner.proofs.Views.{advanced_seen, room_after, window_after}
 use Rattle.press_learner.proofs.learner.Learner.advance.Goals as goal
@@ -11,7 +11,7 @@ invariant_of-self c =
     let more = c.empty_slot.new.ring.items in
     let w : IsWindow now = subst IsWindow c.self.view_is c.self.invariant.2 in (
       c.self.invariant.0,
-      omega (arith, chosen_before_last now w c.requires, ap (λ (k : Kept). k.applied) c.self.view_is),
+      omega (arith, chosen_before_last now w c.requires, ap (λ (k : KeptVotes). k.applied) c.self.view_is),
       window_after f.members f.applied f.ring.items now c.self.view_is more c.empty_slot.ensures w,
       room_after f.members f.applied f.ring.items now c.self.view_is more c.empty_slot.ensures c.self.invariant.3,
     )

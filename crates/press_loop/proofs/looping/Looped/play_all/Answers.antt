@@ -7,8 +7,9 @@ use Rattle.press_world.specs.Replays.{line_of, lines}
 use Rattle.press_world.specs.Seats.{static_of}
 use Rattle.press_world.specs.Stored.{stored_step}
 use Rattle.press_world.specs.Whole.{HaveKit}
-use Rattle.press_loop.proofs.Carried.{same_count, unchanged}
-use Rattle.press_loop.proofs.Onward.{ends, err_lines, goes_on, stops}
+use Rattle.press_world.proofs.Members.{same_count}
+use Rattle.press_loop.proofs.Carried.{unchanged}
+use Rattle.press_world.proofs.Onward.{ends, err_lines, goes_on, stops}
 use Rattle.press_loop.proofs.looping.Looped.play_all.Goals as goal
 
 pub returns-in_err-play_one-clause-lines : goal.returns-in_err-play_one-clause-lines

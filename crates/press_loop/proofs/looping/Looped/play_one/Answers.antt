@@ -4,7 +4,7 @@ use Rattle.press_world.specs.Models.{model, size}
 use Rattle.press_world.specs.Replays.{line_of, to_in}
 use Rattle.press_world.specs.Transcript.{step_line}
 use Rattle.press_loop.proofs.Carried.{nothing}
-use Rattle.press_loop.proofs.Onward.{err_lines}
+use Rattle.press_world.proofs.Onward.{err_lines}
 use Rattle.press_world.proofs.Outcomes.{as_lines, as_outcome, line_is, on_ok}
 use Rattle.press_loop.proofs.looping.Looped.play_one.Goals as goal
 

@@ -2,7 +2,7 @@ use Rattle.std.proofs.Common.{◌∙◌, refl, sym, ap, length, IsTrue, true, fa
 use Rattle.std.proofs.lemmas.Result.{err_from_is_err_and}
 use Rattle.press_member.specs.declared.input.Input.TheVariants as input
 use Rattle.press_node.specs.declared.event.Event.TheVariants as event
-use Rattle.press_node.specs.Nodes.{node_moved}
+use Rattle.press_node.specs.Nodes.{node_move}
 use Rattle.press_member.specs.Acts.{Submits}
 use Rattle.press_member.specs.Played.{moment_of}
 use Rattle.press_member.specs.Turns.{Brings}
@@ -13,7 +13,7 @@ use Rattle.press_member.proofs.member.Member.on_command.Goals as goal
 pub returns-then-not-is_open : goal.returns-then-not-is_open
 returns-then-not-is_open g c =
     record {
-      acts = rests (λ a b. node_moved g.S.PromiseStore.seen a b) (input.Command c.args.command) _ _ c.only.result (record { id = refl; members = refl; digests = refl; kit = refl }) refl c.only.ensures.messages
+      acts = rests (λ a b. node_move g.S.PromiseStore.seen a b) (input.Command c.args.command) _ _ c.only.result (record { id = refl; members = refl; digests = refl; kit = refl }) refl c.only.ensures.messages
           (closed_form _ (event.Submit c.args.command) c.args.self.now.player.pace.is_settled c.is_open.result c.is_open.ensures c.if-not-is_open.true)
           (closed_answer c.args.self.now.player.pace.is_settled c.is_open.result c.only.result.answer c.is_open.ensures c.if-not-is_open.true c.only.ensures.answer);
     }
@@ -24,8 +24,8 @@ returns-in_err-answer g c =
     let b = c.in_err-answer.ensures in
     let e = event.Submit c.args.command in
     rw (p.1) (record {
-      acts = turns (λ a b. node_moved g.S.PromiseStore.seen a b) (input.Command c.args.command) _ _ _ b.brings.0 c.new-messages.result.items c.bring.new.out.items b.same c.new-messages.ensures.items
-          (other_kind (λ a b. node_moved g.S.PromiseStore.seen a b) (length c.args.self.now.peers.all.items) c.args.self.now.player.id (Brings e b.brings.0) (Submits c.args.self.now.player.pace.is_settled e b.brings.0) (IsTrue false) (moment_of c.args.self.now.player) (moment_of c.bring.new.self.player) c.new-messages.result.items c.bring.new.out.items (opened_form _ e b.brings.0 c.args.self.now.player.pace.is_settled (sym c.is_open.ensures ∙ c.if-not-is_open.false)) b.brings.1)
+      acts = turns (λ a b. node_move g.S.PromiseStore.seen a b) (input.Command c.args.command) _ _ _ b.brings.0 c.new-messages.result.items c.bring.new.out.items b.same c.new-messages.ensures.items
+          (other_kind (λ a b. node_move g.S.PromiseStore.seen a b) (length c.args.self.now.peers.all.items) c.args.self.now.player.id (Brings e b.brings.0) (Submits c.args.self.now.player.pace.is_settled e b.brings.0) (IsTrue false) (moment_of c.args.self.now.player) (moment_of c.bring.new.self.player) c.new-messages.result.items c.bring.new.out.items (opened_form _ e b.brings.0 c.args.self.now.player.pace.is_settled (sym c.is_open.ensures ∙ c.if-not-is_open.false)) b.brings.1)
           tt tt (sym c.is_open.ensures ∙ c.if-not-is_open.false);
     })
 
@@ -35,7 +35,7 @@ returns g c =
     let a = c.begin_all.ensures in
     let e = event.Submit c.args.command in
     record {
-      acts = turns (λ a b. node_moved g.S.PromiseStore.seen a b) (input.Command c.args.command) _ _ _ b.brings.0 c.new-messages.result.items c.bring.new.out.items (record { id = b.same.id; members = a.count ∙ b.same.members; digests = a.digests ∙ b.same.digests; kit = b.same.kit }) c.new-messages.ensures.items
-          (other_kind (λ a b. node_moved g.S.PromiseStore.seen a b) (length c.args.self.now.peers.all.items) c.args.self.now.player.id (Brings e b.brings.0) (Submits c.args.self.now.player.pace.is_settled e b.brings.0) (IsTrue true) (moment_of c.args.self.now.player) (moment_of c.bring.new.self.player) c.new-messages.result.items c.bring.new.out.items (opened_form _ e b.brings.0 c.args.self.now.player.pace.is_settled (sym c.is_open.ensures ∙ c.if-not-is_open.false)) b.brings.1)
+      acts = turns (λ a b. node_move g.S.PromiseStore.seen a b) (input.Command c.args.command) _ _ _ b.brings.0 c.new-messages.result.items c.bring.new.out.items (record { id = b.same.id; members = a.count ∙ b.same.members; digests = a.digests ∙ b.same.digests; kit = b.same.kit }) c.new-messages.ensures.items
+          (other_kind (λ a b. node_move g.S.PromiseStore.seen a b) (length c.args.self.now.peers.all.items) c.args.self.now.player.id (Brings e b.brings.0) (Submits c.args.self.now.player.pace.is_settled e b.brings.0) (IsTrue true) (moment_of c.args.self.now.player) (moment_of c.bring.new.self.player) c.new-messages.result.items c.bring.new.out.items (opened_form _ e b.brings.0 c.args.self.now.player.pace.is_settled (sym c.is_open.ensures ∙ c.if-not-is_open.false)) b.brings.1)
           (ap (λ v. v.items) c.with.ensures.messages) (opened_answer c.args.self.now.player.pace.is_settled b.brings.0 c.with.result.answer (sym c.is_open.ensures ∙ c.if-not-is_open.false) (c.with.ensures.answer ∙ b.brings.2)) tt;
     }

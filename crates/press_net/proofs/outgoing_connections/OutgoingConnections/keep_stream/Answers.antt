@@ -1,6 +1,6 @@
 use Rattle.std.proofs.Common.{rules, ◌≡◌, ◌∙◌, Some, ap, refl, slice_index_or, sym}
 use Rattle.std.proofs.lemmas.List.{map-set}
-use Rattle.press_net.specs.Lanes.{kepts, with_kept}
+use Rattle.press_net.specs.Lanes.{kept_streams, with_kept}
 use Rattle.press_net.specs.declared.outgoing_connections.Lane.{Lane}
 use Rattle.press_net.proofs.Lanes.{stays}
 use Rattle.press_net.proofs.outgoing_connections.OutgoingConnections.keep_stream.Goals as goal
@@ -14,4 +14,4 @@ pub returns-in-Some-Some-clause-keeps : goal.returns-in-Some-Some-clause-keeps
 returns-in-Some-Some-clause-keeps c =
     let is : c.args.stream ≡ Some c.in-Some-Some.stream = search rules in
     map-set (λ (lane : Lane). lane.kept) c.args.self.now.lanes.items c.args.place _
-    ∙ ap (λ stream. with_kept c.args.place stream (kepts c.args.self.now)) (sym is)
+    ∙ ap (λ stream. with_kept c.args.place stream (kept_streams c.args.self.now)) (sym is)

@@ -1,6 +1,6 @@
 use Rattle.std.proofs.Common.{rules, None, arith, map, ◌≡◌, ◌≤◌, ◌+◌, ◌-◌, ◌∙◌, length, ap, sym, refl, append-nil}
 use Rattle.std.proofs.lemmas.List.{length-map}
-use Rattle.press_net.specs.Lanes.{empty, queue_of, queues}
+use Rattle.press_net.specs.Lanes.{empty_queue, queue_of, queues}
 use Rattle.press_net.proofs.Lanes.{grows}
 use Rattle.press_net.proofs.outgoing_connections.OutgoingConnections.make_lane.Goals as goal
 
@@ -13,7 +13,7 @@ loop-self-smaller c = search rules
 pub loop-self-preserved : goal.loop-self-preserved
 loop-self-preserved c =
     let i = c.loop-self.invariant in
-    let is : queue_of (record { waiting = c.new.result; «open» = 0; kept = None }) ≡ empty = ap (λ waiting. record { waiting = waiting; «open» = 0 }) c.new.ensures.items in
+    let is : queue_of (record { waiting = c.new.result; «open» = 0; kept = None }) ≡ empty_queue = ap (λ waiting. record { waiting = waiting; «open» = 0 }) c.new.ensures.items in
     let fits : i.0 + 1 ≤ c.args.place + 1 - length (queues c.args.self.now) = search rules in
     let more : length c.push.new.self.items ≡ length (queues c.args.self.now) + (i.0 + 1) = search rules in
     let len_is : length c.args.self.now.lanes.items ≤ c.args.place = search rules in

@@ -2,13 +2,13 @@ use Rattle.std.proofs.Common.{rules, ◌≡◌, ◌<◌, refl, length, slice_ind
 use Rattle.std.proofs.lemmas.List.Quantifiers.{position-Some}
 use Rattle.std.proofs.lemmas.Option.{slice_get_read}
 use Rattle.press_net.specs.declared.outgoing_connections.Lane.{Lane}
-use Rattle.press_net.specs.Lanes.{after_send, queue_of, is_ready, ready, front_at}
+use Rattle.press_net.specs.Lanes.{after_send, queue_of, is_ready, ready_lane, front_at}
 use Rattle.press_net.proofs.Lanes.{changes, first_is_ready}
 use Rattle.press_net.proofs.outgoing_connections.OutgoingConnections.next.Goals as goal
 
 pub returns-clause-next : goal.returns-clause-next
 returns-clause-next c =
-    let first : ready c.args.self.now ≡ Some c.in_ok-place.place = search rules in
+    let first : ready_lane c.args.self.now ≡ Some c.in_ok-place.place = search rules in
     let lane = c.in_ok-get_mut.field-0.now in
     let within : c.in_ok-place.place < length c.args.self.now.lanes.items = (position-Some (λ (l : Lane). is_ready (queue_of l)) c.args.self.now.lanes.items c.in_ok-place.place lane first).0 in
     let item : slice_index_or c.args.self.now.lanes.items c.in_ok-place.place c.in_ok-get_mut.field-0.now ≡ c.in_ok-get_mut.field-0.now = search rules in
@@ -19,7 +19,7 @@ returns-clause-next c =
 
 pub returns-clause-lanes : goal.returns-clause-lanes
 returns-clause-lanes c =
-    let first : ready c.args.self.now ≡ Some c.in_ok-place.place = search rules in
+    let first : ready_lane c.args.self.now ≡ Some c.in_ok-place.place = search rules in
     let lane = c.in_ok-get_mut.field-0.now in
     let within : c.in_ok-place.place < length c.args.self.now.lanes.items = (position-Some (λ (l : Lane). is_ready (queue_of l)) c.args.self.now.lanes.items c.in_ok-place.place lane first).0 in
     let item : slice_index_or c.args.self.now.lanes.items c.in_ok-place.place c.in_ok-get_mut.field-0.now ≡ c.in_ok-get_mut.field-0.now = search rules in

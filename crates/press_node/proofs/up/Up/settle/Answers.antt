@@ -1,7 +1,7 @@
 use Rattle.std.proofs.Common.{rules, inl, inr, refl, ap, is_some, true, false, subst, ◌∙◌, arith}
 use Rattle.press_callbacks.specs.Kits.{kit_view}
 use Rattle.press_learner.specs.Chosen.{chosen_next}
-use Rattle.press_node.specs.NodeEvent.{Running}
+use Rattle.press_node.specs.NodeEvent.{RunningNode}
 use Rattle.press_node.specs.Views.{Applies, running_of}
 use Rattle.press_node.proofs.Settling.{settles_start, settles_more, settles_stop, settles_out, settled_has_none, stays_folded, was_chosen}
 use Rattle.press_node.proofs.up.Up.settle.Goals as goal
@@ -47,5 +47,5 @@ returns-clause-settled g c =
 
 pub returns-clause-none : goal.returns-clause-none
 returns-clause-none g c =
-    ap (λ (r : Running). chosen_next r.learner) (settles_out c.loop-i.i (running_of c.loop-i.self) (running_of c.args.self.now) (omega (arith, c.loop-i-test.false)) (omega (arith, c.loop-i.auto.i-end)) c.loop-i.invariant.settles)
+    ap (λ (r : RunningNode). chosen_next r.learner) (settles_out c.loop-i.i (running_of c.loop-i.self) (running_of c.args.self.now) (omega (arith, c.loop-i-test.false)) (omega (arith, c.loop-i.auto.i-end)) c.loop-i.invariant.settles)
     ∙ settled_has_none c.none_is_chosen_after_64.ensures (running_of c.args.self.now) c.applied.ensures.window

@@ -20,4 +20,4 @@ overflow_add-self c =
 pub invariant_of-self : goal.invariant_of-self
 invariant_of-self c =
     let r = rw (← c.self.view_is) at c.requires in
-    rw c.put_in.ensures.capacity (fills _ _ _ _ c.args.id c.args.post _ (rw c.dated.ensures at c.put_in.ensures.items) c.self.invariant r.0 r.1)
+    rw c.put_in.ensures.capacity (fills _ _ _ _ c.args.id c.args.post _ (rw c.to_dated.ensures at c.put_in.ensures.items) c.self.invariant r.0 r.1)

@@ -3,13 +3,13 @@ use Rattle.std.proofs.lemmas.List.{nil_from_length}
 use Rattle.press_site.specs.SiteView.{SiteView}
 use Rattle.press_run.specs.Links.{publishes}
 use Rattle.press_run.specs.Run.{at_depth}
-use Rattle.press_run.specs.Standing.{standing}
+use Rattle.press_run.specs.Standing.{machine_view}
 use Rattle.press_run.proofs.Begins.{publish_done}
 use Rattle.press_run.proofs.machine.Machine.begin_publish.Goals as goal
 
 pub returns-then-is_empty-clause-begins : goal.returns-then-is_empty-clause-begins
 returns-then-is_empty-clause-begins g c = λ scripts.
-    let old = standing g.L.SiteLink.view g.L.SiteLink.fixed c.args.self.now in
+    let old = machine_view g.L.SiteLink.view g.L.SiteLink.fixed c.args.self.now in
     let empty : length c.in_ok-changed.changed.fires ≡ 0 = search rules in
     let none = nil_from_length c.in_ok-changed.changed.fires empty in
     let e = sym (c.publishes-effect.ensures ∙ ap (publishes c.args.id) (c.now.ensures ∙ ap (λ (s : SiteView). s.moment) c.site.ensures)) ∙ c.in-Some.is in

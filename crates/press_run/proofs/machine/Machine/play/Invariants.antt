@@ -1,15 +1,15 @@
 use Rattle.std.proofs.Common.{◌≡◌, ◌+◌}
-use Rattle.press_run.specs.Frames.{all_wait, meant, round, turns_left, weight}
+use Rattle.press_run.specs.Frames.{all_wait, frame_meaning, round, turns_left, weight}
 use Rattle.press_run.specs.Outcome.{around, state_of}
-use Rattle.press_run.specs.Standing.{standing}
+use Rattle.press_run.specs.Standing.{machine_view}
 use Rattle.press_run.proofs.Resumed.{Playing}
 use Rattle.press_run.proofs.machine.Machine.play.Given as goal
 
 abbrev pub invariant-loop-waiting : goal.invariant-loop-waiting
 invariant-loop-waiting g l =
-    let start = standing g.L.SiteLink.view g.L.SiteLink.fixed l.fn.self in
+    let start = machine_view g.L.SiteLink.view g.L.SiteLink.fixed l.fn.self in
     record {
-      playing : Playing g.L.SiteLink.changes (g.K.Callbacks.scripts l.kit) (meant g.L.SiteLink.changes (g.K.Callbacks.scripts l.kit) l.fn.top (around start) (state_of start)) (round l.fn.top (around start)) l.waiting l.top (standing g.L.SiteLink.view g.L.SiteLink.fixed l.self);
+      playing : Playing g.L.SiteLink.changes (g.K.Callbacks.scripts l.kit) (frame_meaning g.L.SiteLink.changes (g.K.Callbacks.scripts l.kit) l.fn.top (around start) (state_of start)) (round l.fn.top (around start)) l.waiting l.top (machine_view g.L.SiteLink.view g.L.SiteLink.fixed l.self);
       limits : l.self.met_limit ≡ l.fn.self.met_limit;
     }
 

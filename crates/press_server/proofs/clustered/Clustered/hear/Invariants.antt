@@ -1,6 +1,6 @@
 use Rattle.std.specs.Prelude.{◌≡◌}
 use Rattle.std.specs.Vec.Iter.{into_iter_items}
-use Rattle.press_batch.specs.Carried.{carried}
+use Rattle.press_batch.specs.Carried.{carried_by}
 use Rattle.press_server.specs.Going.{HasSameWays}
 use Rattle.press_server.specs.Living.{HearsOnly, MemberLives, TakesAll, inputs_in, letters}
 use Rattle.press_server.proofs.clustered.Clustered.hear.Given as goal
@@ -12,4 +12,4 @@ invariant-loop-message g l =
     × HasSameWays l.self.lanes l.fn.self.lanes
     × (l.self.peers ≡ l.fn.self.peers)
     × ((last : _) → TakesAll g.S.PromiseStore.seen (letters l.fn.batch.from (into_iter_items l.message-iterator)) l.self.member last
-    → TakesAll g.S.PromiseStore.seen (inputs_in (carried l.fn.batch)) l.fn.self.member last)
+    → TakesAll g.S.PromiseStore.seen (inputs_in (carried_by l.fn.batch)) l.fn.self.member last)

@@ -1,6 +1,6 @@
 use Rattle.std.proofs.Common.{refl}
 use Rattle.press_member.specs.Acts.{view_of}
-use Rattle.press_server.specs.Living.{compared, one_comes}
+use Rattle.press_server.specs.Living.{compares_by_answers, one_comes}
 use Rattle.press_server.proofs.clustered.Clustered.play.Goals as goal
 
 pub returns-in_err-answer-clause-lives : goal.returns-in_err-answer-clause-lives
@@ -15,5 +15,5 @@ loop-message-init g c = (
 )
 
 pub returns-clause-compares : goal.returns-clause-compares
-returns-clause-compares g c = compared (view_of c.args.self.now.member) _ _ c.args.input c.in_ok-answer.ensures.acts.refused c.in_ok-answer.field-0.answer
+returns-clause-compares g c = compares_by_answers (view_of c.args.self.now.member) _ _ c.args.input c.in_ok-answer.ensures.acts.refused c.in_ok-answer.field-0.answer
     c.in_ok-answer.ensures.acts.answered

@@ -1,13 +1,13 @@
 use Rattle.std.proofs.Common.{◌≡◌, ◌+◌, arith, rules, ◌∙◌}
 use Rattle.press_server.proofs.Owing.{counted_more}
-use Rattle.press_server.specs.Going.{counted}
+use Rattle.press_server.specs.Going.{u32_count}
 use Rattle.press_server.proofs.lanes.Lane.pack.Goals as goal
 
 pub returns-clause-asks : goal.returns-clause-asks
 returns-clause-asks c =
     let went = c.move_all-asked.ensures.asks in
     let looks : c.move_all-asked.new.self.looks ≡ c.args.self.now.looks = search rules in
-    let first : c.saturating_add.result ≡ counted (went.0 + c.args.self.now.looks) =
+    let first : c.saturating_add.result ≡ u32_count (went.0 + c.args.self.now.looks) =
     c.saturating_add.ensures ∙ counted_more _ went.0 _ _ went.2 looks in (
       went.0 + c.args.self.now.looks + c.args.self.now.lost,
       omega (arith, went.1),

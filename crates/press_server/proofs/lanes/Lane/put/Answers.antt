@@ -1,12 +1,12 @@
 use Rattle.std.proofs.Common.{◌≡◌, ◌∙◌, ◌++◌, ◌∷◌, [], ap, if◌then◌else◌, rules}
 use Rattle.press_server.proofs.Owing.{kept_more, questions_behind}
-use Rattle.press_server.specs.Going.{AreKept, is_question, owed, question_count}
-use Rattle.press_server.proofs.lanes.Lane.put.Goals.{then-len-ge-MOST_WAITING, else-len-ge-MOST_WAITING}
+use Rattle.press_server.specs.Going.{AreKept, is_query, owed_count, question_count}
+use Rattle.press_server.proofs.lanes.Lane.put.Goals.{then-len-ge-MOST_MESSAGES, else-len-ge-MOST_MESSAGES}
 use Rattle.press_server.proofs.lanes.Lane.put.Goals as goal
 
 pub returns-else-is_err-clause-kept : goal.returns-else-is_err-clause-kept
 returns-else-is_err-clause-kept c =
-    let lane = c.if-len-ge-MOST_WAITING.self in
-    let room : AreKept (owed c.args.self.now) (owed c.if-len-ge-MOST_WAITING.self) = search rules in
-    let items : c.push_back.new.self.items ≡ c.if-len-ge-MOST_WAITING.self.waiting.items ++ (record { message = c.args.message; since = c.args.now }) ∷ [] = search rules in
-    kept_more (owed c.args.self.now) (question_count lane.waiting.items) lane.looks lane.lost (if is_question c.args.message.body then 1 else 0) (question_count c.push_back.new.self.items) room (ap question_count items ∙ questions_behind lane.waiting.items _)
+    let lane = c.if-len-ge-MOST_MESSAGES.self in
+    let room : AreKept (owed_count c.args.self.now) (owed_count c.if-len-ge-MOST_MESSAGES.self) = search rules in
+    let items : c.push_back.new.self.items ≡ c.if-len-ge-MOST_MESSAGES.self.waiting.items ++ (record { message = c.args.message; since = c.args.now }) ∷ [] = search rules in
+    kept_more (owed_count c.args.self.now) (question_count lane.waiting.items) lane.looks lane.lost (if is_query c.args.message.body then 1 else 0) (question_count c.push_back.new.self.items) room (ap question_count items ∙ questions_behind lane.waiting.items _)

@@ -2,7 +2,7 @@ use Rattle.std.proofs.Common.{◌≡◌, ◌∙◌, sym, refl, ap, subst, rules,
 use Rattle.std.specs.Prelude.{Ok, IfOk}
 use Rattle.std.proofs.lemmas.Result.{err_from_is_err_and}
 use Rattle.press_posts.specs.declared.post.Post.{Post}
-use Rattle.press_posts.specs.PostChange.{post_at, post_change, deleted}
+use Rattle.press_posts.specs.PostChange.{post_at, post_change, delete_post}
 use Rattle.press_posts.specs.PostChange.Change.{Delete}
 use Rattle.press_posts.specs.Restored.{IsRestorable}
 use Rattle.press_site.specs.Back.{ContentGoesBack, Does}
@@ -16,12 +16,12 @@ use Rattle.press_site.proofs.content.Content.delete.Goals as goal
 pub returns-in_err-delete-clause-does : goal.returns-in_err-delete-clause-does
 returns-in_err-delete-clause-does c = λ now.
     let p = err_from_is_err_and c.from_residual-in_err-delete.result c.from_residual-in_err-delete.ensures.1 in
-    let m : post_change c.self.inside.posts (Delete c.args.id) now ≡ Ok (deleted c.args.id c.self.inside.posts) = search rules in
+    let m : post_change c.self.inside.posts (Delete c.args.id) now ≡ Ok (delete_post c.args.id c.self.inside.posts) = search rules in
     let h = c.in_err-delete.ensures now in
     let es = events_beside c.in_ok-beside.beside c.self.inside.events in
     subst (λ (v : ContentView). Does c.from_residual-in_err-delete.result (post_effect v (Delete c.args.id) now) v (record { posts = c.delete.new.self; events = c.self.inside.events })) c.self.view_is
     (rw (p.1, p.2) (
-      posts_refused c.in_err-delete.field-0.0 (post_change c.self.inside.posts (Delete c.args.id) now) (deleted c.args.id c.self.inside.posts) c.self.inside.events es m
+      posts_refused c.in_err-delete.field-0.0 (post_change c.self.inside.posts (Delete c.args.id) now) (delete_post c.args.id c.self.inside.posts) c.self.inside.events es m
           (subst (λ (v : ContentView). events_of None c.args.id v.events ≡ Ok (events_beside c.in_ok-beside.beside v.events)) (sym c.self.view_is) (ap (λ es. Ok es) (sym c.in_ok-beside.ensures.does))) h.0,
       ap (λ ps. record { posts = ps; events = c.self.inside.events }) h.1,
     ))
@@ -43,10 +43,10 @@ returns-clause-does c = λ now.
     let back = subst (λ (p : Option Post). TakesBack c.args.id p c.delete.new.self posts) (sym st) t in
     let s : ContentView = record { posts = posts; events = c.self.inside.events } in
     let es = events_beside c.in_ok-beside.beside c.self.inside.events in
-    let m : post_change posts (Delete c.args.id) now ≡ Ok (deleted c.args.id posts) = search rules in
-    let d = done (λ x. tt) c.in_ok-delete.field-0 c.delete.new.self (post_change posts (Delete c.args.id) now) (deleted c.args.id posts) m (c.in_ok-delete.ensures now) in
+    let m : post_change posts (Delete c.args.id) now ≡ Ok (delete_post c.args.id posts) = search rules in
+    let d = done (λ x. tt) c.in_ok-delete.field-0 c.delete.new.self (post_change posts (Delete c.args.id) now) (delete_post c.args.id posts) m (c.in_ok-delete.ensures now) in
     let e : post_effect s (Delete c.args.id) now ≡ answered c.delete.new.self es c.args.id true c.new-fires.result =
-    joined (post_change posts (Delete c.args.id) now) (deleted c.args.id posts) c.self.inside.events es m
+    joined (post_change posts (Delete c.args.id) now) (delete_post c.args.id posts) c.self.inside.events es m
     (subst (λ (v : ContentView). events_of None c.args.id v.events ≡ Ok (events_beside c.in_ok-beside.beside v.events)) (sym c.self.view_is) (ap (λ es. Ok es) (sym c.in_ok-beside.ensures.does)))
     ∙ told _ _ es c.args.id c.args.id true true [] c.new-fires.result d.1 refl refl c.new-fires.ensures in
     subst (λ (v : ContentView). Does c.end.result (post_effect v (Delete c.args.id) now) v c.end.new.self) c.self.view_is

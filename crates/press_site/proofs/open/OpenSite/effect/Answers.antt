@@ -5,7 +5,7 @@ use Rattle.press_site.specs.Becomes.{Becomes}
 use Rattle.press_site.specs.Contents.{ChangesSome}
 use Rattle.press_site.specs.Effects.{effect_on}
 use Rattle.press_site.specs.declared.fault.SiteFault.TheVariants.{NoMemory}
-use Rattle.press_site.specs.Open.{Open, begun_of}
+use Rattle.press_site.specs.Open.{Open, site_at_start}
 use Rattle.press_site.proofs.Noted.{may_of}
 use Rattle.press_site.proofs.Unchanged.{done_stays}
 use Rattle.press_site.proofs.open.OpenSite.effect.Goals as goal
@@ -27,7 +27,7 @@ returns-clause-does c =
 pub returns-clause-begun : goal.returns-clause-begun
 returns-clause-begun c =
     let back = subst (λ (w : Bool). IfOk c.change-done.result (λ d. GoesBack w d.undone c.change-done.new.self c.self.inside.site)) c.wants_events-wants.ensures c.change-done.ensures.back in
-    subst (λ (o : Open). log_back c.note.new.undo c.note.new.site ≡ begun_of o) c.self.view_is
+    subst (λ (o : Open). log_back c.note.new.undo c.note.new.site ≡ site_at_start o) c.self.view_is
     (c.note.ensures.notes (effect_on c.self.inside.site c.args.effect) c.self.inside.site c.change-done.ensures.does back (done_stays c.self.inside.site c.args.effect c.change-done.result c.change-done.new.self c.change-done.ensures.does)).1.same
 
 pub returns-clause-memory : goal.returns-clause-memory

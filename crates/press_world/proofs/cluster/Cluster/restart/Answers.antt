@@ -2,7 +2,7 @@ use Rattle.std.proofs.Common.{◌+◌, ◌≡◌, ◌≤◌, length, map, slice_
 use Rattle.std.proofs.lemmas.List.{length-map}
 use Rattle.press_world.specs.Seats.{place_of, static_of}
 use Rattle.press_world.specs.Worlds.{restarted_place}
-use Rattle.press_world.specs.Stored.{stored_restarted}
+use Rattle.press_world.specs.Stored.{stored_restarts}
 use Rattle.press_world.specs.Models.{kept_in}
 use Rattle.press_world.proofs.Changed.{found, kept_by, map_get, map_set}
 use Rattle.press_world.proofs.Members.{few, member_of, members_of}
@@ -62,4 +62,4 @@ returns-clause-restarted g c =
       sent = c.args.self.now.sent.items;
       entries = c.args.self.now.trace.items;
     })
-    ∙ ap (stored_restarted (length seats) (kept_in c.args.self.now) c.args.index) (sym (map_get place_of seats c.args.index old at))
+    ∙ ap (stored_restarts (length seats) (kept_in c.args.self.now) c.args.index) (sym (map_get place_of seats c.args.index old at))

@@ -3,7 +3,7 @@ use Rattle.std.proofs.lemmas.List.{length-map}
 use Rattle.std.proofs.Math.Logic.{∥∥₁_map}
 use Rattle.press_callbacks.specs.Kits.{KitView}
 use Rattle.press_world.specs.Models.{kept_in, model, size, statics}
-use Rattle.press_world.specs.Refusing.{refused_at}
+use Rattle.press_world.specs.Refusing.{event_refusal}
 use Rattle.press_world.specs.Seats.{place_of, static_of}
 use Rattle.press_world.specs.Sound.{AreMembers}
 use Rattle.press_world.specs.Stored.{stored_does}
@@ -19,7 +19,7 @@ invariant_of-self g c =
     record {
       sound = ∥∥₁_map w.sound (λ s. turn_sound law c.play_event.result (size w) (model w) (kept_in c.play_event.new.self) c.args.cut
           (λ stop. stored_does (size w) (model w) c.args.coming.message_index c.args.index (slice_get (model w).places c.args.index) c.args.coming.event stop)
-          (refused_at (slice_get (model w).places c.args.index) c.args.coming.event c.args.cut)
+          (event_refusal (slice_get (model w).places c.args.index) c.args.coming.event c.args.cut)
           c.requires.step c.play_event.ensures.ok c.play_event.ensures.err (sym (length-map w.cluster.seats.items place_of)) s);
       members = subst (λ x. ∥ ((kit : KitView) × AreMembers kit x) ∥₁) (sym c.play_event.ensures.statics) w.members;
     }

@@ -1,9 +1,0 @@
-use Rattle.std.proofs.Common.{◌≡◌, length}
-use Rattle.press_callbacks.specs.Pieces.{unread}
-use Rattle.press_callbacks.proofs.pieces.Pieces.fill.Given as goal
-
-abbrev pub invariant-loop-first : goal.invariant-loop-first
-invariant-loop-first l = unread l.self ≡ unread l.initial.self
-
-abbrev pub decreases-loop-first : goal.decreases-loop-first
-decreases-loop-first l = length l.self.parts.now
