@@ -1,5 +1,5 @@
 -- What the reply of a member says of a command (RFC 9112, 4; the statuses and the bodies are own).
-use Rattle.std.specs.Prelude.{ℕ, ◌≡◌, ◌≤◌, ◌<◌, List, ◌++◌, Some, codes}
+use Rattle.std.specs.Prelude.{ℕ, ◌≡◌, ◌≢◌, ◌≤◌, ◌<◌, List, ◌++◌, Some, codes}
 use Rattle.press_http.specs.StatusLine.{SaysStatus}
 use Rattle.press_site.specs.declared.token.Outcome.{Outcome}
 use Rattle.press_site.specs.declared.token.Outcome.TheVariants as outcome
@@ -21,15 +21,15 @@ IsOutcome (outcome.Refused fault) body = IsNumber (codes "{\"refused\":") fault 
 abbrev pub TellsOutcome : Outcome → List ℕ → Type 0
 TellsOutcome outcome reply = (head body : List ℕ) × (reply ≡ head ++ (codes "\r\n\r\n" ++ body)) × IsOutcome outcome body
 
--- what it says of a command that was sent
+-- what it says of a command that was sent; it is lost only where it says none of these
 abbrev pub SaysTaken : FormAnswer → List ℕ → Type 0
 SaysTaken taken.Queued reply = SaysStatus reply 202
 SaysTaken taken.Busy reply = SaysStatus reply 503
 SaysTaken (taken.Refused status) reply = SaysStatus reply status × (400 ≤ status) × (status < 500)
-SaysTaken taken.Lost reply = Unit {0}
+SaysTaken taken.Lost reply = (status : ℕ) → SaysStatus reply status → (status ≢ 202) × (status ≢ 503) × (400 ≤ status → 500 ≤ status)
 
 -- what it says of an outcome
 abbrev pub SaysTold : OutcomeAnswer → List ℕ → Type 0
 SaysTold (told.Outcome outcome) reply = SaysStatus reply 200 × TellsOutcome outcome reply
 SaysTold told.NotYet reply = SaysStatus reply 404
-SaysTold told.Lost reply = Unit {0}
+SaysTold told.Lost reply = SaysStatus reply 404 → ⊥

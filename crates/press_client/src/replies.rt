@@ -7,7 +7,7 @@ ghost use Rattle.press_client.specs.Replying.{IsNumber, IsOutcome, SaysTaken, Sa
 
 use crate::log::{LogFault, Piece, piece_in};
 use crate::newsroom::{FormAnswer, OutcomeAnswer};
-use press_http::status_in;
+use press_http::status_of_reply;
 use press_site::Outcome;
 use press_text::dec_u64;
 use std::alloc::Global;
@@ -63,7 +63,7 @@ fn outcome_of_reply(reply: &[u8]) -> Option<Outcome>
 pub fn taken_by(reply: &[u8]) -> FormAnswer
     ensures { SaysTaken result reply.now }
 {
-    match status_in(reply) {
+    match status_of_reply(reply) {
         Some(202) => FormAnswer::Queued,
         Some(503) => FormAnswer::Busy,
         Some(status) if 400 <= status && status < 500 => FormAnswer::Refused(status),
@@ -75,7 +75,7 @@ pub fn taken_by(reply: &[u8]) -> FormAnswer
 pub fn told_by(reply: &[u8]) -> OutcomeAnswer
     ensures { SaysTold result reply.now }
 {
-    match status_in(reply) {
+    match status_of_reply(reply) {
         Some(404) => OutcomeAnswer::NotYet,
         Some(200) => match outcome_of_reply(reply) {
             Some(outcome) => OutcomeAnswer::Outcome(outcome),
@@ -90,7 +90,7 @@ pub fn piece_of_reply(alloc: Global, reply: &[u8]) -> Result<Piece, LogFault>
     ensures status { IfOk result (λ _. SaysStatus reply.now 200) }
     ensures piece { IfOk result (λ piece. TellsPiece piece reply.now) }
 {
-    if status_in(reply) != Some(200) {
+    if status_of_reply(reply) != Some(200) {
         return Err(LogFault::NoLog);
     }
     let Ok(text) = from_utf8(reply) else {

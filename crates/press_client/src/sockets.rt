@@ -11,15 +11,13 @@ use press_apply::Stamped;
 use press_net::{AddressBook, Listed};
 use press_site::Token;
 use press_text::{read_limited, write_once};
+use press_wire::MOST_MEMBERS;
 use std::alloc::{AllocError, Global};
 use std::io::{ErrorKind, IsTerminal};
 use std::net::{Net, OpenStream, SocketAddr};
 use std::time::{Clock, Duration, Instant};
 use std::{io, thread};
 use thiserror::Error;
-
-// The members of a cluster are few.
-const MOST_MEMBERS: usize = 7;
 
 // How long a member may take to be reached, and for each read and write.
 const MEMBER_SECONDS: u64 = 2;
@@ -132,7 +130,7 @@ impl<'r> Sockets<'r> {
         let mut book = AddressBook::new(rt.alloc());
         let mut hosts = Vec::new(rt.alloc());
         for part in members.split(',') {
-            if hosts.len() >= MOST_MEMBERS || book.add(rt, part)? == Listed::Never {
+            if hosts.len() >= MOST_MEMBERS as usize || book.add(rt, part)? == Listed::Never {
                 return Err(MembersFault::Unknown);
             }
             match hosts.push(String::from_str(rt.alloc(), part)?) {

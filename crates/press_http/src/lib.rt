@@ -32,4 +32,4 @@ pub use reading::{read_pieces, read_request};
 pub use reply::{write_fault, write_reply};
 pub use request::Request;
 pub use routing::route;
-pub use status_line::{FRONT_LEN, status_in};
+pub use status_line::{FRONT_LEN, status_of_reply};

@@ -1,10 +1,10 @@
 //! The first bytes of a reply.
 
-ghost use Rattle.std.specs.Prelude.{◌≡◌, ◌↔◌, [], IfSome, IsTrue};
+ghost use Rattle.std.specs.Prelude.{◌≡◌, ◌↔◌, ℕ, [], None, IfSome, IsTrue};
 ghost use Rattle.press_http.specs.StatusLine.{SaysStatus};
 ghost use Rattle.press_loop.specs.Carrying.{with_more};
 
-use press_http::{FRONT_LEN, status_in};
+use press_http::{FRONT_LEN, status_of_reply};
 use std::marker::Model;
 
 /// What is kept of a reply: its first bytes, up to the status. Contracts see it as their list.
@@ -54,8 +54,9 @@ impl Front {
 
     /// The status of the reply; None where what came isn't the front of one.
     pub fn status(&self) -> Option<u16>
-        ensures { IfSome result (λ status. SaysStatus self.now status) }
+        ensures says { IfSome result (λ status. SaysStatus self.now status) }
+        ensures none { result ≡ None → (status : ℕ) → SaysStatus self.now status → ⊥ }
     {
-        status_in(&self.bytes[..self.count])
+        status_of_reply(&self.bytes[..self.count])
     }
 }

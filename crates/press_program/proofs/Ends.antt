@@ -6,6 +6,7 @@ use Rattle.press_callbacks.specs.Kits.{KitView}
 use Rattle.press_kit.specs.SiteFile.{site_in}
 use Rattle.press_kit.specs.declared.place.Place.{Place}
 use Rattle.press_text.specs.Streams.{AppendsFront}
+use Rattle.press_wire.specs.Ranges.{most_members}
 use Rattle.press_world.specs.Replays.{transcript, Writes}
 use Rattle.press_world.specs.ScheduleFile.{schedule_in}
 use Rattle.press_world.specs.declared.step.Step.{Step}
@@ -61,8 +62,8 @@ uncarried kit kits (Some told) out fault is = (told, refl, unlooped (transcript 
 
 pub outside_task : (kit : KitView) (task : Task) (remaining out : Option (List ℕ)) (fault : ReplayFault) → IsOutside (Fault fault) → EndsTask kit task remaining out out (Fault fault)
 outside_task kit (Page target) remaining out fault is = (outside kit target remaining (Fault fault) is, refl)
-outside_task kit Replay remaining out fault is = unplayed kit 7 remaining out fault is
-outside_task kit Loop remaining out fault is = uncarried kit 7 remaining out fault is
+outside_task kit Replay remaining out fault is = unplayed kit most_members remaining out fault is
+outside_task kit Loop remaining out fault is = uncarried kit most_members remaining out fault is
 
 pub out_of_memory : (kit : KitView) (task : Task) (remaining out out' : Option (List ℕ)) (fault : ReplayFault) → fault ≡ NoMemory → out' ≡ out → EndsTask kit task remaining out out' (Fault fault)
 out_of_memory kit task remaining out out' fault is stays = rw (is, stays) (outside_task kit task remaining out NoMemory tt)
@@ -86,8 +87,8 @@ untold_loop kit kits remaining out out' (Fault fault) ends = (ends.0, tt, ends.2
 
 pub untold_task : (kit : KitView) (task : Task) (remaining out out' : Option (List ℕ)) (end : Ending) → EndsTask kit task remaining out out' end → EndsTask kit task None out out' end
 untold_task kit (Page target) remaining out out' end ends = (untold kit target remaining end ends.0, ends.1)
-untold_task kit Replay remaining out out' end ends = untold_replay kit 7 remaining out out' end ends
-untold_task kit Loop remaining out out' end ends = untold_loop kit 7 remaining out out' end ends
+untold_task kit Replay remaining out out' end ends = untold_replay kit most_members remaining out out' end ends
+untold_task kit Loop remaining out out' end ends = untold_loop kit most_members remaining out out' end ends
 
 pub shown : (kit : KitView) (target : Target) (remaining : Option (List ℕ)) (commands : List Stamped) (end : Ending)
     → ReadsAs site_in remaining (Ok commands) → end ≡ page_ending kit target (Ok commands) → EndsOn kit target remaining end

@@ -12,6 +12,7 @@ use Rattle.press_client.specs.Reporting.{are_done, counts_of, report_of}
 use Rattle.press_client.specs.declared.counts.Counts.{Counts}
 use Rattle.press_client.specs.declared.ending.Ending.{Ending as Ended}
 use Rattle.press_text.specs.Gives.{Gives}
+use Rattle.press_wire.specs.Ranges.{most_members}
 use Rattle.press_world.specs.ReadingFiles.{Has, Refuses}
 use Rattle.press_world.specs.Replays.{Replays, transcript}
 use Rattle.press_world.specs.ScheduleFile.{schedule_in}
@@ -93,8 +94,8 @@ EndsLoop kit kits remaining out out' (Fault fault) = Loops (schedule_in kits) (t
 -- how many kits are made for it
 abbrev pub kits_for : Task → ℕ
 kits_for (Page target) = 1
-kits_for Replay = 7
-kits_for Loop = 7
+kits_for Replay = most_members
+kits_for Loop = most_members
 
 -- The end for what is asked, and the output by then: a page is yet to be printed.
 abbrev pub EndsTask : KitView → Task → Option (List ℕ) → Option (List ℕ) → Option (List ℕ) → Ending → Type 0

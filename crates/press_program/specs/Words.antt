@@ -10,6 +10,7 @@ use Rattle.press_page.specs.declared.reply.Target.TheVariants.{Post}
 use Rattle.press_page.specs.declared.reply.Target.{Target}
 use Rattle.press_page.specs.Targets.{target_in}
 use Rattle.press_text.specs.Decimals.{decimal_in}
+use Rattle.press_wire.specs.Ranges.{most_members}
 use Rattle.press_program.specs.declared.wanted.Arguments as asked
 use Rattle.press_program.specs.declared.wanted.Job as declared
 use Rattle.press_program.specs.declared.wanted.Job.TheVariants as told
@@ -204,7 +205,7 @@ alone_by port rows =
 abbrev pub member_by : List Row → Option (Where × ℕ)
 member_by rows = do
   id ← first_of (codes "id") rows
-  number ← number_in 1 7 id
+  number ← number_in 1 most_members id
   peers ← first_of (codes "peers") rows
   store ← first_of (codes "store") rows
   tick ← tick_in (first_of (codes "tick") rows)

@@ -1,7 +1,7 @@
 //! A file with a scenario, in lines of words: what it is named by, and numbers. Members are named
 //! from 1.
 
-use crate::scenario::{Fault, Scenario, Step, Wire};
+use crate::scenario::{Fault, MOST_MEMBERS, Scenario, Step, Wire};
 use std::alloc::{AllocError, Global};
 
 fn number(words: &[&str], at: usize) -> Option<u64> {
@@ -97,7 +97,7 @@ fn take_wire(wire: &mut Wire, word: &str, number: u64) -> bool {
 
 fn take_size(scenario: &mut Scenario, word: &str, number: u64) -> bool {
     match word {
-        "members" => scenario.members = number.clamp(1, 7) as u8,
+        "members" => scenario.members = number.clamp(1, MOST_MEMBERS as u64) as u8,
         "tick" => scenario.tick = number.min(1_000_000) as u32,
         "sql" => scenario.is_sql = number > 0,
         _ => return false,

@@ -3,6 +3,9 @@
 use crate::dice::Dice;
 use std::alloc::{AllocError, Global};
 
+/// So many members a cluster has at most.
+pub const MOST_MEMBERS: u8 = 7;
+
 /// How long requests take, and how many of a thousand are lost and come twice.
 #[derive(Clone, Copy, Drop)]
 pub struct Wire {
@@ -94,7 +97,7 @@ impl Scenario {
 fn members(dice: &mut Dice) -> u8 {
     match dice.below(20) {
         0 => 1,
-        1 | 2 => 7,
+        1 | 2 => MOST_MEMBERS,
         3..=8 => 5,
         _ => 3,
     }

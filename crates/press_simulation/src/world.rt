@@ -5,7 +5,7 @@ use crate::forms::{Forms, Taken};
 use crate::heard::Heard;
 use crate::judge::Judge;
 use crate::network::Network;
-use crate::scenario::Scenario;
+use crate::scenario::{MOST_MEMBERS, Scenario};
 use crate::seat::Seat;
 use crate::tally::Tally;
 use std::alloc::{AllocError, Global};
@@ -60,7 +60,7 @@ fn seats_of<A: Actor>(
 impl<A: Actor> World<A> {
     /// The members of a scenario, none of them started.
     pub fn new(alloc: Global, scenario: &Scenario) -> Result<World<A>, AllocError> {
-        let members = scenario.members.min(7);
+        let members = scenario.members.min(MOST_MEMBERS);
         let mut network = Network::new(alloc, scenario.seed, scenario.wire)?;
         let heard = Heard::new(alloc, usize::from(members))?;
         let seats = seats_of(alloc, members, &mut network)?;

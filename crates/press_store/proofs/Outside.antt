@@ -22,9 +22,10 @@ use Rattle.sqlite.specs.Listing.{understood}
 use Rattle.sqlite.specs.State.{State, Shown}
 use Rattle.sqlite.proofs.Callers.{IsPlain, reads_as}
 use Rattle.sqlite_value.proofs.OrderLemmas.{value_cmp-Null, value_cmp-Int, value_cmp_total}
+use Rattle.press_wire.specs.Ranges.{last_slot}
 use Rattle.press_store.specs.Tables.{Moved, schema_of, outside_text}
 use Rattle.press_store.specs.Slots.{damaged_row, read_in, read_at, no_row, greatest_to, greater, ballot_of_row}
-use Rattle.press_store.specs.Moving.{IsOutside, EndAt, ShowsOutside, BlocksMoved, first_behind}
+use Rattle.press_store.specs.Moving.{IsOutside, EndAt, ShowsOutside, BlocksMoved, all_blocks, first_behind}
 use Rattle.press_store.proofs.Inside.{shown_same}
 use Rattle.press_store.proofs.Put.{is_equal}
 use Rattle.press_store.proofs.Queries.{back, none_of, picked}
@@ -147,11 +148,11 @@ further m n (pos s) more (inr less) = inr (omega (arith, more, less))
 further m n (negsuc s) more out = tt
 
 -- where no row stands behind so many blocks, all are moved
-pub rest_moved : (count : ℕ) (old mid new : Trees) → count ≤ 62500 → BlocksMoved count old mid → new ≡ mid → EndAt (16 * count) (mid 0) → BlocksMoved 62500 old new × EndAt 1000000 (old 0)
+pub rest_moved : (count : ℕ) (old mid new : Trees) → count ≤ all_blocks → BlocksMoved count old mid → new ≡ mid → EndAt (16 * count) (mid 0) → BlocksMoved all_blocks old new × EndAt last_slot (old 0)
 rest_moved count old mid new few h same none =
     let ends : EndAt (16 * count) (old 0) = subst (EndAt (16 * count)) h.stay.slots none in
     let before = λ (s : ℕ) (far : 16 * count < s). free_read (old 0) s (ends (pos s) (inr far)) in (
-      subst (BlocksMoved 62500 old) (sym same) (record {
+      subst (BlocksMoved all_blocks old) (sym same) (record {
         stay = h.stay;
         promises = λ j low. elim (leb_tells count j) [
           | inl past ↦ h.no_promise j past.1 ∙ sym (greatest_none (old 0) (first_behind j) 16 (λ k less. before (first_behind j + k) (omega (arith, past.1))))
@@ -168,5 +169,5 @@ rest_moved count old mid new few h same none =
           | inr early ↦ h.sound s low (omega (arith, early.1))
         ];
       }),
-      λ id out. ends id (further (16 * count) 1000000 id (omega (arith, few)) out),
+      λ id out. ends id (further (16 * count) last_slot id (omega (arith, few)) out),
     )

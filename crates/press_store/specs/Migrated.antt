@@ -13,13 +13,13 @@ use Rattle.press_store.specs.Shown.{vote_at, most_rounds, number_in, IsOurVersio
 use Rattle.press_store.specs.Stands.{store_in}
 use Rattle.press_store.specs.Attempt.{AreTables}
 use Rattle.press_store.specs.Slots.{read_at, row_at, greatest_to}
-use Rattle.press_store.specs.Moving.{EndAt, block_at, first_behind, HasNumber}
+use Rattle.press_store.specs.Moving.{EndAt, all_blocks, block_at, first_behind, HasNumber}
 
 -- Table by table: a block's promise is the greatest ballot of its 16 rows of version 1, a vote is that of its row, and the last round stays.
 pub record Migrated (old new : Trees) : Type 0 where
   pub listed : Lists (new catalog_tree) (schema_of Moved)
   pub emptied : new 0 ≡ []
-  pub promises : (j : ℕ) → j < 62500 → block_at (new 3) (first_behind j) ≡ greatest_to (old 0) (first_behind j) 16
+  pub promises : (j : ℕ) → j < all_blocks → block_at (new 3) (first_behind j) ≡ greatest_to (old 0) (first_behind j) 16
   pub votes : (s : ℕ) → 1 ≤ s → s ≤ last_slot → vote_at (new 4) s ≡ (row_at (old 0) s).vote
   pub sound : (s : ℕ) → 1 ≤ s → s ≤ last_slot → IsSome (read_at (old 0) s)
   pub ends : EndAt last_slot (old 0)

@@ -26,6 +26,10 @@ module _ {S : Type 0} (g : Ghosts S) (old new : Held S) where
   abbrev pub Does : {A : Type 0} → Result A Error → (Trees → Trees → A → Type 0) → Type 0
   Does = DoesFrom (schema_of Moved)
 
+-- how many blocks there are
+abbrev pub all_blocks : ℕ
+all_blocks = 62500
+
 -- ---- one row
 
 -- the promise in the row of a block, where there is one

@@ -5,7 +5,7 @@ ghost use Rattle.sqlite.specs.State.{Survives};
 ghost use Rattle.sqlite.specs.Held.{state};
 ghost use Rattle.press_wire.specs.Blocks.{is_first};
 ghost use Rattle.press_wire.specs.Ranges.{last_slot};
-ghost use Rattle.press_store.specs.Moving.{AreEmpty, BlockMoved, BlocksMoved, Does, EndAt, IsDamagedOr, RowMoved, SlotMoved, VotesMoved, first_behind};
+ghost use Rattle.press_store.specs.Moving.{AreEmpty, BlockMoved, BlocksMoved, Does, EndAt, IsDamagedOr, RowMoved, SlotMoved, VotesMoved, all_blocks, first_behind};
 ghost use Rattle.press_store.specs.Slots.{shown_row};
 ghost use Rattle.press_store.specs.Steps.{GoesOn, Keeps};
 
@@ -76,7 +76,7 @@ fn move_slot<S: Alter>(
 
 // The slot that stands so many behind the first one of the block behind so many.
 fn slot_behind(count: u32, n: u32) -> Slot
-    requires { (count < 62500) × (n < 16) }
+    requires { (count < all_blocks) × (n < 16) }
     ensures { result ≡ first_behind count + n }
 {
     let Some(slot) = Slot::new(BLOCK_SLOTS * count + 1 + n) else {
@@ -87,7 +87,7 @@ fn slot_behind(count: u32, n: u32) -> Slot
 
 // The first slot of the block behind so many.
 fn first_behind(count: u32) -> Slot
-    requires { count < 62500 }
+    requires { count < all_blocks }
     ensures number { result ≡ first_behind count }
     ensures first { is_first result ≡ true }
 {
@@ -100,7 +100,7 @@ fn move_votes<S: Alter>(
     tx: &mut Transaction<'_, S>,
     count: u32,
 ) -> Result<Option<Ballot>, Error>
-    requires { count < 62500 }
+    requires { count < all_blocks }
     ensures same_reference { tx.new.conn.ghost_name ≡ tx.old.conn.ghost_name }
     ensures kept { Keeps S.Store tx.old.conn.now tx.new.conn.now }
     ensures goes_on { GoesOn S.Store tx.old.conn.now tx.new.conn.now result }
@@ -119,7 +119,7 @@ fn move_votes<S: Alter>(
 
 // Moves the block behind so many: its votes, and then its promise.
 fn move_block<S: Alter>(alloc: Global, tx: &mut Transaction<'_, S>, count: u32) -> Result<(), Error>
-    requires { count < 62500 }
+    requires { count < all_blocks }
     ensures same_reference { tx.new.conn.ghost_name ≡ tx.old.conn.ghost_name }
     ensures kept { Keeps S.Store tx.old.conn.now tx.new.conn.now }
     ensures goes_on { GoesOn S.Store tx.old.conn.now tx.new.conn.now result }
@@ -143,7 +143,7 @@ fn move_blocks<S: Alter>(
     tx: &mut Transaction<'_, S>,
     count: u32,
 ) -> Result<(), Error>
-    requires { count ≤ 62500 }
+    requires { count ≤ all_blocks }
     ensures same_reference { tx.new.conn.ghost_name ≡ tx.old.conn.ghost_name }
     ensures kept { Keeps S.Store tx.old.conn.now tx.new.conn.now }
     ensures goes_on { GoesOn S.Store tx.old.conn.now tx.new.conn.now result }
@@ -161,7 +161,7 @@ fn move_blocks<S: Alter>(
 // How many blocks there are up to the slot that the row shows. Nothing rests on it: whether all
 // were moved is asked afterwards.
 fn blocks_to(rows: &[Shown]) -> u32
-    ensures { result ≤ 62500 }
+    ensures { result ≤ all_blocks }
 {
     let [row] = rows else {
         return 0;
@@ -186,7 +186,7 @@ pub fn move_all_blocks<S: Alter>(alloc: Global, tx: &mut Transaction<'_, S>) -> 
     ensures kept { Keeps S.Store tx.old.conn.now tx.new.conn.now }
     ensures goes_on { GoesOn S.Store tx.old.conn.now tx.new.conn.now result }
     ensures moved { Does S.Store tx.old.conn.now tx.new.conn.now result
-        (λ old new _. AreEmpty old → BlocksMoved 62500 old new × EndAt last_slot (old 0)) }
+        (λ old new _. AreEmpty old → BlocksMoved all_blocks old new × EndAt last_slot (old 0)) }
     ensures survives { Survives (state S.Store tx.old.conn.now) (state S.Store tx.new.conn.now)
         (λ _. ⊥) }
 {
