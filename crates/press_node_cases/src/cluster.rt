@@ -4,8 +4,8 @@ ghost use Rattle.std.specs.Prelude.{◌≡◌, length};
 ghost use Rattle.press_callbacks.specs.Kits.{KitView};
 ghost use Rattle.press_world.specs.Starts.{AreKit, views_of};
 
-use crate::fuse::Fuse;
 use press_callbacks::Kit;
+use press_fakes::Fuse;
 use press_node::NodeFault;
 use press_page::Target;
 use press_world::{ReplayFault, Step, World, WorldFault, read_schedule, replay};

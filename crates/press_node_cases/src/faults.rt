@@ -2,7 +2,7 @@
 
 use crate::failing::{Fails, Reader, Writer};
 use crate::seat::Seat;
-use crate::store::Failing;
+use crate::store::{Failing, copy_to};
 use press_http::HttpFault;
 use std::alloc::Global;
 
@@ -75,7 +75,7 @@ impl<'a> Writes<'a> {
     /// Over what a node stores up to the slot behind those that it has applied.
     pub fn on(alloc: Global, seat: &Seat, request: &'a [u8]) -> anyhow::Result<Writes<'a>> {
         let last = u32::try_from(seat.applied())?.saturating_add(1);
-        let store = seat.store().copy(alloc, last)?;
+        let store = copy_to(alloc, seat.store(), last)?;
         Ok(Writes {
             alloc,
             store,
@@ -88,7 +88,7 @@ impl<'a> Writes<'a> {
     fn anew(&self, seat: Seat) -> anyhow::Result<Seat>
         requires always { Unit {0} }
     {
-        let mut seat = seat.start_over(self.store.copy(self.alloc, self.last)?)?;
+        let mut seat = seat.start_over(copy_to(self.alloc, &self.store, self.last)?)?;
         for _ in 1..self.last {
             seat.go_on()?;
         }

@@ -17,7 +17,6 @@
 mod cluster;
 mod failing;
 mod faults;
-mod fuse;
 mod lines;
 mod piece_reader;
 mod played;

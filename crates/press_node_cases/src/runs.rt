@@ -1,7 +1,7 @@
 //! What is run again and again, over closures of which the first, the second, and so on runs out of
 //! memory.
 
-use crate::fuse::Fuse;
+use press_fakes::Fuse;
 use std::alloc::{AllocError, Global};
 
 /// What a run gives: what is printed of it, and all that is compared.

@@ -2,10 +2,10 @@
 
 use crate::cluster::Cluster;
 use crate::failing::{Fails, Reader, Writer};
-use crate::fuse::Fuse;
 use crate::piece_reader::PieceReader;
 use crate::word::Word;
 use press_callbacks::{BoxedTurns, CallIn, Kit, Stored};
+use press_fakes::Fuse;
 use press_kit::{KitParts, read_kit_file};
 use press_text::Copied;
 use press_wire::MOST_MEMBERS;

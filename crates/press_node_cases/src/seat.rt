@@ -5,7 +5,7 @@ ghost use Rattle.std.specs.Prelude.{◌≡◌};
 use crate::lines::{done_line, kind_of, sent_line, store_line};
 use crate::piece_reader::PieceReader;
 use crate::posts::post;
-use crate::store::Failing;
+use crate::store::{Failing, mend};
 use crate::word::Turn;
 use press_apply::Stamped;
 use press_callbacks::Kit;
@@ -281,7 +281,7 @@ impl Seat {
         } = self;
         let (kit, store) = node.down();
         let line = store_line(alloc, store.memory())?;
-        let seat = Seat::start(alloc, kit, store.mend(), size)?;
+        let seat = Seat::start(alloc, kit, mend(store), size)?;
         Ok((seat, line))
     }
 }

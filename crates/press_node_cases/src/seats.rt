@@ -4,8 +4,9 @@
 use crate::faults::{Connections, Writes};
 use crate::posts::{apply_posts, post};
 use crate::seat::Seat;
-use crate::store::{Failing, Plan};
+use crate::store::{Plan, store_over};
 use crate::word::{Turn, Word};
+use press_acceptor::MemoryStore;
 use press_callbacks::Kit;
 use std::alloc::Global;
 use std::mem;
@@ -53,7 +54,7 @@ impl Seats {
 
     /// One node more, over an empty store; its connections come in pieces of this size.
     pub fn start(&mut self, kit: Kit, plan: Plan, size: usize) -> anyhow::Result<()> {
-        let store = Failing::new(self.alloc, plan);
+        let store = store_over(MemoryStore::new(self.alloc), plan);
         let seat = Seat::start(self.alloc, kit, store, size)?;
         self.seats.push(seat)?;
         Ok(())

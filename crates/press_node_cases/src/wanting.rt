@@ -1,8 +1,8 @@
 //! A play file over closures that run out of memory.
 
-use crate::fuse::Fuse;
 use crate::wants::Wants;
 use press_callbacks::{BoxedTurns, CallIn, Kit, Stored};
+use press_fakes::Fuse;
 use press_kit::{KitParts, PlayFile, read_play_file};
 use press_site::Site;
 use press_text::Copied;

@@ -1,9 +1,9 @@
 //! Commands, pages and plays over a kit whose closures run out of memory.
 
-use crate::fuse::Fuse;
 use crate::runs::{Answer, Came, Runs, refused_at_each};
 use press_apply::{CommandKind, Stamped, Value, apply};
 use press_callbacks::Kit;
+use press_fakes::Fuse;
 use press_kit::{Play, PlayKind};
 use press_page::{Target, page};
 use press_posts::Fire;

@@ -4,7 +4,6 @@ mod demonstration;
 mod desk;
 mod downs;
 mod forms;
-mod fuse;
 mod hooks;
 mod learner;
 mod lints;

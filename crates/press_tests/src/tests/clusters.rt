@@ -5,8 +5,8 @@ ghost use Rattle.press_callbacks.specs.Kits.{KitView};
 ghost use Rattle.press_world.specs.Starts.{AreKit, views_of};
 
 use crate::tests::demonstration::DEMONSTRATION;
-use crate::tests::fuse::Fuse;
 use press_callbacks::{BoxedTurns, CallIn, Kit, Stored};
+use press_fakes::Fuse;
 use press_kit::read_kit_file;
 use press_node::NodeFault;
 use press_page::Target;

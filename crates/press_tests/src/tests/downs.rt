@@ -2,11 +2,11 @@
 
 ghost use Rattle.std.specs.Prelude.{◌≡◌};
 
-use crate::tests::fuse::Fuse;
-use crate::tests::mendable::Mendable;
+use crate::tests::mendable::{Mendable, mend, new_store};
 use press_acceptor::StoreFault;
 use press_apply::Stamped;
 use press_callbacks::Kit;
+use press_fakes::Fuse;
 use press_node::{Event, Node, NodeFault, StartFault, serve_one};
 use press_page::Target;
 use press_site::Outcome;
@@ -228,11 +228,11 @@ impl OnNode<'_> {
     fn came_at(&self, kit: Kit, at: u64) -> Result<Came, Fail>
         requires always { Unit {0} }
     {
-        let mut node = start(self.alloc, kit, Mendable::new(self.alloc))?;
+        let mut node = start(self.alloc, kit, new_store(self.alloc))?;
         let is_refused = self.is_refused_at(&mut node, at);
         let (kit, store) = node.down();
         let (kit, store) = refused_start(self.alloc, kit, store.shut())?;
-        let mut again = start(self.alloc, kit, store.mend())?;
+        let mut again = start(self.alloc, kit, mend(store))?;
         let page = self.page(&mut again);
         let (kit, _) = again.down();
         match (is_refused, page) {
@@ -310,7 +310,7 @@ impl OnNode<'_> {
             kit = node.comes_back(kit, *calls)?;
             all = all.saturating_add(*calls);
         }
-        let mut node = start(self.alloc, kit, Mendable::new(self.alloc))?;
+        let mut node = start(self.alloc, kit, new_store(self.alloc))?;
         self.chooses_all(&mut node, 0)?;
         let (kit, store) = node.down();
         if self.starts_again(kit, store)? == all {

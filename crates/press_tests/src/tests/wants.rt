@@ -3,9 +3,9 @@
 
 use crate::tests::demonstration::DEMONSTRATION;
 use crate::tests::downs::OnNode;
-use crate::tests::fuse::Fuse;
 use press_apply::{Stamped, Value, apply};
 use press_callbacks::{BoxedTurns, CallIn, Kit, Stored};
+use press_fakes::Fuse;
 use press_kit::{KitParts, Play, PlayFile, read_kit_file, read_play_file};
 use press_page::{Target, page};
 use press_run::{Job, Machine, RunFault};
