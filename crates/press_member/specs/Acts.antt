@@ -119,7 +119,7 @@ view_of member = record {
   node = member.player.node;
   own = member.player.own.items;
   stop = member.player.stopped_by;
-  is_open = member.player.pace.is_settled;
+  is_open = member.player.pace.is_open;
 }
 
 -- one that begins with this node

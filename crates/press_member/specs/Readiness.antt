@@ -10,7 +10,7 @@ use Rattle.press_member.specs.declared.member.Member.{Member}
 -- says lately is chosen
 abbrev pub is_ready : {S : _} {t : _} {F : _} {g : _} → Member S t F g → Bool
 is_ready member =
-    member.player.pace.is_settled && (not (is_down (state_of member.player.node))
+    member.player.pace.is_open && (not (is_down (state_of member.player.node))
     && (is_majority (length member.peers.all.items) (others (is_heard member.time) member.peers + 1)
     && nat_le (borne_out member.peers (max member.player.pace.newest member.player.pace.applied) member.time) (applied_count (state_of member.player.node) + 64)))
 

@@ -184,7 +184,7 @@ impl<S: PromiseStore> Member<S> {
     pub fn is_open(&self) -> bool
         ensures { result ≡ is_open (view_of self.now) }
     {
-        self.player.pace.is_settled()
+        self.player.pace.is_open()
     }
 
     /// Whether it has something to do that waits for nothing else: it has sent messages to itself.
@@ -416,7 +416,7 @@ impl<S: PromiseStore> Member<S> {
 
     fn answer_to(&mut self, target: &Target) -> Answer
         ensures same { view_of self.new ≡ view_of self.old }
-        ensures shows { Shows self.old.player.pace.is_settled (kit_of self.old.player.node)
+        ensures shows { Shows self.old.player.pace.is_open (kit_of self.old.player.node)
             (state_of self.old.player.node).up target.now result }
     {
         if !self.is_open() {

@@ -115,13 +115,13 @@ pub struct Pace {
     asked_to: u64,
     ask_at: u64,
     asks: u32,
-    is_settled: bool,
+    is_open: bool,
 }
 
 impl Pace {
     /// The pace of the member at `place` of `members`, with the milliseconds of a tick.
     pub fn new(place: usize, members: usize, tick: u64) -> Pace
-        ensures settled { result.is_settled ≡ false }
+        ensures opens { result.is_open ≡ false }
         ensures seat { (result.place ≡ place) × (result.members ≡ members) × (result.tick ≡ tick) }
     {
         Pace {
@@ -152,15 +152,15 @@ impl Pace {
             asked_to: 0,
             ask_at: 0,
             asks: 0,
-            is_settled: false,
+            is_open: false,
         }
     }
 
     /// Whether it has once applied what a majority knew to be chosen.
-    pub fn is_settled(&self) -> bool
-        ensures { result ≡ self.now.is_settled }
+    pub fn is_open(&self) -> bool
+        ensures { result ≡ self.now.is_open }
     {
-        self.is_settled
+        self.is_open
     }
 
     // How many have their turn before this one: who proposed last has it after all others.
@@ -414,14 +414,14 @@ impl Pace {
         }
     }
 
-    fn settle(&mut self)
+    fn try_open(&mut self)
         ensures seat { HasSameSeat self.new self.old }
         ensures wake { self.new.wake_at ≡ self.old.wake_at }
         ensures needs { HasSameNeeds self.new self.old }
         ensures time { self.new.time ≡ self.old.time }
-        ensures settled { self.new.is_settled ≡ (self.old.is_settled || has_all self.old) }
+        ensures opens { self.new.is_open ≡ (self.old.is_open || has_all self.old) }
     {
-        self.is_settled |= self.has_all();
+        self.is_open |= self.has_all();
     }
 
     /// This many slots are applied; whether a command still waits. With a block that is over one
@@ -441,7 +441,7 @@ impl Pace {
         self.applied = applied;
         self.applied_at = self.time;
         self.wake_at = self.next_wake(waits || self.is_filling, is_over);
-        self.settle();
+        self.try_open();
     }
 
     // When it wakes behind a slot that was applied. What it has prepared goes on with its promises.
@@ -468,7 +468,7 @@ impl Pace {
     pub fn prove(&mut self, chosen: u64)
         ensures seat { HasSameSeat self.new self.old }
         ensures known { self.new.is_known ≡ self.old.is_known }
-        ensures settled { self.new.is_settled ≡ self.old.is_settled }
+        ensures opens { self.new.is_open ≡ self.old.is_open }
         ensures newest { self.new.newest ≡ max self.old.newest chosen }
     {
         self.newest = self.newest.max(chosen);
@@ -527,7 +527,7 @@ impl Pace {
         self.prove(borne_out);
         self.hear_claim(claim);
         self.is_known |= is_known;
-        self.settle();
+        self.try_open();
     }
 
     fn look(&mut self)
@@ -607,7 +607,7 @@ impl Pace {
         ensures time { self.new.time ≡ now }
     {
         self.look_at_clock(now);
-        self.settle();
+        self.try_open();
         if self.asks() {
             return self.ask();
         }

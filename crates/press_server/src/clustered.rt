@@ -395,7 +395,7 @@ impl<S: PromiseStore> Clustered<'_, S> {
 
     // A path of a site, or one for single messages: the request is read whole first.
     #[tactic(auto, using(crate::specs::Living::none_comes))]
-    fn reply_to_site(
+    fn reply_to_all_but_batches(
         &mut self,
         own: Option<Own>,
         from: IpAddr,
@@ -439,7 +439,7 @@ impl<S: PromiseStore> Clustered<'_, S> {
                 Ok(body) => self.take(from, body, told),
                 Err(fault) => refuse(fault, told),
             },
-            own => self.reply_to_site(own, from, request, told),
+            own => self.reply_to_all_but_batches(own, from, request, told),
         }
     }
 

@@ -108,7 +108,7 @@ pub fn membership_of<E: Write>(
     setup: &Setup<'_>,
     error: &mut E,
 ) -> Result<Option<Membership>, ServeFault>
-    ensures { IfOk result (λ seat. option_map (λ seat. seat.peers.own) seat
+    ensures { IfOk result (λ membership. option_map (λ membership. membership.peers.own) membership
         ≡ number_of setup.now.place) }
 {
     let Role::Member { id, peers, tick } = setup.place else {
@@ -143,9 +143,12 @@ fn admit(tie: Tie) -> Result<(), ServeFault>
 
 /// Ties a store to the member that has this place, or sees that it is no member's where there is
 /// none.
-pub fn tie<D: Alter>(store: &mut SqlStore<D>, seat: &Option<Membership>) -> Result<(), ServeFault> {
-    let owner = match seat {
-        Some(seat) => Some(seat.owner()?),
+pub fn tie<D: Alter>(
+    store: &mut SqlStore<D>,
+    membership: &Option<Membership>,
+) -> Result<(), ServeFault> {
+    let owner = match membership {
+        Some(membership) => Some(membership.owner()?),
         None => None,
     };
     admit(store.tie(owner)?)
@@ -264,7 +267,7 @@ impl Membership {
 #[derive(Drop)]
 pub struct Joiner<'s> {
     pub rt: &'s HostRuntime,
-    pub seat: Membership,
+    pub membership: Membership,
     pub options: &'s OperatorOptions,
 }
 
@@ -276,13 +279,17 @@ pub fn join<'s, D: Alter + Drop>(
 ) -> Result<Clustered<'s, TimedStore<'s, SqlStore<D>>>, ServeFault>
     requires always { Unit {0} }
 {
-    let Joiner { rt, seat, options } = joiner;
+    let Joiner {
+        rt,
+        membership,
+        options,
+    } = joiner;
     let alloc = rt.alloc();
     let mut store = store;
-    let beginning = seat.beginning(chosen_by(&mut store)?)?;
+    let beginning = membership.beginning(chosen_by(&mut store)?)?;
     let store = TimedStore::new(rt, options.tally(), store);
-    let member = seat.begin(alloc, kit, store, beginning)?;
-    let Membership { peers, stays, .. } = seat;
+    let member = membership.begin(alloc, kit, store, beginning)?;
+    let Membership { peers, stays, .. } = membership;
     let party = Party {
         peers,
         options,

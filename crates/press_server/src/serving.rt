@@ -248,7 +248,7 @@ fn port_of(place: Role<'_>) -> u16 {
 struct Beside<'a> {
     start: Start<'a>,
     // None for a node by itself.
-    seat: Option<Membership>,
+    membership: Option<Membership>,
     options: OperatorOptions,
     kit: Kit,
 }
@@ -290,8 +290,8 @@ fn serve_over_store<D: Alter + Drop, W: Write, E: Write>(
         (listening_line (where_of beside.entry.start.setup.now.place)) }
 {
     let (mut beside, mut store) = (beside, store);
-    tie(&mut store, &beside.seat)?;
-    let Some(seat) = beside.seat.take() else {
+    tie(&mut store, &beside.membership)?;
+    let Some(membership) = beside.membership.take() else {
         return serve_alone(beside, store, writer, error);
     };
     let Beside {
@@ -302,7 +302,7 @@ fn serve_over_store<D: Alter + Drop, W: Write, E: Write>(
     } = beside;
     let joiner = Joiner {
         rt: start.rt,
-        seat,
+        membership,
         options: &options,
     };
     let mut clustered = join(joiner, kit, store)?;
@@ -330,7 +330,7 @@ impl Setup<'_> {
         ensures { AppendsFront (W.contents writer.old) (W.contents writer.new)
             (listening_line (where_of self.now.place)) }
     {
-        let seat = membership_of(rt, self, error)?;
+        let membership = membership_of(rt, self, error)?;
         let most = most_open(rt, error)?;
         let start = Start {
             rt,
@@ -340,7 +340,7 @@ impl Setup<'_> {
         let options = options_of(rt, self)?;
         let beside = Beside {
             start,
-            seat,
+            membership,
             options,
             kit,
         };

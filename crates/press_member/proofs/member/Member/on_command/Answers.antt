@@ -14,8 +14,8 @@ pub returns-then-not-is_open : goal.returns-then-not-is_open
 returns-then-not-is_open g c =
     record {
       acts = rests (λ a b. node_move g.S.PromiseStore.seen a b) (input.Command c.args.command) _ _ c.only.result (record { id = refl; members = refl; digests = refl; kit = refl }) refl c.only.ensures.messages
-          (closed_form _ (event.Submit c.args.command) c.args.self.now.player.pace.is_settled c.is_open.result c.is_open.ensures c.if-not-is_open.true)
-          (closed_answer c.args.self.now.player.pace.is_settled c.is_open.result c.only.result.answer c.is_open.ensures c.if-not-is_open.true c.only.ensures.answer);
+          (closed_form _ (event.Submit c.args.command) c.args.self.now.player.pace.is_open c.is_open.result c.is_open.ensures c.if-not-is_open.true)
+          (closed_answer c.args.self.now.player.pace.is_open c.is_open.result c.only.result.answer c.is_open.ensures c.if-not-is_open.true c.only.ensures.answer);
     }
 
 pub returns-in_err-answer : goal.returns-in_err-answer
@@ -25,7 +25,7 @@ returns-in_err-answer g c =
     let e = event.Submit c.args.command in
     rw (p.1) (record {
       acts = turns (λ a b. node_move g.S.PromiseStore.seen a b) (input.Command c.args.command) _ _ _ b.brings.0 c.new-messages.result.items c.bring.new.out.items b.same c.new-messages.ensures.items
-          (other_kind (λ a b. node_move g.S.PromiseStore.seen a b) (length c.args.self.now.peers.all.items) c.args.self.now.player.id (Brings e b.brings.0) (Submits c.args.self.now.player.pace.is_settled e b.brings.0) (IsTrue false) (moment_of c.args.self.now.player) (moment_of c.bring.new.self.player) c.new-messages.result.items c.bring.new.out.items (opened_form _ e b.brings.0 c.args.self.now.player.pace.is_settled (sym c.is_open.ensures ∙ c.if-not-is_open.false)) b.brings.1)
+          (other_kind (λ a b. node_move g.S.PromiseStore.seen a b) (length c.args.self.now.peers.all.items) c.args.self.now.player.id (Brings e b.brings.0) (Submits c.args.self.now.player.pace.is_open e b.brings.0) (IsTrue false) (moment_of c.args.self.now.player) (moment_of c.bring.new.self.player) c.new-messages.result.items c.bring.new.out.items (opened_form _ e b.brings.0 c.args.self.now.player.pace.is_open (sym c.is_open.ensures ∙ c.if-not-is_open.false)) b.brings.1)
           tt tt (sym c.is_open.ensures ∙ c.if-not-is_open.false);
     })
 
@@ -36,6 +36,6 @@ returns g c =
     let e = event.Submit c.args.command in
     record {
       acts = turns (λ a b. node_move g.S.PromiseStore.seen a b) (input.Command c.args.command) _ _ _ b.brings.0 c.new-messages.result.items c.bring.new.out.items (record { id = b.same.id; members = a.count ∙ b.same.members; digests = a.digests ∙ b.same.digests; kit = b.same.kit }) c.new-messages.ensures.items
-          (other_kind (λ a b. node_move g.S.PromiseStore.seen a b) (length c.args.self.now.peers.all.items) c.args.self.now.player.id (Brings e b.brings.0) (Submits c.args.self.now.player.pace.is_settled e b.brings.0) (IsTrue true) (moment_of c.args.self.now.player) (moment_of c.bring.new.self.player) c.new-messages.result.items c.bring.new.out.items (opened_form _ e b.brings.0 c.args.self.now.player.pace.is_settled (sym c.is_open.ensures ∙ c.if-not-is_open.false)) b.brings.1)
-          (ap (λ v. v.items) c.with.ensures.messages) (opened_answer c.args.self.now.player.pace.is_settled b.brings.0 c.with.result.answer (sym c.is_open.ensures ∙ c.if-not-is_open.false) (c.with.ensures.answer ∙ b.brings.2)) tt;
+          (other_kind (λ a b. node_move g.S.PromiseStore.seen a b) (length c.args.self.now.peers.all.items) c.args.self.now.player.id (Brings e b.brings.0) (Submits c.args.self.now.player.pace.is_open e b.brings.0) (IsTrue true) (moment_of c.args.self.now.player) (moment_of c.bring.new.self.player) c.new-messages.result.items c.bring.new.out.items (opened_form _ e b.brings.0 c.args.self.now.player.pace.is_open (sym c.is_open.ensures ∙ c.if-not-is_open.false)) b.brings.1)
+          (ap (λ v. v.items) c.with.ensures.messages) (opened_answer c.args.self.now.player.pace.is_open b.brings.0 c.with.result.answer (sym c.is_open.ensures ∙ c.if-not-is_open.false) (c.with.ensures.answer ∙ b.brings.2)) tt;
     }

@@ -32,7 +32,7 @@ returns-in_err-submit_stuck g c =
     let s = c.in_err-submit_stuck.ensures in
     let m = c.args.message in
     let next = applied_count (state_of c.args.self.now.player.node) + 1 in
-    let mid : View _ = record { id = c.bring.new.self.player.id; members = length c.hear.new.self.all.items; digests = c.hear.new.self.digests; node = c.bring.new.self.player.node; own = c.bring.new.self.player.own.items; stop = c.bring.new.self.player.stopped_by; is_open = c.hear_of.new.self.is_settled } in
+    let mid : View _ = record { id = c.bring.new.self.player.id; members = length c.hear.new.self.all.items; digests = c.hear.new.self.digests; node = c.bring.new.self.player.node; own = c.bring.new.self.player.own.items; stop = c.bring.new.self.player.stopped_by; is_open = c.hear_of.new.self.is_open } in
     let same : IsSame (λ a b. node_move g.S.PromiseStore.seen a b) (view_of c.args.self.now) mid = record { id = b.same.id; members = h.count ∙ b.same.members; digests = h.digests ∙ b.same.digests; kit = b.same.kit } in
     rw (p.1) (record {
       acts = turns (λ a b. node_move g.S.PromiseStore.seen a b) (input.Message m) _ _ _ b.brings.0 c.new-messages.result.items c.submit_stuck.new.out.items (same_then (λ a b. node_move g.S.PromiseStore.seen a b) _ mid _ same s.same) c.new-messages.ensures.items
@@ -48,7 +48,7 @@ returns g c =
     let a = c.begin_all.ensures in
     let m = c.args.message in
     let next = applied_count (state_of c.args.self.now.player.node) + 1 in
-    let mid : View _ = record { id = c.bring.new.self.player.id; members = length c.hear.new.self.all.items; digests = c.hear.new.self.digests; node = c.bring.new.self.player.node; own = c.bring.new.self.player.own.items; stop = c.bring.new.self.player.stopped_by; is_open = c.hear_of.new.self.is_settled } in
+    let mid : View _ = record { id = c.bring.new.self.player.id; members = length c.hear.new.self.all.items; digests = c.hear.new.self.digests; node = c.bring.new.self.player.node; own = c.bring.new.self.player.own.items; stop = c.bring.new.self.player.stopped_by; is_open = c.hear_of.new.self.is_open } in
     let same : IsSame (λ a b. node_move g.S.PromiseStore.seen a b) (view_of c.args.self.now) mid = record { id = b.same.id; members = h.count ∙ b.same.members; digests = h.digests ∙ b.same.digests; kit = b.same.kit } in
     record {
       acts = turns (λ a b. node_move g.S.PromiseStore.seen a b) (input.Message m) _ _ _ b.brings.0 c.new-messages.result.items c.submit_stuck.new.out.items
