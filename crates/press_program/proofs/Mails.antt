@@ -11,7 +11,7 @@ use Rattle.press_text.specs.Streams.{AppendsFront}
 use Rattle.press_world.specs.ReadingFiles.{ReadsAs}
 use Rattle.press_world.specs.declared.replay_fault.ReplayFault.{ReplayFault}
 use Rattle.press_world.specs.declared.replay_fault.ReplayFault.TheVariants.{NoMemory}
-use Rattle.press_program.specs.Endings.{IsSite, Mails, Reports, mail_status, usage_line}
+use Rattle.press_program.specs.Endings.{IsMailStatus, IsSite, Mails, Reports, usage_line}
 use Rattle.press_program.specs.KitFiles.{fault_line}
 
 -- ---- the commands
@@ -27,7 +27,7 @@ pub whole_front : (out out' : Option (List ℕ)) (bytes : List ℕ) → Appends 
 whole_front out out' bytes h = (length bytes, subst (Appends out out') (sym (take-length bytes)) h)
 
 pub reports_of : (remaining out out' : Option (List ℕ)) (commands : List Stamped) (endings : List Ending) (result : Result ℕ ReplayFault) → IsSite remaining commands →
-    MatchResult result (λ status. (status ≡ mail_status (counts_of (length commands) endings)) × Appends out out' (report_of commands endings)) (λ _. AppendsFront out out' (report_of commands endings)) →
+    MatchResult result (λ status. IsMailStatus (counts_of (length commands) endings) status × Appends out out' (report_of commands endings)) (λ _. AppendsFront out out' (report_of commands endings)) →
     Reports remaining out out' result
 reports_of remaining out out' commands endings (Ok status) site h = (commands, endings, site, h.0, h.1)
 reports_of remaining out out' commands endings (Err fault) site h = inr (commands, endings, site, h)

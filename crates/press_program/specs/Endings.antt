@@ -214,12 +214,16 @@ IsSite remaining commands = (input : List ℕ) × Has remaining input × (site_i
 abbrev pub mail_status : Counts → ℕ
 mail_status counts = if are_done counts then 0 else 1
 
+-- the status of a run that knows of each command what became of it
+abbrev pub IsMailStatus : Counts → ℕ → Type 0
+IsMailStatus counts status = (counts.left ≡ 0) × (status ≡ mail_status counts)
+
 -- What is printed of commands that were sent: what became of each, or a front of that, or nothing.
 -- Contracts see no bytes of sockets: `deliver` says what became of them.
 abbrev pub Reports : Option (List ℕ) → Option (List ℕ) → Option (List ℕ) → Result ℕ ReplayFault → Type 0
 Reports remaining out out' (Ok status) =
     (commands : List Stamped) × (endings : List Ended) × IsSite remaining commands
-    × (status ≡ mail_status (counts_of (length commands) endings)) × Appends out out' (report_of commands endings)
+    × IsMailStatus (counts_of (length commands) endings) status × Appends out out' (report_of commands endings)
 Reports remaining out out' (Err fault) =
     Keeps out out' ⊎ ((commands : List Stamped) × (endings : List Ended) × IsSite remaining commands × AppendsFront out out' (report_of commands endings))
 

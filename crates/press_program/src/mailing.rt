@@ -5,7 +5,7 @@ ghost use Rattle.std.specs.Io.KnownBytes.{Appends, Keeps};
 ghost use Rattle.press_client.specs.Reporting.{counts_of, report_of};
 ghost use Rattle.press_kit.specs.KitFile.{file_limit};
 ghost use Rattle.press_text.specs.Streams.{AppendsFront, TakesAtMost};
-ghost use Rattle.press_program.specs.Endings.{IsSite, Mails, Reports, known_of, mail_status};
+ghost use Rattle.press_program.specs.Endings.{IsMailStatus, IsSite, Mails, Reports, known_of, mail_status};
 ghost use Rattle.press_program.specs.Words.{is_input};
 
 use crate::sites::site_of;
@@ -33,7 +33,7 @@ fn print<W: Write>(
     writer: &mut W,
 ) -> Result<u8, ReplayFault>
     ensures prints { MatchResult result
-        (λ status. (status ≡ mail_status (counts_of (length commands.now) endings.now))
+        (λ status. IsMailStatus (counts_of (length commands.now) endings.now) status
         × Appends (W.contents writer.old) (W.contents writer.new)
         (report_of commands.now endings.now))
         (λ _. AppendsFront (W.contents writer.old) (W.contents writer.new)
