@@ -13,6 +13,8 @@ STATUSES = ("draft", "future", "pending", "private", "publish", "trash")
 LAST_MOMENT = 2**40
 MOST_BYTES, MOST_BODY = 16_384, 65_536
 TITLE, CONTENT, OPTION = 1_024, 65_536, 4_096
+# How many commands a reply of the log has at most.
+LOOK = 64
 POSTS, EVENTS, OPTIONS = 10_000, 4_096, 1_024
 # What a plugin does to a title, or to a content, as it is shown, of which nothing is kept, or to a title as it is saved.
 KIT = {
@@ -83,6 +85,17 @@ class Command:
         date = number(fields, "date", LAST_MOMENT) if "date" in fields else self.at
         return dict(title=fields["title"], content=fields["content"], status=status, date=date)
 
+    def logged(self):
+        """As a site file has it."""
+        told = dict(editor=self.editor, seq=self.seq, at=self.at, kind=self.kind)
+        if self.id is not None:
+            told["id"] = self.id
+        if self.post:
+            told.update(self.post)
+        for name in {"option": ("name", "value"), "activate": ("plugin",), "deactivate": ("plugin",), "profile": ("profile",)}.get(self.kind, ()):
+            told[name] = number(self.fields, name) if name == "profile" else self.fields[name]
+        return told
+
     def size(self):
         """Bytes as the wire has them."""
         size = 1 + 1 + len(self.editor) + 8 + 8
@@ -107,10 +120,27 @@ class Site:
         self.behind, self.older, self.before = 0, 0, {}
         # Whether previews come as a server in front has them (docs/OPERATING.md).
         self.has_front = False
+        # Without a majority what is taken waits.
+        self.is_parted, self.waiting, self.log = False, [], []
 
     def take(self, command):
         with self.lock:
+            if self.is_parted:
+                self.waiting.append(command)
+            else:
+                self.apply(command)
+
+    def join(self):
+        """There is a majority again: what waits is done, in its order."""
+        with self.lock:
+            self.is_parted = False
+            while self.waiting:
+                self.apply(self.waiting.pop(0))
+
+    def apply(self, command):
+        with self.lock:
             self.applied += 1
+            self.log.append(command.logged())
             self.older, self.before = self.behind, {id: dict(post) for id, post in self.posts.items()}
             self.moment = max(self.moment, command.at)
             token = (command.editor, command.seq)
@@ -399,6 +429,9 @@ class Member:
     def desk(self, parts, query):
         if parts == ["site"]:
             raise told(self.site.told())
+        if parts == ["log"]:
+            first = int(query.get("from", 0))
+            raise told(dict(applied=self.site.applied, commands=self.site.log[first : first + LOOK]))
         if parts == ["posts"]:
             before = int(query.get("before", 2**64))
             count = min(int(query.get("count", 100)), 100)

@@ -149,7 +149,7 @@ def two_browsers(stage, browser, other):
     is_asked(other, "Somebody changed this post", "The vote is on Monday.")
     choose(other, "theirs")
     is_open(other, first, title=planted, content="The vote is on Monday.")
-    says(other, "#offers", "Bridge vote moved")
+    says(other, "#versions", "Bridge vote moved", "No vote at all.")
     # Deleted meanwhile.
     stage.send("trash", id=first)
     browser.fill("#content", "It rains.")
@@ -598,7 +598,7 @@ def lost_answers(stage, browser):
     says(browser, OUTCOME, "Saved as a draft.")
     check(len(stage.posts()) == 4, "a node that wasn't ready made two posts, or none")
     tokens = [token for token, kind, _ in stage.site.taken if kind == "insert"]
-    check(len(set(tokens)) == 4 and len(tokens) > 4, f"of four posts the tokens are {tokens}")
+    check(len(set(tokens)) == len(tokens) == 4, f"of four posts the tokens are {tokens}: what was done is looked up before it is sent again")
     # Given up by hand.
     member.answer_next = [503] * 200
     browser.click("#clear")

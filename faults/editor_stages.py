@@ -29,7 +29,7 @@ def check(is_so, what):
 class Stage:
     """A site, and what another editor does there without the page."""
 
-    seq = 0
+    seq, sent = 0, {}
 
     def url(self, place=0):
         return f"http://127.0.0.1:{self.ports[place]}"
@@ -55,15 +55,32 @@ class Stage:
     def send(self, kind, place=0, **fields):
         """A command of somebody else; its outcome."""
         self.seq += 1
-        form = dict(editor="somebody", seq=self.seq, at=int(time.time()), kind=kind, **fields)
-        body = urllib.parse.urlencode(form).encode()
-        status, _ = ask(self.ports[place], b"POST /command HTTP/1.1\r\nContent-Type: application/x-www-form-urlencoded\r\nContent-Length: %d\r\n\r\n%s" % (len(body), body))
-        check(status == 202, f"{kind} of somebody else is answered {status}")
+        self.sent = dict(editor="somebody", seq=self.seq, at=int(time.time()), kind=kind, **fields)
+        self.send_body(urllib.parse.urlencode(self.sent), place)
         begun = time.monotonic()
         while (found := self.text(f"/result/somebody/{self.seq}", place)) is None:
             check(time.monotonic() - begun < 20, f"{kind} of somebody else has no outcome")
             time.sleep(0.02)
         return json.loads(found)
+
+    def send_body(self, body, place=0):
+        """The bytes of a form, which are taken."""
+        body = body.encode()
+        status, _ = ask(self.ports[place], b"POST /command HTTP/1.1\r\nContent-Type: application/x-www-form-urlencoded\r\nContent-Length: %d\r\n\r\n%s" % (len(body), body))
+        check(status == 202, f"a form of somebody else is answered {status}")
+
+    def send_again(self):
+        """The last command of somebody else once more, under its token; waits until it is applied."""
+        before = self.desk("site")["applied"]
+        self.send_body(urllib.parse.urlencode(self.sent))
+        begun = time.monotonic()
+        while self.desk("site")["applied"] == before:
+            check(time.monotonic() - begun < 20, "a command that comes again isn't applied")
+            time.sleep(0.02)
+
+    def update(self, number, title, content, status="publish", **more):
+        """Somebody else saves a post."""
+        check(self.send("update", id=number, title=title, content=content, status=status, **more) == {"done": number}, "somebody else can't save the post")
 
     def insert(self, title, content="Some words.", status="draft", **more):
         return self.send("insert", title=title, content=content, status=status, **more)["done"]
@@ -88,6 +105,12 @@ class Mock(Stage):
 
     def fall_behind(self):
         self.site.behind = 2
+
+    def part(self):
+        self.site.is_parted = True
+
+    def join(self):
+        self.site.join()
 
     def start(self, place):
         self.members[place].start()
@@ -187,6 +210,15 @@ class Members(Files):
         for (_, to), relay in self.cluster.relays.items():
             if to == 2:
                 relay.hold = 0.7
+
+    def part(self):
+        """No member hears another one."""
+        for relay in self.cluster.relays.values():
+            relay.cut = 1.0
+
+    def join(self):
+        for relay in self.cluster.relays.values():
+            relay.cut = 0.0
 
     def start(self, place):
         self.cluster.start(place, self.words)
