@@ -1,7 +1,7 @@
 """Scenes of faults/editor with others at the same post: no typed text is lost without a word, and nobody is told that readers see what they don't see."""
 import json, time
 
-from editor_scenes import OUTCOME, choose, edit, enter, is_answered, is_asked, is_kept, is_open, is_shown, press_row, row, save, says, tab, text, value, waits, write
+from editor_scenes import NAMELESS, OUTCOME, choose, edit, enter, is_asked, is_kept, is_open, is_shown, measure, press_row, row, save, says, tab, text, value, waits, write
 from editor_stages import check
 
 SEEN = "Published: readers see it now."
@@ -50,7 +50,7 @@ def save_unanswered(browser, content):
     says(browser, OUTCOME, "The site doesn’t answer.")
 
 
-def unfinished(browser, *words):
+def unfinished(browser):
     """What was on its way as the page was opened has come to an end."""
     waits(browser, "/Done|Saved|Not |Published/.test(document.querySelector('#unfinished').innerText)", "what was on its way has come to an end", 40)
     return text(browser, "#unfinished")
@@ -60,6 +60,12 @@ def go_on(browser, number, **fields):
     """The text that is offered comes into the form again."""
     browser.click("#offers button[aria-label^='Go on']")
     is_open(browser, number, **fields)
+
+
+def is_usable(browser):
+    """What can be pressed is large enough, and has a name."""
+    measure(browser, 44 if browser.value("innerWidth") <= 700 else 24, set())
+    check(not browser.value(NAMELESS), f"without a name: {browser.value(NAMELESS)}")
 
 
 def check_words(found, *words):
@@ -198,6 +204,7 @@ def saved_before(stage, browser, _other):
     says(browser, "#versions", "By “somebody”", "The vote is off, in the old hall.")
     marks = browser.value("[...document.querySelectorAll('#versions mark')].map((it) => it.textContent)")
     check(marks == ["off,"], f"marked are {marks}")
+    is_usable(browser)
     check(value(browser, "#content") == "The vote is at ten, in the old hall.", "the form has another text")
     # It is there after a reload too, and can be brought back.
     enter(browser, stage)
@@ -207,6 +214,8 @@ def saved_before(stage, browser, _other):
     is_kept(stage, number, content="The vote is off, in the old hall.")
     check(not is_shown(browser, "#versions") and not is_shown(browser, "#offers"), "a text that is on the site is offered")
     # What comes again under its token, and what the site refuses, is nobody's save.
+    browser.fill("#content", "The vote is on Friday.")
+    save(browser, SEEN)
     hold(browser, "/command")
     browser.fill("#content", "The vote is on Monday.")
     browser.click("#save")
@@ -242,6 +251,7 @@ def saved_behind(stage, browser, _other):
     check_words(found, "Saved, but “somebody” saved this post right behind it", "readers see another text")
     says(browser, "#kept-note", "Kept in this browser", "not on the site any more")
     says(browser, "#versions", "What the site has", "Four ships.")
+    is_usable(browser)
     browser.click("#clear")
     is_asked(browser, "isn’t on the site any more", "“somebody” took its place")
     choose(browser, "stay")
@@ -326,7 +336,29 @@ def saved_elsewhere(stage, browser, _other):
     let_go(browser)
     says(browser, "#offers", f"changes of post {number}", "not on the site any more", "“somebody” took its place")
     check(value(browser, "#content") == "Line 4.", "the form has another post's text")
+    says(browser, OUTCOME, f"Post {number}, “Harbour news”: Saved, but “somebody” saved this post right behind it")
     go_on(browser, number, content="Three ships.")
+
+
+# Another window of the same browser, as far as the page asks for one.
+WINDOW = "otherWindow = document.createElement('iframe'); otherWindow.src = '/editor?other'; otherWindow.id = 'other-window'; document.body.append(otherWindow); 0"
+
+
+def other_window(stage, browser, _other):
+    """A window that is opened while another one of the browser has something on its way leaves it to that one."""
+    number = begin(stage, browser)
+    hold(browser, "/command")
+    browser.fill("#content", "Three ships.")
+    browser.click("#save")
+    is_held(browser)
+    browser.value(WINDOW)
+    waits(browser, "/shown|none/.test(otherWindow.contentDocument.querySelector('#list-note')?.textContent)", "the other window is there")
+    time.sleep(1.5)
+    check(browser.value("otherWindow.contentDocument.querySelector('#unfinished').hidden"), "the other window sends what is on its way here")
+    is_kept(stage, number, content="Two ships.")
+    let_go(browser)
+    says(browser, OUTCOME, SEEN)
+    is_kept(stage, number, content="Three ships.")
 
 
 def at_once(browsers):
@@ -467,4 +499,4 @@ def clock_off(stage, browser, hours, words):
         save(browser, "clock of this computer", "(Answer 400.)")
 
 
-OTHERS = (cut_off, done_unseen, clicks_cut_off, saved_before, saved_behind, saved_elsewhere, two_saves, no_majority, true_words, clock)
+OTHERS = (cut_off, done_unseen, clicks_cut_off, saved_before, saved_behind, saved_elsewhere, other_window, two_saves, no_majority, true_words, clock)

@@ -498,6 +498,7 @@ def plugins(stage, browser, _other):
     write(browser, "It rains", "All day.")
     save(browser, "Saved as a draft.", "A plugin changed the text as it was saved")
     is_open(browser, 2, title="It rains.", content="All day.")
+    says(browser, "#versions", "What you typed, before a plugin changed it", "It rains")
     stage.send("deactivate", plugin="fullstop")
     # A date that is still to come, on a post to be published.
     browser.click("#clear")
