@@ -5,7 +5,7 @@ BROKEN = [
         "  return reply.ok ? await reply.json() : null;\n}\n\n// The post as",
         "  const post = reply.ok ? await reply.json() : null;\n  const shown = await fetch(`/wp-json/wp/v2/posts/${id}`).then((it) => it.ok ? it.json() : null);\n"
         "  return post && shown ? { ...post, title: shown.title.rendered, content: shown.content.rendered } : post;\n}\n\n// The post as")),
-    ("Update overwrites without a question", "two_browsers", 1280, ("  if (isAsKept(newest, basis)) {\n", "  if (newest) {\n")),
+    ("Update overwrites without a question", "two_browsers", 1280, ("    if (isAsKept(newest, seen)) {\n", "    if (newest) {\n")),
     ("line ends are changed where nobody touched them", "two_browsers", 1280, ('content: isSame("content") ? basis.content : typed.content,', "content: typed.content,")),
     ("only the newest posts are looked through", "many_drafts", 1280, ("    isEnd = posts.length < count;\n", "    isEnd = true;\n"), ("{ isEnd = false; break; }", "break;")),
     ("older posts begin anew at the newest", "many_drafts", 390, ("      list.before = post.id;\n", "")),
@@ -47,7 +47,7 @@ BROKEN = [
     ("nobody looks who saved before", "saved_before", 1280, ("const over = mine && unseen(done.slice(0, place), job), from", "const over = undefined, from")),
     ("a text that was overwritten unseen isn't kept", "saved_before", 390, ("fate.isOverKept = kept.set(", "fate.isOverKept = ((..._) => true)(")),
     ("a token that comes again counts as a save", "saved_before", 1280, ("if (!it.kind || log.tokens.has(tokenOf(it))) continue;", "if (!it.kind) continue;")),
-    ("what the site refused counts as a save", "saved_before", 390, ("!(it.isRefused ??= await wasRefused(it, say, signal))", "true")),
+    ("what the site refused counts as a save", "saved_before", 390, ("log.before.has(tokenOf(it)) || await wasRefused(it, say, signal)", "log.before.has(tokenOf(it))")),
     ("all words of another text are marked", "saved_before", 1280, ("return a.map((word, i) => [word, i < start || i >= a.length - end || middle[i - start]]);", "return a.map((word) => [word, false]);")),
     ("what somebody saved behind is taken for a plugin's work", "saved_behind", 1280, ("if (behind) return { id, post, stands: false,", "if (behind) return { id, post, stands: true,")),
     ("a text whose place somebody took counts as saved", "saved_behind", 390, ("const isUnsaved = () => !!current.lost || ", "const isUnsaved = () => ")),
