@@ -46,7 +46,7 @@ BROKEN = [
     ("the site's name is sent again unseen", "clicks_cut_off", 390, (', { over: { option: "blogname", value: optionOf("blogname") }, value });', ");")),
     ("nobody looks who saved before", "saved_before", 1280, ("const over = mine && unseen(done.slice(0, place), job), from", "const over = undefined, from")),
     ("a text that was overwritten unseen isn't kept", "saved_before", 390, ("fate.isOverKept = kept.set(", "fate.isOverKept = ((..._) => true)(")),
-    ("a token that comes again counts as a save", "saved_before", 1280, ("if (!it.kind || log.tokens.has(tokenOf(it))) continue;", "if (!it.kind) continue;")),
+    ("a token that comes again counts as a save", "saved_before", 1280, ("log.before.has(tokenOf(it)) || await wasRefused(it, say, signal)", "await wasRefused(it, say, signal)")),
     ("what the site refused counts as a save", "saved_before", 390, ("log.before.has(tokenOf(it)) || await wasRefused(it, say, signal)", "log.before.has(tokenOf(it))")),
     ("all words of another text are marked", "saved_before", 1280, ("return a.map((word, i) => [word, i < start || i >= a.length - end || middle[i - start]]);", "return a.map((word) => [word, false]);")),
     ("what somebody saved behind is taken for a plugin's work", "saved_behind", 1280, ("if (behind) return { id, post, stands: false,", "if (behind) return { id, post, stands: true,")),

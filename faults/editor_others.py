@@ -1,10 +1,19 @@
 """Scenes of faults/editor with others at the same post: no typed text is lost without a word, and nobody is told that readers see what they don't see."""
 import json, time
 
-from editor_scenes import NAMELESS, OUTCOME, choose, edit, enter, is_asked, is_kept, is_open, is_shown, measure, press_row, row, save, says, tab, text, value, waits, write
+from editor_scenes import NAMELESS, OUTCOME, choose, edit, enter, is_asked, is_kept, is_open, is_shown, measure, press_row, row, save, says, tab, text, value, waits
 from editor_stages import check
 
 SEEN = "Published: readers see it now."
+
+
+def paste(browser, selector, words):
+    browser.fill(selector, words, True)
+
+
+def write(browser, title, content):
+    paste(browser, "#title", title)
+    paste(browser, "#content", content)
 
 
 # ---- a network that keeps what it is given
@@ -45,7 +54,7 @@ def begin(stage, browser, title="Harbour news", content="Two ships."):
 
 
 def save_unanswered(browser, content):
-    browser.fill("#content", content)
+    paste(browser, "#content", content)
     browser.click("#save")
     says(browser, OUTCOME, "The site doesn’t answer.")
 
@@ -168,7 +177,7 @@ def clicks_cut_off(stage, browser, _other):
     cut(browser, "/command")
     press_row(browser, number, "Move")
     says(browser, row(number) + " .outcome p", "The site doesn’t answer.")
-    browser.fill("#name", "Morning Post")
+    paste(browser, "#name", "Morning Post")
     browser.click("#name-save")
     says(browser, "#name-outcome p", "Waiting until what was sent before is done")
     stage.update(number, "Harbour news", "Three ships.")
@@ -179,7 +188,7 @@ def clicks_cut_off(stage, browser, _other):
     # Now the name.
     enter(browser, stage)
     cut(browser, "/command")
-    browser.fill("#name", "Morning Post")
+    paste(browser, "#name", "Morning Post")
     browser.click("#name-save")
     says(browser, "#name-outcome p", "The site doesn’t answer.")
     stage.send("option", name="blogname", value="Evening Post")
@@ -193,7 +202,7 @@ def saved_before(stage, browser, _other):
     """Somebody saves between the look at the post and the save: who it was is told, and that text is kept to compare."""
     number = begin(stage, browser, "Council votes", "The vote is at noon, in the old hall.")
     hold(browser, "/command")
-    browser.fill("#content", "The vote is at ten, in the old hall.")
+    paste(browser, "#content", "The vote is at ten, in the old hall.")
     browser.click("#save")
     is_held(browser)
     stage.update(number, "Council votes", "The vote is off, in the old hall.")
@@ -203,7 +212,8 @@ def saved_before(stage, browser, _other):
     is_kept(stage, number, content="The vote is at ten, in the old hall.")
     says(browser, "#versions", "By “somebody”", "The vote is off, in the old hall.")
     marks = browser.value("[...document.querySelectorAll('#versions mark')].map((it) => it.textContent)")
-    check(marks == ["off,"], f"marked are {marks}")
+    # The time of the save may be another one.
+    check([it for it in marks if ":" not in it] == ["off,"], f"marked are {marks}")
     is_usable(browser)
     check(value(browser, "#content") == "The vote is at ten, in the old hall.", "the form has another text")
     # It is there after a reload too, and can be brought back.
@@ -214,10 +224,10 @@ def saved_before(stage, browser, _other):
     is_kept(stage, number, content="The vote is off, in the old hall.")
     check(not is_shown(browser, "#versions") and not is_shown(browser, "#offers"), "a text that is on the site is offered")
     # What comes again under its token, and what the site refuses, is nobody's save.
-    browser.fill("#content", "The vote is on Friday.")
+    paste(browser, "#content", "The vote is on Friday.")
     save(browser, SEEN)
     hold(browser, "/command")
-    browser.fill("#content", "The vote is on Monday.")
+    paste(browser, "#content", "The vote is on Monday.")
     browser.click("#save")
     is_held(browser)
     stage.send_again()
@@ -231,7 +241,7 @@ def saved_before(stage, browser, _other):
 def save_behind(stage, browser, number, content, then):
     """A save of which the page hears only when something else was done to the post; what it says then."""
     hold(browser, "/result/")
-    browser.fill("#content", content)
+    paste(browser, "#content", content)
     browser.click("#save")
     is_held(browser)
     is_kept(stage, number, content=content)
@@ -302,7 +312,7 @@ def overwrite_draft(browser):
 def saved_since(stage, browser):
     """A moment after it was told as published: the page says by itself that it isn't what readers see."""
     number = begin(stage, browser, "Market day", "Stalls open at seven.")
-    browser.fill("#content", "Stalls open at six.")
+    paste(browser, "#content", "Stalls open at six.")
     save(browser, SEEN)
     stage.update(number, "Market day", "Stalls open at five.")
     says(browser, OUTCOME, "“somebody” saved this post right after you", "readers see that text, and not yours")
@@ -311,7 +321,7 @@ def saved_since(stage, browser):
     says(browser, "#kept-note", "Kept in this browser", "not on the site any more")
     says(browser, "#versions", "Stalls open at five.")
     # And while another text is typed over it.
-    browser.fill("#content", "Stalls open at four.")
+    paste(browser, "#content", "Stalls open at four.")
     stage.update(number, "Market day", "Stalls are closed.")
     says(browser, "#versions", "Stalls are closed.")
     check(value(browser, "#content") == "Stalls open at four.", "the typed text isn't in the form any more")
@@ -324,7 +334,7 @@ def saved_elsewhere(stage, browser, _other):
     other = stage.insert("Night buses", "Line 4.")
     number = begin(stage, browser)
     hold(browser, "/result/")
-    browser.fill("#content", "Three ships.")
+    paste(browser, "#content", "Three ships.")
     browser.click("#save")
     is_held(browser)
     is_kept(stage, number, content="Three ships.")
@@ -348,7 +358,7 @@ def other_window(stage, browser, _other):
     """A window that is opened while another one of the browser has something on its way leaves it to that one."""
     number = begin(stage, browser)
     hold(browser, "/command")
-    browser.fill("#content", "Three ships.")
+    paste(browser, "#content", "Three ships.")
     browser.click("#save")
     is_held(browser)
     browser.value(WINDOW)
@@ -399,7 +409,7 @@ def two_saves(stage, browser, other):
             enter(it, stage, place % len(stage.ports))
             edit(it, number)
             is_open(it, number)
-            it.fill("#content", content)
+            paste(it, "#content", content)
         at_once(browsers)
         have_ended(browsers)
         # Whoever was quicker hears a moment later that somebody saved behind it.
@@ -427,7 +437,7 @@ def no_majority(stage, browser, other):
         enter(it, stage, place)
         edit(it, number)
         is_open(it, number)
-        it.fill("#content", content)
+        paste(it, "#content", content)
     stage.part()
     for it in browsers:
         it.click("#save")
