@@ -351,7 +351,7 @@ def saved_elsewhere(stage, browser, _other):
 
 
 # Another window of the same browser, as far as the page asks for one.
-WINDOW = "otherWindow = document.createElement('iframe'); otherWindow.src = '/editor?other'; otherWindow.id = 'other-window'; document.body.append(otherWindow); 0"
+WINDOW = "otherWindow = document.createElement('iframe'); otherWindow.src = '/editor'; otherWindow.id = 'other-window'; document.body.append(otherWindow); 0"
 
 
 def other_window(stage, browser, _other):
@@ -362,7 +362,7 @@ def other_window(stage, browser, _other):
     browser.click("#save")
     is_held(browser)
     browser.value(WINDOW)
-    waits(browser, "/shown|none/.test(otherWindow.contentDocument.querySelector('#list-note')?.textContent)", "the other window is there")
+    waits(browser, "/shown|none/.test(otherWindow.contentDocument.querySelector('#list-note')?.textContent)", "the other window is there", 60)
     time.sleep(1.5)
     check(browser.value("otherWindow.contentDocument.querySelector('#unfinished').hidden"), "the other window sends what is on its way here")
     is_kept(stage, number, content="Two ships.")
