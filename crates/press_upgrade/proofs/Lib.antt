@@ -1,0 +1,6 @@
+pub mod Applies
+pub mod Built
+pub mod Known
+pub mod Pages
+pub mod Runs
+pub mod Tables

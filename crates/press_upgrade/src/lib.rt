@@ -1,0 +1,7 @@
+//! A kit and the next one: whether one extends the other, so that nothing of what a site was or
+//! showed is another.
+#![tactic(auto)]
+
+mod laws;
+
+pub use laws::runs_over_extension;
