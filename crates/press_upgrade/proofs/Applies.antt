@@ -1,5 +1,5 @@
 -- Values of which none names a plugin of the new kit alone make the same site over both kits, in which each active plugin is the same in both.
-use Rattle.std.proofs.Common.{◌≡◌, refl, sym, ◌∙◌, ap, subst, ℕ, List, [], ◌∷◌, if◌then◌else◌, Bool, true, false, not, bytes_eq, filter, insert, codes, Option, Some, None, Result, Ok, Err}
+use Rattle.std.proofs.Common.{◌≡◌, refl, sym, ◌∙◌, ap, subst, ℕ, List, [], ◌∷◌, ◌++◌, if◌then◌else◌, Bool, true, false, not, bytes_eq, filter, insert, codes, Option, Some, None, Result, Ok, Err}
 use Rattle.std.specs.Prelude.{◌||◌, IfSome, IfOk, is_some}
 use Rattle.std.specs.List.{AllByRecursion, list_any}
 use Rattle.press_callbacks.specs.Kits.{KitView, plugin_of}
@@ -56,6 +56,14 @@ binds P Q r r' f g h e = subst (λ x. Alike Q (r >>= f) (x >>= g)) h.0 (binds_sa
 checked : {A : Type 0} (Q : A → Type 0) (o : Option SiteFault) (w w' : Result A ApplyFault) → Alike Q w w' → Alike Q (passes o >>= λ passed. w) (passes o >>= λ passed. w')
 checked Q None w w' a = a
 checked Q (Some fault) w w' a = (refl, tt)
+
+parted : (a b : Bool) → (a || b) ≡ false → (a ≡ false) × (b ≡ false)
+parted true b e = cc
+parted false b e = (refl, e)
+
+neither : (a b : Bool) → a ≡ false → b ≡ false → (a || b) ≡ false
+neither true b e f = cc
+neither false b e f = f
 
 -- ---- sites whose active plugins are of one kind, over tables of callbacks of one kind
 
@@ -300,10 +308,6 @@ module _ (old new : KitView) (whole : IsWhole old) (extends : Extends old new) w
   applied_alike s (Noop at) e active = (refl, active)
   applied_alike s (Cmd c) e active = where_alike (at_moment c.at s) c (outcome_of c.token s.outcomes) e active
 
-  parted : (a b : Bool) → (a || b) ≡ false → (a ≡ false) × (b ≡ false)
-  parted true b e = absurd (cc)
-  parted false b e = (refl, e)
-
   folded_alike : (s : SiteView) (vs : List Value) → ask_new old new vs ≡ false → ActiveAre Same s → (fold_values old s vs ≡ fold_values new s vs) × ActiveAre Same (fold_values old s vs)
   folded_alike s [] e active = (refl, active)
   folded_alike s (v ∷ vs) e active =
@@ -314,3 +318,16 @@ module _ (old new : KitView) (whole : IsWhole old) (extends : Extends old new) w
 
   pub sites_alike : (values : List Value) → ask_new old new values ≡ false → (site_after old values ≡ site_after new values) × ActiveAre Same (site_after old values)
   sites_alike values e = folded_alike no_site values e tt
+
+-- ---- values and one more
+
+module _ (old new : KitView) where
+  pub front : (values : List Value) (v : Value) → ask_new old new (values ++ v ∷ []) ≡ false → ask_new old new values ≡ false
+  front [] v e = refl
+  front (w ∷ ws) v e =
+      let p = parted (asks_new old new w) (ask_new old new (ws ++ v ∷ [])) e in
+      neither (asks_new old new w) (ask_new old new ws) p.0 (front ws v p.1)
+
+  pub last_one : (values : List Value) (v : Value) → ask_new old new (values ++ v ∷ []) ≡ false → asks_new old new v ≡ false
+  last_one [] v e = (parted (asks_new old new v) false e).0
+  last_one (w ∷ ws) v e = last_one ws v (parted (asks_new old new w) (ask_new old new (ws ++ v ∷ [])) e).1

@@ -4,4 +4,6 @@
 
 mod laws;
 
-pub use laws::runs_over_extension;
+pub use laws::{
+    built_kits_are_whole, pages_over_extension, runs_over_extension, values_over_extension,
+};
