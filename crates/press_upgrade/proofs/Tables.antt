@@ -26,9 +26,13 @@ each_inserted P x [] (suc i) p a = (p, tt)
 each_inserted P x (y ∷ ys) zero p a = (p, a)
 each_inserted P x (y ∷ ys) (suc i) p a = (a.0, each_inserted P x ys i p a.1)
 
-each_mapped : {A B : Type 0} (P : B → Type 0) (f : A → B) (xs : List A) → AllByRecursion (λ x. P (f x)) xs → AllByRecursion P (map f xs)
+pub each_mapped : {A B : Type 0} (P : B → Type 0) (f : A → B) (xs : List A) → AllByRecursion (λ x. P (f x)) xs → AllByRecursion P (map f xs)
 each_mapped P f [] a = tt
 each_mapped P f (x ∷ xs) a = (a.0, each_mapped P f xs a.1)
+
+pub each_under : {A B : Type 0} (P : B → Type 0) (f : A → B) (xs : List A) → AllByRecursion P (map f xs) → AllByRecursion (λ x. P (f x)) xs
+each_under P f [] a = tt
+each_under P f (x ∷ xs) a = (a.0, each_under P f xs a.1)
 
 pub each_as : {A : Type 0} (P Q : A → Type 0) (xs : List A) → ((x : A) → P x → Q x) → AllByRecursion P xs → AllByRecursion Q xs
 each_as P Q [] f a = tt

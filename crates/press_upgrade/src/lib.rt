@@ -2,8 +2,14 @@
 //! showed is another.
 #![tactic(auto)]
 
+mod difference;
+mod extension;
 mod laws;
+mod part;
+mod same;
 
+pub use difference::Difference;
+pub use extension::extends;
 pub use laws::{
     built_kits_are_whole, pages_over_extension, runs_over_extension, values_over_extension,
 };
