@@ -41,8 +41,8 @@ pub enum Loss {
     Gone,
 }
 
-// The first part of that name.
-fn find<'p, T: Part>(parts: &'p [T], title: &[u8]) -> Option<&'p T>
+/// The first part of that name.
+pub fn find<'p, T: Part>(parts: &'p [T], title: &[u8]) -> Option<&'p T>
     ensures { option_map (λ x. x.now) result ≡ part_of T.title title.now parts.now }
 {
     for n in 0..parts.len() {
