@@ -58,6 +58,7 @@ impl<T: Drop> From<AllocFailed<T>> for NextFault {
 }
 
 // A kit file as it is read, and its value.
+#[derive(Drop)]
 struct KitSource {
     parts: KitParts,
     value: Value,
