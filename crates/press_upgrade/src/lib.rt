@@ -11,9 +11,6 @@ mod piece;
 mod same;
 mod version;
 
-#[cfg(test)]
-mod tests;
-
 pub use difference::Difference;
 pub use extension::extends;
 pub use laws::{

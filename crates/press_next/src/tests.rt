@@ -1,6 +1,6 @@
 //! What no clause says: which names the next kit gives, and which plugins it tells.
 
-use crate::{extends, next_kit};
+use press_upgrade::{extends, next_kit};
 use press_kit::read_kit_file;
 use serde_json::Value;
 use std::alloc::Global;
