@@ -1,7 +1,7 @@
 -- Values of which none names a plugin of the new kit alone make the same site over both kits, in which each active plugin is the same in both.
-use Rattle.std.proofs.Common.{◌≡◌, refl, sym, ◌∙◌, ap, subst, ℕ, List, [], ◌∷◌, ◌++◌, if◌then◌else◌, Bool, true, false, not, bytes_eq, filter, insert, codes, Option, Some, None, Result, Ok, Err}
+use Rattle.std.proofs.Common.{◌≡◌, refl, ◌∙◌, ap, subst, ℕ, List, [], ◌∷◌, ◌++◌, if◌then◌else◌, Bool, true, false, not, bytes_eq, filter, insert, codes, Option, Some, None, Result, Ok, Err}
 use Rattle.std.specs.Prelude.{◌||◌, IfSome, IfOk, is_some}
-use Rattle.std.specs.List.{AllByRecursion, list_any}
+use Rattle.std.specs.List.{AllByRecursion}
 use Rattle.press_callbacks.specs.Kits.{KitView, plugin_of}
 use Rattle.press_posts.specs.declared.draft.Draft.{Draft}
 use Rattle.press_posts.specs.declared.fire.Fire.{Fire}
@@ -21,7 +21,7 @@ use Rattle.press_site.specs.Contents.{take_event_effect}
 use Rattle.press_site.specs.Effects.{content_of, effect_on, no_site, with_content, with_options, with_plugins, with_profile}
 use Rattle.press_site.specs.Options.{Values}
 use Rattle.press_site.specs.Outcomes.{outcome_of}
-use Rattle.press_site.specs.Plugins.{activate_plugin, deactivate_plugin, is_active, place_in}
+use Rattle.press_site.specs.Plugins.{is_active, place_in}
 use Rattle.press_site.specs.SiteView.{SiteView}
 use Rattle.press_run.specs.Boot.{LoadedTables, boot_actions, boot_with}
 use Rattle.press_run.specs.Links.{or_no_change}
@@ -35,9 +35,9 @@ use Rattle.press_apply.specs.declared.fault.ApplyFault.TheVariants.{NoSuchPlugin
 use Rattle.press_apply.specs.declared.value.Value.{Value}
 use Rattle.press_apply.specs.declared.value.Value.TheVariants.{Noop, Cmd}
 use Rattle.press_apply.specs.Apply.{◌>>=◌, or_limit, state_after, fires, filter_text, with_effect, changes, does, about, passes, wanted_fault, update_fault, move_fault, delete_fault, prepare_draft, insert_work, update_work, change_between, trash_work, untrash_work, delete_work, event_fires, takes, takes_all, no_id, tick_work, boots, site_of, callbacks_on, work_without_boot, work_of, at_moment, keep_outcome, applied_where, applied, fold_values, site_after}
-use Rattle.press_upgrade.specs.Extends.{Extends, IsWhole, Knows, asks_new, ask_new, is_new, names_new}
+use Rattle.press_upgrade.specs.Extends.{Extends, IsWhole, Knows, asks_new, ask_new, names_new}
 use Rattle.press_upgrade.proofs.Known.{HasSame, TablesAre, boot_is, boots_same, has_same, same_scripts}
-use Rattle.press_upgrade.proofs.Runs.{Fine, FineAnswer, IsPluginSwitch, Keeps, actions_alike, filters_alike}
+use Rattle.press_upgrade.proofs.Runs.{Fine, IsPluginSwitch, Keeps, actions_alike, filters_alike}
 use Rattle.press_upgrade.proofs.Tables.{each_filtered, each_inserted}
 
 -- ---- two outcomes that are one, of which a word holds

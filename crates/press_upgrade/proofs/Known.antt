@@ -1,10 +1,9 @@
 -- What a whole kit names it has, so one that extends it has the same of each such name: the script of a callback, the loads of a plugin, and the tables of a boot.
-use Rattle.std.proofs.Common.{◌≡◌, refl, sym, ◌∙◌, ap, subst, ℕ, pos, List, [], ◌∷◌, Bool, true, false, not, cond, bytes_eq, if◌then◌else◌, Option, Some, None}
+use Rattle.std.proofs.Common.{◌≡◌, refl, sym, ◌∙◌, ap, ℕ, pos, List, [], ◌∷◌, Bool, true, false, not, cond, bytes_eq, if◌then◌else◌, Option, Some, None}
 use Rattle.std.specs.Prelude.{◌||◌, ◌&&◌, IfSome, is_some}
 use Rattle.std.specs.List.{AllByRecursion, list_all}
 use Rattle.std.proofs.lemmas.Slice.Eq.{bytes_eq-Decides}
 use Rattle.press_text.proofs.NameOrder.{both}
-use Rattle.press_callbacks.specs.declared.kit_fault.KitFault.{KitFault}
 use Rattle.press_callbacks.specs.declared.kit_fault.KitFault.TheVariants.{TwoNames, UnknownCallback, BadLoad}
 use Rattle.press_callbacks.specs.declared.plugin.Load.{Load}
 use Rattle.press_callbacks.specs.declared.plugin.Load.TheVariants.{Hook, Tag}

@@ -5,4 +5,3 @@ pub mod Pages
 pub mod Parts
 pub mod Runs
 pub mod Tables
-pub mod Whole

@@ -1,6 +1,6 @@
 -- Over two kits of which one extends the other each page of a site whose active plugins are the same in both is the same.
-use Rattle.std.proofs.Common.{◌≡◌, refl, ◌∙◌, ap, subst, ℕ, ◌++◌, List, [], ◌∷◌, take, if◌then◌else◌, codes, decimal, Option, Some, None}
-use Rattle.std.specs.Prelude.{IfSome, is_some}
+use Rattle.std.proofs.Common.{◌≡◌, refl, ◌∙◌, ap, ℕ, ◌++◌, List, [], ◌∷◌, take, if◌then◌else◌, codes, decimal, Option, Some, None}
+use Rattle.std.specs.Prelude.{is_some}
 use Rattle.serde_json.specs.Written.{compact_text}
 use Rattle.press_callbacks.specs.Kits.{KitView}
 use Rattle.press_posts.specs.declared.fire.Fire.{Fire}
@@ -8,7 +8,7 @@ use Rattle.press_posts.specs.declared.post.Post.{Post}
 use Rattle.press_posts.specs.PostChange.{post_at}
 use Rattle.press_posts.specs.Published.{published}
 use Rattle.press_site.specs.SiteView.{SiteView}
-use Rattle.press_run.specs.Boot.{LoadedTables, bare, boot_actions, boot_with}
+use Rattle.press_run.specs.Boot.{LoadedTables, bare, boot_actions}
 use Rattle.press_run.specs.Links.{read_only}
 use Rattle.press_run.specs.Outcome.{state_at_start}
 use Rattle.press_run.specs.Run.{◌>>=◌, Answer, Meaning, State, apply_hook, callbacks_of, do_fires, within}
@@ -27,7 +27,7 @@ use Rattle.press_page.specs.Template.{after_content, after_title, article_part, 
 use Rattle.press_upgrade.specs.Extends.{Extends, IsWhole, Knows}
 use Rattle.press_upgrade.proofs.Applies.{ActiveAre, Same}
 use Rattle.press_upgrade.proofs.Known.{boot_is, boots_same, same_scripts}
-use Rattle.press_upgrade.proofs.Runs.{Fine, FineAnswer, Keeps, actions_alike, filters_alike}
+use Rattle.press_upgrade.proofs.Runs.{Fine, Keeps, actions_alike, filters_alike}
 
 module _ (P : List ℕ → Type 0) where
   abbrev Good : State → Type 0

@@ -4,12 +4,11 @@ use Rattle.std.specs.Prelude.{slice_get, option_map}
 use Rattle.std.specs.List.{AllByRecursion}
 use Rattle.std.proofs.lemmas.Slice.Eq.{bytes_eq-Decides}
 use Rattle.press_callbacks.specs.declared.plugin.Plugin.{Plugin}
-use Rattle.press_callbacks.specs.declared.script.Op.{Op}
-use Rattle.press_callbacks.specs.Kits.{KitView, Scripts, plugin_of, script_of}
+use Rattle.press_callbacks.specs.Kits.{plugin_of, script_of}
 use Rattle.press_kit.specs.declared.kit_parts.KitParts.{KitParts}
 use Rattle.press_kit.specs.declared.kit_parts.Scripted.{Scripted}
 use Rattle.press_upgrade.specs.Differences.{callback_title, kit_given, plugin_title}
-use Rattle.press_upgrade.specs.Extends.{Extends, HasCallback, HasPlugin}
+use Rattle.press_upgrade.specs.Extends.{Extends, HasCallback}
 use Rattle.press_upgrade.specs.declared.part.Loss.{Loss}
 use Rattle.press_upgrade.specs.declared.part.Loss.TheVariants.{Other, Gone}
 use Rattle.press_upgrade.specs.Parts.{AreKept, IsFirstLost, Stands, part_of}

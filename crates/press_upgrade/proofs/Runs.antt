@@ -1,5 +1,5 @@
 -- Over two kits whose callbacks of one kind have the same scripts, which name callbacks of that kind alone, runs come to the same, and leave tables of that kind.
-use Rattle.std.proofs.Common.{◌≡◌, refl, sym, ◌∙◌, ap, subst, ℕ, zero, suc, ◌+◌, ◌++◌, List, [], ◌∷◌, take, length, Bool, true, false, Option, Some, None, Result, Ok, Err}
+use Rattle.std.proofs.Common.{◌≡◌, refl, subst, ℕ, zero, suc, ◌+◌, ◌++◌, List, [], ◌∷◌, take, length, Bool, true, false, Option, Some, None}
 use Rattle.std.specs.Prelude.{IfSome, option_map, slice_get, slice_range, bytes_eq, ltb}
 use Rattle.std.specs.List.{AllByRecursion}
 use Rattle.press_text.specs.Decimals.{decimal_in}
@@ -16,7 +16,6 @@ use Rattle.press_scan.specs.Shortcodes.{cut}
 use Rattle.press_scan.specs.FirstShortcode.{shortcode_from}
 use Rattle.press_scan.specs.Scans.{before, behind}
 use Rattle.press_scan.specs.Tags.{names_of, callback_of}
-use Rattle.press_callbacks.specs.declared.script.Ask as asked
 use Rattle.press_callbacks.specs.declared.script.CallIn.{CallIn}
 use Rattle.press_callbacks.specs.declared.script.Op.{Op}
 use Rattle.press_callbacks.specs.declared.script.Op.TheVariants as op
@@ -35,7 +34,7 @@ use Rattle.press_run.specs.declared.step.Kind.{Kind}
 use Rattle.press_run.specs.declared.step.Kind.TheVariants.{Filter, Action}
 use Rattle.press_run.specs.Links.{Changes, or_no_change, publishes, schedules}
 use Rattle.press_run.specs.Outcome.{job_meaning}
-use Rattle.press_run.specs.Run.{◌>>=◌, Answer, answer, State, Meaning, TurnResult, within, only_if, one_turn, fits, fuel, first_text, next_args, hook_call, or_empty, or_one_empty, tag_answer, shortcode_call, shortcode_answer, filter_answer, filter_answer_where, filters_answers, do_shortcode_tag, is_escape, answers, after_step, call_entry, run_entries, run_where, run_hook, apply_hook, do_hook, do_fires, change_site, publish, one_if, most_turns, most_open, shortcode_result, scan_rest, scan_from, scan, turn_step, counted_step, play, built_in_where, built_in, callback_where, at_depth, goes}
+use Rattle.press_run.specs.Run.{◌>>=◌, Answer, answer, State, Meaning, TurnResult, within, only_if, one_turn, fits, fuel, first_text, next_args, hook_call, or_empty, or_one_empty, tag_answer, shortcode_call, shortcode_answer, filter_answer_where, filters_answers, do_shortcode_tag, is_escape, answers, after_step, call_entry, run_entries, run_where, run_hook, apply_hook, do_hook, do_fires, change_site, publish, one_if, most_turns, most_open, shortcode_result, scan_rest, scan_from, scan, turn_step, counted_step, play, built_in_where, built_in, callback_where, at_depth, goes}
 use Rattle.press_run.specs.Run.TurnResult.{Goes, Ends}
 use Rattle.press_run.proofs.Profiled.{Alike, Any, any, binds, binds_same}
 use Rattle.press_upgrade.proofs.Tables.{RowsAre, TagsAre, RunIs, callback_is, each_at, entry_is, row_removed, rows_added, rows_removed, run_goes_on, tag_removed, tags_added}

@@ -1,5 +1,5 @@
 -- Which callbacks stand in the tables: an edit puts in only the one that it is given.
-use Rattle.std.proofs.Common.{◌≡◌, refl, ℕ, zero, suc, ℤ, List, [], ◌∷◌, ◌++◌, map, filter, insert, length, Bool, true, false, not, cond, ltb, bytes_eq, Option, Some, None}
+use Rattle.std.proofs.Common.{ℕ, zero, suc, ℤ, List, [], ◌∷◌, ◌++◌, map, filter, insert, length, Bool, true, false, not, cond, ltb, Option, Some, None}
 use Rattle.std.specs.Prelude.{IfSome, slice_get}
 use Rattle.std.specs.List.{AllByRecursion, list_any}
 use Rattle.press_hooks.specs.declared.row.Row.{Row}

@@ -1,6 +1,6 @@
 -- One kit extends another where each callback and each plugin of the old one is there in the new one, and the same: its script, its loads. Nothing else of a kit changes
 -- a page or an outcome (own; that plugins of one name are versions of one plugin: Plugin Handbook, Header Requirements).
-use Rattle.std.specs.Prelude.{◌≡◌, ℕ, List, Bool, true, false, not, ◌&&◌, Option, Some, None, is_some}
+use Rattle.std.specs.Prelude.{◌≡◌, ℕ, List, Bool, true, false, not, ◌&&◌, Some, None, is_some}
 use Rattle.std.specs.List.{AllByRecursion, list_any}
 use Rattle.press_callbacks.specs.declared.plugin.Plugin.{Plugin}
 use Rattle.press_callbacks.specs.declared.script.Op.{Op}

@@ -1,4 +1,3 @@
 pub mod Differences
 pub mod Extends
-pub mod Next
 pub mod Parts

@@ -1,4 +1,4 @@
-use Rattle.std.proofs.Common.{◌≡◌, refl, subst}
+use Rattle.std.proofs.Common.{refl, subst}
 use Rattle.press_upgrade.specs.Differences.{callback_title, plugin_title}
 use Rattle.press_upgrade.specs.Parts.{AreKept, IsFirstLost}
 use Rattle.press_upgrade.proofs.Parts.{extends_keeps, kept_extends, lost}

@@ -1,4 +1,4 @@
-use Rattle.std.proofs.Common.{◌≡◌, sym, ◌∙◌, ap}
+use Rattle.std.proofs.Common.{sym, ◌∙◌, ap}
 use Rattle.press_site.specs.SiteView.{SiteView}
 use Rattle.press_page.specs.Desk.{desk_of}
 use Rattle.press_page.specs.Page.{page_of}

@@ -1,4 +1,4 @@
-use Rattle.std.proofs.Common.{◌≡◌, sym, subst, Option, Some, None}
+use Rattle.std.proofs.Common.{sym, subst, Option, Some, None}
 use Rattle.std.specs.Prelude.{IfSome}
 use Rattle.press_callbacks.specs.Kits.{KitView}
 use Rattle.press_run.specs.Links.{Changes}

@@ -1,4 +1,4 @@
-use Rattle.std.proofs.Common.{◌≡◌, sym, ◌∙◌, ap}
+use Rattle.std.proofs.Common.{sym, ◌∙◌, ap}
 use Rattle.press_site.specs.SiteView.{SiteView}
 use Rattle.press_apply.specs.Apply.{applied}
 use Rattle.press_upgrade.proofs.Applies.{applied_alike, front, last_one, sites_alike}

@@ -1,4 +1,4 @@
-use Rattle.std.proofs.Common.{rules, ◌≡◌}
+use Rattle.std.proofs.Common.{rules}
 use Rattle.press_upgrade.proofs.part.loss_of.Goals as goal
 
 pub returns : goal.returns
