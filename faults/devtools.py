@@ -169,14 +169,20 @@ class Browser:
         elif method == "Runtime.exceptionThrown":
             it = about["exceptionDetails"]
             self.faults.append(it.get("exception", {}).get("description", it.get("text")))
+        elif method == "Page.javascriptDialogOpening":
+            # the page asks before it is left: it is left
+            self.send("Page.handleJavaScriptDialog", self.session, accept=True)
+
+    def send(self, method, session, **params):
+        self.sent += 1
+        asked = dict(id=self.sent, method=method, params=params)
+        if session:
+            asked["sessionId"] = session
+        self.socket.send(json.dumps(asked))
+        return self.sent
 
     def call(self, method, session=None, **params):
-        self.sent += 1
-        number = self.sent
-        asked = dict(id=number, method=method, params=params)
-        if session or self.session:
-            asked["sessionId"] = session or self.session
-        self.socket.send(json.dumps(asked))
+        number = self.send(method, session or self.session, **params)
         while True:
             told = json.loads(self.socket.text())
             if told.get("id") == number:
