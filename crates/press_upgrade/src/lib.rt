@@ -7,6 +7,8 @@ mod extension;
 mod laws;
 mod part;
 mod same;
+#[cfg(test)]
+mod tests;
 
 pub use difference::Difference;
 pub use extension::extends;
