@@ -5,3 +5,4 @@ pub mod Pages
 pub mod Parts
 pub mod Runs
 pub mod Tables
+pub mod Whole

@@ -1,3 +1,4 @@
 pub mod Differences
 pub mod Extends
+pub mod Next
 pub mod Parts
