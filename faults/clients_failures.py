@@ -12,8 +12,9 @@ from clients_lib import (
     GET, HERE, PAGES, SEEN, USED, Row, accepted, answer, asked, comes, connected, first_page, for_strangers, free_port, held_up, insert, many, may_open, open_files, places, said, serving,
     shimmed, started,
 )
+from cluster_lib import make_store
 from counters import Counters, shim_in
-from clients_scenes import EIGHT, FEW, NINE, PEER, MEMBERS, member_of_three, message
+from clients_scenes import EIGHT, FEW, MEMBERS, NINE, PEER, MemberRow, batch, member_of_three
 
 # ---- accepts that fail
 
@@ -169,9 +170,9 @@ def without_any(program):
 
 def members_alone(program):
     """Where those that are open are members', none gives way: they are heard, while a stranger waits."""
-    told = message(2, 1)
     with member_of_three(program, "no descriptor left, a member's begun") as (server, port):
-        row = Row(port, b"", told, PEER, MEMBERS[0])
+        told = batch(port)
+        row = MemberRow(port, b"", told, PEER, MEMBERS[0])
         may_open(server, max(open_files(server)) + 1 + FEW)
         # More than there is room for, so that some wait, and nothing is left.
         them = begun_by(port, 2 * FEW, PEER, MEMBERS[0], told)
@@ -182,9 +183,10 @@ def members_alone(program):
             time.sleep(0.5)
             row.wrong += not 0 < open_ones < 2 * FEW or accepted(server, port) != {PEER: open_ones}
             count = row.end(them[:open_ones], told[-1:])
-            late = Row(port, b"", told, PEER, MEMBERS[0])
+            late = MemberRow(port, b"", told, PEER, MEMBERS[0])
             count_late = late.end(them[open_ones:], told[-1:])
-            is_answered = answer(it)[0] == 503
+            # It has no post, and behind a report of another it is ready.
+            is_answered = answer(it)[0] == 404
         row.wrong += late.wrong + (not is_answered) + (server.poll() is not None)
     return row.told(
         f"no descriptor left, {open_ones} of a member that were begun before, {2 * FEW - open_ones} more and a stranger that wait",
@@ -209,6 +211,7 @@ def two_of_three(program, name, most):
         both = []
         for number in (1, 2):
             words = ["--id", str(number), "--peers", peers, "--store", f"{room}/{number}.db"]
+            make_store(program, words)
             server = them.enter_context(started(program, words, f"listening as {number} of {peers}\n", f"{name}, member {number}", most=most if number == 1 else None))
             both.append((server, ports[number - 1]))
         USED.add(HERE)
@@ -327,8 +330,12 @@ def refused_each(server, shim, row, what, status):
     return row.told(what, f"{growths} growths refused: {got[503]} times 503, {got[0]} times nothing, else {status}")
 
 
+# A message of a node by itself, which no member that keeps starts hears.
+SINGLE = b"POST /peer HTTP/1.1\r\nContent-Length: 15\r\n\r\n" + bytes([1, 2, 1]) + (1).to_bytes(4, "big") + (1).to_bytes(8, "big")
+
+
 def without_memory(program):
-    """A request for which memory runs out while it is sorted doesn't get past what an operator's words refuse: a time too far ahead, a stranger's message, and anything at a member that isn't ready."""
+    """A request for which memory runs out while it is sorted doesn't get past what an operator's words refuse: a time too far ahead, a single message, and anything at a member that isn't ready."""
     now = int(time.time())
     late, timely = insert(7, at=now + AHEAD), insert(8, at=now)
     ahead = ("--ahead", str(IN_TIME))
@@ -339,5 +346,5 @@ def without_memory(program):
             good = refused_each(server, shim, Row(port, b"", late), "out of memory while a form of a time too far ahead is sorted", 400)
             yield good and asked(port, b"GET /result/ann/7 HTTP/1.1\r\nHost: a\r\n\r\n")[0] == 404
         with member_of_three(program, "out of memory, a member that isn't ready", *ahead, "--stay", env=env) as (server, port):
-            for what, request, status in (("a page", GET, 503), ("a form", timely, 503), ("a form of a time too far ahead", late, 503), ("a stranger's message", message(2, 1), 404)):
+            for what, request, status in (("a page", GET, 503), ("a form", timely, 503), ("a form of a time too far ahead", late, 503), ("a single message", SINGLE, 404)):
                 yield refused_each(server, shim, Row(port, b"", request, host=MEMBERS[0]), f"out of memory while {what} is sorted, at a member that isn't ready", status)

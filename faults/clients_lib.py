@@ -73,19 +73,19 @@ def told_by(reply):
     return int(head.split(b" ")[1]) if head else 0, body
 
 
-def answer(it):
-    """The status and the body of what comes, until it ends."""
+def answer(it, read=read_all):
+    """The status and the body of what comes, until it ends, or as far as it is read."""
     try:
-        return told_by(read_all(it))
+        return told_by(read(it))
     except OSError:
         return 0, b""
 
 
-def asked(port, request, address=HERE, host=HERE):
+def asked(port, request, address=HERE, host=HERE, read=read_all):
     """The reply's status and body."""
     with connected(port, address=address, host=host) as it:
         it.sendall(request)
-        return told_by(read_all(it))
+        return told_by(read(it))
 
 
 def reset(it):
@@ -97,6 +97,9 @@ def reset(it):
 class Row:
     """The times of some pages, or of other requests, and whether each got its reply."""
 
+    # A page ends with its connection.
+    read = staticmethod(read_all)
+
     def __init__(self, port, page, request=GET, address=HERE, host=HERE):
         self.port, self.page, self.request, self.address, self.host = port, page, request, address, host
         self.times, self.wrong = [], 0
@@ -104,24 +107,28 @@ class Row:
     def connected(self):
         return connected(self.port, address=self.address, host=self.host)
 
+    def is_right(self, got):
+        return got == (200, self.page)
+
     def ask(self, count=PAGES):
         for _ in range(count):
             begun = time.perf_counter()
             try:
-                got = asked(self.port, self.request, self.address, self.host)
+                got = asked(self.port, self.request, self.address, self.host, self.read)
             except OSError:
                 got = None
             self.times.append((time.perf_counter() - begun) * 1e3)
-            self.wrong += got != (200, self.page)
+            self.wrong += not self.is_right(got)
         return self
 
     def hear(self, it, begun):
         """The reply to a request whose last byte went out then. Returns whether it is the page."""
-        got = answer(it)
+        got = answer(it, self.read)
         it.close()
         self.times.append((time.perf_counter() - begun) * 1e3)
-        self.wrong += got != (200, self.page)
-        return got == (200, self.page)
+        is_right = self.is_right(got)
+        self.wrong += not is_right
+        return is_right
 
     def ask_at_once(self, count):
         """Connects and asks so many times before the first reply is read. Returns how many got their page."""

@@ -9,6 +9,7 @@ import tempfile
 import threading
 import time
 
+from cluster_lib import batch_of, make_store, read_whole, recall_of
 from clients_lib import (
     FRONT, GET, HERE, IDLE, LITTLE, MOST_OPEN, QUARTER, SECONDS, SEEN, Row, accepted, answer, asked, comes, connected, fill_front, first_page, for_strangers, form, free_port,
     held_up, insert, limited, many, may_open, open_files, places, said, served, serving, shimmed, started,
@@ -216,10 +217,20 @@ EIGHT = tuple(f"127.0.1.{number}" for number in range(1, 9))
 STRANGERS = (("two addresses", NINE, None), ("eight, none of them beyond its quarter", EIGHT, None), ("eight, at most 512 open files", EIGHT, 512))
 
 
-def message(sender, receiver):
+class MemberRow(Row):
+    """Times of batches, and whether each was answered with one of the member, behind which the connection stays."""
+
+    read = staticmethod(read_whole)
+
+    def is_right(self, got):
+        return got is not None and got[0] == 200 and got[1].startswith(bytes([2, 1]))
+
+
+def batch(port):
     """A member asks another for a promise for the first block in round 1."""
-    body = bytes([1, sender, receiver]) + (1).to_bytes(4, "big") + (1).to_bytes(8, "big")
-    return b"POST /peer HTTP/1.1\r\nContent-Length: %d\r\n\r\n%s" % (len(body), body)
+    peers = ",".join(f"{host}:{port}" for host in MEMBERS)
+    message = bytes([1, 2, 1]) + (1).to_bytes(4, "big") + (1).to_bytes(8, "big")
+    return batch_of(2, peers, [message], recall_of(7, 1))
 
 
 @contextlib.contextmanager
@@ -229,22 +240,23 @@ def member_of_three(program, name, *words, **further):
     peers = ",".join(f"{host}:{port}" for host in MEMBERS)
     with tempfile.TemporaryDirectory() as room:
         words = ["--id", "1", "--peers", peers, "--store", f"{room}/node.db", *words]
+        make_store(program, words)
         with started(program, words, f"listening as 1 of {peers}\n", name, **further) as server:
             yield server, port
 
 
 def members(program):
     """Members are heard behind a table full of strangers, and their connections stand in it."""
-    told = message(2, 1)
     for what, addresses, most in STRANGERS:
         room = for_strangers(places(most) if most else MOST_OPEN)
         with member_of_three(program, f"members behind {what}", most=most) as (server, port):
+            told = batch(port)
             with many(port, 2 * IDLE, addresses, MEMBERS[0]):
                 held = held_by(server, port, room).total()
-                row = Row(port, b"", told, PEER, MEMBERS[0])
+                row = MemberRow(port, b"", told, PEER, MEMBERS[0])
                 row.wrong += held != room
                 yield row.ask().told(f"a member's message behind {2 * IDLE:,} strangers of {what}, who say nothing", f"{held:,} are held, of {room:,} places for strangers")
-                row = Row(port, b"", told, PEER, MEMBERS[0])
+                row = MemberRow(port, b"", told, PEER, MEMBERS[0])
                 them = [row.connected() for _ in range(KEPT)]
                 for it in them:
                     it.sendall(told[:-1])

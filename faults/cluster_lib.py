@@ -35,12 +35,22 @@ def insert(port, editor, seq):
     return ask(port, b"POST /command HTTP/1.1\r\nContent-Type: application/x-www-form-urlencoded\r\nContent-Length: %d\r\n\r\n%s" % (len(body), body))
 
 
-def send_batch(port, sender, peers, messages, source=None):
-    """A batch of a member with that list of peers and the demonstration kit, from that address."""
-    body = bytes([1, sender]) + digest_of(peers) + bytes(24)
+def recall_of(start, number):
+    """What the sender of a batch tells of its start, which has saved nothing and heard of nobody."""
+    return bytes([1]) + start.to_bytes(8, "big") + bytes(8) + number.to_bytes(8, "big") + bytes(2)
+
+
+def batch_of(sender, peers, messages, recall=bytes(1)):
+    """The request with a batch of a member with that list of peers and the demonstration kit."""
+    body = bytes([2, sender]) + digest_of(peers) + bytes(88) + recall
     for message in messages:
         body += len(message).to_bytes(4, "big") + message
-    return ask(port, b"POST /members HTTP/1.1\r\nContent-Length: %d\r\n\r\n%s" % (len(body), body), source=source)
+    return b"POST /members HTTP/1.1\r\nContent-Length: %d\r\n\r\n%s" % (len(body), body)
+
+
+def send_batch(port, sender, peers, messages, source=None):
+    """A batch that recalls no start, from that address."""
+    return ask(port, batch_of(sender, peers, messages), source=source)
 
 
 def send_message(port, message, source=None):
@@ -48,7 +58,15 @@ def send_message(port, message, source=None):
     return ask(port, b"POST /peer HTTP/1.1\r\nContent-Length: %d\r\n\r\n%s" % (len(message), message), source=source)
 
 
-REPORT = 34
+def make_store(program, words):
+    """Makes the store of a new member, which is started by these words."""
+    made = subprocess.run([program, "serve", *words, "--new"], capture_output=True, text=True, timeout=60)
+    if made.returncode or not made.stdout.startswith("made the store of member "):
+        raise SystemExit(f"no store is made: status {made.returncode}, {made.stdout!r}, {made.stderr!r}")
+
+
+REPORT = 98
+MARKS = 123
 PREPARE = 1
 
 
@@ -75,10 +93,20 @@ def read_whole(conn):
     return asked
 
 
+def head_length(body):
+    """How many bytes of a batch stand before its messages: the report, and what its sender recalls of starts."""
+    if body[REPORT : REPORT + 1] != bytes([1]):
+        return REPORT + 1
+    at = MARKS
+    for _ in range(2):
+        at += 17 if body[at : at + 1] == bytes([1]) else 1
+    return at
+
+
 def prepares_in(asked):
     """How many of the messages of a batch, or of the reply to one, are prepares."""
     body, count = asked.partition(b"\r\n\r\n")[2], 0
-    rest = body[REPORT:] if body[:1] == bytes([1]) else b""
+    rest = body[head_length(body) :] if body[:1] == bytes([2]) else b""
     while rest:
         count += rest[4] == PREPARE
         rest = rest[4 + int.from_bytes(rest[:4], "big") :]
@@ -88,7 +116,7 @@ def prepares_in(asked):
 def with_digest(text, digest):
     """A batch, or the reply to one, with the digest of the peers of whoever hears it: behind relays each member has a list of its own."""
     head, split, body = text.partition(b"\r\n\r\n")
-    if len(body) >= REPORT and body[0] == 1:
+    if len(body) >= REPORT and body[0] == 2:
         body = body[:2] + digest + body[10:]
     return head + split + body
 
@@ -151,7 +179,7 @@ class Cluster:
         self.relays = {(a, b): Relay(self.ports[b], random.Random(self.chance.random())) for a in range(count) for b in range(count) if a != b} if relays else {}
         for (a, b), relay in self.relays.items():
             relay.digests = (digest_of(self.peers(a)), digest_of(self.peers(b)))
-        self.nodes = [None] * count
+        self.nodes, self.made = [None] * count, set()
 
     def peers(self, place):
         ports = [self.relays[place, other].port if (place, other) in self.relays else port for other, port in enumerate(self.ports)]
@@ -161,10 +189,13 @@ class Cluster:
         return self.folder / f"node{place + 1}.db"
 
     def start(self, place, further=()):
-        """Starts a node, with these words behind its own."""
-        words = ["serve", "--id", str(place + 1), "--peers", self.peers(place), "--store", str(self.file(place)), "--tick", str(self.tick), *further]
+        """Starts a node, with these words behind its own. Its store is made before its first start, where there is none."""
+        words = ["--id", str(place + 1), "--peers", self.peers(place), "--store", str(self.file(place)), "--tick", str(self.tick), *further]
+        if place not in self.made and not self.file(place).exists():
+            make_store(self.program, words)
+        self.made.add(place)
         log = open(self.folder / f"node{place + 1}.log", "ab")
-        node = subprocess.Popen([self.program, *words], stdout=subprocess.PIPE, stderr=log)
+        node = subprocess.Popen([self.program, "serve", *words], stdout=subprocess.PIPE, stderr=log)
         line = node.stdout.readline()
         if line != f"listening as {place + 1} of {self.peers(place)}\n".encode():
             raise SystemExit(f"node {place + 1} doesn't start: {line!r}, status {node.wait()}")

@@ -1,7 +1,7 @@
 """What the benches of commands that are sent have in common: three members over files, and files of commands."""
 import json, pathlib, subprocess, sys, time
 
-from cluster_lib import Gone, free_port, get
+from cluster_lib import Gone, free_port, get, make_store
 
 
 class Members:
@@ -11,13 +11,17 @@ class Members:
         self.program, self.folder, self.words = program, pathlib.Path(folder), words
         self.ports = [free_port() for _ in range(3)]
         self.peers = ",".join(f"127.0.0.1:{port}" for port in self.ports)
+        for place in range(3):
+            make_store(program, self.words_of(place))
         self.nodes = [self.started(place) for place in range(3)]
         self.wait()
 
-    def started(self, place):
+    def words_of(self, place):
         store = str(self.folder / f"member-{place + 1}.db")
-        words = [self.program, "serve", "--id", str(place + 1), "--peers", self.peers, "--store", store, *self.words]
-        return subprocess.Popen(words, stdout=subprocess.DEVNULL, stderr=subprocess.DEVNULL)
+        return ["--id", str(place + 1), "--peers", self.peers, "--store", store, *self.words]
+
+    def started(self, place):
+        return subprocess.Popen([self.program, "serve", *self.words_of(place)], stdout=subprocess.DEVNULL, stderr=subprocess.DEVNULL)
 
     def kill(self, place):
         self.nodes[place].kill()

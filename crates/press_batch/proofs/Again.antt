@@ -1,6 +1,7 @@
 -- What is spelled is read.
-use Rattle.std.proofs.Common.{◌≡◌, ℕ, zero, suc, ◌^◌, ◌<◌, ◌≤◌, false, ltb, List, [], ◌∷◌, ◌++◌, length, Some, Result, Ok, refl, sym, ap, subst, ◌∙◌, append_assoc, arith}
+use Rattle.std.proofs.Common.{◌≡◌, ℕ, zero, suc, ◌^◌, ◌<◌, ◌≤◌, true, false, ltb, List, [], ◌∷◌, ◌++◌, length, Option, None, Some, Result, Ok, refl, sym, ap, subst, ◌∙◌, append_assoc, arith}
 use Rattle.std.specs.Int.{Width, w32, w64, byte_len, from_be_bytes, to_be_bytes}
+use Rattle.std.specs.Prelude.{IfSome}
 use Rattle.std.proofs.lemmas.Bool.{le-ltb}
 use Rattle.std.proofs.lemmas.Bool.Decides.{nat_tests}
 use Rattle.std.proofs.lemmas.List.{append-nil, length-append, take_at, drop_at}
@@ -13,13 +14,16 @@ use Rattle.press_wire.specs.Spelling.{number4, number8, spelled_message}
 use Rattle.press_wire.proofs.Codec.{passes_only}
 use Rattle.press_wire.proofs.MessageLaws.{reads_back}
 use Rattle.press_batch.specs.Carried.{BatchContent}
-use Rattle.press_batch.specs.Fields.{◌>>=◌, bytes_at, number_at, number4_at, number8_at, version_at, member_at, piece_at}
-use Rattle.press_batch.specs.Held.{IsReport, IsBatch, AreMessages, AreFormed, ReadBack}
-use Rattle.press_batch.specs.Reading.{digests_at, report_at, head_at, or_extra, read_report, message_at, messages_within, batch_in, read_batch}
-use Rattle.press_batch.specs.Spelling.{spelled_report, spelled_piece, spelled_messages, spelled_batch, most_bytes}
+use Rattle.press_batch.specs.Fields.{◌>>=◌, bytes_at, number_at, number4_at, number8_at, version_at, member_at, flag_at, digest_at, piece_at}
+use Rattle.press_batch.specs.Held.{IsBatch, IsDigest, IsHead, IsMark, IsRecall, IsReport, AreMessages, AreFormed, ReadBack}
+use Rattle.press_batch.specs.Reading.{digests_at, report_at, mark_at, mark_behind, optional_mark_at, recall_fields_at, recall_behind, recall_at, head_at, or_extra, read_head, message_at, messages_within, batch_in, read_batch}
+use Rattle.press_batch.specs.Spelling.{spelled_report, spelled_mark, spelled_optional_mark, spelled_recall, spelled_head, spelled_piece, spelled_messages, spelled_batch, most_bytes}
 use Rattle.press_batch.specs.declared.fault.BatchFault.{BatchFault}
 use Rattle.press_batch.specs.declared.report.Digests.{Digests}
+use Rattle.press_batch.specs.declared.head.Head.{Head}
 use Rattle.press_batch.specs.declared.report.Report.{Report}
+use Rattle.press_starts.specs.declared.mark.Mark.{Mark}
+use Rattle.press_starts.specs.declared.recall.Recall.{Recall}
 use Rattle.press_batch.proofs.Lengths.{messages_nil, messages_cons, length_cons}
 
 -- ---- fields
@@ -37,7 +41,7 @@ number8_again : (n : ℕ) (rest : List ℕ) → n < 2 ^ 64 → number8_at (numbe
 unfolding number8_at number8
 number8_again n rest lt = number_again w64 (to_be_bytes w64 n) n rest refl (from_be_bytes-to_be_bytes_8 n lt)
 
-version_again : (rest : List ℕ) → version_at (1 ∷ rest) ≡ Ok (1, rest)
+version_again : (rest : List ℕ) → version_at (2 ∷ rest) ≡ Ok (2, rest)
 unfolding version_at
 version_again rest = refl
 
@@ -63,28 +67,86 @@ digests_again : (d : Digests) (rest : List ℕ) → d.peers < 2 ^ 64 → d.kit <
 unfolding digests_at
 digests_again d rest peers kit = rw (number8_again d.peers (number8 d.kit ++ rest) peers, number8_again d.kit rest kit) refl
 
-report_again : (r : Report) (rest : List ℕ) → IsReport r → report_at (number8 r.digests.peers ++ (number8 r.digests.kit ++ (number8 r.applied ++ (number8 r.chosen ++ rest)))) ≡ Ok (r, rest)
+digest_again : (d rest : List ℕ) → IsDigest d → digest_at (d ++ rest) ≡ Ok (d, rest)
+unfolding digest_at
+digest_again d rest is = subst (λ n. bytes_at n (d ++ rest) ≡ Ok (d, rest)) is.0 (bytes_again d rest)
+
+report_is : (r : Report) (rest : List ℕ) → spelled_report r ++ rest ≡ number8 r.digests.peers ++ (number8 r.digests.kit ++ (number8 r.applied ++ (number8 r.chosen ++ (r.digest ++ (r.block_digest ++ rest)))))
+unfolding spelled_report
+report_is r rest = simp append_assoc
+
+report_again : (r : Report) (rest : List ℕ) → IsReport r → report_at (spelled_report r ++ rest) ≡ Ok (r, rest)
 unfolding report_at
 report_again r rest is =
-    rw (digests_again r.digests (number8 r.applied ++ (number8 r.chosen ++ rest)) is.0 is.1, number8_again r.applied (number8 r.chosen ++ rest) is.2, number8_again r.chosen rest is.3) refl
-
-report_is : (from : ℕ) (r : Report) (rest : List ℕ) → spelled_report from r ++ rest ≡ 1 ∷ from ∷ (number8 r.digests.peers ++ (number8 r.digests.kit ++ (number8 r.applied ++ (number8 r.chosen ++ rest))))
-unfolding spelled_report
-report_is from r rest = ap (λ (t : List ℕ). 1 ∷ from ∷ t) (simp append_assoc)
-
-head_again : (from : ℕ) (r : Report) (rest : List ℕ) → IsNode from → IsReport r → head_at (spelled_report from r ++ rest) ≡ Ok ((from, r), rest)
-unfolding head_at
-head_again from r rest node is =
     rw (
-      report_is from r rest,
-      version_again (from ∷ (number8 r.digests.peers ++ (number8 r.digests.kit ++ (number8 r.applied ++ (number8 r.chosen ++ rest))))),
-      member_again from (number8 r.digests.peers ++ (number8 r.digests.kit ++ (number8 r.applied ++ (number8 r.chosen ++ rest)))) node,
-      report_again r rest is,
+      report_is r rest,
+      digests_again r.digests (number8 r.applied ++ (number8 r.chosen ++ (r.digest ++ (r.block_digest ++ rest)))) is.0 is.1,
+      number8_again r.applied (number8 r.chosen ++ (r.digest ++ (r.block_digest ++ rest))) is.2,
+      number8_again r.chosen (r.digest ++ (r.block_digest ++ rest)) is.3,
+      digest_again r.digest (r.block_digest ++ rest) is.4,
+      digest_again r.block_digest rest is.5,
     ) refl
 
-pub report_reads_back : (from : ℕ) (r : Report) → IsNode from → IsReport r → read_report (spelled_report from r) ≡ Ok (from, r)
-unfolding read_report
-report_reads_back from r node is = ap (λ (t : List ℕ). head_at t >>= or_extra) (sym (append-nil (spelled_report from r))) ∙ next (head_at (spelled_report from r ++ [])) or_extra ((from, r), []) (head_again from r [] node is)
+-- ---- recalls
+
+none_again : (rest : List ℕ) → flag_at (0 ∷ rest) ≡ Ok (false, rest)
+unfolding flag_at
+none_again rest = refl
+
+some_again : (rest : List ℕ) → flag_at (1 ∷ rest) ≡ Ok (true, rest)
+unfolding flag_at
+some_again rest = refl
+
+mark_again : (m : Mark) (rest : List ℕ) → IsMark m → mark_at (spelled_mark m ++ rest) ≡ Ok (m, rest)
+unfolding mark_at spelled_mark
+mark_again m rest is = rw (append_assoc (number8 m.start) (number8 m.saves) rest, number8_again m.start (number8 m.saves ++ rest) is.0, number8_again m.saves rest is.1) refl
+
+optional_mark_again : (m : Option Mark) (rest : List ℕ) → IfSome m IsMark → optional_mark_at (spelled_optional_mark m ++ rest) ≡ Ok (m, rest)
+unfolding optional_mark_at spelled_optional_mark mark_behind
+optional_mark_again None rest is = rw (none_again rest) refl
+optional_mark_again (Some m) rest is = rw (some_again (spelled_mark m ++ rest), mark_again m rest is) refl
+
+fields_are : (r : Recall) (rest : List ℕ) → (spelled_mark r.mark ++ (number8 r.number ++ (spelled_optional_mark r.heard ++ spelled_optional_mark r.answered))) ++ rest
+    ≡ spelled_mark r.mark ++ (number8 r.number ++ (spelled_optional_mark r.heard ++ (spelled_optional_mark r.answered ++ rest)))
+fields_are r rest = simp append_assoc
+
+fields_again : (r : Recall) (rest : List ℕ) → IsRecall r → recall_fields_at ((spelled_mark r.mark ++ (number8 r.number ++ (spelled_optional_mark r.heard ++ spelled_optional_mark r.answered))) ++ rest) ≡ Ok (r, rest)
+unfolding recall_fields_at
+fields_again r rest is =
+    rw (
+      fields_are r rest,
+      mark_again r.mark (number8 r.number ++ (spelled_optional_mark r.heard ++ (spelled_optional_mark r.answered ++ rest))) is.0,
+      number8_again r.number (spelled_optional_mark r.heard ++ (spelled_optional_mark r.answered ++ rest)) is.1,
+      optional_mark_again r.heard (spelled_optional_mark r.answered ++ rest) is.2,
+      optional_mark_again r.answered rest is.3,
+    ) refl
+
+recall_again : (r : Option Recall) (rest : List ℕ) → IfSome r IsRecall → recall_at (spelled_recall r ++ rest) ≡ Ok (r, rest)
+unfolding recall_at spelled_recall recall_behind
+recall_again None rest is = rw (none_again rest) refl
+recall_again (Some r) rest is =
+    rw (some_again ((spelled_mark r.mark ++ (number8 r.number ++ (spelled_optional_mark r.heard ++ spelled_optional_mark r.answered))) ++ rest), fields_again r rest is) refl
+
+-- ---- heads
+
+head_is : (h : Head) (rest : List ℕ) → spelled_head h ++ rest ≡ 2 ∷ h.from ∷ (spelled_report h.report ++ (spelled_recall h.recall ++ rest))
+unfolding spelled_head
+head_is h rest = ap (λ (t : List ℕ). 2 ∷ h.from ∷ t) (append_assoc (spelled_report h.report) (spelled_recall h.recall) rest)
+
+head_again : (h : Head) (rest : List ℕ) → IsHead h → head_at (spelled_head h ++ rest) ≡ Ok (h, rest)
+unfolding head_at
+head_again h rest is =
+    rw (
+      head_is h rest,
+      version_again (h.from ∷ (spelled_report h.report ++ (spelled_recall h.recall ++ rest))),
+      member_again h.from (spelled_report h.report ++ (spelled_recall h.recall ++ rest)) is.0,
+      report_again h.report (spelled_recall h.recall ++ rest) is.1,
+      recall_again h.recall rest is.2,
+    ) refl
+
+pub head_reads_back : (h : Head) → IsHead h → read_head (spelled_head h) ≡ Ok h
+unfolding read_head
+head_reads_back h is = ap (λ (t : List ℕ). head_at t >>= or_extra) (sym (append-nil (spelled_head h))) ∙ next (head_at (spelled_head h ++ [])) or_extra (h, []) (head_again h [] is)
 
 -- ---- messages
 
@@ -125,19 +187,19 @@ messages_again (suc more) (m ∷ messages) enough few read =
 
 -- ---- batches
 
-batch_again : (b : BatchContent) → IsNode b.from → IsReport b.report → length (spelled_batch b) ≤ most_bytes → AreRead b.messages → read_batch (spelled_batch b) ≡ Ok b
+batch_again : (b : BatchContent) → IsHead b.head → length (spelled_batch b) ≤ most_bytes → AreRead b.messages → read_batch (spelled_batch b) ≡ Ok b
 unfolding read_batch batch_in spelled_batch
-batch_again b node is short read =
-    let fitting : ltb most_bytes (length (spelled_report b.from b.report ++ spelled_messages b.messages)) ≡ false = le-ltb _ _ short in
-    let few : length (spelled_messages b.messages) < 2 ^ 32 = omega (arith, short, length-append (spelled_report b.from b.report) (spelled_messages b.messages)) in
-    rw (fitting, head_again b.from b.report (spelled_messages b.messages) node is, messages_again (length (spelled_messages b.messages)) b.messages (omega arith) few read) refl
+batch_again b is short read =
+    let fitting : ltb most_bytes (length (spelled_head b.head ++ spelled_messages b.messages)) ≡ false = le-ltb _ _ short in
+    let few : length (spelled_messages b.messages) < 2 ^ 32 = omega (arith, short, length-append (spelled_head b.head) (spelled_messages b.messages)) in
+    rw (fitting, head_again b.head (spelled_messages b.messages) is, messages_again (length (spelled_messages b.messages)) b.messages (omega arith) few read) refl
 
 are_read : (messages : List Message) → AreMessages messages → AreRead messages
 are_read [] are = tt
 are_read (m ∷ messages) are = (reads_back m are.0.0 are.0.1 are.0.2, are_read messages are.1)
 
 pub batch_reads_back : (b : BatchContent) → IsBatch b → length (spelled_batch b) ≤ most_bytes → read_batch (spelled_batch b) ≡ Ok b
-batch_reads_back b is short = batch_again b is.0 is.1 short (are_read b.messages is.2)
+batch_reads_back b is short = batch_again b is.0 short (are_read b.messages is.1)
 
 -- ---- what was written
 
@@ -145,12 +207,12 @@ formed_read : (messages : List Message) → ReadBack messages → AreFormed mess
 formed_read [] back formed = tt
 formed_read (m ∷ messages) back formed = (back.0 formed.0, formed_read messages back.1 formed.1)
 
-pub written_reads : (b : BatchContent) (bytes : List ℕ) → IsNode b.from → IsReport b.report → ReadBack b.messages → bytes ≡ spelled_batch b → length bytes ≤ most_bytes → AreFormed b.messages → read_batch bytes ≡ Ok b
-written_reads b bytes node is back spelled short formed =
-    ap read_batch spelled ∙ batch_again b node is (subst (λ (t : List ℕ). length t ≤ most_bytes) spelled short) (formed_read b.messages back formed)
+pub written_reads : (b : BatchContent) (bytes : List ℕ) → IsHead b.head → ReadBack b.messages → bytes ≡ spelled_batch b → length bytes ≤ most_bytes → AreFormed b.messages → read_batch bytes ≡ Ok b
+written_reads b bytes is back spelled short formed =
+    ap read_batch spelled ∙ batch_again b is (subst (λ (t : List ℕ). length t ≤ most_bytes) spelled short) (formed_read b.messages back formed)
 
--- the report, and then the messages
-pub made_reads : (b : BatchContent) (bytes front : List ℕ) {messages : List Message} → IsNode b.from → IsReport b.report → ReadBack b.messages → front ≡ spelled_report b.from b.report → messages ≡ b.messages → bytes ≡ front ++ spelled_messages messages → length bytes ≤ most_bytes → AreFormed b.messages → read_batch bytes ≡ Ok b
+-- the head, and then the messages
+pub made_reads : (b : BatchContent) (bytes front : List ℕ) {messages : List Message} → IsHead b.head → ReadBack b.messages → front ≡ spelled_head b.head → messages ≡ b.messages → bytes ≡ front ++ spelled_messages messages → length bytes ≤ most_bytes → AreFormed b.messages → read_batch bytes ≡ Ok b
 unfolding spelled_batch
-made_reads b bytes front node is back begun same made short formed =
-    written_reads b bytes node is back (made ∙ ap (λ (xs : List Message). front ++ spelled_messages xs) same ∙ ap (λ (t : List ℕ). t ++ spelled_messages b.messages) begun) short formed
+made_reads b bytes front is back begun same made short formed =
+    written_reads b bytes is back (made ∙ ap (λ (xs : List Message). front ++ spelled_messages xs) same ∙ ap (λ (t : List ℕ). t ++ spelled_messages b.messages) begun) short formed

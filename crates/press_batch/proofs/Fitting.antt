@@ -5,10 +5,10 @@ use Rattle.std.proofs.lemmas.List.{append-nil, length-append}
 use Rattle.press_wire.specs.declared.message.Message.{Message}
 use Rattle.press_wire.specs.Spelling.{spelled_message, is_too_long_message}
 use Rattle.press_batch.specs.Carried.{BatchContent}
-use Rattle.press_batch.specs.Held.{AreShort}
-use Rattle.press_batch.specs.Spelling.{fits, most_bytes, refusal, refusal_behind, spelled_batch, spelled_messages, spelled_piece, spelled_report, with_last}
+use Rattle.press_batch.specs.Held.{AreShort, IsHead}
+use Rattle.press_batch.specs.Spelling.{fits, most_bytes, refusal, refusal_behind, spelled_batch, spelled_messages, spelled_head, spelled_piece, with_last}
 use Rattle.press_batch.specs.declared.fault.BatchFault.TheVariants.{TooLong, BadMessage}
-use Rattle.press_batch.proofs.Lengths.{length_nil, length_cons, length_report}
+use Rattle.press_batch.proofs.Lengths.{length_nil, length_cons, length_head}
 
 -- ---- which batches have bytes
 
@@ -33,17 +33,17 @@ short_none len (m ∷ messages) short most =
     let m_short = short.0 in
     rw (m_short, fitting) left
 
-length_batch : (b : BatchContent) → length (spelled_batch b) ≡ length (spelled_report b.from b.report) + length (spelled_messages b.messages)
+length_batch : (b : BatchContent) → length (spelled_batch b) ≡ length (spelled_head b.head) + length (spelled_messages b.messages)
 unfolding spelled_batch
-length_batch b = length-append (spelled_report b.from b.report) (spelled_messages b.messages)
+length_batch b = length-append (spelled_head b.head) (spelled_messages b.messages)
 
-pub not_refused : (b : BatchContent) → refusal b ≡ None → AreShort b.messages × (length (spelled_batch b) ≤ most_bytes)
-not_refused b none =
-    let w = refused_none (length (spelled_report b.from b.report)) b.messages (omega (arith, length_report b.from b.report)) none in
+pub not_refused : (b : BatchContent) → IsHead b.head → refusal b ≡ None → AreShort b.messages × (length (spelled_batch b) ≤ most_bytes)
+not_refused b is none =
+    let w = refused_none (length (spelled_head b.head)) b.messages (omega (arith, length_head b.head is)) none in
     (w.0, omega (arith, w.1, length_batch b))
 
 pub fitting_taken : (b : BatchContent) → AreShort b.messages → length (spelled_batch b) ≤ most_bytes → refusal b ≡ None
-fitting_taken b short most = short_none (length (spelled_report b.from b.report)) b.messages short (omega (arith, most, length_batch b))
+fitting_taken b short most = short_none (length (spelled_head b.head)) b.messages short (omega (arith, most, length_batch b))
 
 -- ---- a message more
 
@@ -54,4 +54,4 @@ messages_last (x ∷ messages) m = ap (λ (t : List ℕ). spelled_piece (spelled
 
 pub spelled_last : (b : BatchContent) (m : Message) → spelled_batch (with_last m b) ≡ spelled_batch b ++ spelled_piece (spelled_message m)
 unfolding spelled_batch
-spelled_last b m = ap (λ (t : List ℕ). spelled_report b.from b.report ++ t) (messages_last b.messages m) ∙ sym (append_assoc (spelled_report b.from b.report) (spelled_messages b.messages) (spelled_piece (spelled_message m)))
+spelled_last b m = ap (λ (t : List ℕ). spelled_head b.head ++ t) (messages_last b.messages m) ∙ sym (append_assoc (spelled_head b.head) (spelled_messages b.messages) (spelled_piece (spelled_message m)))

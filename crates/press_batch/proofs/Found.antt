@@ -75,6 +75,7 @@ refused bytes start messages fault.TooLong l left refuses = none_read bytes star
 refused bytes start messages fault.Short l left refuses = none_read bytes start messages fault.Short l left refuses
 refused bytes start messages fault.BadVersion l left refuses = none_read bytes start messages fault.BadVersion l left refuses
 refused bytes start messages fault.BadMember l left refuses = none_read bytes start messages fault.BadMember l left refuses
+refused bytes start messages fault.BadRecall l left refuses = none_read bytes start messages fault.BadRecall l left refuses
 refused bytes start messages fault.BadMessage l left refuses = none_read bytes start messages fault.BadMessage l left refuses
 refused bytes start messages fault.Extra l left refuses = none_read bytes start messages fault.Extra l left refuses
 

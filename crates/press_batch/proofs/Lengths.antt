@@ -1,5 +1,5 @@
 -- How long spellings are, and what is left behind what was read.
-use Rattle.std.proofs.Common.{◌≡◌, ℕ, ◌+◌, ◌<◌, ◌≤◌, Bool, true, false, cond, ltb, List, [], ◌∷◌, ◌++◌, length, take, drop, Result, Ok, Err, refl, ap, append_assoc, arith}
+use Rattle.std.proofs.Common.{◌≡◌, ℕ, ◌+◌, ◌<◌, ◌≤◌, Bool, true, false, cond, ltb, List, [], ◌∷◌, ◌++◌, length, take, drop, Option, None, Some, Result, Ok, Err, refl, ap, append_assoc, arith}
 use Rattle.std.proofs.lemmas.Bool.{ltb-false}
 use Rattle.std.proofs.lemmas.List.{length-append, length-drop}
 use Rattle.std.specs.Int.{w32, from_be_bytes}
@@ -9,18 +9,66 @@ use Rattle.press_wire.specs.Reading.{read_message}
 use Rattle.press_wire.specs.Spelling.{number4, number8, spelled_message}
 use Rattle.press_batch.specs.Fields.{◌>>=◌, bytes_at, number4_at, piece_at}
 use Rattle.press_batch.specs.Reading.{inside, message_at}
-use Rattle.press_batch.specs.Spelling.{spelled_messages, spelled_piece, spelled_report}
+use Rattle.press_batch.specs.Held.{IsHead, IsReport}
+use Rattle.press_batch.specs.Spelling.{spelled_head, spelled_mark, spelled_messages, spelled_optional_mark, spelled_piece, spelled_recall, spelled_report}
 use Rattle.press_batch.specs.declared.fault.BatchFault.{BatchFault}
 use Rattle.press_batch.specs.declared.fault.BatchFault.TheVariants.{Short}
+use Rattle.press_batch.specs.declared.head.Head.{Head}
 use Rattle.press_batch.specs.declared.report.Report.{Report}
+use Rattle.press_starts.specs.declared.mark.Mark.{Mark}
+use Rattle.press_starts.specs.declared.recall.Recall.{Recall}
 
 -- pieces put at the end one after another
 pub regroup : (a b c : List ℕ) → (a ++ b) ++ c ≡ a ++ (b ++ c)
 regroup a b c = append_assoc a b c
 
-pub length_report : (from : ℕ) (r : Report) → length (spelled_report from r) ≡ 34
-unfolding spelled_report number8
-length_report from r = refl
+length_number8 : (n : ℕ) → length (number8 n) ≡ 8
+unfolding number8
+length_number8 n = refl
+
+length_mark : (m : Mark) → length (spelled_mark m) ≡ 16
+unfolding spelled_mark
+length_mark m = omega (arith, length-append (number8 m.start) (number8 m.saves), length_number8 m.start, length_number8 m.saves)
+
+length_optional_mark : (m : Option Mark) → length (spelled_optional_mark m) ≤ 17
+unfolding spelled_optional_mark
+length_optional_mark None = omega arith
+length_optional_mark (Some m) = omega (arith, length_mark m)
+
+length_recall : (r : Option Recall) → length (spelled_recall r) ≤ 59
+unfolding spelled_recall
+length_recall None = omega arith
+length_recall (Some r) = omega (
+  arith,
+  length-append (spelled_mark r.mark) (number8 r.number ++ (spelled_optional_mark r.heard ++ spelled_optional_mark r.answered)),
+  length-append (number8 r.number) (spelled_optional_mark r.heard ++ spelled_optional_mark r.answered),
+  length-append (spelled_optional_mark r.heard) (spelled_optional_mark r.answered),
+  length_mark r.mark,
+  length_number8 r.number,
+  length_optional_mark r.heard,
+  length_optional_mark r.answered,
+)
+
+length_report : (r : Report) → IsReport r → length (spelled_report r) ≡ 96
+unfolding spelled_report
+length_report r is = omega (
+  arith,
+  length-append (number8 r.digests.peers) (number8 r.digests.kit ++ (number8 r.applied ++ (number8 r.chosen ++ (r.digest ++ r.block_digest)))),
+  length-append (number8 r.digests.kit) (number8 r.applied ++ (number8 r.chosen ++ (r.digest ++ r.block_digest))),
+  length-append (number8 r.applied) (number8 r.chosen ++ (r.digest ++ r.block_digest)),
+  length-append (number8 r.chosen) (r.digest ++ r.block_digest),
+  length-append r.digest r.block_digest,
+  length_number8 r.digests.peers,
+  length_number8 r.digests.kit,
+  length_number8 r.applied,
+  length_number8 r.chosen,
+  is.4.0,
+  is.5.0,
+)
+
+pub length_head : (h : Head) → IsHead h → length (spelled_head h) ≤ 157
+unfolding spelled_head
+length_head h is = omega (arith, length-append (spelled_report h.report) (spelled_recall h.recall), length_report h.report is.1, length_recall h.recall)
 
 length_number4 : (n : ℕ) → length (number4 n) ≡ 4
 unfolding number4

@@ -1,9 +1,9 @@
 -- Fields are read off the front of bytes, one after another; the first that fails gives the fault (own).
-use Rattle.std.specs.Prelude.{ℕ, ◌==◌, List, [], ◌∷◌, length, take, drop, nat_lt, Bool, Option, Some, None, Result, Ok, Err, if◌then◌else◌}
+use Rattle.std.specs.Prelude.{ℕ, ◌==◌, true, false, List, [], ◌∷◌, length, take, drop, nat_lt, Bool, Option, Some, None, Result, Ok, Err, if◌then◌else◌}
 use Rattle.std.specs.Int.{Width, w32, w64, byte_len, from_be_bytes}
 use Rattle.press_wire.specs.Ranges.{only, member_id_of}
 use Rattle.press_batch.specs.declared.fault.BatchFault.{BatchFault}
-use Rattle.press_batch.specs.declared.fault.BatchFault.TheVariants.{Short, BadVersion, BadMember}
+use Rattle.press_batch.specs.declared.fault.BatchFault.TheVariants.{Short, BadVersion, BadMember, BadRecall}
 use Rattle.press_batch.specs.Spelling.{version}
 
 -- what is read off the front, and the bytes behind it
@@ -47,6 +47,16 @@ version_at bytes = byte_at bytes >>= λ n. or_fault BadVersion (only is_version 
 
 unfoldable pub member_at : Reading ℕ
 member_at bytes = byte_at bytes >>= λ n. or_fault BadMember (member_id_of n.0) n.1
+
+-- a byte that says whether there is something: 1 that there is, 0 that there isn't
+abbrev pub flag_of : ℕ → Option Bool
+flag_of n = if n == 0 then Some false else (if n == 1 then Some true else None)
+
+unfoldable pub flag_at : Reading Bool
+flag_at bytes = byte_at bytes >>= λ n. or_fault BadRecall (flag_of n.0) n.1
+
+unfoldable pub digest_at : Reading (List ℕ)
+digest_at bytes = bytes_at 32 bytes
 
 -- bytes behind their length in four bytes
 unfoldable pub piece_at : Reading (List ℕ)

@@ -1,15 +1,18 @@
--- What bytes are read as (own). A report is read from left to right, and nothing comes behind it. A batch is first looked at for its length; then its report is read, and each message: its length, its bytes, and what they
+-- What bytes are read as (own). A head is read from left to right, and nothing comes behind it. A batch is first looked at for its length; then its head is read, and each message: its length, its bytes, and what they
 -- are. The first that fails gives the fault.
-use Rattle.std.specs.Prelude.{ℕ, zero, suc, ◌==◌, List, [], ◌∷◌, length, nat_lt, Result, Ok, Err, if◌then◌else◌}
+use Rattle.std.specs.Prelude.{ℕ, zero, suc, ◌==◌, Bool, true, false, Option, None, Some, List, [], ◌∷◌, length, nat_lt, Result, Ok, Err, if◌then◌else◌}
 use Rattle.press_wire.specs.declared.fault.WireFault.{WireFault}
 use Rattle.press_wire.specs.declared.message.Message.{Message}
 use Rattle.press_wire.specs.Reading.{read_message}
 use Rattle.press_batch.specs.declared.fault.BatchFault.{BatchFault}
 use Rattle.press_batch.specs.declared.fault.BatchFault.TheVariants.{TooLong, BadMessage, Extra}
+use Rattle.press_batch.specs.declared.head.Head.{Head}
 use Rattle.press_batch.specs.declared.report.Digests.{Digests}
 use Rattle.press_batch.specs.declared.report.Report.{Report}
+use Rattle.press_starts.specs.declared.mark.Mark.{Mark}
+use Rattle.press_starts.specs.declared.recall.Recall.{Recall}
 use Rattle.press_batch.specs.Carried.{BatchContent}
-use Rattle.press_batch.specs.Fields.{Reading, ◌>>=◌, number8_at, version_at, member_at, piece_at}
+use Rattle.press_batch.specs.Fields.{Reading, ◌>>=◌, number8_at, version_at, member_at, flag_at, digest_at, piece_at}
 use Rattle.press_batch.specs.Spelling.{most_bytes}
 
 -- ---- reports
@@ -25,23 +28,60 @@ report_at bytes = do
   digests ← digests_at bytes
   applied ← number8_at digests.1
   chosen ← number8_at applied.1
-  Ok (record { applied = applied.0; chosen = chosen.0; digests = digests.0 }, chosen.1)
+  digest ← digest_at chosen.1
+  block_digest ← digest_at digest.1
+  Ok (record { applied = applied.0; chosen = chosen.0; digests = digests.0; digest = digest.0; block_digest = block_digest.0 }, block_digest.1)
 
--- a report and who sends it
-unfoldable pub head_at : Reading (ℕ × Report)
+-- ---- recalls
+
+unfoldable pub mark_at : Reading Mark
+mark_at bytes = do
+  start ← number8_at bytes
+  saves ← number8_at start.1
+  Ok (record { start = start.0; saves = saves.0 }, saves.1)
+
+-- what comes behind the byte that says whether there is a mark
+unfoldable pub mark_behind : Bool → Reading (Option Mark)
+mark_behind false bytes = Ok (None, bytes)
+mark_behind true bytes = mark_at bytes >>= λ mark. Ok (Some mark.0, mark.1)
+
+unfoldable pub optional_mark_at : Reading (Option Mark)
+optional_mark_at bytes = flag_at bytes >>= λ flag. mark_behind flag.0 flag.1
+
+unfoldable pub recall_fields_at : Reading Recall
+recall_fields_at bytes = do
+  mark ← mark_at bytes
+  number ← number8_at mark.1
+  heard ← optional_mark_at number.1
+  answered ← optional_mark_at heard.1
+  Ok (record { mark = mark.0; number = number.0; heard = heard.0; answered = answered.0 }, answered.1)
+
+-- what comes behind the byte that says whether there is a recall
+unfoldable pub recall_behind : Bool → Reading (Option Recall)
+recall_behind false bytes = Ok (None, bytes)
+recall_behind true bytes = recall_fields_at bytes >>= λ recall. Ok (Some recall.0, recall.1)
+
+unfoldable pub recall_at : Reading (Option Recall)
+recall_at bytes = flag_at bytes >>= λ flag. recall_behind flag.0 flag.1
+
+-- ---- heads
+
+-- who sends it, its report and its recall
+unfoldable pub head_at : Reading Head
 head_at bytes = do
   version ← version_at bytes
   from ← member_at version.1
   report ← report_at from.1
-  Ok ((from.0, report.0), report.1)
+  recall ← recall_at report.1
+  Ok (record { from = from.0; report = report.0; recall = recall.0 }, recall.1)
 
 -- nothing is left
 abbrev pub or_extra : {A : Type 0} → A × List ℕ → Result A BatchFault
 or_extra x = if length x.1 == 0 then Ok x.0 else Err Extra
 
--- all of the bytes as one report
-unfoldable pub read_report : List ℕ → Result (ℕ × Report) BatchFault
-read_report bytes = head_at bytes >>= or_extra
+-- all of the bytes as one head
+unfoldable pub read_head : List ℕ → Result Head BatchFault
+read_head bytes = head_at bytes >>= or_extra
 
 -- ---- batches
 
@@ -70,7 +110,7 @@ unfoldable pub batch_in : List ℕ → Result BatchContent BatchFault
 batch_in bytes = do
   head ← head_at bytes
   messages ← messages_in head.1
-  Ok (record { from = head.0.0; report = head.0.1; messages = messages })
+  Ok (record { head = head.0; messages = messages })
 
 unfoldable pub read_batch : List ℕ → Result BatchContent BatchFault
 read_batch bytes = if nat_lt most_bytes (length bytes) then Err TooLong else batch_in bytes

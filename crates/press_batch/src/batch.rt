@@ -1,12 +1,10 @@
-use crate::report::Report;
-use press_wire::{MemberId, Message};
+use crate::head::Head;
+use press_wire::Message;
 
 /// What one member sends another in one request.
 #[derive(Debug, Drop)]
 pub struct Batch {
-    /// The sender.
-    pub from: MemberId,
-    pub report: Report,
+    pub head: Head,
     /// In the order of sending.
     pub messages: Vec<Message>,
 }

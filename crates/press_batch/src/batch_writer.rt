@@ -1,12 +1,12 @@
 ghost use Rattle.std.specs.Prelude.{◌≡◌, ◌≤◌, true, false, length, IfOk, IfErr, OnErr, if◌then◌else◌};
 ghost use Rattle.press_wire.specs.Spelling.{is_too_long_message};
 ghost use Rattle.press_batch.specs.Held.{ReadsBack};
-ghost use Rattle.press_batch.specs.Spelling.{report_alone, fits, most_bytes, with_message};
+ghost use Rattle.press_batch.specs.Spelling.{fits, head_alone, most_bytes, with_message};
 
 use crate::fault::BatchFault;
-use crate::pieces::{MOST_BATCH_BYTES, message_bytes, put_piece, report_bytes};
-use crate::report::Report;
-use press_wire::{MemberId, Message};
+use crate::head::Head;
+use crate::pieces::{MOST_BATCH_BYTES, head_bytes, hold_head, message_bytes, put_piece};
+use press_wire::Message;
 use std::alloc::Global;
 use std::marker::Model;
 
@@ -40,13 +40,14 @@ impl Model for BatchWriter {
 }
 
 impl BatchWriter {
-    /// The report, with no message yet.
-    #[tactic(auto, using(crate::proofs::Lengths::length_report))]
-    pub fn new(alloc: Global, from: MemberId, report: &Report) -> Result<BatchWriter, BatchFault>
-        ensures begun { IfOk result (λ w. w ≡ report_alone from report.now) }
+    /// The head, with no message yet.
+    #[tactic(auto, using(crate::proofs::Lengths::length_head))]
+    pub fn new(alloc: Global, head: &Head) -> Result<BatchWriter, BatchFault>
+        ensures begun { IfOk result (λ w. w ≡ head_alone head.now) }
         ensures fault { IfErr result (λ fault. fault ≡ BatchFault.NoMemory) }
     {
-        let bytes = report_bytes(alloc, from, report)?;
+        hold_head(head);
+        let bytes = head_bytes(alloc, head)?;
         Ok(BatchWriter {
             alloc,
             bytes,

@@ -1,36 +1,35 @@
-//! From bytes to reports and batches.
+//! From bytes to heads and batches.
 
 ghost use Rattle.std.specs.Prelude.{◌≡◌, ◌≢◌, ◌<◌, length, Err, Ok, IfOk, IsOk, IsErrOf};
 ghost use Rattle.press_text.specs.Gives.{Gives};
 ghost use Rattle.press_batch.specs.Carried.{carried_by};
 ghost use Rattle.press_batch.specs.Memory.{some_behind};
-ghost use Rattle.press_batch.specs.Reading.{batch_in, read_batch, read_report};
+ghost use Rattle.press_batch.specs.Reading.{batch_in, read_batch, read_head};
 ghost use Rattle.press_batch.specs.Refusals.{Refuses};
-ghost use Rattle.press_batch.specs.Spelling.{most_bytes, spelled_batch, spelled_report};
+ghost use Rattle.press_batch.specs.Spelling.{most_bytes, spelled_batch, spelled_head};
 
 use crate::batch::Batch;
 use crate::fault::BatchFault;
+use crate::head::Head;
 use crate::pieces::MOST_BATCH_BYTES;
 use crate::reader::Reader;
-use crate::report::Report;
-use press_wire::MemberId;
 use std::alloc::Global;
 
-/// The report that all of the bytes spell, and who sends it; else the fault of the first field that
-/// fails. It takes no memory.
-#[tactic(auto, unfolding(crate::specs::Reading::read_report))]
-pub fn decode_report(bytes: &[u8]) -> Result<(MemberId, Report), BatchFault>
-    ensures read { Gives Refuses Ok result (read_report bytes.now) }
+/// The head that all of the bytes spell; else the fault of the first field that fails. It takes no
+/// memory.
+#[tactic(auto, unfolding(crate::specs::Reading::read_head))]
+pub fn decode_head(bytes: &[u8]) -> Result<Head, BatchFault>
+    ensures read { Gives Refuses Ok result (read_head bytes.now) }
     ensures memory { result ≢ Err BatchFault.NoMemory }
-    // No other bytes are read as this report.
-    ensures spelled { IfOk result (λ read. bytes.now ≡ spelled_report read.0 read.1) }
+    // No other bytes are read as this head.
+    ensures spelled { IfOk result (λ head. bytes.now ≡ spelled_head head) }
 {
     let mut reader = Reader::new(bytes);
-    let (from, report) = reader.head()?;
+    let head = reader.head()?;
     if !reader.is_at_end() {
         return Err(BatchFault::Extra);
     }
-    Ok((from, report))
+    Ok(head)
 }
 
 /// The batch that all of the bytes spell; else TooLong for more than 1,048,576 bytes, and then the
@@ -39,7 +38,7 @@ pub fn decode_report(bytes: &[u8]) -> Result<(MemberId, Report), BatchFault>
 pub fn decode_batch(alloc: Global, bytes: &[u8]) -> Result<Batch, BatchFault>
     ensures read { Gives Refuses (λ b. Ok (carried_by b)) result (read_batch bytes.now) }
     ensures long { most_bytes < length bytes.now → IsErrOf result BatchFault.TooLong }
-    // Out of memory comes only where something comes behind the report.
+    // Out of memory comes only where something comes behind the head.
     ensures memory { result ≡ Err BatchFault.NoMemory → IsOk (some_behind bytes.now) }
     // No other bytes are read as this batch.
     ensures spelled { IfOk result (λ b. bytes.now ≡ spelled_batch (carried_by b)) }
@@ -57,11 +56,7 @@ fn short_batch(alloc: Global, bytes: &[u8]) -> Result<Batch, BatchFault>
     ensures spelled { IfOk result (λ b. bytes.now ≡ spelled_batch (carried_by b)) }
 {
     let mut reader = Reader::new(bytes);
-    let (from, report) = reader.head()?;
+    let head = reader.head()?;
     let messages = reader.messages(alloc)?;
-    Ok(Batch {
-        from,
-        report,
-        messages,
-    })
+    Ok(Batch { head, messages })
 }

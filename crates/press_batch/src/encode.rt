@@ -1,29 +1,29 @@
-//! From reports and batches to bytes.
+//! From heads and batches to bytes.
 
 ghost use Rattle.std.specs.Prelude.{◌≡◌, ◌≤◌, ◌++◌, None, Ok, length, IfOk, IfErr, MatchResult, OnOk};
 ghost use Rattle.press_batch.specs.Carried.{carried_by};
 ghost use Rattle.press_batch.specs.Held.{AreFormed, ReadBack};
-ghost use Rattle.press_batch.specs.Reading.{read_batch, read_report};
+ghost use Rattle.press_batch.specs.Reading.{read_batch, read_head};
 ghost use Rattle.press_batch.specs.Refusals.{IsRefusal};
-ghost use Rattle.press_batch.specs.Spelling.{most_bytes, refusal, refusal_behind, spelled_batch, spelled_messages, spelled_report};
+ghost use Rattle.press_batch.specs.Spelling.{most_bytes, refusal, refusal_behind, spelled_batch, spelled_head, spelled_messages};
 
 use crate::batch::Batch;
 use crate::batch_writer::BatchWriter;
 use crate::fault::BatchFault;
-use crate::pieces::{hold_report, report_bytes};
-use crate::report::Report;
-use press_wire::{MemberId, Message};
+use crate::head::Head;
+use crate::pieces::{head_bytes, hold_head};
+use press_wire::Message;
 use std::alloc::Global;
 
-/// The bytes that spell who sends it and the report.
-pub fn encode_report(alloc: Global, from: MemberId, report: &Report) -> Result<Vec<u8>, BatchFault>
-    ensures spelled { IfOk result (λ bytes. bytes.items ≡ spelled_report from report.now) }
-    // What is written is read as the report.
-    ensures reads { IfOk result (λ bytes. read_report bytes.items ≡ Ok (from, report.now)) }
+/// The bytes that spell the head.
+pub fn encode_head(alloc: Global, head: &Head) -> Result<Vec<u8>, BatchFault>
+    ensures spelled { IfOk result (λ bytes. bytes.items ≡ spelled_head head.now) }
+    // What is written is read as the head.
+    ensures reads { IfOk result (λ bytes. read_head bytes.items ≡ Ok head.now) }
     ensures fault { IfErr result (λ fault. fault ≡ BatchFault.NoMemory) }
 {
-    hold_report(from, report);
-    let bytes = report_bytes(alloc, from, report)?;
+    hold_head(head);
+    let bytes = head_bytes(alloc, head)?;
     Ok(bytes)
 }
 
@@ -39,8 +39,8 @@ pub fn encode_batch(alloc: Global, batch: &Batch) -> Result<Vec<u8>, BatchFault>
     ensures fault { MatchResult result (λ _. refusal (carried_by batch.now) ≡ None)
         (λ fault. IsRefusal (refusal (carried_by batch.now)) fault) }
 {
-    hold_report(batch.from, &batch.report);
-    let mut writer = BatchWriter::new(alloc, batch.from, &batch.report)?;
+    hold_head(&batch.head);
+    let mut writer = BatchWriter::new(alloc, &batch.head)?;
     push_all(&mut writer, batch.messages.as_slice())?;
     let bytes = writer.into_bytes();
     Ok(bytes)

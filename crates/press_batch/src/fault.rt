@@ -20,10 +20,13 @@ pub enum BatchFault {
     /// The sender's number is none of a node.
     #[error("no member")]
     BadMember,
+    /// A byte that says whether there is a recall, or a mark in it, is neither 0 nor 1.
+    #[error("a bad recall")]
+    BadRecall,
     /// The bytes of a message are none, or the message is too long to have any.
     #[error("a bad message")]
     BadMessage,
-    /// Bytes after the report.
+    /// Bytes after the head.
     #[error("more bytes than fields")]
     Extra,
 }

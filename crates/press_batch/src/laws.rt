@@ -1,17 +1,16 @@
 ghost use Rattle.std.specs.Prelude.{◌≡◌, ◌≤◌, ◌++◌, ℕ, List, None, length, Ok};
-ghost use Rattle.press_wire.specs.Held.{IsBytes, IsNode};
+ghost use Rattle.press_wire.specs.Held.{IsBytes};
 ghost use Rattle.press_wire.specs.Spelling.{spelled_message};
 ghost use Rattle.press_wire.specs.declared.message.Message.{Message};
 ghost use Rattle.press_batch.specs.Carried.{BatchContent};
-ghost use Rattle.press_batch.specs.Held.{AreShort, IsBatch, IsReport};
-ghost use Rattle.press_batch.specs.Reading.{read_batch, read_report};
-ghost use Rattle.press_batch.specs.Spelling.{most_bytes, refusal, spelled_batch, spelled_piece, spelled_report, with_last};
-ghost use Rattle.press_batch.specs.declared.report.Report.{Report};
+ghost use Rattle.press_batch.specs.Held.{AreShort, IsBatch, IsHead};
+ghost use Rattle.press_batch.specs.Reading.{read_batch, read_head};
+ghost use Rattle.press_batch.specs.Spelling.{most_bytes, refusal, spelled_batch, spelled_head, spelled_piece, with_last};
+ghost use Rattle.press_batch.specs.declared.head.Head.{Head};
 
-/// Each report is read from its spelling, with who sends it.
-pub fn a_report_reads_back()
-    ensures { (from : ℕ) (r : Report) → IsNode from → IsReport r →
-        read_report (spelled_report from r) ≡ Ok (from, r) }
+/// Each head is read from its spelling.
+pub fn a_head_reads_back()
+    ensures { (h : Head) → IsHead h → read_head (spelled_head h) ≡ Ok h }
 {}
 
 /// Each batch of messages in form that has at most 1,048,576 bytes is read from its spelling.
@@ -20,12 +19,12 @@ pub fn a_batch_reads_back()
         read_batch (spelled_batch b) ≡ Ok b }
 {}
 
-/// Bytes that are read as a report are its spelling, so no two byte strings are read alike.
-pub fn reports_have_one_spelling()
-    ensures spelled { (bytes : List ℕ) (from : ℕ) (r : Report) → IsBytes bytes →
-        read_report bytes ≡ Ok (from, r) → bytes ≡ spelled_report from r }
-    ensures alone { (a b : List ℕ) (from : ℕ) (r : Report) → IsBytes a → IsBytes b →
-        read_report a ≡ Ok (from, r) → read_report b ≡ Ok (from, r) → a ≡ b }
+/// Bytes that are read as a head are its spelling, so no two byte strings are read alike.
+pub fn heads_have_one_spelling()
+    ensures spelled { (bytes : List ℕ) (h : Head) → IsBytes bytes → read_head bytes ≡ Ok h →
+        bytes ≡ spelled_head h }
+    ensures alone { (a b : List ℕ) (h : Head) → IsBytes a → IsBytes b → read_head a ≡ Ok h →
+        read_head b ≡ Ok h → a ≡ b }
 {}
 
 /// Bytes that are read as a batch are its spelling, so no two byte strings are read alike.
@@ -41,7 +40,7 @@ pub fn batches_have_one_spelling()
 /// A batch is refused exactly where a message in it is too long in itself, or it has over 1,048,576
 /// bytes.
 pub fn what_is_refused_is_too_long()
-    ensures not_refused { (b : BatchContent) → refusal b ≡ None →
+    ensures not_refused { (b : BatchContent) → IsHead b.head → refusal b ≡ None →
         AreShort b.messages × (length (spelled_batch b) ≤ most_bytes) }
     ensures fitting { (b : BatchContent) → AreShort b.messages →
         length (spelled_batch b) ≤ most_bytes →

@@ -1,14 +1,16 @@
-//! Fields, reports and messages, each read from the beginning of bytes.
+//! Fields, heads and messages, each read from the beginning of bytes.
 
 ghost use Rattle.std.specs.Prelude.{◌≡◌, ◌≢◌, ◌<◌, ◌==◌, length, Err, Ok, IfOk};
 ghost use Rattle.press_text.specs.Gives.{Gives};
-ghost use Rattle.press_batch.specs.Fields.{byte_at, bytes_at, number4_at, number8_at, version_at, member_at, piece_at};
-ghost use Rattle.press_batch.specs.Reading.{digests_at, report_at, head_at, message_at, messages_in};
+ghost use Rattle.press_batch.specs.Fields.{byte_at, bytes_at, digest_at, flag_at, number4_at, number8_at, version_at, member_at, piece_at};
+ghost use Rattle.press_batch.specs.Reading.{digests_at, head_at, mark_at, message_at, messages_in, optional_mark_at, recall_at, recall_fields_at, report_at};
 ghost use Rattle.press_batch.specs.Refusals.{Refuses};
 
 use crate::fault::BatchFault;
+use crate::head::Head;
 use crate::pieces::VERSION;
 use crate::report::{Digests, Report};
+use press_starts::{Mark, Recall};
 use press_wire::{MemberId, Message, WireFault, decode_msg};
 use std::alloc::Global;
 use std::marker::Model;
@@ -56,6 +58,7 @@ impl<'a> Reader<'a> {
     fn cut(&mut self, len: usize) -> Result<&'a [u8], BatchFault>
         ensures read { Gives Refuses (λ front. Ok (front.now, self.new)) result
             (bytes_at len self.old) }
+        ensures length { IfOk result (λ front. length front.now ≡ len) }
         ensures memory { result ≢ Err BatchFault.NoMemory }
     {
         if self.rest.len() < len {
@@ -109,6 +112,30 @@ impl<'a> Reader<'a> {
         }
     }
 
+    // Whether there is something.
+    #[tactic(auto, unfolding(crate::specs::Fields::flag_at))]
+    fn flag(&mut self) -> Result<bool, BatchFault>
+        ensures read { Gives Refuses (λ x. Ok (x, self.new)) result (flag_at self.old) }
+        ensures memory { result ≢ Err BatchFault.NoMemory }
+    {
+        match self.byte()? {
+            0 => Ok(false),
+            1 => Ok(true),
+            _ => Err(BatchFault::BadRecall),
+        }
+    }
+
+    #[tactic(auto, unfolding(crate::specs::Fields::digest_at))]
+    fn digest(&mut self) -> Result<[u8; 32], BatchFault>
+        ensures read { Gives Refuses (λ x. Ok (x, self.new)) result (digest_at self.old) }
+        ensures memory { result ≢ Err BatchFault.NoMemory }
+    {
+        let front = self.cut(32)?;
+        let mut digest = [0; 32];
+        digest.copy_from_slice(front);
+        Ok(digest)
+    }
+
     #[tactic(auto, unfolding(crate::specs::Reading::digests_at))]
     fn digests(&mut self) -> Result<Digests, BatchFault>
         ensures read { Gives Refuses (λ x. Ok (x, self.new)) result (digests_at self.old) }
@@ -127,23 +154,83 @@ impl<'a> Reader<'a> {
         let digests = self.digests()?;
         let applied = self.number8()?;
         let chosen = self.number8()?;
+        let digest = self.digest()?;
+        let block_digest = self.digest()?;
         Ok(Report {
             applied,
             chosen,
             digests,
+            digest,
+            block_digest,
         })
     }
 
-    /// A report and who sends it.
+    #[tactic(auto, unfolding(crate::specs::Reading::mark_at))]
+    fn mark(&mut self) -> Result<Mark, BatchFault>
+        ensures read { Gives Refuses (λ x. Ok (x, self.new)) result (mark_at self.old) }
+        ensures memory { result ≢ Err BatchFault.NoMemory }
+    {
+        let start = self.number8()?;
+        let saves = self.number8()?;
+        Ok(Mark { start, saves })
+    }
+
+    #[tactic(auto, unfolding(crate::specs::Reading::optional_mark_at, crate::specs::Reading::mark_behind))]
+    fn optional_mark(&mut self) -> Result<Option<Mark>, BatchFault>
+        ensures read { Gives Refuses (λ x. Ok (x, self.new)) result (optional_mark_at self.old) }
+        ensures memory { result ≢ Err BatchFault.NoMemory }
+    {
+        if !self.flag()? {
+            return Ok(None);
+        }
+        let mark = self.mark()?;
+        Ok(Some(mark))
+    }
+
+    #[tactic(auto, unfolding(crate::specs::Reading::recall_fields_at))]
+    fn recall_fields(&mut self) -> Result<Recall, BatchFault>
+        ensures read { Gives Refuses (λ x. Ok (x, self.new)) result (recall_fields_at self.old) }
+        ensures memory { result ≢ Err BatchFault.NoMemory }
+    {
+        let mark = self.mark()?;
+        let number = self.number8()?;
+        let heard = self.optional_mark()?;
+        let answered = self.optional_mark()?;
+        Ok(Recall {
+            mark,
+            number,
+            heard,
+            answered,
+        })
+    }
+
+    #[tactic(auto, unfolding(crate::specs::Reading::recall_at, crate::specs::Reading::recall_behind))]
+    fn recall(&mut self) -> Result<Option<Recall>, BatchFault>
+        ensures read { Gives Refuses (λ x. Ok (x, self.new)) result (recall_at self.old) }
+        ensures memory { result ≢ Err BatchFault.NoMemory }
+    {
+        if !self.flag()? {
+            return Ok(None);
+        }
+        let recall = self.recall_fields()?;
+        Ok(Some(recall))
+    }
+
+    /// What stands before messages.
     #[tactic(auto, unfolding(crate::specs::Reading::head_at))]
-    pub fn head(&mut self) -> Result<(MemberId, Report), BatchFault>
+    pub fn head(&mut self) -> Result<Head, BatchFault>
         ensures read { Gives Refuses (λ x. Ok (x, self.new)) result (head_at self.old) }
         ensures memory { result ≢ Err BatchFault.NoMemory }
     {
         let _version = self.version()?;
         let from = self.member()?;
         let report = self.report()?;
-        Ok((from, report))
+        let recall = self.recall()?;
+        Ok(Head {
+            from,
+            report,
+            recall,
+        })
     }
 
     // Bytes behind their length.

@@ -14,4 +14,8 @@ pub struct Report {
     /// How many slots are chosen, as far as it knows.
     pub chosen: u64,
     pub digests: Digests,
+    /// Of the values that it has applied.
+    pub digest: [u8; 32],
+    /// Of those up to the last multiple of 64.
+    pub block_digest: [u8; 32],
 }

@@ -1,4 +1,4 @@
-use press_batch::{Batch, decode_batch, decode_report, encode_batch};
+use press_batch::{Batch, decode_batch, decode_head, encode_batch};
 use std::alloc::Global;
 
 // What the bytes spell as a batch, and whether it is spelt by them again; or the fault.
@@ -13,25 +13,21 @@ fn show_whole(rt: &HostRuntime, name: &str, bytes: &[u8]) -> anyhow::Result<()> 
     };
     let again = encode_batch(alloc, &batch)?;
     let is_alike = again.as_slice() == bytes;
-    let Batch {
-        from,
-        report,
-        messages,
-    } = batch;
+    let Batch { head, messages } = batch;
     println!(rt;
-        "{name}: {from:?}, {report:?}, messages: {}, spelt alike: {is_alike}",
+        "{name}: {head:?}, messages: {}, spelt alike: {is_alike}",
         messages.len()
     )?;
     Ok(())
 }
 
 /// What the bytes spell as a batch, by how many messages it has, and whether it is spelt by them
-/// again; then what they spell as a report alone; or the fault of each.
+/// again; then what they spell as a head alone; or the fault of each.
 pub fn show_batch(rt: &HostRuntime, name: &str, bytes: &[u8]) -> anyhow::Result<()> {
     show_whole(rt, name, bytes)?;
-    match decode_report(bytes) {
-        Ok((from, report)) => println!(rt; "{name}, as a report: {from:?}, {report:?}")?,
-        Err(fault) => println!(rt; "{name}, as a report: {fault}")?,
+    match decode_head(bytes) {
+        Ok(head) => println!(rt; "{name}, as a head: {head:?}")?,
+        Err(fault) => println!(rt; "{name}, as a head: {fault}")?,
     }
     Ok(())
 }

@@ -1,13 +1,16 @@
 //! What is asked of a store, and the lines of the answers.
 
 use crate::kept::block_in;
+use crate::note_asks::{NoteAsk, answer_of_notes};
 use crate::numbered::{promise_of, vote_of};
+use crate::start_asks::{StartAsk, answer_of_starts};
 use crate::words::number_behind;
 use press_acceptor::{PromiseStore, StoreFault};
-use press_store::{Owner, SqlStore, Tie};
+use press_store::{Notes, Owner, SqlStore, Tie};
 use press_wire::{MemberId, Round, Slot};
 use sqlite::Alter;
 use std::alloc::{AllocError, Global};
+use std::rc::Rc;
 
 #[derive(Clone, Copy)]
 enum Ask {
@@ -23,6 +26,7 @@ enum Ask {
     Save(u32, u64),
     // A member asks for the file, or a node by itself.
     Tie(Option<Owner>),
+    OfStarts(StartAsk),
 }
 
 // The member of that number, count and digest; `none` is a node by itself.
@@ -61,6 +65,9 @@ impl Ask {
         }
         if let Some(rest) = word.strip_prefix("own=") {
             return Some(Ask::Tie(owner_in(rest)?));
+        }
+        if let Some(ask) = StartAsk::from_word(word) {
+            return Some(Ask::OfStarts(ask));
         }
         if let Some(rest) = word.strip_prefix("promise=") {
             let (slot, round) = numbers_in(rest)?;
@@ -124,9 +131,11 @@ fn tie_line(tie: Tie) -> &'static str {
 fn answer<D: Alter>(
     alloc: Global,
     store: &mut SqlStore<D>,
+    notes: &Rc<Notes>,
     ask: Ask,
 ) -> Result<String, StoreFault> {
     let text = match ask {
+        Ask::OfStarts(ask) => return answer_of_starts(alloc, store, notes, ask),
         Ask::LastVote => vote_line(alloc, store.last_vote()?),
         Ask::LastRound => {
             let round = store.last_round()?;
@@ -151,15 +160,20 @@ fn answer<D: Alter>(
 }
 
 /// Asks by a word, and returns the answer: `last`, `vote`, `round=N`, `load=SLOT`,
-/// `promise=SLOT:ROUND`, `save=SLOT:ROUND`, `own=NUMBER:MEMBERS:PEERS`, `own=none`. None for any
-/// other word.
+/// `promise=SLOT:ROUND`, `save=SLOT:ROUND`, `own=NUMBER:MEMBERS:PEERS`, `own=none`, `start=N`,
+/// `mark`, `starts`, `of=N`, `hear=MEMBER:START:SAVES`, `heard=MEMBER`, `note=NAME:TEXT`,
+/// `noted=NAME`. None for any other word.
 pub fn answer_to<D: Alter>(
     alloc: Global,
     store: &mut SqlStore<D>,
+    notes: &Rc<Notes>,
     word: &str,
 ) -> Option<Result<String, StoreFault>> {
+    if let Some(ask) = NoteAsk::from_word(word) {
+        return Some(answer_of_notes(alloc, store, ask));
+    }
     let ask = Ask::from_word(word)?;
-    Some(answer(alloc, store, ask))
+    Some(answer(alloc, store, notes, ask))
 }
 
 /// Saves this many times a round, and a vote for one of a thousand slots.

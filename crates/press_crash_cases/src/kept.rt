@@ -1,9 +1,11 @@
 //! What a store keeps, as a text.
 
 use crate::lines::block_text;
+use crate::note_asks::notes_text;
+use crate::start_asks::{heard_line, saves_line};
 use press_acceptor::{PromiseStore, StoreFault};
 use press_store::{Owner, SqlStore, Tie};
-use press_wire::Slot;
+use press_wire::{MemberId, Slot};
 use sqlite::Alter;
 use std::alloc::Global;
 
@@ -37,7 +39,27 @@ fn whose<D: Alter>(
     }
 }
 
-/// The last round, whose the file is, and the first two blocks.
+// What the file says of the starts 5 and 6, and of what was heard of member 2, where it has any.
+fn starts_text<D: Alter>(alloc: Global, store: &mut SqlStore<D>) -> Result<String, StoreFault> {
+    let mut text = String::new(alloc);
+    for start in 5..7 {
+        if let Some(saves) = store.saves_of(start)? {
+            let line = saves_line(alloc, start, Some(saves))?;
+            text.push_str("; ")?;
+            text.push_str(line.as_str())?;
+        }
+    }
+    if let Some(member) = MemberId::new(2) {
+        if let Some(mark) = store.mark_of(member)? {
+            let line = heard_line(alloc, member, Some(mark))?;
+            text.push_str("; ")?;
+            text.push_str(line.as_str())?;
+        }
+    }
+    Ok(text)
+}
+
+/// The last round, whose the file is, the first two blocks, what is said of starts, and the notes.
 pub fn kept_text<D: Alter>(
     alloc: Global,
     store: &mut SqlStore<D>,
@@ -47,7 +69,9 @@ pub fn kept_text<D: Alter>(
     let owner = whose(store, member)?;
     let first = block_in(alloc, store, 1)?;
     let second = block_in(alloc, store, 17)?;
-    Ok(format!(in alloc; "round {round}, {owner}; {first}; {second}")?)
+    let starts = starts_text(alloc, store)?;
+    let notes = notes_text(alloc, store)?;
+    Ok(format!(in alloc; "round {round}, {owner}; {first}; {second}{starts}{notes}")?)
 }
 
 /// Whether there is a vote for slot 1.

@@ -7,10 +7,11 @@ use crate::command::{command_over, goes_on_over};
 use crate::kept::{has_voted, kept_text};
 use crate::stores::fuse_files;
 use crate::words::Session;
-use press_store::{Owner, SqlStore};
+use press_store::{Notes, Owner, SqlStore};
 use sqlite::{Alter, Connection, Files, Options};
 use sqlite_disk::{Crash, Disk};
 use std::alloc::Global;
+use std::rc::Rc;
 
 // More calls than any run below makes, and fewer.
 const MOST_CALLS: u64 = 1_000;
@@ -64,8 +65,11 @@ fn run_first<D: Alter>(conn: &mut Connection<D>, tables: &[&str], most: u32) -> 
 // Asks by the first words; returns how many were answered.
 fn ask_first<D: Alter>(alloc: Global, store: &mut SqlStore<D>, words: &[&str], most: u32) -> u32 {
     let mut steps = 0;
+    let Ok(notes) = Rc::new(alloc, Notes::new()) else {
+        return steps;
+    };
     for word in words.iter() {
-        if steps >= most || !matches!(answer_to(alloc, store, word), Some(Ok(_))) {
+        if steps >= most || !matches!(answer_to(alloc, store, &notes, word), Some(Ok(_))) {
             return steps;
         }
         steps += 1;

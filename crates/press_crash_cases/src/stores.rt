@@ -8,10 +8,11 @@ use crate::asks::{answer_to, save_often};
 use crate::lines::fault_text;
 use crate::words::Session;
 use press_acceptor::StoreFault;
-use press_store::SqlStore;
+use press_store::{Notes, SqlStore};
 use sqlite::{Alter, Connection, File, FileStore, Files, Options, Unknown};
 use sqlite_disk::{Disk, Fuse, Memory};
 use std::alloc::Global;
+use std::rc::Rc;
 
 /// Files in memory of which either is stopped after so many calls.
 pub fn fuse_files(alloc: Global, log: u64, db: u64) -> Files<Fuse<Memory>> {
@@ -26,8 +27,9 @@ fn ask_all<D: Alter>(
     store: &mut SqlStore<D>,
     words: &[&str],
 ) -> anyhow::Result<()> {
+    let notes = Rc::new(rt.alloc(), Notes::new())?;
     for word in words.iter() {
-        let said = match answer_to(rt.alloc(), store, word) {
+        let said = match answer_to(rt.alloc(), store, &notes, word) {
             None => return Err(anyhow::anyhow!("no word of a store: {word}")),
             Some(Ok(said)) => said,
             Some(Err(fault)) => fault_text(rt.alloc(), fault)?,

@@ -1,5 +1,5 @@
 -- Deeds of a member are moves of the members.
-use Rattle.std.proofs.Common.{ℕ, zero, suc, ◌+◌, ◌≡◌, ◌≢◌, ◌⊎◌, ◌==◌, inl, inr, not, Bool, true, false, cond, IsTrue, List, [], ◌∷◌, ◌++◌, slice_get, drop, Option, None, Some, Result, Ok, Err, is_ok, refl, sym, subst, ap, ◌∙◌, append-nil, append_assoc, arith}
+use Rattle.std.proofs.Common.{ℕ, suc, ◌+◌, ◌≡◌, ◌≢◌, ◌⊎◌, ◌==◌, inl, inr, not, Bool, true, false, cond, IsTrue, List, [], ◌∷◌, ◌++◌, slice_get, drop, Option, None, Some, Result, Ok, Err, is_ok, refl, sym, subst, ap, ◌∙◌, append-nil, append_assoc, arith}
 use Rattle.std.specs.List.{filter}
 use Rattle.std.proofs.lemmas.List.Elements.{filter-append}
 use Rattle.std.specs.declared.alloc.AllocError.{AllocError}
@@ -19,7 +19,7 @@ use Rattle.press_node.specs.States.{NodeState, Up, count_where, running_in}
 use Rattle.press_node.specs.declared.event.Event.{Event}
 use Rattle.press_node.specs.declared.event.Event.TheVariants as event
 use Rattle.press_node.specs.declared.fault.NodeFault.{NodeFault}
-use Rattle.press_member.specs.Acts.{Acts, Has, Submits, View}
+use Rattle.press_member.specs.Acts.{Acts, Has, Submits, View, takes_commands}
 use Rattle.press_member.specs.Among.{AreBy, AreSent, IsAmong, IsIn}
 use Rattle.press_member.specs.Coming.{AreItsMoves, ComesTo, heard_in}
 use Rattle.press_member.specs.Deeds.{Cause, Deed, Does, IsCause, IsFront, for_others, for_self, kept_by_all, own_after, own_after_all}
@@ -170,12 +170,12 @@ delivery_brought heard id next message refused ds is h =
 none_brought : {N : Type 0} (heard : List Message) (ds : List (Deed N)) → ds ≡ [] → AreBrought heard ds
 none_brought heard ds e = subst (AreBrought heard) (sym e) tt
 
-form_brought : {N : Type 0} (is_open : Bool) (e : Event) (refused : Option NodeFault) (ds : List (Deed N)) → IsBrought [] e → Submits is_open e refused ds → AreBrought [] ds
+form_brought : {N : Type 0} (takes : Bool) (e : Event) (refused : Option NodeFault) (ds : List (Deed N)) → IsBrought [] e → Submits takes e refused ds → AreBrought [] ds
 form_brought true e refused ds is h = first_brought [] e refused ds is h
 form_brought false e refused ds is h = none_brought [] ds h
 
 has_brought : {N : Type 0} (old : View N) (up : Option Up) (Whole : Type 0) (i : Input) (refused : Option NodeFault) (ds : List (Deed N)) → Has old up Whole i refused ds → AreBrought (heard_in i) ds
-has_brought old up Whole (input.Command command) refused ds h = form_brought old.is_open (event.Submit command) refused ds tt h
+has_brought old up Whole (input.Command command) refused ds h = form_brought (takes_commands old) (event.Submit command) refused ds tt h
 has_brought old up Whole (input.Page target) refused ds h = none_brought [] ds h
 has_brought old up Whole (input.Message message) refused ds h = delivery_brought (message ∷ []) old.id (count_where up + 1) message refused ds (inl refl) h
 has_brought old up Whole (input.Report from report) refused ds h = none_brought [] ds h

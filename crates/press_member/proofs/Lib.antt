@@ -1,6 +1,7 @@
 mod Acting
 mod Coming
 mod Directed
+mod Following
 mod Inputs
 mod Lists
 mod Living

@@ -1,13 +1,12 @@
 -- Inputs of a member, one after the other, among what the others do.
-use Rattle.std.proofs.Common.{ℕ, ◌+◌, ◌<◌, ◌≡◌, List, [], ◌∷◌, ◌++◌, refl, sym, subst, ◌∙◌}
+use Rattle.std.proofs.Common.{ℕ, ◌+◌, ◌<◌, ◌≡◌, List, [], ◌∷◌, ◌++◌, sym, subst, ◌∙◌}
 use Rattle.press_wire.specs.declared.message.Message.{Message}
 use Rattle.press_acceptor.specs.Seen.{Seen}
 use Rattle.press_node.specs.Nodes.{NodeMove}
 use Rattle.press_node.specs.States.{NodeState}
 use Rattle.press_member.specs.Acts.{View}
 use Rattle.press_member.specs.Among.{IsAmong, Letters}
-use Rattle.press_member.specs.Coming.{AreItsMoves, ComesTo, heard_in}
-use Rattle.press_member.specs.Lives.{AreOfOthers, Follows, Lives, LivesAmong, Step}
+use Rattle.press_member.specs.Lives.{AreOfOthers, Lives, LivesAmong, Step}
 use Rattle.press_member.specs.Members.{AreMoves, Members, Move, after, after_all}
 use Rattle.press_member.proofs.Others.{after_then, moves_then, stays}
 

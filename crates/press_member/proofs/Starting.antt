@@ -1,9 +1,10 @@
 -- A start over a store that shows what was left.
-use Rattle.std.proofs.Common.{ℕ, ◌+◌, ◌≡◌, false, IsTrue, [], None, sym, subst, ap, ◌∙◌}
+use Rattle.std.proofs.Common.{ℕ, ◌+◌, ◌≡◌, Bool, List, false, replicate, IsTrue, [], None, sym, subst, ap, ◌∙◌}
 use Rattle.press_acceptor.specs.Seen.{Looks, Seen}
 use Rattle.press_acceptor.specs.StoreMap.{StoreMap}
 use Rattle.press_node.specs.States.{NodeState, running_in, started_at}
 use Rattle.press_batch.specs.declared.report.Digests.{Digests}
+use Rattle.press_chain.specs.declared.chain.Chain.{Chain}
 use Rattle.press_member.specs.Acts.{View, first_view}
 use Rattle.press_member.specs.Among.{IsAmong}
 use Rattle.press_member.specs.declared.beginning.Beginning.{Beginning}
@@ -36,8 +37,8 @@ starts_among seen n id index w s t state own left opened looks is =
     )
 
 -- one that begins, by the peers that it has
-abbrev by_peers : {N : Type 0} → Beginning → N → ℕ → Digests → View N
-by_peers b node n d = record {
+abbrev by_peers : {N : Type 0} → Beginning → N → Chain → ℕ → Digests → List Bool → View N
+by_peers b node c n d l = record {
   id = b.id;
   members = n;
   digests = d;
@@ -45,12 +46,14 @@ by_peers b node n d = record {
   own = [];
   stop = None;
   is_open = false;
+  chain = c;
+  differing = l;
 }
 
-pub begun_is : {N : Type 0} (b : Beginning) (node : N) (n : ℕ) (d : Digests) (v : View N) → v ≡ by_peers b node n d → n ≡ b.members → d ≡ b.digests → v ≡ first_view b node
-begun_is b node n d v e f g = e ∙ ap (λ m. by_peers b node m d) f ∙ ap (by_peers b node b.members) g
+pub begun_is : {N : Type 0} (b : Beginning) (node : N) (c : Chain) (n : ℕ) (d : Digests) (l : List Bool) (v : View N) → v ≡ by_peers b node c n d l → n ≡ b.members → d ≡ b.digests → l ≡ replicate b.members false → v ≡ first_view b node c
+begun_is b node c n d l v e f g h = e ∙ ap (λ m. by_peers b node c m d l) f ∙ ap (λ x. by_peers b node c b.members x l) g ∙ ap (by_peers b node c b.members b.digests) h
 
-pub its_start : {S N : Type 0} (seen : S → Seen) (store : N → S) (state : N → NodeState) (shown : S) (b : Beginning) (node : N) (v : View N) → v ≡ first_view b node → ((seen (store node)).is_honest → Looks (seen shown) (seen (store node))) →
+pub its_start : {S N : Type 0} (seen : S → Seen) (store : N → S) (state : N → NodeState) (shown : S) (b : Beginning) (node : N) (c : Chain) (v : View N) → v ≡ first_view b node c → ((seen (store node)).is_honest → Looks (seen shown) (seen (store node))) →
     ((seen (store node)).is_honest → state node ≡ started_at b.id b.members (seen shown).kept.last_round) → IsItsStart seen store state shown v
-its_start seen store state shown b node v e looks started =
+its_start seen store state shown b node c v e looks started =
     subst (λ x. IsItsStart seen store state shown x) (sym e) (λ index w own left honest opened. starts_among seen b.members b.id index w shown (store node) (state node) own left opened (looks honest) (started honest))

@@ -1,5 +1,5 @@
 -- *Acts*: what an input does to a member, and what it brings (own).
-use Rattle.std.specs.Prelude.{ℕ, ◌+◌, ◌≡◌, ◌≢◌, ◌⊎◌, Bool, true, false, nat_lt, Option, None, Some, List, [], length, Result, IfOk, IfErr, IsTrue, is_ok, is_some}
+use Rattle.std.specs.Prelude.{ℕ, ◌+◌, ◌-◌, ◌≡◌, ◌≢◌, ◌⊎◌, ◌&&◌, Bool, true, false, nat_lt, Option, None, Some, List, [], length, replicate, Result, IfOk, IfErr, IsTrue, is_ok, is_some}
 use Rattle.std.specs.declared.alloc.AllocError.{AllocError}
 use Rattle.press_callbacks.specs.Kits.{KitView}
 use Rattle.press_page.specs.declared.reply.Reply.{Reply}
@@ -8,7 +8,7 @@ use Rattle.press_wire.specs.declared.message.Message.{Message}
 use Rattle.press_acceptor.specs.declared.fault.StoreFault.{StoreFault}
 use Rattle.press_node.specs.Nodes.{IsPageAt, NodeMove}
 use Rattle.press_node.specs.declared.node.Node.{Node}
-use Rattle.press_node.specs.States.{NodeState, Up, count_where, is_down, is_down_where}
+use Rattle.press_node.specs.States.{NodeState, Up, count_where, is_down, is_down_where, values_where}
 use Rattle.press_node.specs.declared.event.Event.{Event}
 use Rattle.press_node.specs.declared.event.Event.TheVariants as event
 use Rattle.press_node.specs.declared.fault.NodeFault.{NodeFault}
@@ -16,6 +16,10 @@ use Rattle.press_node.specs.declared.fault.NodeFault.TheVariants.{Down, NoMemory
 use Rattle.press_member.specs.Deeds.{Deed}
 use Rattle.press_member.specs.Turns.{AreQuestions, Brings, Delivers, HearsFirst, MayWake, Moment, Turned}
 use Rattle.press_batch.specs.declared.report.Digests.{Digests}
+use Rattle.press_chain.specs.Chains.{IsChainOf}
+use Rattle.press_chain.specs.declared.chain.Chain.{Chain}
+use Rattle.press_member.specs.Differing.{Notes}
+use Rattle.press_member.specs.Ready.{is_agreed}
 use Rattle.press_member.specs.declared.input.Input.{Input}
 use Rattle.press_member.specs.declared.input.Input.TheVariants.{Command, Page, Message as Letter, Report, Ended, HearOwn, Time}
 use Rattle.press_member.specs.declared.output.Answer.{Answer}
@@ -34,21 +38,30 @@ pub record View (N : Type 0) : Type 0 where
   pub own : List Message
   -- what stopped its node last
   pub stop : Option StoreFault
-  -- it takes commands and shows pages
+  -- it shows pages
   pub is_open : Bool
+  -- the digests of what it has applied
+  pub chain : Chain
+  -- for each member, from the first, whether it has applied other values
+  pub differing : List Bool
 
 -- what a turn may change of it
 abbrev pub moment : {N : Type 0} → View N → Moment N
 moment view = record { node = view.node; own = view.own; stop = view.stop }
 
--- a form has its command submitted where the member is open, and nothing done else
+-- it takes commands: it is open, and those that have applied the same are a majority, as far as it
+-- knows
+abbrev pub takes_commands : {N : Type 0} → View N → Bool
+takes_commands view = view.is_open && is_agreed view.members (view.id - 1) view.differing
+
+-- a form has its command submitted where the member takes commands, and nothing done else
 abbrev pub Submits : {N : Type 0} → Bool → Event → Option NodeFault → List (Deed N) → Type 0
 Submits true event refused deeds = Brings event refused deeds
 Submits false event refused deeds = deeds ≡ []
 
 -- which deeds an input has a member do, where an event that it brings is refused so
 abbrev pub Has : {N : Type 0} → View N → Option Up → Type 0 → Input → Option NodeFault → List (Deed N) → Type 0
-Has old up Whole (Command command) refused deeds = Submits old.is_open (event.Submit command) refused deeds
+Has old up Whole (Command command) refused deeds = Submits (takes_commands old) (event.Submit command) refused deeds
 Has old up Whole (Letter message) refused deeds = Delivers old.id (count_where up + 1) message refused deeds
 Has old up Whole HearOwn refused deeds = HearsFirst old.id Whole old.own deeds
 Has old up Whole (Time now) refused deeds = MayWake deeds ⊎ AreQuestions deeds
@@ -58,7 +71,7 @@ Has old up Whole (Ended to asked is_taken) refused deeds = deeds ≡ []
 
 -- an input for which memory may be wanting
 abbrev pub TakesMemory : {N : Type 0} → View N → Input → Type 0
-TakesMemory old (Command command) = IsTrue old.is_open
+TakesMemory old (Command command) = IsTrue (takes_commands old)
 TakesMemory old (Letter message) = Unit {0}
 TakesMemory old HearOwn = Unit {0}
 TakesMemory old (Time now) = Unit {0}
@@ -70,9 +83,9 @@ abbrev pub taken_answer : Option NodeFault → Answer
 taken_answer None = answer.Taken
 taken_answer (Some fault) = answer.Refused fault
 
-abbrev pub answer_if_open : Bool → Option NodeFault → Answer
-answer_if_open true refused = taken_answer refused
-answer_if_open false refused = answer.NotYet
+abbrev pub answer_if_taking : Bool → Option NodeFault → Answer
+answer_if_taking true refused = taken_answer refused
+answer_if_taking false refused = answer.NotYet
 
 -- the page, or why there is none
 abbrev pub Shows : Bool → KitView → Option Up → Target → Answer → Type 0
@@ -87,7 +100,7 @@ Hears own theirs given = ((given ≡ answer.Taken) × (theirs ≡ own)) ⊎ ((gi
 
 -- what is answered to an input
 abbrev pub Answers : {N : Type 0} → View N → KitView → Option Up → Input → Option NodeFault → Answer → Type 0
-Answers old kit up (Command command) refused given = given ≡ answer_if_open old.is_open refused
+Answers old kit up (Command command) refused given = given ≡ answer_if_taking (takes_commands old) refused
 Answers old kit up (Letter message) refused given = given ≡ taken_answer refused
 Answers old kit up (Page target) refused given = Shows old.is_open kit up target given
 Answers old kit up (Report from report) refused given = Hears old.digests report.digests given
@@ -98,7 +111,8 @@ Answers old kit up (Time now) refused given = given ≡ answer.Nothing
 -- A member before and after an input: its node moved by the deeds that the input has it do, each by
 -- *Plays*; it heard nothing but what the input brought and, in their order and each once, the
 -- messages that it had sent to itself; what stopped its node is told; and what it sent to others
--- goes out, in its order. Where there is memory nothing of that is lost.
+-- goes out, in its order. Where there is memory nothing of that is lost. Digests that are right of
+-- what it has applied by then stay so, and of the others a report alone is noted.
 pub record Acts {N : Type 0} (moved : N → N → NodeMove) (input : Input) (old new : View N) (result : Result Outputs AllocError) : Type 0 where
   pub id : new.id ≡ old.id
   pub members : new.members ≡ old.members
@@ -110,6 +124,8 @@ pub record Acts {N : Type 0} (moved : N → N → NodeMove) (input : Input) (old
   pub sent : IfOk result (λ outputs. outputs.messages.items ≡ out)
   pub answered : IfOk result (λ outputs. Answers old (moved old.node old.node).kit (moved old.node old.node).up input refused outputs.answer)
   pub memory : IfErr result (λ fault. TakesMemory old input)
+  pub chain : IsChainOf (values_where (moved new.node new.node).up) old.chain → IsChainOf (values_where (moved new.node new.node).up) new.chain
+  pub notes : Notes old.digests old.chain old.differing input new.differing
 
 abbrev pub view_of : {S : _} {t : _} {F : _} {g : _} → Member S t F g → View (Node S t F g)
 view_of member = record {
@@ -120,11 +136,13 @@ view_of member = record {
   own = member.player.own.items;
   stop = member.player.stopped_by;
   is_open = member.player.pace.is_open;
+  chain = member.chain;
+  differing = member.peers.differing.items;
 }
 
--- one that begins with this node
-abbrev pub first_view : {N : Type 0} → Beginning → N → View N
-first_view beginning node = record {
+-- one that begins with this node, and with digests of nothing
+abbrev pub first_view : {N : Type 0} → Beginning → N → Chain → View N
+first_view beginning node chain = record {
   id = beginning.id;
   members = beginning.members;
   digests = beginning.digests;
@@ -132,6 +150,8 @@ first_view beginning node = record {
   own = [];
   stop = None;
   is_open = false;
+  chain = chain;
+  differing = replicate beginning.members false;
 }
 
 abbrev pub is_open : {N : Type 0} → View N → Bool
@@ -141,6 +161,12 @@ is_open view = view.is_open
 -- while the store keeps its word
 abbrev pub TellsStop : {N : Type 0} → (N → Type 0) → (N → NodeState) → View N → View N → Type 0
 TellsStop trusted state old new = trusted new.node → is_down (state old.node) ≡ is_some old.stop → is_down (state new.node) ≡ is_some new.stop
+
+abbrev pub chain_in : {N : Type 0} → View N → Chain
+chain_in view = view.chain
+
+abbrev pub differing_in : {N : Type 0} → View N → List Bool
+differing_in view = view.differing
 
 abbrev pub stop_in : {N : Type 0} → View N → Option StoreFault
 stop_in view = view.stop

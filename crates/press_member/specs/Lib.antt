@@ -3,6 +3,8 @@ pub mod Acts
 pub mod Among
 pub mod Coming
 pub mod Deeds
+pub mod Differing
+pub mod Following
 pub mod Hearing
 pub mod Holds
 pub mod Lives

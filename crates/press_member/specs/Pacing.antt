@@ -1,5 +1,5 @@
 -- When a member wakes, looks and asks (own), in milliseconds. Agreement doesn't depend on it.
-use Rattle.std.specs.Prelude.{ℕ, ◌≡◌, ◌+◌, ◌-◌, ◌*◌, ◌/◌, ◌%◌, ◌==◌, ◌&&◌, ◌||◌, Bool, true, false, not, min, max, nat_le, nat_lt, Option, Some, None, is_some, is_none, option_map, unwrap_or, if◌then◌else◌}
+use Rattle.std.specs.Prelude.{ℕ, ◌≡◌, ◌+◌, ◌-◌, ◌*◌, ◌/◌, ◌%◌, ◌==◌, ◌&&◌, ◌||◌, Bool, false, not, min, max, nat_le, nat_lt, is_some, option_map, unwrap_or, if◌then◌else◌}
 use Rattle.press_member.specs.declared.pace.Pace.{Pace}
 
 -- so much later, as far as 64 bits count

@@ -16,6 +16,7 @@ pub record AreSame (old new : Peers) : Type 0 where
   pub own : new.own ≡ old.own
   pub count : length new.all.items ≡ length old.all.items
   pub digests : new.digests ≡ old.digests
+  pub differing : new.differing.items ≡ old.differing.items
 
 -- a wake, or questions
 abbrev pub IsDue : {N : Type 0} → List (Deed N) → Type 0
@@ -27,6 +28,8 @@ module _ {N : Type 0} (moved : N → N → NodeMove) (old new : View N) where
     pub id : new.id ≡ old.id
     pub members : new.members ≡ old.members
     pub digests : new.digests ≡ old.digests
+    pub chain : new.chain ≡ old.chain
+    pub differing : new.differing ≡ old.differing
     pub kit : (moved new.node new.node).kit ≡ (moved old.node old.node).kit
 
   -- it does deeds of this kind

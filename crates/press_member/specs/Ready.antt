@@ -31,6 +31,16 @@ others_from meets own place (peer ∷ rest) = (if not (place == own) && meets pe
 abbrev pub others : (Peer → Bool) → Peers → ℕ
 others meets peers = others_from meets (peers.own - 1) 0 peers.all.items
 
+-- how many others don't differ, this one being at a place, the first of them at another
+abbrev pub agreeing_from : ℕ → ℕ → List Bool → ℕ
+agreeing_from own place [] = 0
+agreeing_from own place (differs ∷ rest) = (if not (place == own) && not differs then 1 else 0) + agreeing_from own (place + 1) rest
+
+-- so many members, of whom these differ from the one at a place: those that don't, itself among
+-- them, are a majority
+abbrev pub is_agreed : ℕ → ℕ → List Bool → Bool
+is_agreed members own differing = is_majority members (agreeing_from own 0 differing + 1)
+
 -- a majority says that so many slots are chosen, this member saying so up to its own count
 abbrev pub is_borne : Peers → ℕ → ℕ → ℕ → Bool
 is_borne peers own_count now chosen =

@@ -6,6 +6,7 @@ ghost use Rattle.press_member.specs.Shown.{IsShown};
 
 use crate::peers::Peers;
 use crate::player::Player;
+use press_chain::Chain;
 use press_page::Reply;
 use std::alloc::Global;
 
@@ -16,6 +17,8 @@ pub struct Member<S> {
     pub(crate) player: Player<S>,
     pub(crate) peers: Peers,
     pub(crate) time: u64,
+    // The digests of what its node has applied.
+    pub(crate) chain: Chain,
     // The front page, where it was shown since the node changed last.
     pub(crate) front: Option<Reply>,
     pub(crate) ghost shown: { IsShown (kit_of player.node) (state_of player.node) front } by { Prim.hlevel props },

@@ -1,11 +1,14 @@
 //! A member: its node, and what it has beside it.
 
-ghost use Rattle.std.specs.Prelude.{◌+◌, ◌≡◌, ◌<◌, ◌≤◌, ◌^◌, false, Ok, None, Some, [], IfErr, IfOk, IfSome, IsTrue, MatchResult, is_ok, length, max, true};
+ghost use Rattle.std.specs.Prelude.{◌+◌, ◌-◌, ◌≡◌, ◌<◌, ◌≤◌, ◌^◌, false, Ok, None, Some, [], IfErr, IfOk, IfSome, IsTrue, MatchResult, OnOk, is_ok, length, max, slice_get, true, unwrap_or};
 ghost use Rattle.press_node.specs.States.{applied_count, is_down};
 ghost use Rattle.press_node.specs.Nodes.{kit_of, node_move, state_of, store_of};
-ghost use Rattle.press_member.specs.Acts.{Acts, Shows, TellsStop, first_view, has_more, is_open, node_in, stop_in, view_of};
+ghost use Rattle.press_member.specs.Acts.{Acts, Shows, TakesMemory, TellsStop, chain_in, differing_in, first_view, has_more, is_open, node_in, stop_in, takes_commands, view_of};
 ghost use Rattle.press_member.specs.Coming.{AreItsMoves};
+ghost use Rattle.press_member.specs.Differing.{tip_in};
+ghost use Rattle.press_member.specs.Following.{HasAll, IsDigested, KeepsDigests, joined};
 ghost use Rattle.press_member.specs.Readiness.{is_ready, report_of};
+ghost use Rattle.press_member.specs.Ready.{is_agreed};
 ghost use Rattle.press_member.specs.Parts.{BringsEvent, IsDue, IsSame, Turns};
 ghost use Rattle.press_member.specs.Played.{moment_of};
 ghost use Rattle.press_member.specs.Shown.{Gets};
@@ -27,6 +30,7 @@ use press_acceptor::{PromiseStore, StoreFault};
 use press_apply::Stamped;
 use press_batch::Report;
 use press_callbacks::Kit;
+use press_chain::{Chain, Tip};
 use press_node::{Event, Node, NodeFault, StartFault};
 use press_page::{Reply, Target};
 use press_wire::{MemberId, Message};
@@ -50,18 +54,43 @@ fn copy_of(alloc: Global, reply: &Reply) -> Result<Reply, NodeFault>
     }
 }
 
+// What an input came to, where memory was wanting for the digests of what it may have had the node
+// apply.
+fn joined(
+    done: Result<Outputs, AllocError>,
+    followed: Result<(), AllocError>,
+    may_play: bool,
+) -> Result<Outputs, AllocError>
+    ensures { result ≡ joined done followed may_play }
+{
+    match done {
+        Err(fault) => Err(fault),
+        Ok(outputs) => match followed {
+            Ok(()) => Ok(outputs),
+            Err(_) if !may_play => Ok(outputs),
+            Err(fault) => Err(fault),
+        },
+    }
+}
+
+// What a report tells of the values that were applied.
+fn tip_in(report: &Report) -> Tip
+    ensures { result ≡ tip_in report.now }
+{
+    Tip {
+        count: report.applied,
+        digest: report.digest,
+        block_digest: report.block_digest,
+    }
+}
+
 impl<S: PromiseStore + Drop> Member<S> {
     /// A member that hasn't heard of any other yet.
     pub fn new(alloc: Global, node: Node<S>, beginning: Beginning) -> Result<Member<S>, AllocError>
-        ensures begins { IfOk result (λ member. view_of member ≡ record {
-          id = beginning.id;
-          members = beginning.members;
-          digests = beginning.digests;
-          node = node;
-          own = [];
-          stop = None;
-          is_open = false;
-        }) }
+        ensures begins { IfOk result (λ member. view_of member
+            ≡ first_view beginning node (chain_in (view_of member))) }
+        ensures digested { IfOk result
+            (λ member. IsDigested (λ node. state_of node) (view_of member)) }
     {
         let Beginning {
             id,
@@ -84,7 +113,10 @@ impl<S: PromiseStore + Drop> Member<S> {
         requires few { beginning.members ≤ most_members }
         requires member { beginning.id ≤ beginning.members }
         ensures begins { IfOk result
-            (λ member. view_of member ≡ first_view beginning (node_in (view_of member))) }
+            (λ member. view_of member ≡ first_view beginning (node_in (view_of member))
+            (chain_in (view_of member))) }
+        ensures digested { IfOk result
+            (λ member. IsDigested (λ node. state_of node) (view_of member)) }
         ensures kit { MatchResult result
             (λ member. kit_of (node_in (view_of member)) ≡ kit_view kit)
             (λ e. kit_view e.kit ≡ kit_view kit) }
@@ -114,7 +146,7 @@ impl<S: PromiseStore + Drop> Member<S> {
 impl<S> Member<S> {
     // One that hasn't heard of any of these.
     fn begin(alloc: Global, node: Node<S>, peers: Peers, beginning: Beginning) -> Member<S>
-        ensures { view_of result ≡ record {
+        ensures begins { view_of result ≡ record {
           id = beginning.id;
           members = length peers.all.items;
           digests = peers.digests;
@@ -122,7 +154,10 @@ impl<S> Member<S> {
           own = [];
           stop = None;
           is_open = false;
+          chain = chain_in (view_of result);
+          differing = peers.differing.items;
         } }
+        ensures digested { IsDigested (λ node. state_of node) (view_of result) }
     {
         let Beginning {
             id,
@@ -145,6 +180,7 @@ impl<S> Member<S> {
             player,
             peers,
             time: 0,
+            chain: Chain::new(alloc),
             front: None,
         }
     }
@@ -180,7 +216,7 @@ impl<S: PromiseStore> Member<S> {
         player.into_node()
     }
 
-    /// Whether it takes commands and shows pages: it has once applied what was known to be chosen.
+    /// Whether it shows pages: it has once applied what was known to be chosen.
     pub fn is_open(&self) -> bool
         ensures { result ≡ is_open (view_of self.now) }
     {
@@ -205,15 +241,39 @@ impl<S: PromiseStore> Member<S> {
     pub fn report(&self) -> Report
         ensures { result ≡ report_of self.now }
     {
+        let Tip {
+            count,
+            digest,
+            block_digest,
+        } = self.chain.tip();
         Report {
-            applied: self.player.node.applied(),
+            applied: count,
             chosen: self.chosen_count(),
             digests: self.peers.digests(),
+            digest,
+            block_digest,
         }
     }
 
-    /// Whether it answers for the site as well as any: it is open and up, hears a majority, and is
-    /// at most 64 slots behind what a majority says is chosen.
+    /// Whether those that have applied the same as this member, as far as it knows, are a majority,
+    /// itself among them.
+    pub fn is_agreed(&self) -> bool
+        ensures { result ≡ is_agreed (view_of self.now).members ((view_of self.now).id - 1)
+            (differing_in (view_of self.now)) }
+    {
+        self.peers.is_agreed(self.player.id)
+    }
+
+    /// Whether it takes commands.
+    pub fn takes_commands(&self) -> bool
+        ensures { result ≡ takes_commands (view_of self.now) }
+    {
+        self.is_open() && self.is_agreed()
+    }
+
+    /// Whether it answers for the site as well as any: it is open and up, has applied what a
+    /// majority has as far as it knows, hears a majority, and is at most 64 slots behind what a
+    /// majority says is chosen.
     pub fn is_ready(&self) -> bool
         ensures { result ≡ is_ready self.now }
     {
@@ -221,6 +281,7 @@ impl<S: PromiseStore> Member<S> {
         let borne_out = self.peers.borne_out(self.chosen_count(), self.time);
         self.is_open()
             && !self.player.node.is_down()
+            && self.is_agreed()
             && self.peers.is_majority_near(self.time)
             && borne_out <= applied.saturating_add(NEAR)
     }
@@ -236,6 +297,14 @@ impl<S: PromiseStore> Member<S> {
         self.peers.is_foreign(place)
     }
 
+    /// Whether the member at a place, from 0, has applied other values than this one, by the last of
+    /// its reports that could be compared.
+    pub fn is_differing(&self, place: usize) -> bool
+        ensures { result ≡ unwrap_or (slice_get (differing_in (view_of self.now)) place) false }
+    {
+        self.peers.is_differing(place)
+    }
+
     /// What happens to it, and what that brings. Without memory for a message that is lost, as one
     /// may be on its way, with what else the input would have brought.
     ///
@@ -248,16 +317,33 @@ impl<S: PromiseStore> Member<S> {
             (λ node. state_of node) (view_of self.old) (view_of self.new) }
         ensures moves { AreItsMoves S.seen (λ node. store_of node) (λ node. state_of node) input
             (view_of self.old) (view_of self.new) result }
+        ensures digested { KeepsDigests (λ node. (S.seen (store_of node)).is_honest)
+            (λ node. state_of node) (view_of self.old) (view_of self.new) }
+        ensures follows { OnOk result
+            (TakesMemory (view_of self.old) input →
+            HasAll (λ node. state_of node) (view_of self.new)) }
     {
-        match self.act(input) {
-            Ok(outputs) => Ok(outputs),
-            Err(fault) => Err(fault),
-        }
+        let may_play = self.may_play(&input);
+        let result = self.act(input);
+        let followed = self.chain.follow(self.player.node.values());
+        joined(result, followed, may_play)
     }
 }
 
 // What each input does.
 impl<S: PromiseStore> Member<S> {
+    // Whether the input may have its node play something.
+    fn may_play(&self, input: &Input) -> bool
+        ensures plays { result ≡ true → TakesMemory (view_of self.now) input.now }
+        ensures rests { result ≡ false → TakesMemory (view_of self.now) input.now → ⊥ }
+    {
+        match input {
+            Input::Command(_) => self.takes_commands(),
+            Input::Message(_) | Input::HearOwn | Input::Time(_) => true,
+            Input::Page(_) | Input::Report { .. } | Input::Ended { .. } => false,
+        }
+    }
+
     fn act(&mut self, input: Input) -> Result<Outputs, AllocError>
         requires always { Unit {0} }
         ensures { Acts (λ a b. node_move S.seen a b) input (view_of self.old)
@@ -300,7 +386,7 @@ impl<S: PromiseStore> Member<S> {
         ensures acts { Acts (λ a b. node_move S.seen a b) (input.Command command)
             (view_of self.old) (view_of self.new) result }
     {
-        if !self.is_open() {
+        if !self.takes_commands() {
             return Ok(Outputs::only(self.alloc, Answer::NotYet));
         }
         let mut messages = Vec::new(self.alloc);
@@ -443,6 +529,8 @@ impl<S: PromiseStore> Member<S> {
         if !self.peers.take_report(from, report, self.time) {
             return Outputs::only(self.alloc, Answer::Foreign);
         }
+        let tip = tip_in(&report);
+        self.peers.note_comparison(from, self.chain.compare(&tip));
         self.note_reports();
         Outputs::only(self.alloc, Answer::Taken)
     }

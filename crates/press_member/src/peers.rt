@@ -1,12 +1,14 @@
 //! The members of a cluster, by what they say and whether they answer.
 
-ghost use Rattle.std.specs.Prelude.{◌≡◌, ◌≢◌, true, false, ◌+◌, ◌-◌, not, IfOk, IfSome, length};
+ghost use Rattle.std.specs.Prelude.{◌≡◌, ◌≢◌, true, false, ◌+◌, ◌-◌, not, IfOk, IfSome, length, replicate, slice_get, unwrap_or};
+ghost use Rattle.press_member.specs.Differing.{after_comparison};
 ghost use Rattle.press_member.specs.Hearing.{after_end, after_hearing, after_report, changed_at};
 ghost use Rattle.press_member.specs.Parts.{AreSame};
-ghost use Rattle.press_member.specs.Ready.{borne_out, claim, if_borne, is_heard, is_lately, is_majority, others, says};
+ghost use Rattle.press_member.specs.Ready.{borne_out, claim, if_borne, is_agreed, is_heard, is_lately, is_majority, others, says};
 
 use crate::signs::is_query;
 use press_batch::{Digests, Report};
+use press_chain::Comparison;
 use press_wire::{MemberId, Message};
 use std::alloc::{AllocError, Global};
 
@@ -109,6 +111,8 @@ impl Peer {
 #[derive(Drop)]
 pub struct Peers {
     all: Vec<Peer>,
+    // Which of them have applied other values than this one, by the last comparison.
+    differing: Vec<bool>,
     own: MemberId,
     digests: Digests,
 }
@@ -124,12 +128,21 @@ impl Peers {
         ensures own { IfOk result (λ peers. peers.own ≡ own) }
         ensures count { IfOk result (λ peers. length peers.all.items ≡ count) }
         ensures digests { IfOk result (λ peers. peers.digests ≡ digests) }
+        ensures differing { IfOk result (λ peers. peers.differing.items
+            ≡ replicate count false) }
     {
         let mut all = Vec::new(alloc);
+        let mut differing = Vec::new(alloc);
         for place in 0..count {
             all.push(Peer::new())?;
+            differing.push(false)?;
         }
-        Ok(Peers { all, own, digests })
+        Ok(Peers {
+            all,
+            differing,
+            own,
+            digests,
+        })
     }
 
     /// How many there are: at most 7.
@@ -185,6 +198,49 @@ impl Peers {
             peer.note(is_foreign, report.chosen, now);
         }
         !is_foreign
+    }
+
+    /// Notes what a comparison with a member says.
+    pub fn note_comparison(&mut self, member: MemberId, comparison: Comparison)
+        ensures own { self.new.own ≡ self.old.own }
+        ensures all { self.new.all ≡ self.old.all }
+        ensures digests { self.new.digests ≡ self.old.digests }
+        ensures notes { self.new.differing.items
+            ≡ after_comparison (member - 1) comparison self.old.differing.items }
+    {
+        let differs = match comparison {
+            Comparison::Same => false,
+            Comparison::Other => true,
+            Comparison::Unknown => return,
+        };
+        let place = place_of(member);
+        if let Some(noted) = self.differing.get_mut(place) {
+            *noted = differs;
+        }
+    }
+
+    /// Whether the member at a place has applied other values, by the last comparison.
+    pub fn is_differing(&self, place: usize) -> bool
+        ensures { result ≡ unwrap_or (slice_get self.now.differing.items place) false }
+    {
+        match self.differing.get(place) {
+            Some(differs) => *differs,
+            None => false,
+        }
+    }
+
+    /// Whether the members that don't differ from this one are a majority, this one among them.
+    pub fn is_agreed(&self, member: MemberId) -> bool
+        ensures { result ≡ is_agreed (length self.now.all.items) (member - 1)
+            self.now.differing.items }
+    {
+        let own = place_of(member);
+        let mut agreeing: usize = 0;
+        for (place, differs) in self.differing.iter().enumerate() {
+            let is_counted = (place != own) & !*differs;
+            agreeing = agreeing.saturating_add(usize::from(is_counted));
+        }
+        self.is_majority(agreeing.saturating_add(1))
     }
 
     // A look or a question goes to a member.

@@ -2,7 +2,13 @@
 //! `press_member_cases [WORD] CASE ..`. CASE is a number, by which members, network, forms and
 //! faults are drawn, `A..B` for the numbers from A to before B, or a file with a scenario. `brief`
 //! has a line told for each case, `steps` each fault as it happens; `shown` prints the scenarios as
-//! such files have them, and plays nothing. The status is 1 where something doesn't hold.
+//! such files have them, and plays nothing. The status is 1 where something doesn't hold. From 1,000
+//! on, of even numbers and of each fortieth some faults are `keep`, `empty` and `back`, below.
+//!
+//! A member whose disk lacks some of its saves has to be told so within two seconds of being
+//! connected with one that had heard of them, which hears nothing more of it, and no other ever is;
+//! a line says how often one was. Where one was heard before, since nobody who had heard more was
+//! there, nothing is promised of what is chosen, and nothing of that is judged from then on.
 //!
 //! A file has a line for each of `seed N` (of what is left to chance), `members N`, `tick MS`, `sql
 //! 1` (stores are databases over simulated files, else in memory), `least MS` and `most MS` (how
@@ -13,10 +19,12 @@
 //! stops behind N writes, which are saves in memory, and writes and syncs of a database's files),
 //! `fill M N` (it starts on a disk with room for N writes, and for none whenever it starts again),
 //! `room M` (there is room again), `foreign M` (it starts with other digests), `give M N` (its
-//! files are given to member N, which is not to run over them, and then to it again), `cut A B`
-//! (nothing goes from A to B), `part BITS` (members with these bits are cut off), `heal`, `pause M
-//! MS`, `jump M MS` (its clock goes forward), `lie M N` (it reports N more slots than are chosen),
-//! `burst M N` (that many forms), `all` (a form to each), `outage` (all end, and start again soon).
+//! files are given to member N, which is not to run over them, and then to it again), `keep M` (it
+//! ends, a copy of its disk is taken, and it starts), `empty M` and `back M N` (it ends, its disk is
+//! emptied, or its copy N, from 1, is put back, and it starts), `cut A B` (nothing goes from A to
+//! B), `part BITS` (members with these bits are cut off), `heal`, `pause M MS`, `jump M MS` (its
+//! clock goes forward), `lie M N` (it reports N more slots than are chosen), `burst M N` (that many
+//! forms), `all` (a form to each), `outage` (all end, and start again soon).
 //!
 //! Functions here that play an event on a node carry `requires always { Unit {0} }`, which always
 //! holds: `docs/DECISIONS.md` says why the checker wants it.
@@ -29,6 +37,7 @@ mod outward;
 mod place;
 mod shelf;
 mod sql_shelf;
+mod starts;
 mod watched;
 
 use crate::memory_shelf::MemoryShelf;

@@ -21,10 +21,37 @@ fn place_of(id: MemberId) -> usize {
 }
 
 fn report_of(report: simulation::Report) -> Report {
+    let simulation::Report {
+        applied,
+        chosen,
+        cluster,
+        digest,
+        block_digest,
+    } = report;
     Report {
-        applied: report.applied,
-        chosen: report.chosen,
-        digests: digests_of(report.cluster),
+        applied,
+        chosen,
+        digests: digests_of(cluster),
+        digest,
+        block_digest,
+    }
+}
+
+/// What a member says of itself, in the simulation's words.
+pub fn report_as_simulated(report: Report) -> simulation::Report {
+    let Report {
+        applied,
+        chosen,
+        digests,
+        digest,
+        block_digest,
+    } = report;
+    simulation::Report {
+        applied,
+        chosen,
+        cluster: digests.kit,
+        digest,
+        block_digest,
     }
 }
 

@@ -1,17 +1,19 @@
 //! A store on a database over two simulated files, which stop or are full at a write.
 
-ghost use Rattle.std.specs.Prelude.{◌≡◌, ◌≢◌, ◌<◌, ◌≤◌};
-ghost use Rattle.press_acceptor.specs.declared.fault.StoreFault.TheVariants.{Disk};
+ghost use Rattle.std.specs.Prelude.{◌≡◌, ◌≢◌, Err};
 
 use crate::limited::{Budget, Limited};
-use crate::shelf::Shelf;
+use crate::shelf::{Faults, Opened, Opener, Shelf};
+use crate::starts::{Ears, MEMBERS, Register, place_of, sighting_of};
 use press_acceptor::{Block, PromiseStore, StoreFault};
 use press_simulation::Condition;
-use press_store::{Owner, SqlStore, Tie};
-use press_wire::{Ballot, Round, Slot, Vote};
+use press_starts::{Mark, Sighting, Starts, Witness};
+use press_store::{Notes, Owner, SqlStore, Tie};
+use press_wire::{Ballot, MOST_MEMBERS, MemberId, Round, Slot, Vote};
 use sqlite::{Alter, Connection, FileStore, Files, Options};
 use sqlite_disk::{Crash, Disk, Memory};
 use std::alloc::Global;
+use std::rc::Rc;
 
 /// A simulated file that stops or is full.
 pub type Device = Limited<Memory>;
@@ -107,24 +109,28 @@ fn files_of<D: Disk + Drop>(store: SqlStore<FileStore<D>>) -> Files<D> {
 #[derive(Drop)]
 pub struct OnFiles {
     store: SqlStore<FileStore<Device>>,
-    faults: u64,
+    names: Vec<u64>,
+    notes: Rc<Notes>,
+    register: Register,
+    faults: Faults,
 }
 
 impl OnFiles {
-    // A call has failed. A failure past the greatest count is told as damage.
-    fn count(&mut self, fault: StoreFault) -> StoreFault
-        ensures disk { result ≡ Disk → self.old.faults < self.new.faults }
-        ensures counts { self.old.faults ≤ self.new.faults }
-    {
-        if fault != StoreFault::Disk {
-            return fault;
-        }
-        match self.faults.checked_add(1) {
-            Some(faults) => {
-                self.faults = faults;
-                fault
+    // What was heard of the others is kept with the save that comes.
+    fn note_heard(&self) {
+        for (place, heard) in self.register.ears().iter().enumerate() {
+            if let Some(sighting) = sighting_of(place, *heard) {
+                self.notes.note(sighting);
             }
-            None => StoreFault::Damaged,
+        }
+    }
+
+    // A save was made.
+    fn note_save(&mut self)
+        ensures { self.new.faults ≡ self.old.faults }
+    {
+        if let Some(mark) = self.store.mark() {
+            self.register.save(mark.saves);
         }
     }
 }
@@ -138,80 +144,234 @@ impl PromiseStore for OnFiles {
       is_open = false;
       kept = new_store;
       may_leave = λ left. Unit {0};
-      faults = s.faults;
+      faults = s.faults.number;
       ends = λ call fault. Unit {0};
     } };
 
     fn faults(&self) -> u64 {
-        self.faults
+        self.faults.number()
     }
 
     fn load(&mut self, first: Slot) -> Result<Block, StoreFault> {
         match self.store.load(first) {
             Ok(block) => Ok(block),
-            Err(fault) => Err(self.count(fault)),
+            Err(fault) => Err(self.faults.count(fault)),
         }
     }
 
     fn save_promise(&mut self, first: Slot, ballot: Ballot) -> Result<(), StoreFault> {
+        self.note_heard();
         match self.store.save_promise(first, ballot) {
-            Ok(()) => Ok(()),
-            Err(fault) => Err(self.count(fault)),
+            Ok(()) => {
+                self.note_save();
+                Ok(())
+            }
+            Err(fault) => Err(self.faults.count(fault)),
         }
     }
 
     fn save_vote(&mut self, slot: Slot, vote: &Vote) -> Result<(), StoreFault> {
+        self.note_heard();
         match self.store.save_vote(slot, vote) {
-            Ok(()) => Ok(()),
-            Err(fault) => Err(self.count(fault)),
+            Ok(()) => {
+                self.note_save();
+                Ok(())
+            }
+            Err(fault) => Err(self.faults.count(fault)),
         }
     }
 
     fn last_round(&mut self) -> Result<u64, StoreFault> {
         match self.store.last_round() {
             Ok(round) => Ok(round),
-            Err(fault) => Err(self.count(fault)),
+            Err(fault) => Err(self.faults.count(fault)),
         }
     }
 
     fn save_round(&mut self, round: Round) -> Result<(), StoreFault> {
+        self.note_heard();
         match self.store.save_round(round) {
-            Ok(()) => Ok(()),
-            Err(fault) => Err(self.count(fault)),
+            Ok(()) => {
+                self.note_save();
+                Ok(())
+            }
+            Err(fault) => Err(self.faults.count(fault)),
         }
     }
 
     ghost shows = { λ store honest is_open. absurd honest };
 }
 
-impl Shelf for OnFiles {
-    type Kept = Files<Device>;
+/// Two files, and the names of all starts that there were over them.
+#[derive(Drop)]
+pub struct FileDisk {
+    files: Files<Device>,
+    names: Vec<u64>,
+}
 
-    fn empty(alloc: Global) -> Files<Device> {
-        Files {
+// What a database has of starts.
+#[derive(Drop)]
+struct Kept {
+    starts: Vec<Mark>,
+    heard: Vec<Sighting>,
+}
+
+fn starts_in(
+    alloc: Global,
+    store: &mut SqlStore<FileStore<Device>>,
+    names: &[u64],
+) -> Result<Vec<Mark>, StoreFault> {
+    let mut starts = Vec::new(alloc);
+    for start in names.iter() {
+        if let Some(saves) = store.saves_of(*start)? {
+            let start = *start;
+            starts.push(Mark { start, saves })?;
+        }
+    }
+    Ok(starts)
+}
+
+fn heard_in(
+    alloc: Global,
+    store: &mut SqlStore<FileStore<Device>>,
+) -> Result<Vec<Sighting>, StoreFault> {
+    let mut heard = Vec::new(alloc);
+    for number in 1..=MOST_MEMBERS {
+        let Some(member) = MemberId::new(number) else {
+            continue;
+        };
+        if let Some(mark) = store.mark_of(member)? {
+            heard.push(Sighting { member, mark })?;
+        }
+    }
+    Ok(heard)
+}
+
+// A start of that name begins on a database, which had that of starts.
+fn begin_in(
+    alloc: Global,
+    store: &mut SqlStore<FileStore<Device>>,
+    names: &[u64],
+    begins: (u64, Rc<Notes>),
+) -> Result<Kept, StoreFault> {
+    let (start, notes) = begins;
+    store.begin_start(start, notes)?;
+    let names = names.strip_suffix(&[start]).unwrap_or(names);
+    Ok(Kept {
+        starts: starts_in(alloc, store, names)?,
+        heard: heard_in(alloc, store)?,
+    })
+}
+
+// What a member knows whose start of that name has begun.
+fn witness_of(start: u64, kept: Kept) -> (Witness, Ears) {
+    let Kept { starts, heard } = kept;
+    let mut witness = Witness::new(Mark { start, saves: 0 }, starts);
+    let mut ears: Ears = [None; MEMBERS];
+    for sighting in heard.iter() {
+        witness.remember(*sighting);
+        if let Some(ear) = ears.get_mut(place_of(sighting.member)) {
+            *ear = Some(sighting.mark);
+        }
+    }
+    (witness, ears)
+}
+
+// A store over files, on which its start begins.
+fn begin_on(
+    alloc: Global,
+    opened: (SqlStore<FileStore<Device>>, u64),
+    names: Vec<u64>,
+    start: u64,
+) -> Result<Opened<OnFiles>, FileDisk> {
+    let (mut store, chosen) = opened;
+    let mut names = names;
+    let Ok(known) = begin_known(alloc, &mut store, &mut names, start) else {
+        let files = crash_files(files_of(store));
+        return Err(FileDisk { files, names });
+    };
+    let (notes, register, copy, witness) = known;
+    let store = OnFiles {
+        store,
+        names,
+        notes,
+        register: copy,
+        faults: Faults::new(),
+    };
+    Ok(Opened {
+        store,
+        chosen,
+        witness,
+        register,
+    })
+}
+
+type Known = (Rc<Notes>, Register, Register, Witness);
+
+fn begin_known(
+    alloc: Global,
+    store: &mut SqlStore<FileStore<Device>>,
+    names: &mut Vec<u64>,
+    start: u64,
+) -> Result<Known, StoreFault> {
+    names.push(start)?;
+    let notes = Rc::new(alloc, Notes::new())?;
+    let shared = notes.clone()?;
+    let kept = begin_in(alloc, store, names.as_slice(), (start, shared))?;
+    let (witness, ears) = witness_of(start, kept);
+    let register = Register::new(alloc, ears)?;
+    let copy = register.copy()?;
+    Ok((notes, register, copy, witness))
+}
+
+impl Shelf for OnFiles {
+    type Kept = FileDisk;
+
+    fn empty(alloc: Global) -> FileDisk {
+        let files = Files {
             log: Limited::new(Memory::new(alloc), Budget::endless()),
             db: Limited::new(Memory::new(alloc), Budget::endless()),
-        }
+        };
+        let names = Vec::new(alloc);
+        FileDisk { files, names }
+    }
+
+    fn copy(alloc: Global, kept: &FileDisk) -> Option<FileDisk> {
+        let mut names = Vec::new(alloc);
+        names.extend_from_slice(kept.names.as_slice()).ok()?;
+        let files = limit_files(alloc, &kept.files, Condition::Sound)?;
+        Some(FileDisk { files, names })
     }
 
     fn open(
         alloc: Global,
-        kept: Files<Device>,
+        kept: FileDisk,
         disk: Condition,
-        owner: Owner,
-    ) -> Result<(OnFiles, u64), Files<Device>> {
-        let Some(files) = limit_files(alloc, &kept, disk) else {
+        opener: Opener,
+    ) -> Result<Opened<OnFiles>, FileDisk> {
+        let Some(files) = limit_files(alloc, &kept.files, disk) else {
             return Err(kept);
         };
-        drop(kept);
-        match store_in(alloc, files, owner) {
-            Ok((store, chosen)) => Ok((OnFiles { store, faults: 0 }, chosen)),
-            Err(files) => Err(crash_files(files)),
+        let FileDisk { files: old, names } = kept;
+        drop(old);
+        match store_in(alloc, files, opener.owner) {
+            Ok(opened) => begin_on(alloc, opened, names, opener.start),
+            Err(files) => {
+                let files = crash_files(files);
+                Err(FileDisk { files, names })
+            }
         }
     }
 
-    fn close(self) -> Files<Device> {
-        let OnFiles { store, faults: _ } = self;
-        crash_files(files_of(store))
+    fn close(self) -> FileDisk {
+        let OnFiles {
+            store,
+            names,
+            notes: _,
+            register: _,
+            faults: _,
+        } = self;
+        let files = crash_files(files_of(store));
+        FileDisk { files, names }
     }
 }

@@ -1,5 +1,7 @@
 //! A store whose votes are noted as they are saved.
 
+ghost use Rattle.std.specs.Prelude.{◌≡◌};
+
 use crate::forms::digest_of_value;
 use crate::shelf::Shelf;
 use press_acceptor::{Block, PromiseStore, StoreFault};
@@ -24,6 +26,8 @@ pub struct Watched<S> {
     inner: S,
     alloc: Global,
     notes: Vec<Note>,
+    // How often it has saved.
+    saves: u64,
     // The last vote whose save failed: the disk may have it.
     perhaps: Option<Note>,
 }
@@ -34,6 +38,7 @@ impl<S: Drop> Drop for Watched<S> {
             inner: _,
             alloc: _,
             notes: _,
+            saves: _,
             perhaps: _,
         } = self;
     }
@@ -69,6 +74,7 @@ impl<S: Shelf> Watched<S> {
             inner,
             alloc,
             notes: Vec::new(alloc),
+            saves: 0,
             perhaps: None,
         }
     }
@@ -79,6 +85,7 @@ impl<S: Shelf> Watched<S> {
             inner,
             alloc: _,
             notes: _,
+            saves: _,
             perhaps,
         } = self;
         Left {
@@ -142,6 +149,19 @@ impl<S> Watched<S> {
     pub fn notes(&self) -> &[Note] {
         self.notes.as_slice()
     }
+
+    /// How often it has saved.
+    pub fn saves(&self) -> u64 {
+        self.saves
+    }
+
+    fn count(&mut self, saved: Result<(), StoreFault>) -> Result<(), StoreFault>
+        ensures result { result ≡ saved }
+        ensures inner { self.new.inner ≡ self.old.inner }
+    {
+        self.saves = self.saves.saturating_add(u64::from(saved.is_ok()));
+        saved
+    }
 }
 
 impl<S: PromiseStore> PromiseStore for Watched<S> {
@@ -156,7 +176,8 @@ impl<S: PromiseStore> PromiseStore for Watched<S> {
     }
 
     fn save_promise(&mut self, first: Slot, ballot: Ballot) -> Result<(), StoreFault> {
-        self.inner.save_promise(first, ballot)
+        let saved = self.inner.save_promise(first, ballot);
+        self.count(saved)
     }
 
     fn save_vote(&mut self, slot: Slot, vote: &Vote) -> Result<(), StoreFault> {
@@ -167,7 +188,7 @@ impl<S: PromiseStore> PromiseStore for Watched<S> {
         } else {
             self.perhaps = Some(note);
         }
-        saved
+        self.count(saved)
     }
 
     fn last_round(&mut self) -> Result<u64, StoreFault> {
@@ -175,7 +196,8 @@ impl<S: PromiseStore> PromiseStore for Watched<S> {
     }
 
     fn save_round(&mut self, round: Round) -> Result<(), StoreFault> {
-        self.inner.save_round(round)
+        let saved = self.inner.save_round(round);
+        self.count(saved)
     }
 
     ghost shows = { λ store. S.shows store.inner };

@@ -22,7 +22,7 @@ use Rattle.press_program.specs.declared.ending.Ending.{Ending}
 use Rattle.press_program.specs.declared.ending.Ending.TheVariants.{Printed, Replayed, Fault}
 use Rattle.press_kit.specs.declared.place.Place.{Place}
 use Rattle.press_kit.specs.SiteFile.{site_in}
-use Rattle.press_server.specs.Listening.{listening_line}
+use Rattle.press_server.specs.Listening.{server_line}
 use Rattle.press_server.specs.declared.serve_fault.ServeFault.{ServeFault}
 use Rattle.press_server.specs.declared.serve_fault.ServeFault.TheVariants as fault
 use Rattle.press_loop.specs.Loops.{Loops}
@@ -159,7 +159,7 @@ any_server kit server ended = Unit {0}
 -- took it; or there was no memory for the kit, and nobody did.
 abbrev pub IsServed : ServeRelation → KitView → Server → Result (Unit {0}) ServeFault → Option (List ℕ) → Option (List ℕ) → Type 0
 IsServed served kit server ended out out' =
-    ((ended ≡ Err fault.NoMemory) × Keeps out out') ⊎ (served kit server ended × AppendsFront out out' (listening_line server.place))
+    ((ended ≡ Err fault.NoMemory) × Keeps out out') ⊎ (served kit server ended × AppendsFront out out' (server_line server.place))
 
 -- 0 for a server that ended without a fault
 abbrev pub server_status : Result (Unit {0}) ServeFault → ℕ

@@ -14,9 +14,9 @@ use Rattle.press_wire.specs.Ranges.{most_members}
 use Rattle.press_program.specs.declared.wanted.Arguments as asked
 use Rattle.press_program.specs.declared.wanted.Job as declared
 use Rattle.press_program.specs.declared.wanted.Job.TheVariants as told
-use Rattle.press_server.specs.Listening.Where.{alone_at, member_of}
+use Rattle.press_server.specs.Listening.Where.{alone_at, member_of, new_member_of}
 use Rattle.press_server.specs.Listening.{Where}
-use Rattle.press_server.specs.declared.setup.Role.TheVariants.{Alone, Member}
+use Rattle.press_server.specs.declared.setup.Role.TheVariants.{Alone, Member, NewMember}
 use Rattle.press_server.specs.declared.setup.Role.{Role}
 use Rattle.press_server.specs.declared.setup.Setup.{Setup}
 use Rattle.press_program.specs.declared.wanted.Exporting.{Exporting}
@@ -77,7 +77,7 @@ valued_words =
     with_rule (with_rule (with_rule (with_rule place_words (named_rule (codes "store"))) (named_rule (codes "turns"))) (named_rule (codes "editor"))) (named_rule (codes "ahead"))
 
 abbrev pub server_words : App
-server_words = with_rule (with_rule valued_words (flag_rule (codes "stay"))) (flag_rule (codes "status"))
+server_words = with_rule (with_rule (with_rule valued_words (flag_rule (codes "stay"))) (flag_rule (codes "status"))) (flag_rule (codes "new"))
 
 abbrev pub serve_words : App
 serve_words = with_kit server_words
@@ -196,10 +196,18 @@ abbrev pub without : {A : Type 0} → Option Text → Option A → Option A
 without None found = found
 without (Some word) found = None
 
+-- something, where the word without a value isn't there
+abbrev pub unless_set : {A : Type 0} → Option Text → Option A → Option A
+unless_set word found = if is_set word then None else found
+
 -- with a port a node by itself, which has no word of a member
 abbrev pub alone_by : Text → List Row → Option (Where × ℕ)
 alone_by port rows =
-    without (first_of (codes "id") rows) (without (first_of (codes "peers") rows) (without (first_of (codes "tick") rows) (option_map (λ n. (alone_at n, 0)) (number_in 1 65535 port))))
+    unless_set (first_of (codes "new") rows) (without (first_of (codes "id") rows) (without (first_of (codes "peers") rows) (without (first_of (codes "tick") rows) (option_map (λ n. (alone_at n, 0)) (number_in 1 65535 port)))))
+
+-- a member, or one that is new, whose file is to be made; it asks nobody
+abbrev pub member_at : Option Text → ℕ → Text → ℕ → Where × ℕ
+member_at new number peers tick = if is_set new then (new_member_of number peers, 0) else (member_of number peers, tick)
 
 -- else a member of a cluster, which needs a store in a file
 abbrev pub member_by : List Row → Option (Where × ℕ)
@@ -209,7 +217,7 @@ member_by rows = do
   peers ← first_of (codes "peers") rows
   store ← first_of (codes "store") rows
   tick ← tick_in (first_of (codes "tick") rows)
-  Some (member_of number peers, tick)
+  Some (member_at (first_of (codes "new") rows) number peers tick)
 
 abbrev pub place_by : Option Text → List Row → Option (Where × ℕ)
 place_by (Some port) rows = alone_by port rows
@@ -280,10 +288,11 @@ wanted_of w = (w.file.now, w.task)
 abbrev pub several_of : SeveralFiles → OfFiles
 several_of f = record { first = f.file.now; further = map (λ name. name.now) f.further.items; target = f.target }
 
--- a node by itself has no tick
+-- a node by itself has no tick, nor has one whose store is made
 abbrev pub place_of : Role → Where × ℕ
 place_of (Alone port) = (alone_at port, 0)
 place_of (Member id peers tick) = (member_of id peers.now, tick)
+place_of (NewMember id peers) = (new_member_of id peers.now, 0)
 
 abbrev pub server_of : Setup → Server
 server_of s = record {

@@ -6,7 +6,7 @@ ghost use Rattle.press_demonstration.specs.Demonstration.{demonstration};
 ghost use Rattle.press_kit.specs.KitFile.{file_limit};
 ghost use Rattle.press_lint.specs.Joints.{File as FileRead, files_of, read_together};
 ghost use Rattle.press_server.specs.Digests.{behind_files, digest_of_files};
-ghost use Rattle.press_server.specs.Listening.{listening_line, where_of};
+ghost use Rattle.press_server.specs.Listening.{server_line, where_of};
 ghost use Rattle.press_text.specs.Streams.{AppendsFront, TakesAtMost};
 ghost use Rattle.press_program.specs.Endings.{Does, IsServed, Listens, ReadsFor};
 ghost use Rattle.press_program.specs.KitFiles.{view_of_source, view_where};
@@ -67,7 +67,7 @@ impl<S: Serves> Hosting<'_, '_, S> {
     ) -> Result<Result<(), ServeFault>, AllocError>
         ensures served { IfOk result (λ ended. S.served demonstration (server_of setup.now) ended) }
         ensures line { IfOk result (λ _. AppendsFront (W.contents writer.old)
-            (W.contents writer.new) (listening_line (where_of setup.now.place))) }
+            (W.contents writer.new) (server_line (where_of setup.now.place))) }
         ensures nobody { OnErr result (Keeps (W.contents writer.old) (W.contents writer.new)) }
     {
         let alloc = self.over.rt.alloc();
@@ -91,7 +91,7 @@ impl<S: Serves> Hosting<'_, '_, S> {
         ensures served { IfOk result (λ ended. S.served
             (view_where (read_together (files_of files.now))) (server_of setup.now) ended) }
         ensures line { IfOk result (λ _. AppendsFront (W.contents writer.old)
-            (W.contents writer.new) (listening_line (where_of setup.now.place))) }
+            (W.contents writer.new) (server_line (where_of setup.now.place))) }
         ensures nobody { OnErr result (Keeps (W.contents writer.old) (W.contents writer.new)) }
     {
         let alloc = self.over.rt.alloc();
@@ -133,6 +133,14 @@ impl<S: Serves> Hosting<'_, '_, S> {
         }
     }
 
+    fn tell_fault<E: Write>(&self, fault: ServeFault, setup: &Setup<'_>, error: &mut E) {
+        let same = fault;
+        tell(error, serve_line(same));
+        if let Ok(Some(reason)) = reason_of(self.over.rt.alloc(), fault, setup) {
+            tell(error, reason.as_bytes());
+        }
+    }
+
     // Runs a server, and reports its fault.
     fn serve<W: Write, E: Write>(&self, setup: &Setup<'_>, writer: &mut W, error: &mut E) -> u8
         ensures { Listens S.served (view_of_source self.now.over.kit.now) (server_of setup.now)
@@ -141,10 +149,7 @@ impl<S: Serves> Hosting<'_, '_, S> {
         match self.host(setup, writer, error) {
             Ok(()) => 0,
             Err(fault) => {
-                tell(error, serve_line(fault));
-                if let Ok(Some(reason)) = reason_of(self.over.rt.alloc(), fault, setup) {
-                    tell(error, reason.as_bytes());
-                }
+                self.tell_fault(fault, setup, error);
                 2
             }
         }

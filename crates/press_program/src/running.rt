@@ -122,8 +122,9 @@ impl<S: Serves> Program<'_, S> {
 /// nodes, with status 0, and so does `loop FILE`, where each command, message and request for a
 /// page comes over a socket of the loopback. `serve --port N [--store FILE]` serves a node of a
 /// cluster of one at a port of 127.0.0.1, and `serve --id N --peers HOST:PORT,.. --store FILE
-/// [--tick N]` one of a cluster of up to seven at its own address among these; with `--turns N` for
-/// N connections, and then it ends with status 0; with `--editor FILE` that file is shown at
+/// [--tick N]` one of a cluster of up to seven at its own address among these, over a store that is
+/// there: with `--new` that is made, and nothing is served; with `--turns N` for N connections, and
+/// then it ends with status 0; with `--editor FILE` that file is shown at
 /// `/editor`, and with `--ahead N` no command is taken that is more than N seconds ahead of the
 /// machine's clock. A member whose store fails ends with its fault, and with `--stay` answers 503.
 /// With `--status` a server tells how it stands. `send FILE MEMBERS` sends the commands of a site

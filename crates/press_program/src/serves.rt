@@ -2,7 +2,7 @@
 
 ghost use Rattle.std.specs.Prelude.{◌≡◌, Result};
 ghost use Rattle.press_callbacks.specs.Kits.{KitView, kit_view};
-ghost use Rattle.press_server.specs.Listening.{listening_line, where_of};
+ghost use Rattle.press_server.specs.Listening.{server_line, where_of};
 ghost use Rattle.press_server.specs.declared.serve_fault.ServeFault.{ServeFault as Fault};
 ghost use Rattle.press_text.specs.Streams.{AppendsFront};
 ghost use Rattle.press_program.specs.Words.{Server, server_of};
@@ -29,7 +29,7 @@ pub trait Serves {
     ) -> Result<(), ServeFault>
         ensures served { served (kit_view kit) (server_of setup.now) result }
         ensures line { AppendsFront (W.contents writer.old) (W.contents writer.new)
-            (listening_line (where_of setup.now.place)) };
+            (server_line (where_of setup.now.place)) };
 }
 
 /// Serves over the sockets and files of the operating system, of which contracts see no bytes.

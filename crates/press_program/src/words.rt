@@ -106,7 +106,9 @@ fn server_words<'a>(alloc: Global) -> Result<Command<'a>, AllocError>
     let stay = Arg::new(alloc, "stay").long("stay");
     let one = valued.arg(stay.action(ArgAction::SetTrue))?;
     let status = Arg::new(alloc, "status").long("status");
-    let serve = one.arg(status.action(ArgAction::SetTrue))?;
+    let two = one.arg(status.action(ArgAction::SetTrue))?;
+    let new = Arg::new(alloc, "new").long("new");
+    let serve = two.arg(new.action(ArgAction::SetTrue))?;
     Ok(serve)
 }
 
@@ -284,12 +286,23 @@ fn id_in(text: &str) -> Option<u8>
     }
 }
 
+// Whether a word was given that has no value.
+fn is_set(text: Option<&str>) -> bool
+    ensures { result ≡ spec.is_set (option_map (λ t. t.now) text.entry) }
+{
+    match text {
+        Some(text) => text == "true",
+        None => false,
+    }
+}
+
 #[tactic(auto, using(crate::proofs::FirstValue::first_is))]
 fn alone_in<'a>(inside: &ArgMatches<'a>, port: &str) -> Option<Role<'a>>
     ensures { option_map (λ p. spec.place_of p) result
         ≡ spec.alone_by port.now (rows_of (found_of inside.now)) }
 {
-    let (None, None, None) = (
+    let (false, None, None, None) = (
+        is_set(inside.get_str("new")),
         inside.get_str("id"),
         inside.get_str("peers"),
         inside.get_str("tick"),
@@ -309,6 +322,9 @@ fn member_in<'a>(inside: &ArgMatches<'a>) -> Option<Role<'a>>
     let peers = inside.get_str("peers")?;
     let _store = inside.get_str("store")?;
     let tick = tick_in(inside.get_str("tick"))?;
+    if is_set(inside.get_str("new")) {
+        return Some(Role::NewMember { id, peers });
+    }
     Some(Role::Member { id, peers, tick })
 }
 
@@ -321,16 +337,6 @@ fn place_in<'a>(inside: &ArgMatches<'a>) -> Option<Role<'a>>
     match inside.get_str("port") {
         Some(port) => alone_in(inside, port),
         None => member_in(inside),
-    }
-}
-
-// Whether a word was given that has no value.
-fn is_set(text: Option<&str>) -> bool
-    ensures { result ≡ spec.is_set (option_map (λ t. t.now) text.entry) }
-{
-    match text {
-        Some(text) => text == "true",
-        None => false,
     }
 }
 

@@ -32,6 +32,19 @@ hears_more seen from input old next new early is takes =
       are_more from early.0.steps late.0.steps early.1 late.1,
     )
 
+-- nothing comes
+pub hears_none : {S : Type 0} {t : _} {F : _} {g : _} (seen : S → Seen) (from : ℕ) (only : Member S t F g) → HearsOnly seen from only only
+hears_none seen from only = (record { steps = []; lives = refl }, tt)
+
+-- some, and then some
+pub hears_both : {S : Type 0} {t : _} {F : _} {g : _} (seen : S → Seen) (from : ℕ) (old next new : Member S t F g)
+    → HearsOnly seen from old next → HearsOnly seen from next new → HearsOnly seen from old new
+unfolding more_come
+hears_both seen from old next new early late = (
+  more_come (view_of old) (view_of next) (view_of new) early.0 late.0,
+  are_more from early.0.steps late.0.steps early.1 late.1,
+)
+
 -- the first of these messages is in its name, and comes before the others
 pub takes_own : {S : Type 0} {t : _} {F : _} {g : _} (seen : S → Seen) (from : ℕ) (message : Message) (left still : List Message) (old next last : Member S t F g)
     → left ≡ message ∷ still → message.from ≡ from → MemberTakes seen (Letter message) old next → TakesAll seen (letters from still) next last → TakesAll seen (letters from left) old last
@@ -53,8 +66,8 @@ takes_none seen from left only none = subst (λ all. TakesAll seen (letters from
 
 -- what a member said back was heard
 pub reply_heard : {S : Type 0} {t : _} {F : _} {g : _} (seen : S → Seen) (to : ℕ) (reply : List ℕ) (said : Option Batch) (old new : Member S t F g)
-    → IfSome said (λ batch. batch.from ≡ to) → IfSome said (λ batch. IsSaid reply (carried_by batch))
-    → MatchOption said ⊥ (λ batch. (batch.report.digests ≡ (view_of old).digests) × TakesAll seen (inputs_in (carried_by batch)) old new)
+    → IfSome said (λ batch. batch.head.from ≡ to) → IfSome said (λ batch. IsSaid reply (carried_by batch))
+    → MatchOption said ⊥ (λ batch. (batch.head.report.digests ≡ (view_of old).digests) × TakesAll seen (inputs_in (carried_by batch)) old new)
     → HearsReply seen to reply old new
 reply_heard seen to reply None old new from is heard = absurd heard
 reply_heard seen to reply (Some batch) old new from is heard = (carried_by batch, from, is, heard.0, heard.1)

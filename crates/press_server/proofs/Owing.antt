@@ -1,5 +1,5 @@
 -- Looks and questions whose ends are to be told, as far as 32 bits count them, and that they are.
-use Rattle.std.proofs.Common.{ℕ, ◌≡◌, ◌+◌, Bool, List, [], ◌∷◌, ◌++◌, IsTrue, MatchOption, Some, if◌then◌else◌, min, arith, subst, sym}
+use Rattle.std.proofs.Common.{ℕ, ◌≡◌, ◌+◌, Bool, true, false, List, [], ◌∷◌, ◌++◌, IsTrue, MatchOption, Option, None, Some, if◌then◌else◌, min, arith, subst, sym}
 use Rattle.press_acceptor.specs.Seen.{Seen}
 use Rattle.press_member.specs.declared.input.Input.TheVariants.{Ended}
 use Rattle.press_member.specs.declared.member.Member.{Member}

@@ -1,7 +1,7 @@
 -- What waits to go out to a member (own).
 use Rattle.std.specs.Prelude.{ℕ, ◌≡◌, ◌≢◌, ◌+◌, ◌-◌, ◌==◌, ◌&&◌, ◌||◌, ◌⊎◌, ◌++◌, Bool, true, false, List, [], ◌∷◌, drop, length, min, nat_le, nat_lt, not, option_map, slice_get, unwrap_or, if◌then◌else◌}
-use Rattle.press_batch.specs.Spelling.{WrittenBatch, report_alone, fits, with_message}
-use Rattle.press_batch.specs.declared.report.Report.{Report}
+use Rattle.press_batch.specs.Spelling.{WrittenBatch, fits, head_alone, with_message}
+use Rattle.press_batch.specs.declared.head.Head.{Head}
 use Rattle.press_wire.specs.Spelling.{is_too_long_message}
 use Rattle.press_wire.specs.declared.message.Body.{Body}
 use Rattle.press_wire.specs.declared.message.Body.TheVariants.{Prepare, Promise, Nack, Accept, Accepted, Query}
@@ -93,10 +93,11 @@ pub data GoIn : List Waiting → List Waiting → WrittenBatch → WrittenBatch 
   none_goes : (waiting : List Waiting) (batch : WrittenBatch) → GoIn waiting waiting batch batch
   one_goes : (before between after : List Waiting) (old next new : WrittenBatch) → GoIn before between old next → GoesIn between after next new → GoIn before after old new
 
--- what waited, as far as it went, stands behind a head, in a batch of that member with that report
-abbrev pub Carries : List Waiting → List Waiting → ℕ → Report → List ℕ → Type 0
-Carries before after from report bytes =
-    (head : List ℕ) × (batch : WrittenBatch) × GoIn before after (report_alone from report) batch × (bytes ≡ head ++ batch.bytes)
+-- what waited, as far as it went, stands behind a head of a request or reply, in a batch with that
+-- head
+abbrev pub Carries : List Waiting → List Waiting → Head → List ℕ → Type 0
+Carries before after head bytes =
+    (front : List ℕ) × (batch : WrittenBatch) × GoIn before after (head_alone head) batch × (bytes ≡ front ++ batch.bytes)
 
 -- the oldest makes room where 3,333 wait
 abbrev pub with_room : List Waiting → List Waiting

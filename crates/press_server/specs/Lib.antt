@@ -9,5 +9,7 @@ pub mod Members
 pub mod Metrics
 pub mod Paths
 pub mod Reasons
+pub mod Recalling
+pub mod Stores
 pub mod Turns
 pub mod Screening

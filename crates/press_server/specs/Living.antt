@@ -4,6 +4,7 @@ use Rattle.std.proofs.Common.{subst}
 use Rattle.std.specs.declared.alloc.AllocError.{AllocError}
 use Rattle.press_acceptor.specs.Seen.{Seen}
 use Rattle.press_batch.specs.Carried.{BatchContent}
+use Rattle.press_batch.specs.declared.head.Head.{Head}
 use Rattle.press_http.specs.declared.fault.HttpFault.{HttpFault}
 use Rattle.press_net.specs.Answering.{Credit}
 use Rattle.press_node.specs.Nodes.{NodeMove, node_move, state_of, store_of}
@@ -127,14 +128,17 @@ letters from [] = []
 letters from (message ∷ messages) = if message.from == from then Letter message ∷ letters from messages else letters from messages
 
 -- what a batch brings: its report, and then its messages
+abbrev pub inputs_of : Head → List Message → List Input
+inputs_of head messages = Report head.from head.report ∷ letters head.from messages
+
 abbrev pub inputs_in : BatchContent → List Input
-inputs_in batch = Report batch.from batch.report ∷ letters batch.from batch.messages
+inputs_in batch = inputs_of batch.head batch.messages
 
 -- a reply is a batch of that member, which counts the same members and runs the same kit, and all of
 -- it is heard
 abbrev pub HearsReply : {S : Type 0} {t : _} {F : _} {g : _} → (S → Seen) → ℕ → List ℕ → Member S t F g → Member S t F g → Type 0
 HearsReply seen from reply old new =
-    (batch : BatchContent) × (batch.from ≡ from) × IsSaid reply batch × (batch.report.digests ≡ (view_of old).digests) × TakesAll seen (inputs_in batch) old new
+    (batch : BatchContent) × (batch.head.from ≡ from) × IsSaid reply batch × (batch.head.report.digests ≡ (view_of old).digests) × TakesAll seen (inputs_in batch) old new
 
 -- a member is told last that a request to the member at that place has ended, with as many looks
 -- and questions as were in it; as one that was taken only where its reply was heard

@@ -9,7 +9,7 @@ use Rattle.press_net.specs.Addresses.{behind_loss, has_ip, sockets_at}
 use Rattle.press_net.specs.Answering.{Credit}
 use Rattle.press_server.specs.declared.peers.Peers.{Peers}
 use Rattle.press_server.specs.declared.setup.Role.{Role}
-use Rattle.press_server.specs.declared.setup.Role.TheVariants.{Alone, Member}
+use Rattle.press_server.specs.declared.setup.Role.TheVariants.{Alone, Member, NewMember}
 use Rattle.press_store.specs.Voted.{IsLastVote}
 use Rattle.press_wire.specs.Ranges.{member_id_of}
 
@@ -17,6 +17,7 @@ use Rattle.press_wire.specs.Ranges.{member_id_of}
 abbrev pub number_of : Role → Option ℕ
 number_of (Alone port) = None
 number_of (Member id peers tick) = Some id
+number_of (NewMember id peers) = Some id
 
 -- it is another member, which has that address
 abbrev pub is_other_at : Peers → ℕ → IpAddr → Bool
@@ -32,7 +33,7 @@ IsSaid reply batch = (is_done reply ≡ true) × (head : ℕ) × (drop head repl
 
 -- it is a batch of that member
 abbrev pub SaysBatch : ℕ → List ℕ → Type 0
-SaysBatch member reply = (batch : BatchContent) × (batch.from ≡ member) × IsSaid reply batch
+SaysBatch member reply = (batch : BatchContent) × (batch.head.from ≡ member) × IsSaid reply batch
 
 -- where a request to the member at a place came to no batch of that member, and where it went is
 -- its first address, the next one goes to the next

@@ -1,6 +1,6 @@
 -- What a server tells those who watch it: the text format of Prometheus, version 0.0.4, of which a
 -- metric is two lines of what it is and a line for each number (names: own).
-use Rattle.std.specs.Prelude.{ℕ, Bool, List, ◌++◌, codes, decimal, flat_map, length, if◌then◌else◌}
+use Rattle.std.specs.Prelude.{ℕ, Bool, Option, None, Some, List, [], ◌++◌, codes, decimal, flat_map, length, if◌then◌else◌}
 use Rattle.press_server.specs.declared.counts.Count.{Count}
 use Rattle.press_server.specs.declared.metrics.Among.{Among}
 use Rattle.press_server.specs.declared.metrics.Metrics.{Metrics}
@@ -22,7 +22,8 @@ one_if is = if is then 1 else 0
 abbrev pub of_node : Metrics → List ℕ
 of_node m =
     gauge (codes "applied_slots") (codes "Slots whose commands the node has applied.") m.applied
-    ++ (gauge (codes "down") (codes "Whether its store, or want of memory, has stopped the node.") (one_if m.is_down)
+    ++ ((gauge (codes "down") (codes "Whether its store, or want of memory, has stopped the node.") (one_if m.is_down)
+    ++ gauge (codes "forgotten") (codes "Whether another member heard of saves that the store lacks.") (one_if m.has_forgotten))
     ++ gauge (codes "queued_commands") (codes "Commands that wait at the node to be chosen.") m.waiting)
 
 -- its store
@@ -37,11 +38,17 @@ of_server m =
     gauge (codes "open_connections") (codes "Connections that are open.") m.traffic.connections
     ++ counter (codes "lost_lines_total") (codes "Lines that standard error did not take.") m.traffic.lost
 
+-- whether those that were compared agree; nothing of a node by itself
+abbrev pub of_agreement : Option Bool → List ℕ
+of_agreement None = []
+of_agreement (Some is_unanimous) = gauge (codes "digests_agree") (codes "Whether no member that was compared has applied other commands.") (one_if is_unanimous)
+
 -- what it knows of its cluster
 abbrev pub of_others : Among → List ℕ
 of_others among =
     gauge (codes "chosen_slots") (codes "Slots that are chosen, as far as the node knows.") among.chosen
-    ++ counter (codes "foreign_members_total") (codes "Members that began to have other peers or another kit.") among.foreign
+    ++ (counter (codes "foreign_members_total") (codes "Members that began to have other peers or another kit.") among.foreign
+    ++ of_agreement among.is_unanimous)
 
 unfoldable pub count_line : Count → List ℕ
 count_line count = codes "press_requests_total{status=\"" ++ (decimal count.status ++ (codes "\"} " ++ (decimal count.requests ++ codes "\n")))

@@ -101,6 +101,7 @@ impl<S: PromiseStore> Alone<'_, S> {
             chosen: applied,
             near: &[1],
             foreign: &[],
+            agreement: None,
         };
         show_ready(self.alloc, standing, told)
     }
@@ -110,10 +111,12 @@ impl<S: PromiseStore> Alone<'_, S> {
         let among = Among {
             chosen: applied,
             foreign: 0,
+            is_unanimous: None,
         };
         let metrics = Metrics {
             applied,
             is_down: self.node.is_down(),
+            has_forgotten: false,
             waiting: self.node.waiting_count() as u64,
             among,
             saves: self.options.saves(),

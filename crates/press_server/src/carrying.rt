@@ -84,11 +84,11 @@ fn body_of_done(reply: &[u8]) -> Option<&[u8]>
 
 /// The batch of a member in its reply to another.
 pub fn batch_by(alloc: Global, member: MemberId, reply: &[u8]) -> Option<Batch>
-    ensures from { IfSome result (λ batch. batch.from ≡ member) }
+    ensures from { IfSome result (λ batch. batch.head.from ≡ member) }
     ensures said { IfSome result (λ batch. IsSaid reply.now (carried_by batch)) }
 {
     match decode_batch(alloc, body_of_done(reply)?) {
-        Ok(batch) if batch.from == member => Some(batch),
+        Ok(batch) if batch.head.from == member => Some(batch),
         _ => None,
     }
 }

@@ -1,22 +1,25 @@
 //! What a member of a cluster begins with: its peers, its store, and how many slots it knows to be
 //! chosen.
 
-ghost use Rattle.std.specs.Prelude.{◌≡◌, ◌≢◌, IfOk, MatchResult, option_map};
+ghost use Rattle.std.specs.Prelude.{◌≡◌, ◌≢◌, IfOk, IfSome, MatchResult, option_map};
 ghost use Rattle.press_callbacks.specs.Kits.{kit_view};
-ghost use Rattle.press_member.specs.Acts.{first_view, node_in, view_of};
+ghost use Rattle.press_member.specs.Acts.{chain_in, first_view, node_in, view_of};
 ghost use Rattle.press_member.specs.Starting.{IsItsStart};
 ghost use Rattle.press_net.specs.Addresses.{listed_count};
 ghost use Rattle.press_node.specs.Nodes.{kit_of, node_move, state_of, store_of};
 ghost use Rattle.press_node.specs.States.{applied_count, started_at};
 ghost use Rattle.press_server.specs.Members.{IsBeforeLast, number_of};
+ghost use Rattle.press_server.specs.Stores.{refusal_to_another};
 ghost use Rattle.press_server.specs.Turns.{HasCaughtUp};
 ghost use Rattle.press_store.specs.Kept.{seen_of};
 
 use crate::clustered::{Clustered, Party};
 use crate::operator_options::OperatorOptions;
 use crate::peers::{Peers, PeersFault};
-use crate::serve_fault::ServeFault;
+use crate::recollection::Recollection;
+use crate::serve_fault::{Foreign, ServeFault};
 use crate::setup::{Role, Setup};
+use crate::start_name::start_name;
 use crate::timed::TimedStore;
 use crate::turn::catch_up;
 use press_acceptor::{PromiseStore, StoreFault};
@@ -24,12 +27,15 @@ use press_batch::Digests;
 use press_callbacks::Kit;
 use press_member::{Beginning, Member};
 use press_node::{Node, StartFault};
-use press_store::{Owner, SqlStore, Tie};
+use press_starts::{Mark, Sighting, Starts, Witness};
+use press_store::{Notes, Owner, SqlStore, Tie};
 use press_text::write_once;
-use press_wire::MOST_MEMBERS;
+use press_wire::{MOST_MEMBERS, MemberId};
 use sqlite::Alter;
 use std::alloc::{AllocError, Global};
 use std::io::Write;
+use std::net::SocketAddr;
+use std::rc::Rc;
 
 /// A member's place: its peers, the milliseconds of its tick, the digest of its kit, and whether it
 /// stays where its node has stopped.
@@ -42,26 +48,37 @@ pub struct Membership {
 }
 
 impl Membership {
-    fn members(&self) -> Result<u8, ServeFault>
-        ensures { IfOk result (λ members. members ≡ listed_count self.now.peers.book) }
-    {
-        match u8::try_from(self.peers.count()) {
-            Ok(members) => Ok(members),
-            Err(_) => Err(ServeFault::BadPeers),
+    /// Where it listens.
+    pub fn addr(&self) -> Result<SocketAddr, ServeFault> {
+        match self.peers.own_addr() {
+            Some(addr) => Ok(addr),
+            None => Err(PeersFault::NotFound.into()),
         }
     }
 
-    // Whose its file is.
-    fn owner(&self) -> Result<Owner, ServeFault>
+    fn members(&self) -> Option<u8>
+        ensures { IfSome result (λ members. members ≡ listed_count self.now.peers.book) }
+    {
+        match u8::try_from(self.peers.count()) {
+            Ok(members) => Some(members),
+            Err(_) => None,
+        }
+    }
+
+    /// Whose its file is.
+    pub fn owner(&self) -> Result<Owner, ServeFault>
         ensures number { IfOk result (λ owner. owner.number ≡ self.now.peers.own) }
         ensures members { IfOk result (λ owner. owner.members ≡ listed_count self.now.peers.book) }
         ensures peers { IfOk result (λ owner. owner.peers ≡ self.now.peers.digest) }
     {
-        Ok(Owner {
-            number: self.peers.own(),
-            members: self.members()?,
-            peers: self.peers.digest(),
-        })
+        match self.members() {
+            Some(members) => Ok(Owner {
+                number: self.peers.own(),
+                members,
+                peers: self.peers.digest(),
+            }),
+            None => Err(ServeFault::BadPeers),
+        }
     }
 
     // What the member begins with beside its node, where so many slots are chosen.
@@ -70,7 +87,9 @@ impl Membership {
         ensures members { IfOk result
             (λ beginning. beginning.members ≡ listed_count self.now.peers.book) }
     {
-        let members = self.members()?;
+        let Some(members) = self.members() else {
+            return Err(ServeFault::BadPeers);
+        };
         let digests = Digests {
             peers: self.peers.digest(),
             kit: self.kit,
@@ -101,8 +120,8 @@ fn tell_missing<E: Write>(alloc: Global, peers: &Peers, error: &mut E) {
     }
 }
 
-/// The place of the member that a server is to be, which wants a file for its store. None for a
-/// node by itself.
+/// The place of the member that a server is to be, or whose store it is to make. None for a node by
+/// itself.
 pub fn membership_of<E: Write>(
     rt: &HostRuntime,
     setup: &Setup<'_>,
@@ -111,12 +130,11 @@ pub fn membership_of<E: Write>(
     ensures { IfOk result (λ membership. option_map (λ membership. membership.peers.own) membership
         ≡ number_of setup.now.place) }
 {
-    let Role::Member { id, peers, tick } = setup.place else {
-        return Ok(None);
+    let (id, peers, tick) = match setup.place {
+        Role::Alone { .. } => return Ok(None),
+        Role::Member { id, peers, tick } => (id, peers, tick),
+        Role::NewMember { id, peers } => (id, peers, 0),
     };
-    if setup.store.is_none() {
-        return Err(ServeFault::BadPeers);
-    }
     let peers = Peers::read(rt.alloc(), rt, id, peers)?;
     if peers.own_addr().is_none() {
         return Err(PeersFault::NotFound.into());
@@ -130,28 +148,23 @@ pub fn membership_of<E: Write>(
     }))
 }
 
-// Another's file is not served.
-fn admit(tie: Tie) -> Result<(), ServeFault>
+// Another's file is not served. A file that is nobody's is nobody else's.
+fn admit(tie: Tie, owner: Option<Owner>, asked: Option<Owner>) -> Result<(), ServeFault>
     ensures { MatchResult result (λ _. tie ≢ Tie.Foreign)
-        (λ fault. (fault ≡ ServeFault.Foreign) × (tie ≡ Tie.Foreign)) }
+        (λ fault. (fault ≡ refusal_to_another owner asked) × (tie ≡ Tie.Foreign)) }
 {
-    match tie {
-        Tie::Own | Tie::Taken => Ok(()),
-        Tie::Foreign => Err(ServeFault::Foreign),
+    match (tie, owner) {
+        (Tie::Own | Tie::Taken, _) => Ok(()),
+        (Tie::Foreign, Some(owner)) => Err(ServeFault::Foreign(Foreign { owner, asked })),
+        (Tie::Foreign, None) => Err(ServeFault::Damaged),
     }
 }
 
-/// Ties a store to the member that has this place, or sees that it is no member's where there is
-/// none.
-pub fn tie<D: Alter>(
-    store: &mut SqlStore<D>,
-    membership: &Option<Membership>,
-) -> Result<(), ServeFault> {
-    let owner = match membership {
-        Some(membership) => Some(membership.owner()?),
-        None => None,
-    };
-    admit(store.tie(owner)?)
+/// Ties a store to the member that asks for it, or sees that it is no member's where a node by
+/// itself does.
+pub fn tie<D: Alter>(store: &mut SqlStore<D>, asked: Option<Owner>) -> Result<(), ServeFault> {
+    let owner = store.owner()?;
+    admit(store.tie(asked)?, owner, asked)
 }
 
 // How many slots are chosen, by what the store keeps: who proposes for a slot has applied those
@@ -219,7 +232,8 @@ fn start_member<S: PromiseStore + Drop>(
 ) -> Result<Member<S>, ServeFault>
     ensures kit { IfOk result (λ member. kit_of (node_in (view_of member)) ≡ kit_view kit) }
     ensures begins { IfOk result
-        (λ member. view_of member ≡ first_view beginning (node_in (view_of member))) }
+        (λ member. view_of member ≡ first_view beginning (node_in (view_of member))
+        (chain_in (view_of member))) }
     ensures starts { IfOk result (λ member. IsItsStart S.seen (λ node. store_of node)
         (λ node. state_of node) store (view_of member)) }
 {
@@ -244,7 +258,8 @@ impl Membership {
         requires always { Unit {0} }
         ensures kit { IfOk result (λ member. kit_of (node_in (view_of member)) ≡ kit_view kit) }
         ensures begins { IfOk result
-            (λ member. view_of member ≡ first_view beginning (node_in (view_of member))) }
+            (λ member. view_of member ≡ first_view beginning (node_in (view_of member))
+            (chain_in (view_of member))) }
         ensures alone { listed_count self.now.peers.book ≡ 1 → IfOk result
             (λ member. HasCaughtUp (λ a b. node_move S.seen a b)
             (λ n. applied_count (state_of n)) (λ n. (S.seen (store_of n)).is_honest → state_of n
@@ -260,6 +275,59 @@ impl Membership {
         let node = begin_caught_up(alloc, &self.peers, kit, store)?;
         Ok(Member::new(alloc, node, beginning)?)
     }
+}
+
+// The starts that the file of a store has, but for the one that runs.
+fn earlier_starts<D: Alter>(
+    alloc: Global,
+    store: &mut SqlStore<D>,
+) -> Result<Vec<Mark>, ServeFault> {
+    let mut marks = Vec::new(alloc);
+    for start in store.start_names()? {
+        if let Some(saves) = store.saves_of(start)? {
+            marks.push(Mark { start, saves })?;
+        }
+    }
+    Ok(marks)
+}
+
+// What the file has of the other members.
+fn remember_others<D: Alter>(
+    store: &mut SqlStore<D>,
+    witness: &mut Witness,
+) -> Result<(), ServeFault> {
+    for number in 1..=MOST_MEMBERS {
+        let Some(member) = MemberId::new(number) else {
+            continue;
+        };
+        if let Some(mark) = store.mark_of(member)? {
+            witness.remember(Sighting { member, mark });
+        }
+    }
+    Ok(())
+}
+
+// A start of the member begins in the file of its store.
+fn begin_start<D: Alter>(
+    rt: &HostRuntime,
+    store: &mut SqlStore<D>,
+) -> Result<Recollection, ServeFault> {
+    let alloc = rt.alloc();
+    let earlier = earlier_starts(alloc, store)?;
+    let notes = Rc::new(alloc, Notes::new())?;
+    let Ok(start) = start_name(rt) else {
+        return Err(ServeFault::Disk);
+    };
+    store.begin_start(start, notes.clone()?)?;
+    let witness = match store.mark() {
+        Some(mark) => {
+            let mut witness = Witness::new(mark, earlier);
+            remember_others(store, &mut witness)?;
+            Some(witness)
+        }
+        None => None,
+    };
+    Ok(Recollection::new(witness, notes))
 }
 
 /// Who is to be a member: its place, what its operator asked for, and the clock by which its saves
@@ -287,6 +355,7 @@ pub fn join<'s, D: Alter + Drop>(
     let alloc = rt.alloc();
     let mut store = store;
     let beginning = membership.beginning(chosen_by(&mut store)?)?;
+    let recollection = begin_start(rt, &mut store)?;
     let store = TimedStore::new(rt, options.tally(), store);
     let member = membership.begin(alloc, kit, store, beginning)?;
     let Membership { peers, stays, .. } = membership;
@@ -294,6 +363,7 @@ pub fn join<'s, D: Alter + Drop>(
         peers,
         options,
         stays,
+        recollection,
     };
     Ok(Clustered::new(alloc, member, party)?)
 }

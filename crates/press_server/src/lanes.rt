@@ -2,11 +2,11 @@
 
 ghost use Rattle.std.specs.Prelude.{ℕ, ◌≡◌, ◌<◌, ◌≤◌, ◌⊎◌, ◌+◌, ◌-◌, IfErr, IfOk, IfSome, IsTrue, MatchOption, None, drop, false, if◌then◌else◌, length, slice_get};
 ghost use Rattle.std.specs.List.{list_any};
-ghost use Rattle.press_batch.specs.Spelling.{report_alone};
+ghost use Rattle.press_batch.specs.Spelling.{head_alone};
 ghost use Rattle.press_server.specs.Going.{AreKept, GoIn, GoOut, GoesIn, HasEnded, HasSameElsewhere, HasSameWaiting, HasSameWay, HasSameWays, IsPut, asks_first, u32_count, fresh_of, is_free, is_query, is_ready, is_stale, owed_count, owed_at, question_count, waiting_at};
 
 use crate::peers::place_of;
-use press_batch::{BatchFault, BatchWriter, Report};
+use press_batch::{BatchFault, BatchWriter, Head};
 use press_wire::{Body, MemberId, Message};
 use std::alloc::{AllocError, Global};
 use std::collections::VecDeque;
@@ -49,8 +49,7 @@ pub struct Parcel {
 #[derive(Clone, Copy)]
 pub struct Sender {
     pub alloc: Global,
-    pub from: MemberId,
-    pub report: Report,
+    pub head: Head,
     pub now: u64,
 }
 
@@ -199,10 +198,10 @@ impl Lane {
         ensures asks { IfOk result (λ parcel. GoOut parcel.asked (owed_count self.old)
             (owed_count self.new)) }
         ensures goes { IfOk result (λ parcel. GoIn self.old.waiting.items self.new.waiting.items
-            (report_alone sender.from sender.report) parcel.batch) }
+            (head_alone sender.head) parcel.batch) }
         ensures stays { IfErr result (λ _. self.new ≡ self.old) }
     {
-        let mut batch = BatchWriter::new(sender.alloc, sender.from, &sender.report)?;
+        let mut batch = BatchWriter::new(sender.alloc, &sender.head)?;
         let asked = self.move_all(&mut batch);
         let asked = asked.saturating_add(self.looks).saturating_add(self.lost);
         self.looks = 0;
@@ -241,10 +240,10 @@ impl Lane {
         ensures way { HasSameWay self.new self.old }
         ensures kept { AreKept (owed_count self.old) (owed_count self.new) }
         ensures goes { IfOk result (λ batch. GoIn (fresh_of sender.now self.old.waiting.items)
-            self.new.waiting.items (report_alone sender.from sender.report) batch) }
+            self.new.waiting.items (head_alone sender.head) batch) }
         ensures stays { IfErr result (λ _. self.new ≡ self.old) }
     {
-        let mut batch = BatchWriter::new(sender.alloc, sender.from, &sender.report)?;
+        let mut batch = BatchWriter::new(sender.alloc, &sender.head)?;
         self.lose_stale(sender.now);
         self.move_said(&mut batch);
         Ok(batch)
@@ -337,7 +336,7 @@ impl Lanes {
         ensures asks { MatchOption result (owed_at self.new place ≡ owed_at self.old place)
             (λ parcel. GoOut parcel.asked (owed_at self.old place) (owed_at self.new place)) }
         ensures goes { IfSome result (λ parcel. GoIn (waiting_at self.old place)
-            (waiting_at self.new place) (report_alone sender.from sender.report) parcel.batch) }
+            (waiting_at self.new place) (head_alone sender.head) parcel.batch) }
         ensures others { HasSameElsewhere place self.new self.old }
         ensures stays { result ≡ None → HasSameWaiting self.new self.old }
         ensures there { IfSome result (λ _. place < length self.new.all.items) }
@@ -351,7 +350,7 @@ impl Lanes {
         ensures ways { HasSameWays self.new self.old }
         ensures goes { IfSome result (λ batch. GoIn
             (fresh_of sender.now (waiting_at self.old place)) (waiting_at self.new place)
-            (report_alone sender.from sender.report) batch) }
+            (head_alone sender.head) batch) }
         ensures others { HasSameElsewhere place self.new self.old }
         ensures stays { result ≡ None → HasSameWaiting self.new self.old }
     {

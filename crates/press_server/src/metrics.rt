@@ -2,7 +2,7 @@
 
 ghost use Rattle.std.specs.Prelude.{◌≡◌, ◌++◌, IfOk, OnOk, Some, string_bytes};
 ghost use Rattle.std.specs.Io.KnownBytes.{Appends};
-ghost use Rattle.press_server.specs.Metrics.{count_line, counter, gauge, of_node, of_others, of_requests, of_server, of_store, page_of, reply_of};
+ghost use Rattle.press_server.specs.Metrics.{count_line, counter, gauge, of_agreement, of_node, of_others, of_requests, of_server, of_store, one_if, page_of, reply_of};
 
 use crate::counts::Count;
 use crate::timed::Saves;
@@ -19,6 +19,9 @@ pub struct Among {
     pub chosen: u64,
     /// How often another began to have other peers or another kit.
     pub foreign: u64,
+    /// Whether none of those that were compared has applied other commands; None of a node by
+    /// itself.
+    pub is_unanimous: Option<bool>,
 }
 
 /// How a server stands.
@@ -27,6 +30,8 @@ pub struct Metrics<'a> {
     /// How many slots its node has applied.
     pub applied: u64,
     pub is_down: bool,
+    /// Whether another member heard of this one what the store lacks.
+    pub has_forgotten: bool,
     /// How many commands wait at its node to be chosen.
     pub waiting: u64,
     pub among: Among,
@@ -55,6 +60,13 @@ fn counter(alloc: Global, name: &str, help: &str, value: u64) -> Result<String, 
     )
 }
 
+// Whether something is so.
+fn flag(alloc: Global, name: &str, help: &str, is: bool) -> Result<String, AllocError>
+    ensures { IfOk result (λ t. string_bytes t ≡ gauge name.now help.now (one_if is)) }
+{
+    gauge(alloc, name, help, u64::from(is))
+}
+
 fn two(alloc: Global, one: &str, other: &str) -> Result<String, AllocError>
     ensures { IfOk result (λ t. string_bytes t ≡ one.now ++ other.now) }
 {
@@ -70,11 +82,17 @@ fn of_node(alloc: Global, metrics: &Metrics<'_>) -> Result<String, AllocError>
         "Slots whose commands the node has applied.",
         metrics.applied,
     )?;
-    let down = gauge(
+    let down = flag(
         alloc,
         "down",
         "Whether its store, or want of memory, has stopped the node.",
-        u64::from(metrics.is_down),
+        metrics.is_down,
+    )?;
+    let forgotten = flag(
+        alloc,
+        "forgotten",
+        "Whether another member heard of saves that the store lacks.",
+        metrics.has_forgotten,
     )?;
     let queued = gauge(
         alloc,
@@ -82,7 +100,8 @@ fn of_node(alloc: Global, metrics: &Metrics<'_>) -> Result<String, AllocError>
         "Commands that wait at the node to be chosen.",
         metrics.waiting,
     )?;
-    let standing = two(alloc, down.as_str(), queued.as_str())?;
+    let stops = two(alloc, down.as_str(), forgotten.as_str())?;
+    let standing = two(alloc, stops.as_str(), queued.as_str())?;
     two(alloc, applied.as_str(), standing.as_str())
 }
 
@@ -122,6 +141,20 @@ fn of_server(alloc: Global, metrics: &Metrics<'_>) -> Result<String, AllocError>
     two(alloc, connections.as_str(), lost.as_str())
 }
 
+fn of_agreement(alloc: Global, is_unanimous: Option<bool>) -> Result<String, AllocError>
+    ensures { IfOk result (λ t. string_bytes t ≡ of_agreement is_unanimous) }
+{
+    match is_unanimous {
+        None => Ok(String::new(alloc)),
+        Some(is_unanimous) => flag(
+            alloc,
+            "digests_agree",
+            "Whether no member that was compared has applied other commands.",
+            is_unanimous,
+        ),
+    }
+}
+
 fn of_others(alloc: Global, among: Among) -> Result<String, AllocError>
     ensures { IfOk result (λ t. string_bytes t ≡ of_others among) }
 {
@@ -137,7 +170,9 @@ fn of_others(alloc: Global, among: Among) -> Result<String, AllocError>
         "Members that began to have other peers or another kit.",
         among.foreign,
     )?;
-    two(alloc, chosen.as_str(), foreign.as_str())
+    let agreement = of_agreement(alloc, among.is_unanimous)?;
+    let rest = two(alloc, foreign.as_str(), agreement.as_str())?;
+    two(alloc, chosen.as_str(), rest.as_str())
 }
 
 #[tactic(auto, unfolding(crate::specs::Metrics::count_line))]

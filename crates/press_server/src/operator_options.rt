@@ -16,6 +16,7 @@ use press_http::{
     write_reply,
 };
 use press_page::{ContentKind, Reply};
+use press_starts::{Mark, Sighting};
 use press_text::{Text, write_once};
 use std::alloc::{AllocError, Global};
 
@@ -269,7 +270,9 @@ const NOT_READY: &str =
     "HTTP/1.1 503 Service Unavailable\r\nContent-Type: text/plain; charset=UTF-8\r\nContent-Length: 14\r\nRetry-After: 1\r\nConnection: close\r\n\r\nnot ready yet\n";
 
 /// The node isn't ready yet.
-pub fn refuse_for_now(told: &mut Vec<u8>) -> Result<u16, HttpFault> {
+pub fn refuse_for_now(told: &mut Vec<u8>) -> Result<u16, HttpFault>
+    ensures { IfOk result (λ status. status ≡ 503) }
+{
     tell(told, NOT_READY.as_bytes())?;
     Ok(503)
 }
@@ -297,6 +300,27 @@ pub struct Standing<'a> {
     pub near: &'a [usize],
     /// Those that count other members, or run another kit.
     pub foreign: &'a [usize],
+    /// None of a node by itself.
+    pub agreement: Option<Agreement<'a>>,
+}
+
+/// How what a member has applied stands to what the others have.
+#[derive(Clone, Copy)]
+pub struct Agreement<'a> {
+    /// Of what it has applied.
+    pub digest: &'a [u8; 32],
+    /// The numbers of those that have applied other commands.
+    pub differing: &'a [usize],
+}
+
+// With a comma in front, as more of an object; nothing of a node by itself.
+fn agreement_text(alloc: Global, agreement: Option<Agreement<'_>>) -> Result<String, AllocError> {
+    let Some(Agreement { digest, differing }) = agreement else {
+        return Ok(String::new(alloc));
+    };
+    let digest = hex::encode(alloc, digest.as_slice())?;
+    let differing = list_of(alloc, differing)?;
+    format!(in alloc; ",\"digest\":\"{digest}\",\"differing\":[{differing}]")
 }
 
 // Numbers with commas between.
@@ -319,12 +343,37 @@ fn ready_body(alloc: Global, standing: Standing<'_>) -> Result<String, AllocErro
         chosen,
         near,
         foreign,
+        agreement,
     } = standing;
     let near = list_of(alloc, near)?;
     let foreign = list_of(alloc, foreign)?;
+    let agreement = agreement_text(alloc, agreement)?;
     format!(in alloc;
-        "{{\"ready\":{is_ready},\"applied\":{applied},\"chosen\":{chosen},\"members\":[{near}],\"foreign\":[{foreign}]}}\n"
+        "{{\"ready\":{is_ready},\"applied\":{applied},\"chosen\":{chosen},\"members\":[{near}],\"foreign\":[{foreign}]{agreement}}}\n"
     )
+}
+
+fn forgotten_body(alloc: Global, reminder: Sighting) -> Result<String, AllocError> {
+    let member = reminder.member.number();
+    let Mark { start, saves } = reminder.mark;
+    format!(in alloc;
+        "{{\"ready\":false,\"forgotten\":{{\"member\":{member},\"start\":{start},\"saves\":{saves}}}}}\n"
+    )
+}
+
+/// The store lacks what another member heard.
+pub fn show_forgotten(
+    alloc: Global,
+    reminder: Sighting,
+    told: &mut Vec<u8>,
+) -> Result<u16, HttpFault>
+    ensures { IfOk result (λ status. status ≡ 503) }
+{
+    let body = forgotten_body(alloc, reminder)?;
+    let head = ready_head(alloc, false, body.len())?;
+    tell(told, head.as_bytes())?;
+    tell(told, body.as_bytes())?;
+    Ok(503)
 }
 
 /// How far the node is.

@@ -2,10 +2,18 @@
 
 use crate::peers::PeersFault;
 use press_acceptor::StoreFault;
+use press_store::Owner;
 use press_text::WriteFault;
 use std::alloc::{AllocError, AllocFailed};
 use std::io;
 use thiserror::Error;
+
+/// A file that is another's: whose it is, and who asked for it, which is None for a node by itself.
+#[derive(Clone, Copy, Debug, PartialEq, Eq)]
+pub struct Foreign {
+    pub owner: Owner,
+    pub asked: Option<Owner>,
+}
 
 /// Why nothing is served, or no more.
 #[derive(Clone, Copy, Debug, Error)]
@@ -36,7 +44,16 @@ pub enum ServeFault {
     /// The file is that of a member with another number, or of other peers; or a member's, and the
     /// node is by itself.
     #[error("the store is another member's")]
-    Foreign,
+    Foreign(Foreign),
+    /// A member makes no store without being told.
+    #[error("the store is not there")]
+    NoStore,
+    /// A new member's store was to be made where something is.
+    #[error("the store is there already")]
+    StoreThere,
+    /// Another member heard of this one what the store lacks.
+    #[error("the store has forgotten what its member said")]
+    Forgotten,
     #[error("the disk failed")]
     Disk,
     #[error("what is stored is damaged")]

@@ -6,8 +6,8 @@ ghost use Rattle.press_text.specs.Streams.{AppendsFront};
 ghost use Rattle.press_callbacks.specs.Kits.{kit_view};
 ghost use Rattle.press_node.specs.Nodes.{kit_of, node_move, state_of, store_of};
 ghost use Rattle.press_node.specs.States.{applied_count, started_at};
-ghost use Rattle.press_server.specs.Listening.{listening_line, where_of};
-ghost use Rattle.press_server.specs.Listening.Where.{alone_at, member_of};
+ghost use Rattle.press_server.specs.Listening.{server_line, where_of};
+ghost use Rattle.press_server.specs.Listening.Where.{alone_at, member_of, new_member_of};
 ghost use Rattle.press_server.specs.Turns.{HasCaughtUp};
 
 use crate::alone::Alone;
@@ -16,16 +16,15 @@ use crate::joining::{Joiner, Membership, join, membership_of, tie};
 use crate::operator_options::OperatorOptions;
 use crate::serve_fault::ServeFault;
 use crate::setup::{Role, Setup};
+use crate::store_file::{look_for, make, open};
 use crate::timed::{Tally, TimedStore};
 use crate::turn::catch_up;
 use press_acceptor::{MemoryStore, PromiseStore, StoreFault};
 use press_callbacks::Kit;
 use press_net::{Answers, Lines, Server, Task};
 use press_node::{Node, StartFault};
-use press_store::SqlStore;
 use press_text::{Text, write_once};
 use press_wire::MemberId;
-use sqlite::{Alter, Connection, Error, ErrorCode};
 use std::alloc::{AllocError, Global};
 use std::fs;
 use std::io::Write;
@@ -81,26 +80,34 @@ fn begin_caught_up<S: PromiseStore + Drop>(
     Ok(node)
 }
 
-#[tactic(auto, unfolding(crate::specs::Listening::listening_line))]
+#[tactic(auto, unfolding(crate::specs::Listening::server_line))]
 fn alone_line(alloc: Global, port: u16) -> Result<String, AllocError>
-    ensures { IfOk result (λ t. string_bytes t ≡ listening_line (alone_at port)) }
+    ensures { IfOk result (λ t. string_bytes t ≡ server_line (alone_at port)) }
 {
     format!(in alloc; "listening on 127.0.0.1:{port}\n")
 }
 
-#[tactic(auto, unfolding(crate::specs::Listening::listening_line))]
+#[tactic(auto, unfolding(crate::specs::Listening::server_line))]
+fn new_member_line(alloc: Global, id: u8, peers: &str) -> Result<String, AllocError>
+    ensures { IfOk result (λ t. string_bytes t ≡ server_line (new_member_of id peers.now)) }
+{
+    format!(in alloc; "made the store of member {id} of {peers}\n")
+}
+
+#[tactic(auto, unfolding(crate::specs::Listening::server_line))]
 fn member_line(alloc: Global, id: u8, peers: &str) -> Result<String, AllocError>
-    ensures { IfOk result (λ t. string_bytes t ≡ listening_line (member_of id peers.now)) }
+    ensures { IfOk result (λ t. string_bytes t ≡ server_line (member_of id peers.now)) }
 {
     format!(in alloc; "listening as {id} of {peers}\n")
 }
 
-fn listening_line(alloc: Global, place: &Role<'_>) -> Result<String, AllocError>
-    ensures { IfOk result (λ t. string_bytes t ≡ listening_line (where_of place.now)) }
+fn server_line(alloc: Global, place: &Role<'_>) -> Result<String, AllocError>
+    ensures { IfOk result (λ t. string_bytes t ≡ server_line (where_of place.now)) }
 {
     match place {
         Role::Alone { port } => alone_line(alloc, *port),
         Role::Member { id, peers, .. } => member_line(alloc, *id, peers),
+        Role::NewMember { id, peers } => new_member_line(alloc, *id, peers),
     }
 }
 
@@ -113,13 +120,20 @@ pub struct Start<'a> {
     pub most: usize,
 }
 
-// Writes the line that it listens.
+// A server that listens already, and what it begins with.
+#[derive(Drop)]
+struct Listening<'a> {
+    start: Start<'a>,
+    server: Server,
+}
+
+// Writes the line that it listens, or has made what it was to make.
 #[tactic(auto, using(crate::proofs::Fronts::nothing))]
 fn announce<W: Write>(alloc: Global, place: &Role<'_>, writer: &mut W) -> Result<(), ServeFault>
     ensures { AppendsFront (W.contents writer.old) (W.contents writer.new)
-        (listening_line (where_of place.now)) }
+        (server_line (where_of place.now)) }
 {
-    let line = listening_line(alloc, place)?;
+    let line = server_line(alloc, place)?;
     write_once(writer, line.as_bytes())?;
     match writer.flush() {
         Ok(()) => Ok(()),
@@ -127,26 +141,32 @@ fn announce<W: Write>(alloc: Global, place: &Role<'_>, writer: &mut W) -> Result
     }
 }
 
-// Listens, writes its line, and serves.
-#[tactic(auto, using(crate::proofs::Fronts::nothing))]
-fn serve_over<A: Answers, W: Write, E: Write>(
-    start: Start<'_>,
-    answers: &mut A,
-    writer: &mut W,
-    error: &mut E,
-) -> Result<(), ServeFault>
-    requires always { Unit {0} }
-    ensures listens { AppendsFront (W.contents writer.old) (W.contents writer.new)
-        (listening_line (where_of start.entry.setup.now.place)) }
-    ensures becomes { A.becomes answers.old answers.new }
-{
+// Listens at an address.
+fn listen(start: Start<'_>, addr: SocketAddr) -> Result<Server, ServeFault> {
     let Start { rt, setup, most } = start;
     let task = Task {
         turns: setup.turns,
         most,
         is_timed: matches!(setup.place, Role::Member { .. }),
     };
-    let mut server = Server::listen(rt, answers.addr(), task)?;
+    Ok(Server::listen(rt, addr, task)?)
+}
+
+// Writes its line, and serves whoever comes to a server that listens.
+#[tactic(auto, using(crate::proofs::Fronts::nothing))]
+fn serve_over<A: Answers, W: Write, E: Write>(
+    listening: Listening<'_>,
+    answers: &mut A,
+    writer: &mut W,
+    error: &mut E,
+) -> Result<(), ServeFault>
+    requires always { Unit {0} }
+    ensures listens { AppendsFront (W.contents writer.old) (W.contents writer.new)
+        (server_line (where_of listening.entry.start.setup.now.place)) }
+    ensures becomes { A.becomes answers.old answers.new }
+{
+    let Listening { start, mut server } = listening;
+    let Start { rt, setup, .. } = start;
     tell_kit(setup, error);
     let mut lines = Lines::new(rt, STANDARD_ERROR, error)?;
     announce(rt.alloc(), &setup.place, writer)?;
@@ -203,35 +223,6 @@ fn options_of(rt: &HostRuntime, setup: &Setup<'_>) -> Result<OperatorOptions, Se
     Ok(OperatorOptions::new(rt.alloc(), editor, setup.ahead.map(u64::from), tally)?)
 }
 
-// Whether the folder of a file doesn't exist.
-fn lacks_folder(rt: &HostRuntime, file: &str) -> bool {
-    match file.rsplit_once('/') {
-        Some(("", _)) | None => false,
-        Some((folder, _)) => matches!(fs::exists(rt, folder), Ok(false)),
-    }
-}
-
-// Why a store that is told to be damaged could not be opened, as far as another look at its file
-// tells.
-fn why_shut(rt: &HostRuntime, file: &str) -> ServeFault {
-    match Connection::open(rt, file) {
-        Err(Error::SqliteFailure(ErrorCode::DatabaseBusy)) => ServeFault::StoreTaken,
-        Err(Error::SqliteFailure(ErrorCode::CannotOpen)) if lacks_folder(rt, file) => {
-            ServeFault::NoFolder
-        }
-        Err(Error::SqliteFailure(ErrorCode::CannotOpen)) => ServeFault::StoreShut,
-        _ => ServeFault::Damaged,
-    }
-}
-
-// A store could not be opened.
-fn fault_of_open(rt: &HostRuntime, file: &str, fault: StoreFault) -> ServeFault {
-    match fault {
-        StoreFault::Damaged => why_shut(rt, file),
-        _ => fault.into(),
-    }
-}
-
 fn loopback(port: u16) -> SocketAddr {
     SocketAddr::new(IpAddr::V4(Ipv4Addr::new(127, 0, 0, 1)), port)
 }
@@ -239,7 +230,7 @@ fn loopback(port: u16) -> SocketAddr {
 fn port_of(place: Role<'_>) -> u16 {
     match place {
         Role::Alone { port } => port,
-        Role::Member { .. } => 0,
+        Role::Member { .. } | Role::NewMember { .. } => 0,
     }
 }
 
@@ -247,8 +238,6 @@ fn port_of(place: Role<'_>) -> u16 {
 #[derive(Drop)]
 struct Beside<'a> {
     start: Start<'a>,
-    // None for a node by itself.
-    membership: Option<Membership>,
     options: OperatorOptions,
     kit: Kit,
 }
@@ -262,53 +251,103 @@ fn serve_alone<S: PromiseStore + Drop, W: Write, E: Write>(
     error: &mut E,
 ) -> Result<(), ServeFault>
     ensures { AppendsFront (W.contents writer.old) (W.contents writer.new)
-        (listening_line (where_of beside.entry.start.setup.now.place)) }
+        (server_line (where_of beside.entry.start.setup.now.place)) }
 {
     let Beside {
         start,
         options,
         kit,
-        ..
     } = beside;
     let Start { rt, setup, .. } = start;
     let store = TimedStore::new(rt, options.tally(), store);
     let node = begin_caught_up(rt.alloc(), kit, store)?;
     let addr = loopback(port_of(setup.place));
     let mut alone = Alone::new(rt.alloc(), addr, node, &options)?;
-    serve_over(start, &mut alone, writer, error)
+    let server = listen(start, addr)?;
+    serve_over(Listening { start, server }, &mut alone, writer, error)
 }
 
-// A node by itself or a member of a cluster, over a store on a database.
+// A node by itself over the store in a file, which is no member's, or in memory.
 #[tactic(auto, using(crate::proofs::Fronts::nothing))]
-fn serve_over_store<D: Alter + Drop, W: Write, E: Write>(
+fn serve_by_itself<W: Write, E: Write>(
     beside: Beside<'_>,
-    store: SqlStore<D>,
     writer: &mut W,
     error: &mut E,
 ) -> Result<(), ServeFault>
     ensures { AppendsFront (W.contents writer.old) (W.contents writer.new)
-        (listening_line (where_of beside.entry.start.setup.now.place)) }
+        (server_line (where_of beside.entry.start.setup.now.place)) }
 {
-    let (mut beside, mut store) = (beside, store);
-    tie(&mut store, &beside.membership)?;
-    let Some(membership) = beside.membership.take() else {
-        return serve_alone(beside, store, writer, error);
+    let Start { rt, setup, .. } = beside.start;
+    let Some(file) = setup.store else {
+        return serve_alone(beside, MemoryStore::new(rt.alloc()), writer, error);
     };
+    let mut store = open(rt, file)?;
+    tie(&mut store, None)?;
+    serve_alone(beside, store, writer, error)
+}
+
+// Who is to be a member, of what it has beside its store.
+#[derive(Drop)]
+struct Candidate<'a> {
+    membership: Membership,
+    beside: Beside<'a>,
+}
+
+// The file of a member's store, where it is there as its place wants it.
+fn file_of<'a>(start: Start<'a>) -> Result<&'a str, ServeFault> {
+    let Start { rt, setup, .. } = start;
+    let Some(file) = setup.store else {
+        return Err(ServeFault::BadPeers);
+    };
+    look_for(rt, setup.place, file)?;
+    Ok(file)
+}
+
+// The store of a new member is made, where that could listen. Nobody is served.
+#[tactic(auto, using(crate::proofs::Fronts::nothing))]
+fn make_store<W: Write>(candidate: Candidate<'_>, writer: &mut W) -> Result<(), ServeFault>
+    ensures { AppendsFront (W.contents writer.old) (W.contents writer.new)
+        (server_line (where_of candidate.entry.beside.start.setup.now.place)) }
+{
+    let Candidate { membership, beside } = candidate;
+    let Start { rt, setup, .. } = beside.start;
+    let file = file_of(beside.start)?;
+    drop(listen(beside.start, membership.addr()?)?);
+    make(rt, file, membership.owner()?)?;
+    announce(rt.alloc(), &setup.place, writer)
+}
+
+// A member over its store, which is opened once it listens.
+#[tactic(auto, using(crate::proofs::Fronts::nothing))]
+fn serve_member<W: Write, E: Write>(
+    candidate: Candidate<'_>,
+    writer: &mut W,
+    error: &mut E,
+) -> Result<(), ServeFault>
+    ensures { AppendsFront (W.contents writer.old) (W.contents writer.new)
+        (server_line (where_of candidate.entry.beside.start.setup.now.place)) }
+{
+    let Candidate { membership, beside } = candidate;
     let Beside {
         start,
         options,
         kit,
-        ..
     } = beside;
+    let Start { rt, .. } = start;
+    let file = file_of(start)?;
+    let server = listen(start, membership.addr()?)?;
+    let mut store = open(rt, file)?;
+    tie(&mut store, Some(membership.owner()?))?;
     let joiner = Joiner {
-        rt: start.rt,
+        rt,
         membership,
         options: &options,
     };
     let mut clustered = join(joiner, kit, store)?;
-    serve_over(start, &mut clustered, writer, error)?;
+    serve_over(Listening { start, server }, &mut clustered, writer, error)?;
     match clustered.stop() {
         Some(stop) => Err(stop.into()),
+        None if clustered.ends_forgotten() => Err(ServeFault::Forgotten),
         None => Ok(()),
     }
 }
@@ -316,9 +355,11 @@ fn serve_over_store<D: Alter + Drop, W: Write, E: Write>(
 impl Setup<'_> {
     /// Serves one node: it listens, writes its line, and serves connections until as many as were
     /// asked for had their turn, or until it is ended, with a line for each on the other writer.
-    /// One by itself has caught up with its store by then; a member of a cluster answers no page
-    /// and no command until its peers have nothing newer, and ends where its store fails, unless it
-    /// is to stay.
+    /// One by itself has caught up with its store by then, which it makes where there is none; a
+    /// member of a cluster has a store, answers no page and no command until its peers have nothing
+    /// newer, and ends where its store fails, unless it is to stay. Of a new member the store is
+    /// made, and nothing is served. What fails before a member listens leaves no file that wasn't
+    /// there.
     #[tactic(auto, using(crate::proofs::Fronts::nothing))]
     pub fn serve<W: Write, E: Write>(
         &self,
@@ -328,7 +369,7 @@ impl Setup<'_> {
         error: &mut E,
     ) -> Result<(), ServeFault>
         ensures { AppendsFront (W.contents writer.old) (W.contents writer.new)
-            (listening_line (where_of self.now.place)) }
+            (server_line (where_of self.now.place)) }
     {
         let membership = membership_of(rt, self, error)?;
         let most = most_open(rt, error)?;
@@ -340,16 +381,16 @@ impl Setup<'_> {
         let options = options_of(rt, self)?;
         let beside = Beside {
             start,
-            membership,
             options,
             kit,
         };
-        match self.store {
-            Some(file) => match SqlStore::open(rt, file) {
-                Ok(store) => serve_over_store(beside, store, writer, error),
-                Err(fault) => Err(fault_of_open(rt, file, fault)),
-            },
-            None => serve_alone(beside, MemoryStore::new(rt.alloc()), writer, error),
+        let Some(membership) = membership else {
+            return serve_by_itself(beside, writer, error);
+        };
+        let candidate = Candidate { membership, beside };
+        match self.place {
+            Role::NewMember { .. } => make_store(candidate, writer),
+            _ => serve_member(candidate, writer, error),
         }
     }
 }

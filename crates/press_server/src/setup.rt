@@ -13,6 +13,11 @@ pub enum Role<'a> {
         /// Milliseconds after which it asks the others for what it may have missed.
         tick: u32,
     },
+    /// The member of that number among those is new: its store is made, and nothing is served.
+    NewMember {
+        id: u8,
+        peers: &'a str,
+    },
 }
 
 /// What a server is to do.
@@ -21,7 +26,7 @@ pub struct Setup<'a> {
     pub place: Role<'a>,
     /// How many connections are served; without it, as many as come until it is ended.
     pub turns: Option<u32>,
-    /// The file of its store, which is in memory without one.
+    /// The file of its store, which is in memory without one; a member has to have one.
     pub store: Option<&'a str>,
     /// The file of the page for editors.
     pub editor: Option<&'a str>,

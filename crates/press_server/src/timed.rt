@@ -3,6 +3,7 @@
 ghost use Rattle.std.specs.Prelude.{◌≡◌};
 
 use press_acceptor::{Block, PromiseStore, StoreFault};
+use press_starts::{Mark, Starts};
 use press_wire::{Ballot, Round, Slot, Vote};
 use std::cell::Cell;
 use std::time::{Duration, Instant};
@@ -88,6 +89,14 @@ impl<'c, S> TimedStore<'c, S> {
             _ => Duration::ZERO,
         };
         tally.note(took);
+    }
+}
+
+impl<S: Starts> Starts for TimedStore<'_, S> {
+    ghost marked = { λ timed. S.marked timed.store };
+
+    fn mark(&self) -> Option<Mark> {
+        self.store.mark()
     }
 }
 

@@ -2,6 +2,7 @@
 
 use crate::lanes::Lanes;
 use crate::note::Note;
+use crate::recall::{Hearing, Recall};
 use std::alloc::{AllocError, Global};
 
 /// What a member's disk is like as it starts.
@@ -24,6 +25,8 @@ pub struct Begins {
     pub cluster: u64,
     /// Milliseconds from one look at the others to the next.
     pub tick: u32,
+    /// The name of the start, which is no other's of that member, and not 0.
+    pub start: u64,
 }
 
 /// How far a member says it is.
@@ -32,6 +35,22 @@ pub struct Report {
     pub applied: u64,
     pub chosen: u64,
     pub cluster: u64,
+    /// Of what it has applied, and of that up to the last place where it keeps one.
+    pub digest: [u8; 32],
+    pub block_digest: [u8; 32],
+}
+
+impl Report {
+    /// Nobody runs.
+    pub fn nobody() -> Report {
+        Report {
+            applied: 0,
+            chosen: 0,
+            cluster: 0,
+            digest: [0; 32],
+            block_digest: [0; 32],
+        }
+    }
 }
 
 /// What happens to a member. Members are named by their places, from 0.
@@ -73,6 +92,8 @@ pub struct Standing {
     pub is_running: bool,
     /// A fault of its store has stopped it.
     pub is_down: bool,
+    /// It was told that its disk lacks some of its saves.
+    pub has_forgotten: bool,
     /// It takes forms and shows pages.
     pub is_open: bool,
     /// A form that it took waits.
@@ -82,6 +103,8 @@ pub struct Standing {
     pub applied: u64,
     /// How many slots are chosen, as it says.
     pub chosen: u64,
+    /// How often it has saved since it started.
+    pub saves: u64,
 }
 
 impl Standing {
@@ -90,11 +113,13 @@ impl Standing {
         Standing {
             is_running: false,
             is_down: false,
+            has_forgotten: false,
             is_open: false,
             is_waiting: false,
             has_more: false,
             applied: 0,
             chosen: 0,
+            saves: 0,
         }
     }
 }
@@ -123,7 +148,17 @@ pub trait Actor: Drop {
     ) -> Result<Answer, AllocError>
         requires always { Unit {0} };
 
+    /// What goes to the member at a place, with a request or a reply.
+    fn recall(&mut self, to: usize) -> Option<Recall>;
+
+    /// The member at a place tells something; what is heard of it.
+    fn hear(&mut self, from: usize, recall: Option<Recall>) -> Hearing
+        requires always { Unit {0} };
+
     fn standing(&self) -> Standing;
+
+    /// How far it is, as it says.
+    fn report(&self) -> Report;
 
     /// Whether it answers for the site as well as any.
     fn is_ready(&self) -> bool;
@@ -139,6 +174,15 @@ pub trait Actor: Drop {
 
     /// The votes that were saved since it started, the oldest first.
     fn notes(&self) -> &[Note];
+
+    /// A copy of the disk is taken, behind the others. Nobody runs there.
+    fn keep(&mut self);
+
+    /// The disk is emptied. Nobody runs there.
+    fn empty(&mut self);
+
+    /// That copy of the disk, from 0, is put back. Nobody runs there.
+    fn put_back(&mut self, copy: usize);
 
     /// Ends; the votes that the disk keeps, of slots up to that one. None where it can't be read.
     fn votes(&mut self, last: u64) -> Option<Vec<Note>>

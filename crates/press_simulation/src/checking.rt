@@ -45,7 +45,8 @@ impl<A: Actor> World<A> {
         Ok(())
     }
 
-    fn is_ready(&self, place: usize) -> bool {
+    /// Whether a member is ready.
+    pub fn is_ready(&self, place: usize) -> bool {
         match self.seats.get(place) {
             Some(seat) => seat.is_ready(),
             None => false,

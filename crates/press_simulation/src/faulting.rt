@@ -6,7 +6,8 @@ use crate::world::World;
 use std::alloc::AllocError;
 
 impl<A: Actor> World<A> {
-    fn kill(&mut self, place: usize) -> Result<(), AllocError>
+    /// A member ends.
+    pub fn kill(&mut self, place: usize) -> Result<(), AllocError>
         requires always { Unit {0} }
     {
         self.note(place)?;
@@ -34,6 +35,7 @@ impl<A: Actor> World<A> {
             number,
             cluster: 0,
             tick: self.tick,
+            start: 0,
         }
     }
 
@@ -45,12 +47,13 @@ impl<A: Actor> World<A> {
         let clock = self.network.draw(0, 999_999);
         let again = self.now.saturating_add(100);
         if let Some(seat) = self.seats.get_mut(place) {
-            if !seat.start(clock, is_foreign, begins) {
+            if !seat.start(clock, is_foreign, begins)? {
                 seat.start_at(again);
             }
         }
         self.tally.starts = self.tally.starts.saturating_add(1);
         self.heard.forget(place);
+        self.links.begin(place, self.now);
         self.changed = self.now;
         Ok(())
     }
@@ -88,7 +91,7 @@ impl<A: Actor> World<A> {
         self.kill(place)?;
         let begins = self.begins(self.condition(place), to);
         let runs = match self.seats.get_mut(place) {
-            Some(seat) => seat.start(0, false, begins),
+            Some(seat) => seat.start(0, false, begins)?,
             None => false,
         };
         if runs && place != to {
@@ -112,6 +115,34 @@ impl<A: Actor> World<A> {
         if let Some(seat) = self.seats.get_mut(place) {
             seat.fill(false);
         }
+    }
+
+    // A copy of a member's disk is taken while it doesn't run.
+    fn keep(&mut self, place: usize) -> Result<(), AllocError>
+        requires always { Unit {0} }
+    {
+        self.kill(place)?;
+        if let Some(seat) = self.seats.get_mut(place) {
+            seat.keep()?;
+        }
+        self.start(place)
+    }
+
+    // A member's disk is emptied, or a copy of it is put back, before the member starts again.
+    fn set_back(&mut self, place: usize, copy: Option<usize>) -> Result<(), AllocError>
+        requires always { Unit {0} }
+    {
+        self.kill(place)?;
+        if let Some(seat) = self.seats.get_mut(place) {
+            match copy {
+                Some(copy) => seat.put_back(copy)?,
+                None => seat.empty(),
+            }
+        }
+        if self.count() == 1 && !self.is_disk_whole(place) {
+            self.judge.loosen();
+        }
+        self.start(place)
     }
 
     fn lie(&mut self, place: usize, more: u64) {
@@ -190,6 +221,9 @@ impl<A: Actor> World<A> {
             Fault::Burst { place, count } => self.submit_often(place, count),
             Fault::Outage => self.stop_all(),
             Fault::Everywhere => self.submit_everywhere(),
+            Fault::Keep(place) => self.keep(place),
+            Fault::Empty(place) => self.set_back(place, None),
+            Fault::Back { place, copy } => self.set_back(place, Some(copy)),
             _ => {
                 self.happen_between(fault);
                 Ok(())

@@ -2,6 +2,7 @@
 
 use crate::actor::{Actor, Answer, Input, Report};
 use crate::parcel::{Label, Parcel, Reply, Request};
+use crate::recall::{Hearing, Told};
 use crate::world::World;
 use std::alloc::AllocError;
 
@@ -33,28 +34,55 @@ impl<A: Actor> World<A> {
         requires always { Unit {0} }
     {
         let label = request.label;
-        if !self.standing(label.to).is_running || self.cluster(label.to) != request.cluster {
+        let is_ours = self.cluster(label.to) == request.cluster;
+        if !is_ours || self.be_told(label.to, label.from, request.told)? == Hearing::Nothing {
             return Ok(false);
         }
         self.hear_letters(label, request.into_letters())
     }
 
-    // A request comes to a member, and is answered.
+    // Whether a member answers others: it runs, and its store hasn't failed.
+    fn answers(&self, place: usize) -> bool {
+        let standing = self.standing(place);
+        standing.is_running && !standing.is_down
+    }
+
+    // What a member tells another with a reply.
+    fn tell(&mut self, from: usize, to: usize) -> Option<Told> {
+        Some(self.seats.get_mut(from)?.tell(to))
+    }
+
+    // A request comes to a member that answers.
+    fn answer(&mut self, request: Request<A::Letter>) -> Result<Reply, AllocError>
+        requires always { Unit {0} }
+    {
+        let (label, looks) = (request.label, request.looks);
+        let report = self.report_of(label.to, looks);
+        let is_taken = self.take_request(request)?;
+        if !self.answers(label.to) {
+            return Ok(Reply::nothing(label));
+        }
+        Ok(Reply {
+            label,
+            is_taken,
+            report,
+            told: self.tell(label.to, label.from),
+        })
+    }
+
+    // A request comes to a member.
     fn hear(&mut self, request: Request<A::Letter>) -> Result<(), AllocError>
         requires always { Unit {0} }
     {
-        let (label, looks, is_copy) = (request.label, request.looks, request.is_copy);
-        let report = self.report_of(label.to, looks);
-        let is_running = self.standing(label.to).is_running;
-        let is_taken = self.take_request(request)?;
+        let (label, is_copy) = (request.label, request.is_copy);
+        let reply = if self.answers(label.to) {
+            self.answer(request)?
+        } else {
+            Reply::nothing(label)
+        };
         if is_copy {
             return Ok(());
         }
-        let reply = Reply {
-            label,
-            is_taken,
-            report: if is_running { report } else { None },
-        };
         self.network.reply(self.now, reply)
     }
 
@@ -88,6 +116,40 @@ impl<A: Actor> World<A> {
         Ok(())
     }
 
+    // What a member hears of a reply.
+    fn hear_told(&mut self, reply: Reply) -> Result<Hearing, AllocError>
+        requires always { Unit {0} }
+    {
+        let label = reply.label;
+        match reply.told {
+            // Of another cluster a report is looked at, and nothing else.
+            Some(told) if told.cluster != self.cluster(label.from) => Ok(Hearing::All),
+            Some(told) => self.be_told(label.from, label.to, told),
+            None => Ok(Hearing::Nothing),
+        }
+    }
+
+    // A member learns that a request of it has ended, of whose reply it heard that.
+    fn end_heard(&mut self, reply: Reply, hearing: Hearing) -> Result<(), AllocError>
+        requires always { Unit {0} }
+    {
+        let label = reply.label;
+        if let (Hearing::All, Some(report)) = (hearing, reply.report) {
+            self.hear_report(label, report)?;
+        }
+        let is_taken = reply.is_taken && hearing != Hearing::Nothing;
+        if is_taken {
+            self.heard.hear(label.from, label.to, self.now);
+        }
+        let input = Input::Ended {
+            to: label.to,
+            asked: label.asked,
+            is_taken,
+        };
+        self.on(label.from, input)?;
+        Ok(())
+    }
+
     // A request that a member sent has ended.
     fn end_request(&mut self, reply: Reply) -> Result<(), AllocError>
         requires always { Unit {0} }
@@ -96,19 +158,8 @@ impl<A: Actor> World<A> {
         if self.life(label.from) != label.life || !self.standing(label.from).is_running {
             return Ok(());
         }
-        if let Some(report) = reply.report {
-            self.hear_report(label, report)?;
-        }
-        if reply.is_taken {
-            self.heard.hear(label.from, label.to, self.now);
-        }
-        let input = Input::Ended {
-            to: label.to,
-            asked: label.asked,
-            is_taken: reply.is_taken,
-        };
-        self.on(label.from, input)?;
-        Ok(())
+        let hearing = self.hear_told(reply)?;
+        self.end_heard(reply, hearing)
     }
 
     /// Something comes; what comes to a member that pauses waits.

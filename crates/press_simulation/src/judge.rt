@@ -156,6 +156,8 @@ pub struct Judge {
     // Of so many slots, the first ones, each is chosen.
     chosen: u64,
     pages: Vec<Option<u64>>,
+    // Whether one was heard whose disk lacked some of its saves, so that nothing is promised.
+    is_loose: bool,
     complaints: Vec<String>,
 }
 
@@ -173,12 +175,30 @@ impl Judge {
             slots: Vec::new(alloc),
             chosen: 0,
             pages: Vec::new(alloc),
+            is_loose: false,
             complaints: Vec::new(alloc),
         }
     }
 
-    /// Something doesn't hold.
+    /// One was heard whose disk lacked some of its saves: of what is chosen nothing is promised.
+    pub fn loosen(&mut self) {
+        self.is_loose = true;
+    }
+
+    /// Whether nothing is promised of what is chosen.
+    pub fn is_loose(&self) -> bool {
+        self.is_loose
+    }
+
+    /// Something doesn't hold, if it is promised.
     pub fn complain(&mut self, text: String) {
+        if !self.is_loose {
+            self.accuse(text);
+        }
+    }
+
+    /// Something doesn't hold that is promised in any run.
+    pub fn accuse(&mut self, text: String) {
         if self.complaints.len() < MOST_COMPLAINTS {
             let _ = self.complaints.push(text);
         }

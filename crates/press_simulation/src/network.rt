@@ -12,6 +12,8 @@ pub struct Network<L> {
     // What goes from one to another is lost, where its bit is set.
     cuts: u64,
     wheel: Wheel<L>,
+    // Until when something is under way that was lost, by the bits of the ways.
+    waits: Vec<u64>,
     lost: u64,
     twice: u64,
 }
@@ -23,16 +25,22 @@ impl<L: Drop> Drop for Network<L> {
             wire: _,
             cuts: _,
             wheel: _,
+            waits: _,
             lost: _,
             twice: _,
         } = self;
     }
 }
 
+// The number of a way from one member to another.
+fn way_of(from: usize, to: usize) -> usize {
+    from.saturating_mul(8).saturating_add(to).min(63)
+}
+
 // The bit of a way from one member to another.
 fn bit_of(from: usize, to: usize) -> u64 {
-    let number = from.saturating_mul(8).saturating_add(to).min(63) as u32;
-    1u64.checked_shl(number).unwrap_or(0)
+    1u64.checked_shl(way_of(from, to).min(63) as u32)
+        .unwrap_or(0)
 }
 
 fn is_in(side: u64, place: usize) -> bool {
@@ -43,11 +51,16 @@ impl<L: Drop> Network<L> {
     /// One that is so bad, in which nothing is on its way. Of the seed comes what is left to
     /// chance.
     pub fn new(alloc: Global, seed: u64, wire: Wire) -> Result<Network<L>, AllocError> {
+        let mut waits = Vec::new(alloc);
+        for _ in 0..64 {
+            waits.push(0)?;
+        }
         Ok(Network {
             dice: Dice::new(seed.wrapping_add(0x5eed)),
             wire,
             cuts: 0,
             wheel: Wheel::new(alloc)?,
+            waits,
             lost: 0,
             twice: 0,
         })
@@ -109,6 +122,19 @@ impl<L: Drop> Network<L> {
         self.cuts & bit_of(from, to) != 0 || self.dice.is_in_thousand(self.wire.lost)
     }
 
+    // Something is lost between two, which its sender learns then.
+    fn note_lost(&mut self, from: usize, to: usize, until: u64) {
+        if let Some(wait) = self.waits.get_mut(way_of(from, to)) {
+            *wait = (*wait).max(until);
+        }
+    }
+
+    /// Whether all goes from the one to the other, and nothing that was lost is waited for.
+    pub fn is_open(&self, from: usize, to: usize, now: u64) -> bool {
+        let waits = self.waits.get(way_of(from, to)).copied().unwrap_or(0);
+        self.cuts & bit_of(from, to) == 0 && waits <= now
+    }
+
     /// Whether a request is lost. Its sender learns that after a while.
     pub fn loses_request(&mut self, now: u64, request: &Request<L>) -> Result<bool, AllocError> {
         let label = request.label;
@@ -116,13 +142,10 @@ impl<L: Drop> Network<L> {
             return Ok(false);
         }
         self.lost = self.lost.saturating_add(1);
-        let reply = Reply {
-            label,
-            is_taken: false,
-            report: None,
-        };
         let after = self.dice.between(50, 2_000);
-        self.wheel.put(now, after, Parcel::Reply(reply))?;
+        self.note_lost(label.from, label.to, now.saturating_add(after));
+        self.wheel
+            .put(now, after, Parcel::Reply(Reply::nothing(label)))?;
         Ok(true)
     }
 
@@ -151,13 +174,11 @@ impl<L: Drop> Network<L> {
     pub fn reply(&mut self, now: u64, reply: Reply) -> Result<(), AllocError> {
         let label = reply.label;
         if self.loses(label.to, label.from) {
-            let lost = Reply {
-                label,
-                is_taken: false,
-                report: None,
-            };
             let after = self.dice.between(50, 2_000);
-            return self.wheel.put(now, after, Parcel::Reply(lost));
+            self.note_lost(label.from, label.to, now.saturating_add(after));
+            return self
+                .wheel
+                .put(now, after, Parcel::Reply(Reply::nothing(label)));
         }
         let delay = self.delay();
         self.wheel.put(now, delay, Parcel::Reply(reply))

@@ -1,6 +1,7 @@
 //! What is on its way between members, by the millisecond in which it comes.
 
 use crate::actor::Report;
+use crate::recall::Told;
 use std::alloc::{AllocError, Global};
 use std::mem;
 
@@ -18,6 +19,7 @@ pub struct Label {
 pub struct Request<L> {
     pub label: Label,
     pub cluster: u64,
+    pub told: Told,
     pub letters: Vec<L>,
     pub looks: u32,
     /// A request that comes twice is answered once.
@@ -29,6 +31,7 @@ impl<L: Drop> Drop for Request<L> {
         let Request {
             label: _,
             cluster: _,
+            told: _,
             letters: _,
             looks: _,
             is_copy: _,
@@ -42,6 +45,7 @@ impl<L: Drop> Request<L> {
         let Request {
             label: _,
             cluster: _,
+            told: _,
             letters,
             looks: _,
             is_copy: _,
@@ -56,6 +60,20 @@ pub struct Reply {
     pub label: Label,
     pub is_taken: bool,
     pub report: Option<Report>,
+    /// What who answers tells with it. None where nobody answers.
+    pub told: Option<Told>,
+}
+
+impl Reply {
+    /// Nobody answers.
+    pub fn nothing(label: Label) -> Reply {
+        Reply {
+            label,
+            is_taken: false,
+            report: None,
+            told: None,
+        }
+    }
 }
 
 #[derive(Drop)]

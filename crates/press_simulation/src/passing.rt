@@ -55,8 +55,9 @@ impl<A: Actor> World<A> {
             None => None,
         };
         match note {
-            Some(note) => self.judge.note(place, note),
-            None => Ok(()),
+            // Votes count where the disk has all that its member saved.
+            Some(note) if self.is_whole(place) => self.judge.note(place, note),
+            _ => Ok(()),
         }
     }
 
@@ -131,6 +132,9 @@ impl<A: Actor> World<A> {
         }
         self.note(place)?;
         self.look_at(place, standing)?;
+        if self.now % EVERY == 0 {
+            self.check_links(place)?;
+        }
         if self.wait(place) > 0 {
             return Ok(());
         }

@@ -30,6 +30,12 @@ fn of_member(words: &[&str]) -> Option<Fault> {
         }),
         "room" => Some(Fault::Room(place)),
         "foreign" => Some(Fault::Foreign(place)),
+        "keep" => Some(Fault::Keep(place)),
+        "empty" => Some(Fault::Empty(place)),
+        "back" => Some(Fault::Back {
+            place,
+            copy: (amount? as usize).checked_sub(1)?,
+        }),
         "pause" => Some(Fault::Pause {
             place,
             millis: amount?,

@@ -10,6 +10,9 @@ use std::alloc::{AllocError, Global};
 // Within so many milliseconds after the last fault all is done, beside what letters take.
 const WITHIN: u64 = 4_000;
 
+// How many more it may take without one that is gone for good.
+const WITHOUT: u64 = 120_000;
+
 // How many letters one after another it may take to know what was missed.
 const FIRST: u64 = 400;
 
@@ -109,10 +112,24 @@ impl<'a, A: Actor> Run<'a, A> {
         } else {
             "not all holds"
         };
-        let line = format!(in self.alloc;
+        let mut line = format!(in self.alloc;
             "{seed}: {members} members, {store}, {faults} faults: {outcome}"
         )?;
+        self.tell_found(&mut line)?;
         self.lines.push(line)?;
+        Ok(())
+    }
+
+    // How often one was found whose disk lacked some of its saves, and whether one was heard.
+    fn tell_found(&self, line: &mut String) -> Result<(), AllocError> {
+        let found = self.world.tally.found;
+        if found > 0 {
+            let text = format!(in self.alloc; ", {found} found forgetful")?;
+            line.push_str(text.as_str())?;
+        }
+        if self.world.judge.is_loose() {
+            line.push_str(", one heard before")?;
+        }
         Ok(())
     }
 
@@ -251,16 +268,29 @@ impl<A: Actor> Run<'_, A> {
         self.world.end()
     }
 
+    // How long it may last after the last fault: without a majority nothing is waited for but who
+    // lacks some of its saves, and where one is gone for good the others learn each slot anew for
+    // which it voted.
+    fn limit(&self, within: u64) -> u64 {
+        if !self.world.can_settle() {
+            WITHIN
+        } else if self.world.found_count() > 0 {
+            within.saturating_add(WITHOUT)
+        } else {
+            within
+        }
+    }
+
     // Whether it has lasted too long since the last fault.
     fn is_late(&self, within: u64) -> bool {
-        self.world.now.saturating_sub(self.world.changed) > within
+        self.world.now.saturating_sub(self.world.changed) > self.limit(within)
     }
 
     // Time passes until all is done; after how many milliseconds that is, if it ends in time.
     fn settle(&mut self, within: u64) -> Result<u64, AllocError>
         requires always { Unit {0} }
     {
-        for passed in 0..within.saturating_mul(4) {
+        for passed in 0..within.saturating_add(WITHOUT).saturating_mul(4) {
             if self.world.is_settled(0) {
                 return Ok(passed);
             }
@@ -286,6 +316,9 @@ impl<A: Actor> Run<'_, A> {
     {
         let within = self.time_for(self.world.waiting_form_count());
         self.times.calm = self.settle(within)?;
+        if !self.world.can_settle() {
+            return Ok(false);
+        }
         if self.times.calm < u64::MAX || self.world.is_settled(1) {
             return Ok(true);
         }
@@ -304,7 +337,7 @@ impl<A: Actor> Run<'_, A> {
         self.world.changed = self.world.now;
         let within = self.time_for(count.saturating_mul(self.world.count() as u64));
         let after = self.settle(within)?;
-        if after == u64::MAX {
+        if after == u64::MAX && self.world.can_settle() {
             self.world.complain_of_rest(within)?;
         }
         Ok(after)

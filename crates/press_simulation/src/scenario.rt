@@ -59,6 +59,12 @@ pub enum Fault {
     Everywhere,
     /// All members end, and start again soon.
     Outage,
+    /// It ends, a copy of its disk is taken, and it starts.
+    Keep(usize),
+    /// It ends, its disk is emptied, and it starts.
+    Empty(usize),
+    /// It ends, that copy of its disk, from 0, is put back, and it starts.
+    Back { place: usize, copy: usize },
 }
 
 #[derive(Clone, Copy, Drop)]
@@ -220,6 +226,37 @@ fn draw_fault(dice: &mut Dice, members: u64) -> Fault {
     }
 }
 
+// Whether in the scenario of that number disks are emptied, or set back.
+fn forgets(seed: u64) -> bool {
+    seed >= 1_000 && (seed % 2 == 0 || seed % 40 == 39)
+}
+
+// What happens to a member whose disk is emptied or set back.
+fn draw_loss(dice: &mut Dice, place: usize) -> Fault {
+    match dice.below(8) {
+        0..=2 => Fault::Keep(place),
+        3 => Fault::Empty(place),
+        4 => Fault::Kill(place),
+        _ => {
+            let copy = dice.below(2) as usize;
+            Fault::Back { place, copy }
+        }
+    }
+}
+
+// Some of the faults are those of a disk that is emptied or set back, mostly of the same member.
+fn lose(dice: &mut Dice, scenario: &mut Scenario) {
+    let often = dice.between(2, 5);
+    let members = u64::from(scenario.members);
+    let (first, second) = (dice.below(members), dice.below(members));
+    for step in scenario.steps.iter_mut() {
+        if dice.below(often) == 0 {
+            let place = if dice.below(4) == 0 { second } else { first };
+            step.fault = draw_loss(dice, place as usize);
+        }
+    }
+}
+
 // Fewer forms come, since a database of simulated files takes its time.
 fn ease(scenario: &mut Scenario) {
     scenario.rush = 5;
@@ -263,6 +300,9 @@ pub fn draw(alloc: Global, seed: u64) -> Result<Scenario, AllocError> {
         calm: at.saturating_add(dice.between(1, 500)),
         steps,
     };
+    if forgets(seed) {
+        lose(&mut dice, &mut scenario);
+    }
     if scenario.is_sql {
         ease(&mut scenario);
     }

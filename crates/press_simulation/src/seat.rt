@@ -2,7 +2,9 @@
 
 use crate::actor::{Actor, Answer, Begins, Condition, Input, Report, Standing};
 use crate::lanes::{Lane, Lanes};
+use crate::memory::Memory;
 use crate::note::Note;
+use crate::recall::{Hearing, Told};
 use crate::tally::Second;
 use std::alloc::{AllocError, Global};
 
@@ -32,6 +34,8 @@ struct Guise {
     is_armed: bool,
     // Whether its disk has no room, however often it starts.
     is_full: bool,
+    // Whether it ended because its disk lacked some of its saves.
+    is_found: bool,
 }
 
 // What was seen of a member.
@@ -68,6 +72,7 @@ pub struct Seat<A: Actor> {
     guise: Guise,
     seen: Seen,
     second: Second,
+    memory: Memory,
 }
 
 impl<A: Actor> Drop for Seat<A> {
@@ -82,8 +87,14 @@ impl<A: Actor> Drop for Seat<A> {
             guise: _,
             seen: _,
             second: _,
+            memory: _,
         } = self;
     }
+}
+
+// The name of a start: none of two is the same, nor are they in order.
+fn name_of(life: u64) -> u64 {
+    life.wrapping_mul(0x9e37_79b9_7f4a_7c15)
 }
 
 // What its clock and its disk are like as one starts.
@@ -108,9 +119,11 @@ impl<A: Actor> Seat<A> {
                 more: 0,
                 is_armed: false,
                 is_full: false,
+                is_found: false,
             },
             seen: Seen::nothing(),
             second: Second::new(0, false),
+            memory: Memory::new(alloc),
         })
     }
 
@@ -177,11 +190,11 @@ impl<A: Actor> Seat<A> {
 
     /// How far it is, as it says.
     pub fn report(&self) -> Report {
-        let standing = self.actor.standing();
+        let report = self.actor.report();
         Report {
-            applied: standing.applied,
-            chosen: standing.chosen.saturating_add(self.guise.more),
+            chosen: report.chosen.saturating_add(self.guise.more),
             cluster: self.guise.cluster,
+            ..report
         }
     }
 
@@ -203,19 +216,34 @@ impl<A: Actor> Seat<A> {
         self.guise.life = self.guise.life.saturating_add(1);
         self.guise.cluster = cluster;
         self.guise.is_armed = is_armed;
+        self.guise.is_found = false;
         self.seen = Seen::nothing();
         self.second = Second::new(0, false);
     }
 
     /// A member starts, whose clock shows that; whether it runs.
-    pub fn start(&mut self, clock: u64, is_foreign: bool, begins: Begins) -> bool
+    pub fn start(
+        &mut self,
+        clock: u64,
+        is_foreign: bool,
+        begins: Begins,
+    ) -> Result<bool, AllocError>
         requires always { Unit {0} }
     {
         let other = (self.place as u64).saturating_add(OURS).saturating_add(1);
         let cluster = if is_foreign { other } else { OURS };
         self.begin(clock, cluster, begins.disk != Condition::Sound);
-        let begins = Begins { cluster, ..begins };
-        self.actor.start(begins)
+        let start = name_of(self.guise.life);
+        let begins = Begins {
+            cluster,
+            start,
+            ..begins
+        };
+        let runs = self.actor.start(begins);
+        if runs {
+            self.memory.begin(start)?;
+        }
+        Ok(runs)
     }
 }
 
@@ -281,12 +309,15 @@ impl<A: Actor> Seat<A> {
         requires always { Unit {0} }
     {
         self.lanes.begin();
-        self.actor.on(input, &mut self.lanes)
+        let answer = self.actor.on(input, &mut self.lanes)?;
+        self.memory.save(self.actor.standing().saves)?;
+        Ok(answer)
     }
 
-    /// What waits to go to the member at that place, if anything.
-    pub fn take(&mut self, to: usize) -> Option<Lane<A::Letter>> {
-        self.lanes.take(to)
+    /// What waits to go to the member at that place, if anything, and what it is told with that.
+    pub fn take_telling(&mut self, to: usize) -> Option<(Lane<A::Letter>, Told)> {
+        let lane = self.lanes.take(to)?;
+        Some((lane, self.tell(to)))
     }
 
     /// A request goes out.
@@ -350,5 +381,67 @@ impl<A: Actor> Seat<A> {
             0
         };
         self.seen.busy
+    }
+}
+
+// What it and its disk have of starts.
+impl<A: Actor> Seat<A> {
+    /// What is known of its starts, and of those that it heard.
+    pub fn memory(&self) -> &Memory {
+        &self.memory
+    }
+
+    /// What it tells the member at a place.
+    pub fn tell(&mut self, to: usize) -> Told {
+        Told {
+            recall: self.actor.recall(to),
+            cluster: self.guise.cluster,
+            mark: self.memory.mark(),
+            heard: self.memory.heard_of(to),
+        }
+    }
+
+    /// The member at a place tells it that; what it hears of it.
+    pub fn hear(&mut self, from: usize, told: Told) -> Hearing
+        requires always { Unit {0} }
+    {
+        let hearing = self.actor.hear(from, told.recall);
+        if hearing == Hearing::All {
+            self.memory.hear(from, told.mark);
+        }
+        hearing
+    }
+
+    /// Another heard that mark of it.
+    pub fn be_heard(&mut self, told: Told) -> Result<(), AllocError> {
+        self.memory.be_heard(told.mark)
+    }
+
+    /// It ends because its disk lacks some of its saves.
+    pub fn be_found(&mut self) {
+        self.guise.is_found = true;
+    }
+
+    /// Whether it has ended for that.
+    pub fn is_found(&self) -> bool {
+        self.guise.is_found
+    }
+
+    /// A copy of its disk is taken. Nobody runs there.
+    pub fn keep(&mut self) -> Result<(), AllocError> {
+        self.actor.keep();
+        self.memory.keep()
+    }
+
+    /// Its disk is emptied. Nobody runs there.
+    pub fn empty(&mut self) {
+        self.actor.empty();
+        self.memory.empty();
+    }
+
+    /// That copy of its disk is put back. Nobody runs there.
+    pub fn put_back(&mut self, copy: usize) -> Result<(), AllocError> {
+        self.actor.put_back(copy);
+        self.memory.put_back(copy)
     }
 }

@@ -3,6 +3,7 @@
 use crate::actor::Actor;
 use crate::lanes::Lane;
 use crate::parcel::{Label, Request};
+use crate::recall::Told;
 use crate::world::World;
 use std::alloc::{AllocError, Global};
 
@@ -22,6 +23,7 @@ fn again<A: Actor>(
     Ok(Request {
         label: request.label,
         cluster: request.cluster,
+        told: request.told,
         letters: copies::<A>(alloc, request.letters.as_slice())?,
         looks: 0,
         is_copy: true,
@@ -40,7 +42,13 @@ impl<A: Actor> World<A> {
     }
 
     // The request that carries what waits.
-    fn request_of(&self, from: usize, to: usize, lane: Lane<A::Letter>) -> Request<A::Letter> {
+    fn request_of(
+        &self,
+        from: usize,
+        to: usize,
+        lane: Lane<A::Letter>,
+        told: Told,
+    ) -> Request<A::Letter> {
         let (letters, looks, questions) = lane.into_parts();
         Request {
             label: Label {
@@ -50,6 +58,7 @@ impl<A: Actor> World<A> {
                 asked: looks.saturating_add(questions),
             },
             cluster: self.cluster(from),
+            told,
             letters,
             looks,
             is_copy: false,
@@ -71,12 +80,12 @@ impl<A: Actor> World<A> {
     // What waits at a member for another goes out.
     fn flush_to(&mut self, from: usize, to: usize) -> Result<(), AllocError> {
         let waiting = match self.seats.get_mut(from) {
-            Some(seat) => seat.take(to),
+            Some(seat) => seat.take_telling(to),
             None => None,
         };
         match waiting {
-            Some(lane) => {
-                let request = self.request_of(from, to, lane);
+            Some((lane, told)) => {
+                let request = self.request_of(from, to, lane, told);
                 self.count_request(from, &request);
                 self.post(request)
             }

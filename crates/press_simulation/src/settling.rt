@@ -6,13 +6,42 @@ use crate::world::World;
 use std::alloc::AllocError;
 
 impl<A: Actor> World<A> {
-    // Whether a member is done: it is up, ready, has proposed all, and has applied all but so many.
+    // Whether a member has ended because its disk lacks some of its saves.
+    fn is_found(&self, place: usize) -> bool {
+        self.seats.get(place).is_some_and(|seat| seat.is_found())
+    }
+
+    /// How many have ended for that.
+    pub fn found_count(&self) -> usize {
+        let mut count: usize = 0;
+        for place in 0..self.count() {
+            count = count.saturating_add(usize::from(self.is_found(place)));
+        }
+        count
+    }
+
+    /// Whether all can be applied: a majority is there, and what is chosen is promised.
+    pub fn can_settle(&self) -> bool {
+        !self.judge.is_loose() && self.found_count() < self.count().div_ceil(2)
+    }
+
+    // Whether a member is done: it is up, ready, has proposed all, and has applied all but so many;
+    // or its disk lacks some of its saves.
     fn is_done(&self, place: usize, but: u64) -> bool {
+        if self.is_found(place) {
+            return true;
+        }
         let standing = self.standing(place);
         standing.is_running
             && !standing.is_waiting
             && standing.applied.saturating_add(but) >= self.judge.chosen_count()
-            && self.seats.get(place).is_some_and(|seat| seat.is_ready())
+            && (self.is_ready(place) || self.may_wait(but))
+    }
+
+    // Where one is gone for good by whose vote the last slot was chosen, who started behind that may
+    // not be ready before another form comes.
+    fn may_wait(&self, but: u64) -> bool {
+        but > 0 && self.found_count() > 0
     }
 
     /// Whether all members are ready, and have applied everything but so many slots.
@@ -67,10 +96,10 @@ impl<A: Actor> World<A> {
         count
     }
 
-    // Whether each member knows what became of a form.
+    // Whether each member that is there knows what became of a form.
     fn is_known(&self, form: &Taken) -> bool {
         for seat in self.seats.iter() {
-            if !seat.knows(form.number) {
+            if !seat.is_found() && !seat.knows(form.number) {
                 return false;
             }
         }
@@ -85,15 +114,27 @@ impl<A: Actor> World<A> {
         self.complain(form.place, text.as_str())
     }
 
-    // A form is chosen at most once, and at least once if its member lived on; each member knows of
-    // it if it is chosen.
+    // Whether a form that was chosen so often has come to what it should: if its member lived on it is
+    // chosen, and each member knows of it exactly if it is.
+    fn is_right(&self, form: &Taken, count: usize) -> bool {
+        let is_lost = count == 0 && self.has_lived(form);
+        !is_lost && (count > 0) == self.is_known(form)
+    }
+
+    // A form is chosen at most once, and comes to what it should where all could be applied.
     fn check_form(&mut self, form: &Taken) -> Result<(), AllocError> {
         let count = self.judge.count_of(form.value);
-        let is_lost = count == 0 && self.has_lived(form);
-        if count > 1 || is_lost || (count > 0) != self.is_known(form) {
+        if count > 1 || (self.can_settle() && !self.is_right(form, count)) {
             self.complain_of_form(form, count)?;
         }
         Ok(())
+    }
+
+    /// Whether the disk of a member has all of its saves.
+    pub fn is_disk_whole(&self, place: usize) -> bool {
+        self.seats
+            .get(place)
+            .is_some_and(|seat| seat.memory().is_disk_whole())
     }
 
     // A member ends; what its disk keeps is looked at.
@@ -101,6 +142,9 @@ impl<A: Actor> World<A> {
         requires always { Unit {0} }
     {
         self.note(place)?;
+        if !self.is_disk_whole(place) {
+            return Ok(());
+        }
         let last = self.judge.slots();
         let votes = match self.seats.get_mut(place) {
             Some(seat) => seat.votes(last),

@@ -6,6 +6,8 @@ pub struct Tally {
     pub letters: u64,
     pub starts: u64,
     pub falls: u64,
+    /// How often one was told that its disk lacks some of its saves.
+    pub found: u64,
     /// The most questions that one member sent to another in one second.
     pub most_asked: u64,
     /// The most letters to others in one second of one member.
@@ -18,6 +20,7 @@ impl Tally {
             letters: 0,
             starts: 0,
             falls: 0,
+            found: 0,
             most_asked: 0,
             most_sent: 0,
         }

@@ -4,6 +4,7 @@ use crate::actor::{Actor, Answer, Input, Standing};
 use crate::forms::{Forms, Taken};
 use crate::heard::Heard;
 use crate::judge::Judge;
+use crate::links::Links;
 use crate::network::Network;
 use crate::scenario::{MOST_MEMBERS, Scenario};
 use crate::seat::Seat;
@@ -23,6 +24,7 @@ pub struct World<A: Actor> {
     pub judge: Judge,
     pub tally: Tally,
     pub heard: Heard,
+    pub links: Links,
     pub forms: Forms,
 }
 
@@ -39,6 +41,7 @@ impl<A: Actor> Drop for World<A> {
             judge: _,
             tally: _,
             heard: _,
+            links: _,
             forms: _,
         } = self;
     }
@@ -75,6 +78,7 @@ impl<A: Actor> World<A> {
             judge: Judge::new(alloc, members),
             tally: Tally::new(),
             heard,
+            links: Links::new(alloc)?,
             forms: Forms::new(alloc),
         })
     }
@@ -131,11 +135,22 @@ impl<A: Actor> World<A> {
         }
     }
 
+    fn line_of(&self, place: usize, text: &str) -> Result<String, AllocError> {
+        let (now, member) = (self.now, place.saturating_add(1));
+        format!(in self.alloc; "{now}: member {member} {text}")
+    }
+
     /// Something of a member doesn't hold.
     pub fn complain(&mut self, place: usize, text: &str) -> Result<(), AllocError> {
-        let (now, member) = (self.now, place.saturating_add(1));
-        let line = format!(in self.alloc; "{now}: member {member} {text}")?;
+        let line = self.line_of(place, text)?;
         self.judge.complain(line);
+        Ok(())
+    }
+
+    /// Something of a member doesn't hold that has to hold of any run.
+    pub fn accuse(&mut self, place: usize, text: &str) -> Result<(), AllocError> {
+        let line = self.line_of(place, text)?;
+        self.judge.accuse(line);
         Ok(())
     }
 

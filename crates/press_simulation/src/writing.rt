@@ -40,6 +40,9 @@ fn parts_of(fault: Fault) -> Parts {
         Fault::Burst { place, count } => spell("burst", member(place), Some(count)),
         Fault::Outage => spell("outage", None, None),
         Fault::Everywhere => spell("all", None, None),
+        Fault::Keep(place) => spell("keep", member(place), None),
+        Fault::Empty(place) => spell("empty", member(place), None),
+        Fault::Back { place, copy } => spell("back", member(place), member(copy)),
     }
 }
 

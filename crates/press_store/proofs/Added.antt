@@ -9,7 +9,7 @@ use Rattle.sqlite.specs.Listing.{understood}
 use Rattle.sqlite.specs.State.{State, ExecutesInside}
 use Rattle.press_store.specs.Tables.{Moved, schema_of, old_schema, block_on, vote_on, make_block, make_vote}
 use Rattle.press_store.specs.Moving.{TablesAdded}
-use Rattle.press_store.proofs.Made.{IsCreate, create}
+use Rattle.press_store.proofs.Created.{IsCreate, create}
 use Rattle.press_store.proofs.Texts.{tables_defined}
 
 -- the tables of version 1 and that of blocks

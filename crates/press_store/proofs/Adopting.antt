@@ -15,7 +15,7 @@ use Rattle.sqlite_trees.specs.Objects.{catalog_tree}
 use Rattle.sqlite_catalog.specs.Listing.{Lists}
 use Rattle.sqlite.specs.Order.{Row}
 use Rattle.press_acceptor.specs.StoreMap.{Only, new_store}
-use Rattle.press_store.specs.Tables.{Layout, Fresh, Moved, schema_of, old_schema, no_schema, check_text, version_query_text, left_text}
+use Rattle.press_store.specs.Tables.{Layout, Fresh, Moved, FreshStarts, MovedStarts, schema_of, old_schema, no_schema, check_text, version_query_text, left_text}
 use Rattle.press_store.specs.Shown.{IsKept, IsOurVersion, IsEmptied}
 use Rattle.press_store.specs.Stands.{store_in}
 use Rattle.press_store.specs.Kept.{kept_by, MayLeave}
@@ -63,15 +63,15 @@ module _ {S : Type 0} (g : Ghosts S) (old new : Held S) where
       checked_version l (state g old).now (lists l (state g old) has live seen.0.0.was_open) rows.items one seen.1
 
   pub left_looks : IsMoved (state g old).now.schema → (result : Result (Vec Row Global) Error) → HasCleanDisk (state g new) → Queries g old new left_text [] result → OnlyLooks (state g old) (state g new)
-  left_looks has result clean asked = looks_only g left_text [] (schema_of Moved) (select left_query (codes "slot" ∷ [])) left_means old new result clean has asked
+  left_looks (l, moved, has) result clean asked = looks_only g left_text [] (schema_of l) (select left_query (codes "slot" ∷ [])) (left_means l moved) old new result clean has asked
 
   pub left_same : IsMoved (state g old).now.schema → (rows : Vec Row Global) → Queries g old new left_text [] (Ok rows) → IsUnchanged (state g old) (state g new)
-  left_same has rows asked = (sees g left_text [] (schema_of Moved) (select left_query (codes "slot" ∷ [])) left_means old new rows has asked).0
+  left_same (l, moved, has) rows asked = (sees g left_text [] (schema_of l) (select left_query (codes "slot" ∷ [])) (left_means l moved) old new rows has asked).0
 
   pub left_none : IsMoved (state g old).now.schema → IsLive (state g old) → (rows : Vec Row Global) → Queries g old new left_text [] (Ok rows) → rows.items ≡ [] → IsEmptied (state g old).now.trees
-  left_none has live rows asked none =
-      let seen = sees g left_text [] (schema_of Moved) (select left_query (codes "slot" ∷ [])) left_means old new rows has asked in
-      emptied (state g old).now rows.items (lists Moved (state g old) has live seen.0.0.was_open) seen.1 none
+  left_none (l, moved, has) live rows asked none =
+      let seen = sees g left_text [] (schema_of l) (select left_query (codes "slot" ∷ [])) (left_means l moved) old new rows has asked in
+      emptied l moved (state g old).now rows.items (lists l (state g old) has live seen.0.0.was_open) seen.1 none
 
 -- ---- queries after one another
 
@@ -106,12 +106,16 @@ live_still old mid same live _ =
 pub has_old_moved : (schema : Schema) → IsOurs schema → has_table schema (codes "promise") ≡ true → IsMoved schema
 unfolding same_name
 has_old_moved schema (Fresh, has) old = absurd (let none : false ≡ true = ap (λ s. has_table s (codes "promise")) (sym has) ∙ old in cc)
-has_old_moved schema (Moved, has) old = has
+has_old_moved schema (Moved, has) old = (Moved, tt, has)
+has_old_moved schema (FreshStarts, has) old = absurd (let none : false ≡ true = ap (λ s. has_table s (codes "promise")) (sym has) ∙ old in cc)
+has_old_moved schema (MovedStarts, has) old = (MovedStarts, tt, has)
 
 pub no_old_emptied : (s : State) → IsOurs s.now.schema → has_table s.now.schema (codes "promise") ≡ false → IsLive s → IsTrue s.is_open → IsEmptied s.now.trees
 unfolding same_name
 no_old_emptied s (Fresh, has) old live up = (stand Fresh s.now.trees (lists Fresh s has live up)).old
 no_old_emptied s (Moved, has) old live up = absurd (let none : true ≡ false = ap (λ t. has_table t (codes "promise")) (sym has) ∙ old in cc)
+no_old_emptied s (FreshStarts, has) old live up = (stand FreshStarts s.now.trees (lists FreshStarts s has live up)).old
+no_old_emptied s (MovedStarts, has) old live up = absurd (let none : true ≡ false = ap (λ t. has_table t (codes "promise")) (sym has) ∙ old in cc)
 
 -- ---- which tables there are
 
@@ -122,10 +126,14 @@ other_number s t apart same = absurd (apart (ap (λ (u : Schema). length u.table
 pub differs : {A : Type 0} (l : Layout) → no_schema ≡ schema_of l → A
 differs Fresh same = other_number no_schema (schema_of Fresh) (λ e. omega (arith, e)) same
 differs Moved same = other_number no_schema (schema_of Moved) (λ e. omega (arith, e)) same
+differs FreshStarts same = other_number no_schema (schema_of FreshStarts) (λ e. omega (arith, e)) same
+differs MovedStarts same = other_number no_schema (schema_of MovedStarts) (λ e. omega (arith, e)) same
 
 pub old_differs : {A : Type 0} (l : Layout) → old_schema ≡ schema_of l → A
 old_differs Fresh same = other_number old_schema (schema_of Fresh) (λ e. omega (arith, e)) same
 old_differs Moved same = other_number old_schema (schema_of Moved) (λ e. omega (arith, e)) same
+old_differs FreshStarts same = other_number old_schema (schema_of FreshStarts) (λ e. omega (arith, e)) same
+old_differs MovedStarts same = other_number old_schema (schema_of MovedStarts) (λ e. omega (arith, e)) same
 
 pub none_differs : {A : Type 0} → no_schema ≡ old_schema → A
 none_differs same = other_number no_schema old_schema (λ e. omega (arith, e)) same

@@ -51,7 +51,7 @@ pub rows_shown : (old new : State) (result : Result (Vec Row Global) Error) → 
     → IfOk result (λ rows. (new.now.schema ≡ schema_of Moved) × ShowsNone old.now.trees new.now.trees rows.items)
 rows_shown old new (Err e) has shown = tt
 rows_shown old new (Ok rows) has shown =
-    let plain = subst (λ s. IsPlain (understood s left_text)) (sym has) left_means.1 in
+    let plain = subst (λ s. IsPlain (understood s left_text)) (sym has) (left_means Moved tt).1 in
     let same = (shown_same left_text [] old new plain rows.items shown).0.now_is in
-    let read = reads_as left_text [] old new (schema_of Moved) has (select left_query (codes "slot" ∷ [])) left_means.0 left_means.1 left_means.2 rows.items shown in
+    let read = reads_as left_text [] old new (schema_of Moved) has (select left_query (codes "slot" ∷ [])) (left_means Moved tt).0 (left_means Moved tt).1 (left_means Moved tt).2 rows.items shown in
     (ap (λ (d : Database). d.schema) same ∙ has, record { same = ap (λ (d : Database). d.trees) same; none = none_left old.now rows.items read })

@@ -8,7 +8,7 @@ use Rattle.sqlite.specs.Program.{overlay}
 use Rattle.sqlite.specs.Effect.{Database, Answers}
 use Rattle.sqlite_trees.specs.Objects.{catalog_tree}
 use Rattle.sqlite_catalog.specs.Listing.{Lists}
-use Rattle.press_store.specs.Tables.{Moved, schema_of}
+use Rattle.press_store.specs.Tables.{Layout, Fresh, Moved, FreshStarts, MovedStarts, HasOld, schema_of}
 use Rattle.press_store.specs.Shown.{IsEmptied}
 use Rattle.press_store.proofs.Queries.{outputs, all_pass, none_of}
 use Rattle.press_store.proofs.Standing.{stand}
@@ -26,5 +26,8 @@ none_left db rows h none =
     let out = outputs left_query trees 0 [] rows refl refl refl a in
     none_paged _ (db.trees 0) rows a.ordered (subst (λ xs. IsPermutation (map (λ r. output left_query ([] ∷ r ∷ [])) xs) a.ordered) (all_pass [] (trees 0)) out) a.shown none
 
-pub emptied : (db : Database) (rows : List Row) → Lists (db.trees catalog_tree) (schema_of Moved) → Answers db (record { lets = []; body = left_query }) [] rows → rows ≡ [] → IsEmptied db.trees
-emptied db rows lists h none = (stand Moved db.trees lists).old ∙ none_left db rows h none
+pub emptied : (l : Layout) → HasOld l → (db : Database) (rows : List Row) → Lists (db.trees catalog_tree) (schema_of l) → Answers db (record { lets = []; body = left_query }) [] rows → rows ≡ [] → IsEmptied db.trees
+emptied Fresh no_table db rows lists h none = absurd no_table
+emptied Moved old db rows lists h none = (stand Moved db.trees lists).old ∙ none_left db rows h none
+emptied FreshStarts no_table db rows lists h none = absurd no_table
+emptied MovedStarts old db rows lists h none = (stand MovedStarts db.trees lists).old ∙ none_left db rows h none

@@ -5,6 +5,8 @@ mod Blocks
 mod Carried
 mod Checked
 mod Cleared
+mod Counted
+mod Created
 mod Decoded
 mod Emptied
 mod Inside
@@ -24,10 +26,15 @@ mod Queries
 mod Reopened
 mod Replaced
 mod Rounds
+mod Running
 mod Saved
 mod Schemas
+mod Signed
 mod SlotRows
 mod Standing
+mod StartPuts
+mod StartShown
+mod StartTables
 mod Texts
 mod Ties
 mod Told

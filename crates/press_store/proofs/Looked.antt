@@ -17,6 +17,7 @@ use Rattle.sqlite.proofs.Callers.{IsPlain, command_of, reads_as, never_commits, 
 use Rattle.press_store.specs.Tables.{Layout, schema_of}
 use Rattle.press_store.specs.Attempt.{Queries, AreTables, Ready, IsReady, Looked, Stays}
 use Rattle.press_store.specs.Adopting.{OnlyLooks}
+use Rattle.press_store.specs.Starts.{starts_in}
 use Rattle.press_store.specs.Tying.{IsUntouched}
 use Rattle.press_store.proofs.Texts.{IsQuery}
 use Rattle.press_store.proofs.Saved.{not_run, same_kept, same_ready, after_same}
@@ -34,7 +35,7 @@ fails_stay sql params a b e plain (inr h) =
     let none = (subst IsPlain h.1.is plain).0 in
     inl (subst (FailsToShow a b sql h.0 (timed params h.0.formats h.1.now) e) none h.2).3
 
-fewer : (a b : State) → Survives a b (λ _. ⊥) → HasCleanDisk b → (db : Trees) → b.may_leave db → a.may_leave db
+pub fewer : (a b : State) → Survives a b (λ _. ⊥) → HasCleanDisk b → (db : Trees) → b.may_leave db → a.may_leave db
 fewer a b h clean db may = elim (h.crash clean db may) [ inl was ↦ was | inr none ↦ absurd none ]
 
 showing : (sql : List ℕ) (params : Row) (a b : State) → IsPlain (understood a.now.schema sql) → Survives a b (CommitsShowing sql params a) → HasCleanDisk b → (db : Trees) → b.may_leave db → a.may_leave db
@@ -99,6 +100,7 @@ module _ {S : Type 0} (g : Ghosts S) (sql : List ℕ) (params : Row) (command : 
   left_as a b r limit stays crash = record {
     ready = same_ready a b r limit stays;
     same = same_kept a b stays;
+    starts = λ is. ap (λ (d : Database). starts_in d.trees) (same_committed a b stays is).1;
     crash = λ left may. (may.0, crash may.0 may.1, may.2);
   }
 

@@ -33,6 +33,7 @@ use Rattle.press_store.specs.Making.{IsBare, IsFresh}
 use Rattle.press_store.specs.Tables.{Fresh, schema_of, no_schema, make_block, make_vote, make_meta, block_on, vote_on, meta_on}
 use Rattle.press_store.specs.Shown.{is_last_round, is_version, IsKept, IsOurVersion, IsEmptied, block_rows, vote_rows, meta_rows, round_at, store_of}
 use Rattle.press_store.specs.Stands.{store_in}
+use Rattle.press_store.proofs.Created.{IsCreate, create}
 use Rattle.press_store.proofs.Maps.{nothing_saved}
 use Rattle.press_store.proofs.Put.{went, same_value, cast_int, cast_null}
 use Rattle.press_store.proofs.Standing.{OthersStay, stand, still_listed}
@@ -54,10 +55,6 @@ version_text = codes "INSERT INTO meta (name, n) VALUES ('version', 2)"
 abbrev row_terms : List ℕ → ℤ → List Term
 row_terms name n = lit Null ∷ lit (Text name) ∷ lit (Int n) ∷ []
 
--- the text makes a table, over this schema
-abbrev pub IsCreate : Schema → List ℕ → Type 0
-IsCreate schema text = (command_of (understood schema text) ≡ CreateTable) × (statement_of text (understood schema text) ≡ text) × IsPlain (understood schema text)
-
 block_made : IsCreate no_schema make_block
 unfolding understood everything
 block_made = (refl, refl, (refl, refl))
@@ -77,32 +74,6 @@ insert_is = (refl, (refl, refl))
 version_is : (command_of (understood (schema_of Fresh) version_text) ≡ Insert 2 (Values (row_terms (codes "version") (pos 2)) 3)) × IsPlain (understood (schema_of Fresh) version_text)
 unfolding understood everything
 version_is = (refl, (refl, refl))
-
--- each CREATE makes its schema
-made : (limit : Option ℕ) (mode : Mode) (params : Row) (now after : Database) (tally : Tally) (schema whole : Schema) (table : Table) (text : List ℕ) → now.schema ≡ schema → table_defined_by text ≡ Ok table → created schema table ≡ whole
-    → lacks_sequence whole ≡ false → Does limit mode params now text None CreateTable (Ok (tally, after)) → (after.schema ≡ whole) × (after.trees (next_tree schema) ≡ []) × KeepsRows schema.tables now.trees after.trees
-made limit mode params now after tally schema whole table text has defined is none does =
-    let all = went does in
-    let first = went all.1 in
-    let it = first.1 in
-    let both : Ok it.table ≡ Ok table = sym it.defined ∙ defined in
-    let same : it.table ≡ table = cc in
-    let made_schema : first.0.schema ≡ whole = it.is ∙ ap (λ s. created s it.table) has ∙ ap (created schema) same ∙ is in
-    let plain : lacks_sequence first.0.schema ≡ false = ap lacks_sequence made_schema ∙ none in
-    let left : after ≡ first.0 = ap (λ (p : Tally × Database). p.1) (same_value all.2) ∙ same_value (rw plain at first.2) in (
-      ap (λ (d : Database). d.schema) left ∙ made_schema,
-      ap (λ (d : Database). d.trees (next_tree schema)) left ∙ subst (λ s. first.0.trees (next_tree s) ≡ []) has it.empty,
-      subst (λ (d : Database). KeepsRows schema.tables now.trees d.trees) (sym left) (subst (λ (s : Schema). KeepsRows s.tables now.trees first.0.trees) has it.others),
-    )
-
--- a CREATE that is run makes its table, which is empty, and the list of tables says so
-pub create : (a b : State) (count : ℕ) (schema whole : Schema) (table : Table) (text : List ℕ) → a.now.schema ≡ schema → table_defined_by text ≡ Ok table → created schema table ≡ whole → lacks_sequence whole ≡ false → IsCreate schema text
-    → Executes text [] a b (Ok count) → (b.now.schema ≡ whole) × (b.now.trees (next_tree schema) ≡ []) × KeepsRows schema.tables a.now.trees b.now.trees × Lists (b.now.trees catalog_tree) whole
-create a b count schema whole table text has defined is none creates ran =
-    let w = runs_as text [] a b schema has CreateTable creates.0 creates.2 count ran in
-    let does = subst (λ t. Does a.step_limit (mode_of a) [] a.now t None CreateTable (Ok (w.tally, b.now))) creates.1 w.changed in
-    let it = made a.step_limit (mode_of a) [] a.now b.now w.tally schema whole table text has defined is none does in
-    (it.0, it.1, it.2, subst (λ s. Lists (b.now.trees catalog_tree) s) it.0 w.sound.lists)
 
 pub tables_made : (old one two new : State) (m n : ℕ) (result : Result ℕ Error) → old.now.schema ≡ no_schema → ExecutesInside 0 make_block [] old one (Ok m) → ExecutesInside 0 make_vote [] one two (Ok n) → ExecutesInside 0 make_meta [] two new result
     → OnOk result (IsBare new.now × IsTrue new.in_transaction)

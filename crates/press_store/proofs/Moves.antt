@@ -16,10 +16,11 @@ use Rattle.press_store.specs.Tables.{Moved, schema_of, save_promise_text, save_v
 use Rattle.press_store.specs.Shown.{vote_as, promise_in, vote_in_rows, damaged_ballot, damaged_vote, vote_at}
 use Rattle.press_store.specs.Moving.{VotePut, BallotPut, block_at}
 use Rattle.press_store.proofs.Puts.{ballot_back}
+use Rattle.press_store.proofs.Put.{same_pos}
 use Rattle.press_store.proofs.Replaced.{Replaces, block_row, vote_row, block_replaced, vote_replaced}
 use Rattle.press_store.proofs.Texts.{promise_insert, vote_insert, save_promise_means, save_vote_means}
 
-module _ (slot : ℕ) (vote : Vote) (bytes : List ℕ) (h : IsBallot vote.ballot) (reads : read_command bytes ≡ Ok vote.value) (old new : Trees) (put : Replaces (schema_of Moved) 4 slot (vote_row slot vote.ballot.round vote.ballot.node bytes) old new) where
+module _ (slot : ℕ) (vote : Vote) (bytes : List ℕ) (h : IsBallot vote.ballot) (reads : read_command bytes ≡ Ok vote.value) (old new : Trees) (put : Replaces (schema_of Moved) 4 (pos slot) (vote_row slot vote.ballot.round vote.ballot.node bytes) old new) where
   pub vote_put : VotePut slot vote old new
   unfolding vote_at
   vote_put =
@@ -33,10 +34,10 @@ module _ (slot : ℕ) (vote : Vote) (bytes : List ℕ) (h : IsBallot vote.ballot
         };
         blocks = put.others 3 (λ e. absurd (omega (arith, e))) (λ e. absurd (omega (arith, e)), tt);
         here = ap vote_in_rows put.here ∙ shows;
-        there = λ s low other. ap vote_in_rows (put.there s other (λ e. omega (arith, low, e)));
+        there = λ s low other. ap vote_in_rows (put.there (pos s) (λ e. other (same_pos s slot e)) (λ e. let none = same_pos s 0 e in omega (arith, low, none)));
       }
 
-module _ (first : ℕ) (ballot : Ballot) (h : IsBallot ballot) (old new : Trees) (put : Replaces (schema_of Moved) 3 first (block_row first ballot.round ballot.node) old new) where
+module _ (first : ℕ) (ballot : Ballot) (h : IsBallot ballot) (old new : Trees) (put : Replaces (schema_of Moved) 3 (pos first) (block_row first ballot.round ballot.node) old new) where
   pub ballot_put : BallotPut first ballot old new
   unfolding block_at
   ballot_put =
@@ -50,7 +51,7 @@ module _ (first : ℕ) (ballot : Ballot) (h : IsBallot ballot) (old new : Trees)
         };
         votes = put.others 4 (λ e. absurd (omega (arith, e))) (λ e. absurd (omega (arith, e)), tt);
         here = ap promise_in put.here ∙ shows;
-        there = λ s low other. ap promise_in (put.there s other (λ e. omega (arith, low, e)));
+        there = λ s low other. ap promise_in (put.there (pos s) (λ e. other (same_pos s first e)) (λ e. let none = same_pos s 0 e in omega (arith, low, none)));
       }
 
 -- ---- from a call in a transaction to what it does

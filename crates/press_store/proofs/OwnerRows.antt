@@ -36,7 +36,9 @@ use Rattle.press_store.specs.Owned.{signed_number, unsigned_number, int_in, entr
 use Rattle.press_store.proofs.Put.{went, same_value, cast_int, cast_null, put_among, put_other, not_true}
 use Rattle.press_store.proofs.Queries.{picked, equals_text, plain_meta}
 use Rattle.press_store.proofs.Rounds.{meta_found, meta_work}
-use Rattle.press_store.proofs.Standing.{MetaChange, OthersStay, stand, meta_change, still_listed, tables_still}
+use Rattle.press_store.proofs.Signed.{signed_back}
+use Rattle.press_store.specs.Starts.{starts_in}
+use Rattle.press_store.proofs.Standing.{same_starts, MetaChange, OthersStay, stand, meta_change, still_listed, tables_still}
 use Rattle.press_store.proofs.Texts.{is_equal_to, entry_query, owner_terms, owner_insert}
 use Rattle.press_store.proofs.Versions.{turned}
 
@@ -75,15 +77,6 @@ has_name : (id n : Value) (name : List ℕ) → is_named name (id ∷ Text name 
 has_name id n name = ap is_eq (tied_itself value_cmp_total (Text name))
 
 -- ---- their values
-
-half_less : (n : ℕ) → n < 2 ^ 64 → 2 ^ 64 - 1 - (2 ^ 64 - 1 - n) ≡ n
-half_less n less = omega (arith, less)
-
-signed_back : (n : ℕ) → n < 2 ^ 64 → unsigned_number (signed_number n) ≡ n
-signed_back n less = elim (cases_Bool (nat_lt n (2 ^ 63))) [
-  | inl low ↦ rw low
-  | inr high ↦ rw high (half_less n less)
-]
 
 pub owner_back : (owner : Owner) → (1 ≤ owner.number) × (owner.number ≤ 7) → owner.members ≤ 255 → owner.peers < 2 ^ 64
     → owner_by (Some (Some (pos owner.number))) (Some (Some (pos owner.members))) (Some (Some (signed_number owner.peers))) ≡ Some (Some owner)
@@ -141,6 +134,7 @@ pub record OwnerPut (owner : Owner) (old new : Trees) : Type 0 where
   pub stands : store_in new ≡ store_in old
   pub owned : owner_in old ≡ Some None → owner_in new ≡ Some (Some owner)
   pub version : IsOurVersion old → IsOurVersion new
+  pub starts : starts_in new ≡ starts_in old
 
 module _ (l : Layout) (owner : Owner) (is_member : IsMember owner) (limit : Option ℕ) (mode : Mode) (now after : Database) (tally : Tally) (text : List ℕ) (has : AreTables l now)
     (does : Does limit mode (owner_params owner) now text None (owner_insert l) (Ok (tally, after))) where
@@ -263,6 +257,7 @@ module _ (l : Layout) (owner : Owner) (is_member : IsMember owner) (limit : Opti
           stands = still_stands;
           owned = becomes_owned;
           version = λ it. record { row = it.row; one = version_stays ∙ it.one; number = it.number };
+          starts = same_starts now.trees after.trees change.starts change.marks change.notes;
         },
       )
 

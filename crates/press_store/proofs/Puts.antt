@@ -26,8 +26,10 @@ use Rattle.press_store.specs.Shown.{most_rounds, ballot_in, vote_as, promise_in,
 use Rattle.press_store.specs.Stands.{store_in}
 use Rattle.press_store.specs.Attempt.{AreTables}
 use Rattle.press_store.proofs.Maps.{IsReplaced, promise_saved, vote_saved}
+use Rattle.press_store.proofs.Put.{same_pos}
 use Rattle.press_store.proofs.Replaced.{block_row, vote_row, block_replaced, vote_replaced}
-use Rattle.press_store.proofs.Standing.{stand, blocks_change, votes_change, still_listed, kept_still, tables_still}
+use Rattle.press_store.specs.Starts.{starts_in}
+use Rattle.press_store.proofs.Standing.{same_starts, stand, blocks_change, votes_change, still_listed, kept_still, tables_still}
 use Rattle.press_store.proofs.Versions.{as_newer, newer_in, turned}
 use Rattle.press_store.proofs.Texts.{promise_insert, vote_insert, save_promise_means, save_vote_means}
 
@@ -48,13 +50,20 @@ module _ (first : ℕ) (ballot : Ballot) (i : IsSlot first) (e : is_first first 
       let is = stand l after.trees (still_listed l now.trees after.trees change.listed has.listed) in
       let replaced : IsReplaced first row (block_rows now.trees) (block_rows after.trees) = record {
         here = ap (filter (has_rowid (pos first))) is.blocks ∙ put.here;
-        there = λ s other some. ap (filter (has_rowid (pos s))) is.blocks ∙ put.there s other some ∙ ap (filter (has_rowid (pos s))) (sym was.blocks);
+        there = λ s other some. ap (filter (has_rowid (pos s))) is.blocks ∙ put.there (pos s) (λ e. other (same_pos s first e)) (λ e. some (same_pos s 0 e)) ∙ ap (filter (has_rowid (pos s))) (sym was.blocks);
       } in
       let shows : promise_in (row ∷ []) ≡ Some ballot = ap (λ o. Some (unwrap_or o damaged_ballot)) (ballot_back ballot h) in (
         tables_still l now after schema change.listed change.old_stay (kept_still now.trees after.trees change.meta has.kept) has,
         turned (λ store. with_promise store first ballot) now.trees after.trees has.emptied (change.old_stay ∙ has.emptied)
             (ap₂ (store_of (block_rows after.trees)) change.votes change.meta ∙ promise_saved (block_rows now.trees) (block_rows after.trees) (vote_rows now.trees) (meta_rows now.trees) first row ballot i e shows replaced),
       )
+
+  pub promise_spared : (l : Layout) (limit : Option ℕ) (mode : Mode) (now after : Database) (tally : Tally) (text : List ℕ) → AreTables l now → Does limit mode promise_params now text None (promise_insert l) (Ok (tally, after))
+      → starts_in after.trees ≡ starts_in now.trees
+  promise_spared l limit mode now after tally text has does =
+      let put = (block_replaced l first ballot.round ballot.node limit mode now after tally text has.schema does).1 in
+      let change = blocks_change now.trees after.trees l has.listed put.others in
+      same_starts now.trees after.trees change.starts change.marks change.notes
 
 module _ (slot : ℕ) (vote : Vote) (bytes : List ℕ) (i : IsSlot slot) (h : IsBallot vote.ballot) (reads : read_command bytes ≡ Ok vote.value) where
   abbrev pub vote_params : Row
@@ -70,13 +79,20 @@ module _ (slot : ℕ) (vote : Vote) (bytes : List ℕ) (i : IsSlot slot) (h : Is
       let is = stand l after.trees (still_listed l now.trees after.trees change.listed has.listed) in
       let replaced : IsReplaced slot row (vote_rows now.trees) (vote_rows after.trees) = record {
         here = ap (filter (has_rowid (pos slot))) is.votes ∙ put.here;
-        there = λ s other some. ap (filter (has_rowid (pos s))) is.votes ∙ put.there s other some ∙ ap (filter (has_rowid (pos s))) (sym was.votes);
+        there = λ s other some. ap (filter (has_rowid (pos s))) is.votes ∙ put.there (pos s) (λ e. other (same_pos s slot e)) (λ e. some (same_pos s 0 e)) ∙ ap (filter (has_rowid (pos s))) (sym was.votes);
       } in
       let shows : vote_in_rows (row ∷ []) ≡ Some vote = rw (ballot_back vote.ballot h) (ap (λ v. Some (unwrap_or (vote_as vote.ballot v) damaged_vote)) reads) in (
         tables_still l now after schema change.listed change.old_stay (kept_still now.trees after.trees change.meta has.kept) has,
         subst (AddsVote slot vote (store_in now.trees)) (as_newer after.trees (change.old_stay ∙ has.emptied)) (subst (λ store. AddsVote slot vote store (newer_in after.trees)) (as_newer now.trees has.emptied)
             (λ promised. ap₂ (λ b m. store_of b (vote_rows after.trees) m) change.blocks change.meta ∙ vote_saved (block_rows now.trees) (vote_rows now.trees) (vote_rows after.trees) (meta_rows now.trees) slot row vote i shows replaced promised)),
       )
+
+  pub vote_spared : (l : Layout) (limit : Option ℕ) (mode : Mode) (now after : Database) (tally : Tally) (text : List ℕ) → AreTables l now → Does limit mode vote_params now text None (vote_insert l) (Ok (tally, after))
+      → starts_in after.trees ≡ starts_in now.trees
+  vote_spared l limit mode now after tally text has does =
+      let put = (vote_replaced l slot vote.ballot.round vote.ballot.node bytes limit mode now after tally text has.schema does).1 in
+      let change = votes_change now.trees after.trees l has.listed put.others in
+      same_starts now.trees after.trees change.starts change.marks change.notes
 
 -- ---- the same within a transaction
 
@@ -95,6 +111,22 @@ vote_done old new slot vote bytes (Ok count) i h reads l has ran =
     let text = statement_of save_vote_text (understood (schema_of l) save_vote_text) in
     let w = runs_as save_vote_text (vote_params slot vote bytes i h reads) old new (schema_of l) has.schema (vote_insert l) (save_vote_means l).0 (save_vote_means l).1 count ran.0 in
     vote_put slot vote bytes i h reads l old.step_limit (mode_of old) old.now new.now w.tally text has w.changed
+
+pub promise_spares : (old new : State) (first : ℕ) (ballot : Ballot) (result : Result ℕ Error) → IsSlot first → is_first first ≡ true → IsBallot ballot → (l : Layout) → AreTables l old.now
+    → ExecutesInside 0 save_promise_text (Int (pos first) ∷ Int (pos ballot.round) ∷ Int (pos ballot.node) ∷ []) old new result → OnOk result (starts_in new.now.trees ≡ starts_in old.now.trees)
+promise_spares old new first ballot (Err e) i f h l has ran = tt
+promise_spares old new first ballot (Ok count) i f h l has ran =
+    let text = statement_of save_promise_text (understood (schema_of l) save_promise_text) in
+    let w = runs_as save_promise_text (promise_params first ballot i f h) old new (schema_of l) has.schema (promise_insert l) (save_promise_means l).0 (save_promise_means l).1 count ran.0 in
+    promise_spared first ballot i f h l old.step_limit (mode_of old) old.now new.now w.tally text has w.changed
+
+pub vote_spares : (old new : State) (slot : ℕ) (vote : Vote) (bytes : List ℕ) (result : Result ℕ Error) → IsSlot slot → IsBallot vote.ballot → read_command bytes ≡ Ok vote.value → (l : Layout) → AreTables l old.now
+    → ExecutesInside 0 save_vote_text (Int (pos slot) ∷ Int (pos vote.ballot.round) ∷ Int (pos vote.ballot.node) ∷ Blob bytes ∷ []) old new result → OnOk result (starts_in new.now.trees ≡ starts_in old.now.trees)
+vote_spares old new slot vote bytes (Err e) i h reads l has ran = tt
+vote_spares old new slot vote bytes (Ok count) i h reads l has ran =
+    let text = statement_of save_vote_text (understood (schema_of l) save_vote_text) in
+    let w = runs_as save_vote_text (vote_params slot vote bytes i h reads) old new (schema_of l) has.schema (vote_insert l) (save_vote_means l).0 (save_vote_means l).1 count ran.0 in
+    vote_spared slot vote bytes i h reads l old.step_limit (mode_of old) old.now new.now w.tally text has w.changed
 
 -- the two after one another save the vote
 pub both_done : (slot : ℕ) (vote : Vote) (a b c : StoreMap) → PutsPromise (block_of slot) vote.ballot a b → AddsVote slot vote b c → c ≡ with_vote a slot vote

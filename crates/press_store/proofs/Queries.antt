@@ -22,7 +22,7 @@ use Rattle.sqlite_sql.specs.declared.ops.CompareOp.TheVariants.{Eq}
 use Rattle.sqlite.specs.Collation.TheVariants.{Binary}
 use Rattle.sqlite_value.proofs.OrderLemmas.{value_cmp-Null}
 use Rattle.sqlite_trees.proofs.ListLemmas.{map-map}
-use Rattle.press_store.specs.Tables.{Layout, Fresh, Moved, block_tree, vote_tree, meta_tree}
+use Rattle.press_store.specs.Tables.{Layout, Fresh, Moved, FreshStarts, MovedStarts, block_tree, vote_tree, meta_tree, start_tree, mark_tree, note_tree}
 use Rattle.press_store.proofs.Texts.{picks}
 
 pub back : (b : Bool) → is_true (from_truth (Some b)) ≡ b
@@ -49,14 +49,38 @@ equals_int (Blob b) t = back _
 pub plain_block : (l : Layout) (db : Trees) → overlay db [] (block_tree l) ≡ db (block_tree l)
 plain_block Fresh db = refl
 plain_block Moved db = refl
+plain_block FreshStarts db = refl
+plain_block MovedStarts db = refl
 
 pub plain_vote : (l : Layout) (db : Trees) → overlay db [] (vote_tree l) ≡ db (vote_tree l)
 plain_vote Fresh db = refl
 plain_vote Moved db = refl
+plain_vote FreshStarts db = refl
+plain_vote MovedStarts db = refl
 
 pub plain_meta : (l : Layout) (db : Trees) → overlay db [] (meta_tree l) ≡ db (meta_tree l)
 plain_meta Fresh db = refl
 plain_meta Moved db = refl
+plain_meta FreshStarts db = refl
+plain_meta MovedStarts db = refl
+
+pub plain_start : (l : Layout) (db : Trees) → overlay db [] (start_tree l) ≡ db (start_tree l)
+plain_start Fresh db = refl
+plain_start Moved db = refl
+plain_start FreshStarts db = refl
+plain_start MovedStarts db = refl
+
+pub plain_mark : (l : Layout) (db : Trees) → overlay db [] (mark_tree l) ≡ db (mark_tree l)
+plain_mark Fresh db = refl
+plain_mark Moved db = refl
+plain_mark FreshStarts db = refl
+plain_mark MovedStarts db = refl
+
+pub plain_note : (l : Layout) (db : Trees) → overlay db [] (note_tree l) ≡ db (note_tree l)
+plain_note Fresh db = refl
+plain_note Moved db = refl
+plain_note FreshStarts db = refl
+plain_note MovedStarts db = refl
 
 -- ---- the rows that pass
 

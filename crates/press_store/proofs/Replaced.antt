@@ -35,9 +35,10 @@ use Rattle.sqlite_schema.specs.declared.command.Conflict.TheVariants.{Replace}
 use Rattle.sqlite_schema.specs.declared.schema.Keys.{Keys}
 use Rattle.sqlite_schema.specs.declared.schema.Column.{Column}
 use Rattle.sqlite.proofs.Callers.{one_step}
-use Rattle.press_store.specs.Tables.{keyed_table, Layout, Fresh, Moved, schema_of, block_columns, block_tree, block_place, block_on, vote_columns, vote_tree, vote_place, vote_on}
+use Rattle.press_store.specs.Tables.{keyed_table, Layout, Fresh, Moved, FreshStarts, MovedStarts, HasStarts, schema_of, block_columns, block_tree, block_place, block_on, vote_columns, vote_tree, vote_place, vote_on}
+use Rattle.press_store.specs.Tables.{start_columns, start_tree, start_place, start_on, mark_columns, mark_tree, mark_place, mark_on, note_columns, note_tree, note_place, note_on}
 use Rattle.std.proofs.Common.{codes}
-use Rattle.press_store.proofs.Texts.{promise_terms, vote_terms, promise_insert, vote_insert}
+use Rattle.press_store.proofs.Texts.{promise_terms, vote_terms, start_terms, promise_insert, vote_insert, start_insert, mark_insert, note_insert}
 use Rattle.press_store.proofs.Queries.{equals_int}
 use Rattle.press_store.proofs.Put.{went, same_value, cast_int, cast_null, and_true, not_true, put_among, put_other, none_taken, same_int, same_pos, not_same, is_equal, int_tied}
 
@@ -46,28 +47,28 @@ or_false true h = refl
 or_false false h = h
 
 -- a row that equals a number has it as its rowid, or no rowid
-id_of : (v : Value) (n : ℕ) → is_eq (value_cmp v (Int (pos n))) ≡ true → (id_in v ≡ pos n) ⊎ (id_in v ≡ pos 0)
+id_of : (v : Value) (n : ℤ) → is_eq (value_cmp v (Int n)) ≡ true → (id_in v ≡ n) ⊎ (id_in v ≡ pos 0)
 id_of Null n h = inr refl
-id_of (Int m) n h = inl (int_tied m (pos n) h)
+id_of (Int m) n h = inl (int_tied m n h)
 id_of (Real x) n h = inr refl
 id_of (Text t) n h = inr refl
 id_of (Blob b) n h = inr refl
 
-both_rowids : (s : ℕ) (id : ℤ) (x : Row) → (id ≡ pos s → ⊥) → has_rowid (pos s) x ≡ true → not (has_rowid id x) ≡ true
+both_rowids : (s id : ℤ) (x : Row) → (id ≡ s → ⊥) → has_rowid s x ≡ true → not (has_rowid id x) ≡ true
 both_rowids s id x apart one = elim (cases_Bool (has_rowid id x)) [
   | inl two ↦
       let first = is_equal _ one in
       let second = is_equal _ two in
-      let tied : value_cmp (Int (pos s)) (Int id) ≡ Equal = sym (value_cmp_total.congr (rowid x) (Int (pos s)) (Int id) first) ∙ second in
-      absurd (apart (sym (int_tied (pos s) id (rw tied))))
+      let tied : value_cmp (Int s) (Int id) ≡ Equal = sym (value_cmp_total.congr (rowid x) (Int s) (Int id) first) ∙ second in
+      absurd (apart (sym (int_tied s id (rw tied))))
   | inr off ↦ rw off
 ]
 
-others_kept : (s : ℕ) (found rows : List Row) → ((x : Row) → Has found x → id_in (rowid x) ≡ pos s → ⊥) → filter (has_rowid (pos s)) (without_all rows (ids_of found)) ≡ filter (has_rowid (pos s)) rows
+others_kept : (s : ℤ) (found rows : List Row) → ((x : Row) → Has found x → id_in (rowid x) ≡ s → ⊥) → filter (has_rowid s) (without_all rows (ids_of found)) ≡ filter (has_rowid s) rows
 others_kept s [] rows apart = refl
 others_kept s (x ∷ found) rows apart =
     others_kept s found (without_rowid (id_in (rowid x)) rows) (λ y h. apart y (inr h))
-    ∙ filter-filter (has_rowid (pos s)) (λ r. not (has_rowid (id_in (rowid x)) r)) (λ y. both_rowids s (id_in (rowid x)) y (apart x (inl refl))) rows
+    ∙ filter-filter (has_rowid s) (λ r. not (has_rowid (id_in (rowid x)) r)) (λ y. both_rowids s (id_in (rowid x)) y (apart x (inl refl))) rows
 
 accepted : (task : Task) (new : Row) (db : Trees) (w : Written) → Tries task Replace [] new db (Ok w)
     → (found : List Row) × AreConflicts None task.schema.indexes task.table (db task.table.tree) new found × Clears task Replace new db found (Ok w)
@@ -76,16 +77,16 @@ accepted task new db w (inr (None, judged, h)) = h
 accepted task new db w (inr (Some why, judged, h)) = absurd (let e = h in cc)
 
 -- the row is the one with its number, the rows of other numbers are as they were, and so is each other tree but an index
-pub record Replaces (schema : Schema) (tree n : ℕ) (new : Row) (old next : Trees) : Type 0 where
-  pub here : filter (has_rowid (pos n)) (next tree) ≡ new ∷ []
-  pub there : (s : ℕ) → (s ≡ n → ⊥) → (s ≡ 0 → ⊥) → filter (has_rowid (pos s)) (next tree) ≡ filter (has_rowid (pos s)) (old tree)
+pub record Replaces (schema : Schema) (tree : ℕ) (n : ℤ) (new : Row) (old next : Trees) : Type 0 where
+  pub here : filter (has_rowid n) (next tree) ≡ new ∷ []
+  pub there : (s : ℤ) → (s ≡ n → ⊥) → (s ≡ pos 0 → ⊥) → filter (has_rowid s) (next tree) ≡ filter (has_rowid s) (old tree)
   pub others : (t : ℕ) → (t ≡ tree → ⊥) → IsNoIndex schema t → next t ≡ old t
 
 module _ (schema : Schema) (at : ℕ) (name : List ℕ) (tree : ℕ) (columns : List Column) (found : slice_get schema.tables at ≡ Some (keyed_table name tree columns))
     (quiet : (keys : Keys) (olds news : List Row) → works schema keys 0 tree olds news ≡ [])
     (alike : (new r : Row) → conflicts None schema.indexes (keyed_table name tree columns) new r ≡ true → is_true (binary (by.Compare Eq Binary) (rowid r) (rowid new)) ≡ true)
-    (terms : List Term) (width n : ℕ) (params src new : Row) (given : value_rows (stamped (keyed_table name tree columns) params) width (length terms / width) terms ≡ src ∷ [])
-    (mends : mended Replace (keyed_table name tree columns) src ≡ src) (casts : cast_row (keyed_table name tree columns) src ≡ new) (again : cast_row (keyed_table name tree columns) new ≡ new) (numbered : rowid new ≡ Int (pos n))
+    (terms : List Term) (width : ℕ) (n : ℤ) (params src new : Row) (given : value_rows (stamped (keyed_table name tree columns) params) width (length terms / width) terms ≡ src ∷ [])
+    (mends : mended Replace (keyed_table name tree columns) src ≡ src) (casts : cast_row (keyed_table name tree columns) src ≡ new) (again : cast_row (keyed_table name tree columns) new ≡ new) (numbered : rowid new ≡ Int n)
     (limit : Option ℕ) (mode : Mode) (now after : Database) (tally : Tally) (has : now.schema ≡ schema) (text : List ℕ)
     (does : Does limit mode params now text None (InsertOr at Replace (Values terms width) []) (Ok (tally, after))) where
   abbrev table : Table
@@ -153,52 +154,98 @@ module _ (schema : Schema) (at : ℕ) (name : List ℕ) (tree : ℕ) (columns : 
   fresh : is_taken (left.0 tree) new ≡ false
   fresh = not_true _ (and_true _ (subst (λ r. (not (is_taken (left.0 tree) r) && true) ≡ true) again left.3.fresh))
 
-  own : has_rowid (pos n) new ≡ true
-  own = ap (λ v. is_eq (value_cmp v (Int (pos n)))) numbered ∙ same_int (pos n)
+  own : has_rowid n new ≡ true
+  own = ap (λ v. is_eq (value_cmp v (Int n))) numbered ∙ same_int n
 
-  other_rows : (s : ℕ) → (s ≡ n → ⊥) → (s ≡ 0 → ⊥) → filter (has_rowid (pos s)) (done.0.trees tree) ≡ filter (has_rowid (pos s)) (now.trees tree)
+  other_rows : (s : ℤ) → (s ≡ n → ⊥) → (s ≡ pos 0 → ⊥) → filter (has_rowid s) (done.0.trees tree) ≡ filter (has_rowid s) (now.trees tree)
   other_rows s other some =
-      let off : has_rowid (pos s) new ≡ false = ap (λ v. is_eq (value_cmp v (Int (pos s)))) numbered ∙ not_same (pos n) (pos s) (λ e. other (sym (same_pos n s e))) in
-      let gone : (x : Row) → Has put.0 x → id_in (rowid x) ≡ pos s → ⊥ = λ x has e.
+      let off : has_rowid s new ≡ false = ap (λ v. is_eq (value_cmp v (Int s))) numbered ∙ not_same n s (λ e. other (sym e)) in
+      let gone : (x : Row) → Has put.0 x → id_in (rowid x) ≡ s → ⊥ = λ x has e.
       let was = put.1.sound x has in
       let id : id_in (rowid x) ≡ id_in (rowid was.0) = ap (λ r. id_in (rowid r)) was.3 in
-      let equal : is_eq (value_cmp (rowid was.0) (Int (pos n))) ≡ true = sym (equals_int (rowid was.0) (pos n)) ∙ ap (λ v. is_true (binary (by.Compare Eq Binary) (rowid was.0) v)) (sym numbered) ∙ alike new was.0 was.2 in
+      let equal : is_eq (value_cmp (rowid was.0) (Int n)) ≡ true = sym (equals_int (rowid was.0) n) ∙ ap (λ v. is_true (binary (by.Compare Eq Binary) (rowid was.0) v)) (sym numbered) ∙ alike new was.0 was.2 in
       (elim (id_of (rowid was.0) n equal) as (λ _. ⊥) [
-        | inl same ↦ other (sym (same_pos n s (sym same ∙ sym id ∙ e)))
-        | inr none ↦ some (sym (same_pos 0 s (sym none ∙ sym id ∙ e)))
+        | inl same ↦ other (sym (sym same ∙ sym id ∙ e))
+        | inr none ↦ some (sym (sym none ∙ sym id ∙ e))
       ]) in
-      rw next_is (put_other (has_rowid (pos s)) new (left.0 tree) off fresh ∙ ap (filter (has_rowid (pos s))) left.1 ∙ others_kept s put.0 (now.trees tree) gone)
+      rw next_is (put_other (has_rowid s) new (left.0 tree) off fresh ∙ ap (filter (has_rowid s)) left.1 ∙ others_kept s put.0 (now.trees tree) gone)
 
   pub replaced : (after.schema ≡ schema) × Replaces schema tree n new now.trees after.trees
   replaced =
       let whole : Replaces schema tree n new now.trees done.0.trees = record {
-        here = rw next_is (put_among (has_rowid (pos n)) new (left.0 tree) own (none_taken (pos n) new (left.0 tree) numbered fresh));
+        here = rw next_is (put_among (has_rowid n) new (left.0 tree) own (none_taken n new (left.0 tree) numbered fresh));
         there = other_rows;
         others = λ t other index. ap (λ (d : Trees). d t) tried.2 ∙ left.3.others t other index ∙ left.2 t other index;
       } in
       (ap (λ (d : Database). d.schema) done.2, subst (Replaces schema tree n new now.trees) (sym (ap (λ (d : Database). d.trees) done.2)) whole)
 
--- ---- the tables of blocks and votes, in both layouts
+-- ---- the tables, in each layout
 
 no_work : (l : Layout) (tree : ℕ) (keys : Keys) (olds news : List Row) → works (schema_of l) keys 0 tree olds news ≡ []
 no_work Fresh tree keys olds news = refl
 no_work Moved tree keys olds news = refl
+no_work FreshStarts tree keys olds news = refl
+no_work MovedStarts tree keys olds news = refl
 
 block_found : (l : Layout) → slice_get (schema_of l).tables (block_place l) ≡ Some (block_on (block_tree l))
 block_found Fresh = refl
 block_found Moved = refl
+block_found FreshStarts = refl
+block_found MovedStarts = refl
 
 vote_found : (l : Layout) → slice_get (schema_of l).tables (vote_place l) ≡ Some (vote_on (vote_tree l))
 vote_found Fresh = refl
 vote_found Moved = refl
+vote_found FreshStarts = refl
+vote_found MovedStarts = refl
+
+start_found : (l : Layout) → HasStarts l → slice_get (schema_of l).tables (start_place l) ≡ Some (start_on (start_tree l))
+start_found Fresh none = absurd none
+start_found Moved none = absurd none
+start_found FreshStarts has = refl
+start_found MovedStarts has = refl
+
+mark_found : (l : Layout) → HasStarts l → slice_get (schema_of l).tables (mark_place l) ≡ Some (mark_on (mark_tree l))
+mark_found Fresh none = absurd none
+mark_found Moved none = absurd none
+mark_found FreshStarts has = refl
+mark_found MovedStarts has = refl
+
+note_found : (l : Layout) → HasStarts l → slice_get (schema_of l).tables (note_place l) ≡ Some (note_on (note_tree l))
+note_found Fresh none = absurd none
+note_found Moved none = absurd none
+note_found FreshStarts has = refl
+note_found MovedStarts has = refl
 
 block_alike : (l : Layout) (new r : Row) → conflicts None (schema_of l).indexes (block_on (block_tree l)) new r ≡ true → is_true (binary (by.Compare Eq Binary) (rowid r) (rowid new)) ≡ true
 block_alike Fresh new r h = and_true _ (or_false _ (rw first_key-plain at h))
 block_alike Moved new r h = and_true _ (or_false _ (rw first_key-plain at h))
+block_alike FreshStarts new r h = and_true _ (or_false _ (rw first_key-plain at h))
+block_alike MovedStarts new r h = and_true _ (or_false _ (rw first_key-plain at h))
 
 vote_alike : (l : Layout) (new r : Row) → conflicts None (schema_of l).indexes (vote_on (vote_tree l)) new r ≡ true → is_true (binary (by.Compare Eq Binary) (rowid r) (rowid new)) ≡ true
 vote_alike Fresh new r h = and_true _ (or_false _ (rw first_key-plain at h))
 vote_alike Moved new r h = and_true _ (or_false _ (rw first_key-plain at h))
+vote_alike FreshStarts new r h = and_true _ (or_false _ (rw first_key-plain at h))
+vote_alike MovedStarts new r h = and_true _ (or_false _ (rw first_key-plain at h))
+
+start_alike : (l : Layout) → HasStarts l → (new r : Row) → conflicts None (schema_of l).indexes (start_on (start_tree l)) new r ≡ true → is_true (binary (by.Compare Eq Binary) (rowid r) (rowid new)) ≡ true
+start_alike Fresh none new r h = absurd none
+start_alike Moved none new r h = absurd none
+start_alike FreshStarts has new r h = and_true _ (or_false _ (rw first_key-plain at h))
+start_alike MovedStarts has new r h = and_true _ (or_false _ (rw first_key-plain at h))
+
+mark_alike : (l : Layout) → HasStarts l → (new r : Row) → conflicts None (schema_of l).indexes (mark_on (mark_tree l)) new r ≡ true → is_true (binary (by.Compare Eq Binary) (rowid r) (rowid new)) ≡ true
+mark_alike Fresh none new r h = absurd none
+mark_alike Moved none new r h = absurd none
+mark_alike FreshStarts has new r h = and_true _ (or_false _ (rw first_key-plain at h))
+mark_alike MovedStarts has new r h = and_true _ (or_false _ (rw first_key-plain at h))
+
+note_alike : (l : Layout) → HasStarts l → (new r : Row) → conflicts None (schema_of l).indexes (note_on (note_tree l)) new r ≡ true → is_true (binary (by.Compare Eq Binary) (rowid r) (rowid new)) ≡ true
+note_alike Fresh none new r h = absurd none
+note_alike Moved none new r h = absurd none
+note_alike FreshStarts has new r h = and_true _ (or_false _ (rw first_key-plain at h))
+note_alike MovedStarts has new r h = and_true _ (or_false _ (rw first_key-plain at h))
 
 abbrev pub block_row : (first round node : ℕ) → Row
 block_row first round node = Int (pos first) ∷ Null ∷ Int (pos round) ∷ Int (pos node) ∷ []
@@ -208,18 +255,54 @@ vote_row slot round node bytes = Int (pos slot) ∷ Null ∷ Int (pos round) ∷
 
 pub block_replaced : (l : Layout) (first round node : ℕ) (limit : Option ℕ) (mode : Mode) (now after : Database) (tally : Tally) (text : List ℕ) → now.schema ≡ schema_of l
     → Does limit mode (Int (pos first) ∷ Int (pos round) ∷ Int (pos node) ∷ []) now text None (promise_insert l) (Ok (tally, after))
-    → (after.schema ≡ schema_of l) × Replaces (schema_of l) (block_tree l) first (block_row first round node) now.trees after.trees
+    → (after.schema ≡ schema_of l) × Replaces (schema_of l) (block_tree l) (pos first) (block_row first round node) now.trees after.trees
 block_replaced l first round node limit mode now after tally text has does =
     let row = block_row first round node in
     let casts : cast_row (block_on (block_tree l)) row ≡ row = rw (cast_int (pos first), cast_null, cast_int (pos round), cast_int (pos node)) refl in
-    replaced (schema_of l) (block_place l) (codes "block") (block_tree l) block_columns (block_found l) (no_work l (block_tree l)) (block_alike l) promise_terms 4 first (Int (pos first) ∷ Int (pos round) ∷ Int (pos node) ∷ []) row row
+    replaced (schema_of l) (block_place l) (codes "block") (block_tree l) block_columns (block_found l) (no_work l (block_tree l)) (block_alike l) promise_terms 4 (pos first) (Int (pos first) ∷ Int (pos round) ∷ Int (pos node) ∷ []) row row
     refl refl casts casts refl limit mode now after tally has text does
 
 pub vote_replaced : (l : Layout) (slot round node : ℕ) (bytes : List ℕ) (limit : Option ℕ) (mode : Mode) (now after : Database) (tally : Tally) (text : List ℕ) → now.schema ≡ schema_of l
     → Does limit mode (Int (pos slot) ∷ Int (pos round) ∷ Int (pos node) ∷ Blob bytes ∷ []) now text None (vote_insert l) (Ok (tally, after))
-    → (after.schema ≡ schema_of l) × Replaces (schema_of l) (vote_tree l) slot (vote_row slot round node bytes) now.trees after.trees
+    → (after.schema ≡ schema_of l) × Replaces (schema_of l) (vote_tree l) (pos slot) (vote_row slot round node bytes) now.trees after.trees
 vote_replaced l slot round node bytes limit mode now after tally text has does =
     let row = vote_row slot round node bytes in
     let casts : cast_row (vote_on (vote_tree l)) row ≡ row = rw (cast_int (pos slot), cast_null, cast_int (pos round), cast_int (pos node)) refl in
-    replaced (schema_of l) (vote_place l) (codes "vote") (vote_tree l) vote_columns (vote_found l) (no_work l (vote_tree l)) (vote_alike l) vote_terms 5 slot (Int (pos slot) ∷ Int (pos round) ∷ Int (pos node) ∷ Blob bytes ∷ []) row row
+    replaced (schema_of l) (vote_place l) (codes "vote") (vote_tree l) vote_columns (vote_found l) (no_work l (vote_tree l)) (vote_alike l) vote_terms 5 (pos slot) (Int (pos slot) ∷ Int (pos round) ∷ Int (pos node) ∷ Blob bytes ∷ []) row row
+    refl refl casts casts refl limit mode now after tally has text does
+
+abbrev pub start_row : (start saves : ℤ) → Row
+start_row start saves = Int start ∷ Null ∷ Int saves ∷ []
+
+abbrev pub mark_row : (member start saves : ℤ) → Row
+mark_row member start saves = Int member ∷ Null ∷ Int start ∷ Int saves ∷ []
+
+pub start_replaced : (l : Layout) → HasStarts l → (start saves : ℤ) (limit : Option ℕ) (mode : Mode) (now after : Database) (tally : Tally) (text : List ℕ) → now.schema ≡ schema_of l
+    → Does limit mode (Int start ∷ Int saves ∷ []) now text None (start_insert l) (Ok (tally, after))
+    → (after.schema ≡ schema_of l) × Replaces (schema_of l) (start_tree l) start (start_row start saves) now.trees after.trees
+start_replaced l there start saves limit mode now after tally text has does =
+    let row = start_row start saves in
+    let casts : cast_row (start_on (start_tree l)) row ≡ row = rw (cast_int start, cast_null, cast_int saves) refl in
+    replaced (schema_of l) (start_place l) (codes "start") (start_tree l) start_columns (start_found l there) (no_work l (start_tree l)) (start_alike l there) start_terms 3 start (Int start ∷ Int saves ∷ []) row row
+    refl refl casts casts refl limit mode now after tally has text does
+
+pub mark_replaced : (l : Layout) → HasStarts l → (member start saves : ℤ) (limit : Option ℕ) (mode : Mode) (now after : Database) (tally : Tally) (text : List ℕ) → now.schema ≡ schema_of l
+    → Does limit mode (Int member ∷ Int start ∷ Int saves ∷ []) now text None (mark_insert l) (Ok (tally, after))
+    → (after.schema ≡ schema_of l) × Replaces (schema_of l) (mark_tree l) member (mark_row member start saves) now.trees after.trees
+mark_replaced l there member start saves limit mode now after tally text has does =
+    let row = mark_row member start saves in
+    let casts : cast_row (mark_on (mark_tree l)) row ≡ row = rw (cast_int member, cast_null, cast_int start, cast_int saves) refl in
+    replaced (schema_of l) (mark_place l) (codes "mark") (mark_tree l) mark_columns (mark_found l there) (no_work l (mark_tree l)) (mark_alike l there) promise_terms 4 member (Int member ∷ Int start ∷ Int saves ∷ []) row row
+    refl refl casts casts refl limit mode now after tally has text does
+
+abbrev pub note_row : (id : ℤ) → (name bytes : List ℕ) → Row
+note_row id name bytes = Int id ∷ Null ∷ Text name ∷ Blob bytes ∷ []
+
+pub note_replaced : (l : Layout) → HasStarts l → (id : ℤ) (name bytes : List ℕ) (limit : Option ℕ) (mode : Mode) (now after : Database) (tally : Tally) (text : List ℕ) → now.schema ≡ schema_of l
+    → Does limit mode (Int id ∷ Text name ∷ Blob bytes ∷ []) now text None (note_insert l) (Ok (tally, after))
+    → (after.schema ≡ schema_of l) × Replaces (schema_of l) (note_tree l) id (note_row id name bytes) now.trees after.trees
+note_replaced l there id name bytes limit mode now after tally text has does =
+    let row = note_row id name bytes in
+    let casts : cast_row (note_on (note_tree l)) row ≡ row = rw (cast_int id, cast_null) refl in
+    replaced (schema_of l) (note_place l) (codes "note") (note_tree l) note_columns (note_found l there) (no_work l (note_tree l)) (note_alike l there) promise_terms 4 id (Int id ∷ Text name ∷ Blob bytes ∷ []) row row
     refl refl casts casts refl limit mode now after tally has text does

@@ -1,6 +1,6 @@
 -- What the statement on the last round makes of the tables, and what the query on it shows.
-use Rattle.std.proofs.Common.{◌≤◌, Option, ◌≡◌, ℕ, ℤ, pos, List, [], ◌∷◌, map, codes, filter, true, Bool, not, Some, None, Ok, refl, sym, ap, ap₂, subst, ◌∙◌, inl, inr, arith}
-use Rattle.std.specs.Prelude.{slice_get, unwrap_or}
+use Rattle.std.proofs.Common.{◌≤◌, Option, ◌≡◌, ℕ, ℤ, pos, List, [], ◌∷◌, map, codes, filter, true, Bool, not, Some, None, Ok, Err, Result, refl, sym, ap, ap₂, subst, ◌∙◌, inl, inr, arith}
+use Rattle.std.specs.Prelude.{OnOk, slice_get, unwrap_or}
 use Rattle.std.proofs.lemmas.Bool.{cases_Bool, le-leb}
 use Rattle.std.proofs.Math.Dec.{leb-zero}
 use Rattle.std.specs.List.Sorted.{IsPermutation}
@@ -25,18 +25,23 @@ use Rattle.sqlite_rules.specs.Action.{works}
 use Rattle.sqlite_rules.specs.Calls.{ids_of}
 use Rattle.sqlite_rules.specs.Lists.{Has}
 use Rattle.sqlite_rules.proofs.ListLemmas.{has_filtered}
-use Rattle.sqlite.proofs.Callers.{one_permutation, one_step}
+use Rattle.sqlite.specs.declared.error.Error.{Error}
+use Rattle.sqlite.specs.Listing.{understood}
+use Rattle.sqlite.specs.State.{State, ExecutesInside, mode_of}
+use Rattle.sqlite.proofs.Callers.{one_permutation, one_step, runs_as, statement_of}
 use Rattle.press_acceptor.specs.StoreMap.{with_round}
-use Rattle.press_store.specs.Tables.{Layout, Fresh, Moved, schema_of, meta_on, meta_place, meta_tree}
+use Rattle.press_store.specs.Tables.{save_round_text}
+use Rattle.press_store.specs.Tables.{Layout, Fresh, Moved, FreshStarts, MovedStarts, schema_of, meta_on, meta_place, meta_tree}
 use Rattle.press_store.specs.Shown.{is_last_round, most_rounds, damaged_round, IsKept, block_rows, vote_rows, meta_rows, round_at, store_of, number_in}
 use Rattle.press_store.specs.Stands.{store_in, store_with}
 use Rattle.press_store.specs.Attempt.{AreTables}
 use Rattle.press_store.proofs.Maps.{round_saved}
 use Rattle.press_store.proofs.Put.{went, same_value, cast_int, put_among, same_int}
 use Rattle.press_store.proofs.Queries.{picked, equals_text, plain_meta}
-use Rattle.press_store.proofs.Standing.{stand, meta_change, still_listed, tables_still}
+use Rattle.press_store.specs.Starts.{starts_in}
+use Rattle.press_store.proofs.Standing.{same_starts, stand, meta_change, still_listed, tables_still}
 use Rattle.press_store.proofs.Versions.{turned}
-use Rattle.press_store.proofs.Texts.{is_equal_to, update_query, round_query, round_update}
+use Rattle.press_store.proofs.Texts.{is_equal_to, update_query, round_query, round_update, save_round_means}
 
 pub filter_turned : {X : Type 0} (p q : X → Bool) (xs : List X) → filter p (filter q xs) ≡ filter q (filter p xs)
 filter_turned p q [] = refl
@@ -67,10 +72,14 @@ in_range n small = rw (leb-zero n, le-leb n most_rounds small)
 pub meta_work : (l : Layout) (tree : ℕ) (keys : Keys) (olds news : List Row) → works (schema_of l) keys 0 tree olds news ≡ []
 meta_work Fresh tree keys olds news = refl
 meta_work Moved tree keys olds news = refl
+meta_work FreshStarts tree keys olds news = refl
+meta_work MovedStarts tree keys olds news = refl
 
 pub meta_found : (l : Layout) → slice_get (schema_of l).tables (meta_place l) ≡ Some (meta_on (meta_tree l))
 meta_found Fresh = refl
 meta_found Moved = refl
+meta_found FreshStarts = refl
+meta_found MovedStarts = refl
 
 module _ (l : Layout) (limit : Option ℕ) (mode : Mode) (params : Row) (n : ℕ) (now after : Database) (tally : Tally) (given : params ≡ Int (pos n) ∷ []) (small : n ≤ most_rounds) (has : AreTables l now)
     (text : List ℕ) (does : Does limit mode params now text None (round_update l) (Ok (tally, after))) where
@@ -151,6 +160,24 @@ module _ (l : Layout) (limit : Option ℕ) (mode : Mode) (params : Row) (n : ℕ
         turned (λ store. with_round store n) now.trees after.trees has.emptied (change.old_stay ∙ has.emptied)
             (ap₂ (λ b v. store_of b v (meta_rows after.trees)) change.blocks change.votes ∙ round_saved (block_rows now.trees) (vote_rows now.trees) (meta_rows now.trees) (meta_rows after.trees) n shows),
       )
+
+  pub round_spared : starts_in after.trees ≡ starts_in now.trees
+  round_spared =
+      let trees : after.trees ≡ done.0.trees = ap (λ (d : Database). d.trees) done.2 in
+      let others = subst (λ (t : Trees). (k : ℕ) → (k ≡ tree → ⊥) → IsNoIndex (schema_of l) k → t k ≡ now.trees k) (sym trees) wrote.2.others in
+      let change = meta_change now.trees after.trees l has.listed others in
+      same_starts now.trees after.trees change.starts change.marks change.notes
+
+-- ---- the same within a transaction
+
+pub round_done : (old new : State) (n : ℕ) (result : Result ℕ Error) → n ≤ most_rounds → (l : Layout) → AreTables l old.now → ExecutesInside 0 save_round_text (Int (pos n) ∷ []) old new result
+    → OnOk result (AreTables l new.now × (store_in new.now.trees ≡ with_round (store_in old.now.trees) n) × (starts_in new.now.trees ≡ starts_in old.now.trees))
+round_done old new n (Err e) small l has ran = tt
+round_done old new n (Ok count) small l has ran =
+    let text = statement_of save_round_text (understood (schema_of l) save_round_text) in
+    let w = runs_as save_round_text (Int (pos n) ∷ []) old new (schema_of l) has.schema (round_update l) (save_round_means l).0 (save_round_means l).1 count ran.0 in
+    let put = round_put l old.step_limit (mode_of old) (Int (pos n) ∷ []) n old.now new.now w.tally refl small has text w.changed in
+    (put.0, put.1, round_spared l old.step_limit (mode_of old) (Int (pos n) ∷ []) n old.now new.now w.tally refl small has text w.changed)
 
 -- ---- the query
 

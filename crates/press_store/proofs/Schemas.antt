@@ -19,7 +19,7 @@ use Rattle.std.specs.Ordering.{is_eq}
 use Rattle.std.specs.Char.{to_ascii_lowercase}
 use Rattle.std.proofs.lemmas.Cmp.{tied_itself}
 use Rattle.sqlite_value.proofs.OrderLemmas.{value_cmp-Text, value_cmp_total}
-use Rattle.press_store.specs.Tables.{Layout, Fresh, Moved, schema_of, old_schema, no_schema}
+use Rattle.press_store.specs.Tables.{Layout, Fresh, Moved, FreshStarts, MovedStarts, schema_of, old_schema, no_schema}
 
 -- ---- lists, item by item
 
@@ -128,10 +128,12 @@ only_first x (suc at) key got = absurd (let none : slice_get [] at ≡ Some key 
 never : {X : Type 0} (at : ℕ) (key : X) → slice_get [] at ≡ Some key → at ≡ 0
 never at key got = absurd (cc)
 
--- the schema of a store, in either layout
+-- the schema of a store, in each layout
 pub layout_alone : (l : Layout) (schema : Schema) (db : Trees) → IsSound schema db → IsSound (schema_of l) db → schema ≡ schema_of l
 layout_alone Fresh = one_schema (schema_of Fresh) (never, (never, (only_first (1 ∷ []), tt))) refl
 layout_alone Moved = one_schema (schema_of Moved) (never, (only_first (1 ∷ []), (never, (never, tt)))) refl
+layout_alone FreshStarts = one_schema (schema_of FreshStarts) (never, (never, (only_first (1 ∷ []), (never, (never, (never, tt)))))) refl
+layout_alone MovedStarts = one_schema (schema_of MovedStarts) (never, (only_first (1 ∷ []), (never, (never, (never, (never, (never, tt))))))) refl
 
 -- that of version 1
 pub old_alone : (schema : Schema) (db : Trees) → IsSound schema db → IsSound old_schema db → schema ≡ old_schema

@@ -1,4 +1,4 @@
--- What the texts of the store mean, in both layouts.
+-- What the texts of the store mean, in each layout.
 use Rattle.std.proofs.Common.{◌≡◌, ℕ, pos, negsuc, List, [], ◌∷◌, codes, true, false, None, Ok, refl}
 use Rattle.sqlite.specs.Compile.{table_defined_by}
 use Rattle.sqlite.specs.Command.{Command}
@@ -15,7 +15,8 @@ use Rattle.sqlite_tied.specs.Compute.{everything}
 use Rattle.sqlite.specs.Listing.{understood, reads_listing}
 use Rattle.sqlite.proofs.Callers.{IsPlain, command_of}
 use Rattle.sqlite.specs.Change.{created}
-use Rattle.press_store.specs.Tables.{Layout, Fresh, Moved, schema_of, no_schema, block_tree, vote_tree, meta_tree, block_place, vote_place, meta_place, block_on, vote_on, meta_on}
+use Rattle.press_store.specs.Tables.{Layout, Fresh, Moved, FreshStarts, MovedStarts, HasOld, HasStarts, schema_of, no_schema, block_tree, vote_tree, meta_tree, start_tree, mark_tree, note_tree, block_place, vote_place, meta_place, start_place, mark_place, note_place, block_on, vote_on, meta_on, start_on, mark_on, note_on}
+use Rattle.press_store.specs.Tables.{make_start, make_mark, make_note, save_start_text, save_mark_text, save_note_text, saves_text, mark_text, starts_text, note_text}
 use Rattle.press_store.specs.Tables.{make_block, make_vote, make_meta, promise_text, save_promise_text, votes_text, save_vote_text, last_vote_text, round_text, save_round_text, check_text, version_query_text, left_text}
 use Rattle.press_store.specs.Tables.{slot_text, last_slot_text, outside_text, clear_text, number_text, set_version_text, entry_text, owner_text}
 
@@ -146,60 +147,183 @@ pub promise_means : IsQuery promise_text promise_select
 unfolding understood everything
 promise_means Fresh = (refl, (refl, refl), refl)
 promise_means Moved = (refl, (refl, refl), refl)
+promise_means FreshStarts = (refl, (refl, refl), refl)
+promise_means MovedStarts = (refl, (refl, refl), refl)
 
 pub votes_means : IsQuery votes_text votes_select
 unfolding understood everything
 votes_means Fresh = (refl, (refl, refl), refl)
 votes_means Moved = (refl, (refl, refl), refl)
+votes_means FreshStarts = (refl, (refl, refl), refl)
+votes_means MovedStarts = (refl, (refl, refl), refl)
 
 pub last_vote_means : IsQuery last_vote_text last_vote_select
 unfolding understood everything
 last_vote_means Fresh = (refl, (refl, refl), refl)
 last_vote_means Moved = (refl, (refl, refl), refl)
+last_vote_means FreshStarts = (refl, (refl, refl), refl)
+last_vote_means MovedStarts = (refl, (refl, refl), refl)
 
 pub round_means : IsQuery round_text round_select
 unfolding understood everything
 round_means Fresh = (refl, (refl, refl), refl)
 round_means Moved = (refl, (refl, refl), refl)
+round_means FreshStarts = (refl, (refl, refl), refl)
+round_means MovedStarts = (refl, (refl, refl), refl)
 
 pub check_means : IsQuery check_text check_select
 unfolding understood everything
 check_means Fresh = (refl, (refl, refl), refl)
 check_means Moved = (refl, (refl, refl), refl)
+check_means FreshStarts = (refl, (refl, refl), refl)
+check_means MovedStarts = (refl, (refl, refl), refl)
 
 pub version_query_means : IsQuery version_query_text version_select
 unfolding understood everything
 version_query_means Fresh = (refl, (refl, refl), refl)
 version_query_means Moved = (refl, (refl, refl), refl)
+version_query_means FreshStarts = (refl, (refl, refl), refl)
+version_query_means MovedStarts = (refl, (refl, refl), refl)
 
 pub entry_means : IsQuery entry_text entry_select
 unfolding understood everything
 entry_means Fresh = (refl, (refl, refl), refl)
 entry_means Moved = (refl, (refl, refl), refl)
+entry_means FreshStarts = (refl, (refl, refl), refl)
+entry_means MovedStarts = (refl, (refl, refl), refl)
 
 pub owner_means : IsWrite owner_text owner_insert
 unfolding understood everything
 owner_means Fresh = (refl, (refl, refl))
 owner_means Moved = (refl, (refl, refl))
+owner_means FreshStarts = (refl, (refl, refl))
+owner_means MovedStarts = (refl, (refl, refl))
 
 pub save_promise_means : IsWrite save_promise_text promise_insert
 unfolding understood everything
 save_promise_means Fresh = (refl, (refl, refl))
 save_promise_means Moved = (refl, (refl, refl))
+save_promise_means FreshStarts = (refl, (refl, refl))
+save_promise_means MovedStarts = (refl, (refl, refl))
 
 pub save_vote_means : IsWrite save_vote_text vote_insert
 unfolding understood everything
 save_vote_means Fresh = (refl, (refl, refl))
 save_vote_means Moved = (refl, (refl, refl))
+save_vote_means FreshStarts = (refl, (refl, refl))
+save_vote_means MovedStarts = (refl, (refl, refl))
 
 pub save_round_means : IsWrite save_round_text round_update
 unfolding understood everything
 save_round_means Fresh = (refl, (refl, refl))
 save_round_means Moved = (refl, (refl, refl))
+save_round_means FreshStarts = (refl, (refl, refl))
+save_round_means MovedStarts = (refl, (refl, refl))
 
-pub left_means : (command_of (understood (schema_of Moved) left_text) ≡ select left_query (codes "slot" ∷ [])) × IsPlain (understood (schema_of Moved) left_text) × (reads_listing (schema_of Moved) left_text ≡ false)
+pub left_means : (l : Layout) → HasOld l → (command_of (understood (schema_of l) left_text) ≡ select left_query (codes "slot" ∷ [])) × IsPlain (understood (schema_of l) left_text) × (reads_listing (schema_of l) left_text ≡ false)
 unfolding understood everything
-left_means = (refl, (refl, refl), refl)
+left_means Fresh none = absurd none
+left_means Moved old = (refl, (refl, refl), refl)
+left_means FreshStarts none = absurd none
+left_means MovedStarts old = (refl, (refl, refl), refl)
+
+-- ---- starts
+
+pub starts_defined : (table_defined_by make_start ≡ Ok (start_on 0)) × (table_defined_by make_mark ≡ Ok (mark_on 0)) × (table_defined_by make_note ≡ Ok (note_on 0))
+unfolding understood everything
+starts_defined = (refl, refl, refl)
+
+abbrev pub saves_query : Layout → Query
+saves_query l = picks (start_tree l) (is_equal_to (col 1 0) (col 0 0) ∷ []) (col 1 2 ∷ [])
+
+abbrev pub mark_query : Layout → Query
+mark_query l = picks (mark_tree l) (is_equal_to (col 1 0) (col 0 0) ∷ []) (col 1 2 ∷ col 1 3 ∷ [])
+
+abbrev pub note_query : Layout → Query
+note_query l = picks (note_tree l) (is_equal_to (col 1 0) (col 0 0) ∷ []) (col 1 3 ∷ [])
+
+abbrev pub starts_query : Layout → Query
+starts_query l = picks (start_tree l) [] (col 1 0 ∷ [])
+
+abbrev pub saves_select : Layout → Command
+saves_select l = select (saves_query l) (codes "saves" ∷ [])
+
+abbrev pub mark_select : Layout → Command
+mark_select l = select (mark_query l) (codes "start" ∷ codes "saves" ∷ [])
+
+abbrev pub note_select : Layout → Command
+note_select l = select (note_query l) (codes "value" ∷ [])
+
+abbrev pub starts_select : Layout → Command
+starts_select l = select (starts_query l) (codes "name" ∷ [])
+
+abbrev pub start_terms : List Term
+start_terms = col 0 0 ∷ lit Null ∷ col 0 1 ∷ []
+
+abbrev pub start_insert : Layout → Command
+start_insert l = InsertOr (start_place l) Replace (Values start_terms 3) []
+
+abbrev pub mark_insert : Layout → Command
+mark_insert l = InsertOr (mark_place l) Replace (Values promise_terms 4) []
+
+abbrev pub note_insert : Layout → Command
+note_insert l = InsertOr (note_place l) Replace (Values promise_terms 4) []
+
+-- the same over a layout with the tables of starts
+abbrev pub IsStartsQuery : List ℕ → (Layout → Command) → Type 0
+IsStartsQuery text command = (l : Layout) → HasStarts l → (command_of (understood (schema_of l) text) ≡ command l) × IsPlain (understood (schema_of l) text) × (reads_listing (schema_of l) text ≡ false)
+
+abbrev pub IsStartsWrite : List ℕ → (Layout → Command) → Type 0
+IsStartsWrite text command = (l : Layout) → HasStarts l → (command_of (understood (schema_of l) text) ≡ command l) × IsPlain (understood (schema_of l) text)
+
+pub save_start_means : IsStartsWrite save_start_text start_insert
+unfolding understood everything
+save_start_means Fresh none = absurd none
+save_start_means Moved none = absurd none
+save_start_means FreshStarts has = (refl, (refl, refl))
+save_start_means MovedStarts has = (refl, (refl, refl))
+
+pub save_mark_means : IsStartsWrite save_mark_text mark_insert
+unfolding understood everything
+save_mark_means Fresh none = absurd none
+save_mark_means Moved none = absurd none
+save_mark_means FreshStarts has = (refl, (refl, refl))
+save_mark_means MovedStarts has = (refl, (refl, refl))
+
+pub save_note_means : IsStartsWrite save_note_text note_insert
+unfolding understood everything
+save_note_means Fresh none = absurd none
+save_note_means Moved none = absurd none
+save_note_means FreshStarts has = (refl, (refl, refl))
+save_note_means MovedStarts has = (refl, (refl, refl))
+
+pub saves_means : IsStartsQuery saves_text saves_select
+unfolding understood everything
+saves_means Fresh none = absurd none
+saves_means Moved none = absurd none
+saves_means FreshStarts has = (refl, (refl, refl), refl)
+saves_means MovedStarts has = (refl, (refl, refl), refl)
+
+pub mark_means : IsStartsQuery mark_text mark_select
+unfolding understood everything
+mark_means Fresh none = absurd none
+mark_means Moved none = absurd none
+mark_means FreshStarts has = (refl, (refl, refl), refl)
+mark_means MovedStarts has = (refl, (refl, refl), refl)
+
+pub note_means : IsStartsQuery note_text note_select
+unfolding understood everything
+note_means Fresh none = absurd none
+note_means Moved none = absurd none
+note_means FreshStarts has = (refl, (refl, refl), refl)
+note_means MovedStarts has = (refl, (refl, refl), refl)
+
+pub starts_means : IsStartsQuery starts_text starts_select
+unfolding understood everything
+starts_means Fresh none = absurd none
+starts_means Moved none = absurd none
+starts_means FreshStarts has = (refl, (refl, refl), refl)
+starts_means MovedStarts has = (refl, (refl, refl), refl)
 
 -- ---- a migration
 

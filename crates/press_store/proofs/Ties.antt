@@ -24,6 +24,7 @@ use Rattle.press_store.specs.Attempt.{Attempts, AreTables, Ready, IsReady, Looke
 use Rattle.press_store.specs.declared.owner.Tie.TheVariants.{Own, Taken, Foreign}
 use Rattle.press_store.specs.declared.owner.Tie.{Tie}
 use Rattle.press_store.specs.Owned.{is_same, owner_in, tie_of}
+use Rattle.press_store.specs.Starts.{starts_in}
 use Rattle.press_store.specs.Tying.{Same, GivesFile, LeavesTied, IsOwned, IsTied, IsUntouched, VersionStays, said_by}
 use Rattle.press_store.proofs.Looked.{same_committed}
 use Rattle.press_store.proofs.OwnerRows.{OwnerPut}
@@ -119,16 +120,22 @@ module _ {S : Type 0} (g : Ghosts S) (law : (s : S) (db : Trees) → IsTrue (g.v
     left = λ it db may. elim (h.crash db may) [ inl was ↦ inl was | inr by ↦ inr (by.1.version it) ];
   }
 
+-- what the tables say of starts stays
+pub starts_kept : (owner : Owner) (old new : State) (result : Result ℕ Error) → Wrote (OwnerPut owner) old new result → IsTrue new.is_open → starts_in new.committed.trees ≡ starts_in old.committed.trees
+starts_kept owner old new (Ok count) h is = h.done.1.starts
+starts_kept owner old new (Err e) h is = ap (λ (d : Database). starts_in d.trees) (h.failed is).1
+
 -- a save that turns nothing is a look, since a crash could leave what is kept
 module _ {S : Type 0} (g : Ghosts S) (stays : (s : S) → IsTrue (g.view s).is_open → g.recovers s (g.view s).committed) (old new : Held S) where
   as_same : {A : Type 0} (result : Result A Error) → Saved (λ store. store) (state g old) (state g new) result → IsTrue (state g new).is_open → IsTrue (state g old).is_open × (kept_by (state g new) ≡ kept_by (state g old))
   as_same (Ok x) h is = (h.saved.1, h.saved.2)
   as_same (Err e) h is = h.failed is
 
-  pub as_looked : {A : Type 0} (result : Result A Error) → Saved (λ store. store) (state g old) (state g new) result → Looked (state g old) (state g new)
-  as_looked result h = record {
+  pub as_looked : {A : Type 0} (result : Result A Error) → Saved (λ store. store) (state g old) (state g new) result → (IsTrue (state g new).is_open → starts_in (state g new).committed.trees ≡ starts_in (state g old).committed.trees) → Looked (state g old) (state g new)
+  as_looked result h starts = record {
     ready = h.ready;
     same = as_same result h;
+    starts = starts;
     crash = λ left may. elim (h.crash left may) [ inl was ↦ was | inr by ↦ ((g.view old.store).committed, stays old.store by.0, by.1) ];
   }
 
@@ -196,5 +203,6 @@ pub looked_then : (a b c : State) → Looked a b → Looked b c → Looked a c
 looked_then a b c first second = record {
   ready = second.ready;
   same = λ is. let two = second.same is in let one = first.same two.0 in (one.0, two.1 ∙ one.1);
+  starts = λ is. second.starts is ∙ first.starts (second.same is).0;
   crash = λ left may. first.crash left (second.crash left may);
 }

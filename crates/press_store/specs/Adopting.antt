@@ -8,7 +8,7 @@ use Rattle.sqlite.specs.Tree.{Trees}
 use Rattle.sqlite.specs.Schema.{Schema}
 use Rattle.sqlite.specs.State.{State, HasCleanDisk, IsUnchanged, IsLive}
 use Rattle.sqlite.specs.Held.{Held, state}
-use Rattle.press_store.specs.Tables.{Moved, no_schema, schema_of}
+use Rattle.press_store.specs.Tables.{Layout, HasOld, no_schema, schema_of}
 use Rattle.press_store.specs.Attempt.{Ready, Stays}
 use Rattle.press_store.specs.Adopted.{Adopts, HandsBack}
 
@@ -32,7 +32,7 @@ IsNothing schema = schema ≡ no_schema
 
 -- the tables of a store stand behind that of version 1
 abbrev pub IsMoved : Schema → Type 0
-IsMoved schema = schema ≡ schema_of Moved
+IsMoved schema = (l : Layout) × HasOld l × (schema ≡ schema_of l)
 
 -- on a database with tables of a kind, whatever their rows are
 module _ {S : Type 0} (g : Ghosts S) (Has : Schema → Type 0) (old new : Held S) where

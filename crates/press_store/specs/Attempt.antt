@@ -14,6 +14,7 @@ use Rattle.sqlite_catalog.specs.Listing.{Lists}
 use Rattle.press_store.specs.Tables.{Layout, schema_of}
 use Rattle.press_store.specs.Shown.{IsKept, IsEmptied}
 use Rattle.press_store.specs.Kept.{kept_by, MayLeave}
+use Rattle.press_store.specs.Starts.{starts_in}
 
 module _ {S : Type 0} (g : Ghosts S) (old new : Held S) (sql : List ℕ) (params : Row) (result : Result ℕ Error) where
   -- the text was understood, and then run
@@ -94,6 +95,7 @@ pub record Saved {A : Type 0} (turn : StoreMap → StoreMap) (old new : State) (
 pub record Looked (old new : State) : Type 0 where
   pub ready : Ready new
   pub same : IsTrue new.is_open → IsTrue old.is_open × (kept_by new ≡ kept_by old)
+  pub starts : IsTrue new.is_open → starts_in new.committed.trees ≡ starts_in old.committed.trees
   pub crash : NoMore (MayLeave old) (MayLeave new)
 
 -- ---- what the clauses say, from one connection to another

@@ -1,5 +1,5 @@
 -- The tables, and the texts of the statements on them.
-use Rattle.std.specs.Prelude.{◌≡◌, Bool, true, false, [], ◌∷◌, Some, None, codes, List, ℕ}
+use Rattle.std.specs.Prelude.{◌≡◌, ◌+◌, Bool, true, false, [], ◌∷◌, Some, None, codes, List, ℕ}
 use Rattle.sqlite.specs.Collation.TheVariants.{Binary}
 use Rattle.sqlite.specs.declared.types.Value.TheVariants.{Null}
 use Rattle.sqlite.specs.Table.{Table}
@@ -20,6 +20,15 @@ make_vote = codes "CREATE TABLE vote (slot INTEGER PRIMARY KEY, round INTEGER NO
 
 abbrev pub make_meta : List ℕ
 make_meta = codes "CREATE TABLE meta (name TEXT PRIMARY KEY, n INTEGER NOT NULL) STRICT"
+
+abbrev pub make_start : List ℕ
+make_start = codes "CREATE TABLE start (name INTEGER PRIMARY KEY, saves INTEGER NOT NULL) STRICT"
+
+abbrev pub make_mark : List ℕ
+make_mark = codes "CREATE TABLE mark (member INTEGER PRIMARY KEY, start INTEGER NOT NULL, saves INTEGER NOT NULL) STRICT"
+
+abbrev pub make_note : List ℕ
+make_note = codes "CREATE TABLE note (id INTEGER PRIMARY KEY, name TEXT NOT NULL, value BLOB NOT NULL) STRICT"
 
 abbrev pub promise_text : List ℕ
 promise_text = codes "SELECT round, node FROM block WHERE first = ?1"
@@ -75,6 +84,27 @@ entry_text = codes "SELECT n FROM meta WHERE name = ?1"
 abbrev pub owner_text : List ℕ
 owner_text = codes "INSERT INTO meta (name, n) VALUES ('member', ?1), ('members', ?2), ('peers', ?3)"
 
+abbrev pub save_start_text : List ℕ
+save_start_text = codes "INSERT OR REPLACE INTO start (name, saves) VALUES (?1, ?2)"
+
+abbrev pub save_mark_text : List ℕ
+save_mark_text = codes "INSERT OR REPLACE INTO mark (member, start, saves) VALUES (?1, ?2, ?3)"
+
+abbrev pub saves_text : List ℕ
+saves_text = codes "SELECT saves FROM start WHERE name = ?1"
+
+abbrev pub mark_text : List ℕ
+mark_text = codes "SELECT start, saves FROM mark WHERE member = ?1"
+
+abbrev pub starts_text : List ℕ
+starts_text = codes "SELECT name FROM start"
+
+abbrev pub save_note_text : List ℕ
+save_note_text = codes "INSERT OR REPLACE INTO note (id, name, value) VALUES (?1, ?2, ?3)"
+
+abbrev pub note_text : List ℕ
+note_text = codes "SELECT value FROM note WHERE id = ?1"
+
 -- ---- tables
 
 abbrev pub column_of : List ℕ → Kind → Bool → Column
@@ -117,6 +147,24 @@ block_on tree = keyed_table (codes "block") tree block_columns
 abbrev pub vote_on : ℕ → Table
 vote_on tree = keyed_table (codes "vote") tree vote_columns
 
+abbrev pub start_columns : List Column
+start_columns = column_of (codes "name") Integer false ∷ column_of (codes "saves") Integer true ∷ []
+
+abbrev pub mark_columns : List Column
+mark_columns = column_of (codes "member") Integer false ∷ column_of (codes "start") Integer true ∷ column_of (codes "saves") Integer true ∷ []
+
+abbrev pub note_columns : List Column
+note_columns = column_of (codes "id") Integer false ∷ column_of (codes "name") Text true ∷ column_of (codes "value") Blob true ∷ []
+
+abbrev pub start_on : ℕ → Table
+start_on tree = keyed_table (codes "start") tree start_columns
+
+abbrev pub mark_on : ℕ → Table
+mark_on tree = keyed_table (codes "mark") tree mark_columns
+
+abbrev pub note_on : ℕ → Table
+note_on tree = keyed_table (codes "note") tree note_columns
+
 abbrev pub meta_on : ℕ → Table
 meta_on tree = record {
   name = codes "meta";
@@ -144,45 +192,124 @@ IsBareTable table = (table.checks ≡ []) × (table.references ≡ []) × (table
 abbrev pub IsKeyed : Table → Type 0
 IsKeyed table = (table.key ≡ Some 0) × (table.primary ≡ 0 ∷ []) × (table.uniques ≡ []) × (table.orders ≡ []) × IsBareTable table
 
--- ---- both layouts
+-- ---- the four layouts
 
--- the tables of a new store, or these behind the empty one of version 1
+-- the tables of a new store, or these behind the empty one of version 1; and either with the tables of starts behind them
 pub data Layout : Type 0 where
   Fresh : Layout
   Moved : Layout
+  FreshStarts : Layout
+  MovedStarts : Layout
+
+-- the table of version 1 is there
+abbrev pub HasOld : Layout → Type 0
+HasOld Fresh = ⊥
+HasOld Moved = Unit {0}
+HasOld FreshStarts = ⊥
+HasOld MovedStarts = Unit {0}
+
+-- the tables of starts are there
+abbrev pub HasStarts : Layout → Type 0
+HasStarts Fresh = ⊥
+HasStarts Moved = ⊥
+HasStarts FreshStarts = Unit {0}
+HasStarts MovedStarts = Unit {0}
+
+-- the layout once they are
+abbrev pub with_starts : Layout → Layout
+with_starts Fresh = FreshStarts
+with_starts Moved = MovedStarts
+with_starts FreshStarts = FreshStarts
+with_starts MovedStarts = MovedStarts
 
 -- the tree of a table, and its place among the tables
 abbrev pub block_tree : Layout → ℕ
 block_tree Fresh = 0
 block_tree Moved = 3
+block_tree FreshStarts = 0
+block_tree MovedStarts = 3
 
 abbrev pub vote_tree : Layout → ℕ
 vote_tree Fresh = 1
 vote_tree Moved = 4
+vote_tree FreshStarts = 1
+vote_tree MovedStarts = 4
 
 abbrev pub meta_tree : Layout → ℕ
 meta_tree Fresh = 2
 meta_tree Moved = 1
+meta_tree FreshStarts = 2
+meta_tree MovedStarts = 1
 
 abbrev pub key_tree : Layout → ℕ
 key_tree Fresh = 3
 key_tree Moved = 2
+key_tree FreshStarts = 3
+key_tree MovedStarts = 2
+
+abbrev pub start_tree : Layout → ℕ
+start_tree Fresh = 4
+start_tree Moved = 5
+start_tree FreshStarts = 4
+start_tree MovedStarts = 5
+
+abbrev pub mark_tree : Layout → ℕ
+mark_tree Fresh = 5
+mark_tree Moved = 6
+mark_tree FreshStarts = 5
+mark_tree MovedStarts = 6
+
+abbrev pub note_tree : Layout → ℕ
+note_tree Fresh = 6
+note_tree Moved = 7
+note_tree FreshStarts = 6
+note_tree MovedStarts = 7
 
 abbrev pub block_place : Layout → ℕ
 block_place Fresh = 0
 block_place Moved = 2
+block_place FreshStarts = 0
+block_place MovedStarts = 2
 
 abbrev pub vote_place : Layout → ℕ
 vote_place Fresh = 1
 vote_place Moved = 3
+vote_place FreshStarts = 1
+vote_place MovedStarts = 3
 
 abbrev pub meta_place : Layout → ℕ
 meta_place Fresh = 2
 meta_place Moved = 1
+meta_place FreshStarts = 2
+meta_place MovedStarts = 1
+
+abbrev pub start_place : Layout → ℕ
+start_place Fresh = 3
+start_place Moved = 4
+start_place FreshStarts = 3
+start_place MovedStarts = 4
+
+abbrev pub mark_place : Layout → ℕ
+mark_place Fresh = 4
+mark_place Moved = 5
+mark_place FreshStarts = 4
+mark_place MovedStarts = 5
+
+abbrev pub note_place : Layout → ℕ
+note_place Fresh = 5
+note_place Moved = 6
+note_place FreshStarts = 5
+note_place MovedStarts = 6
+
+-- the tables of starts, from this tree on
+abbrev pub start_tables : ℕ → List Table
+start_tables tree = start_on tree ∷ mark_on (tree + 1) ∷ note_on (tree + 2) ∷ []
 
 abbrev pub tables_of : Layout → List Table
 tables_of Fresh = block_on 0 ∷ vote_on 1 ∷ meta_on 2 ∷ []
 tables_of Moved = promise ∷ meta_on 1 ∷ block_on 3 ∷ vote_on 4 ∷ []
+tables_of FreshStarts = block_on 0 ∷ vote_on 1 ∷ meta_on 2 ∷ start_tables 4
+tables_of MovedStarts = promise ∷ meta_on 1 ∷ block_on 3 ∷ vote_on 4 ∷ start_tables 5
 
 abbrev pub schema_of : Layout → Schema
 schema_of l = record { tables = tables_of l; indexes = meta_key_on (key_tree l) (meta_tree l) ∷ []; views = [] }

@@ -6,6 +6,7 @@ ghost use Rattle.sqlite.specs.Held.{state};
 ghost use Rattle.press_wire.specs.Blocks.{is_first};
 ghost use Rattle.press_acceptor.specs.StoreMap.{with_promise};
 ghost use Rattle.press_store.specs.Attempt.{Answers, Doubts, Looks, Opens, Saves, StaysReady};
+ghost use Rattle.press_store.specs.Counting.{SparesStarts};
 ghost use Rattle.press_store.specs.Moving.{BallotPut, Does};
 ghost use Rattle.press_store.specs.Saving.{PutsPromise};
 ghost use Rattle.press_store.specs.Shown.{ballot_in, shown_promise, IsPromiseShown};
@@ -49,6 +50,7 @@ pub fn raise_promise<S: Alter>(
     ensures same_reference { tx.new.conn.ghost_name ≡ tx.old.conn.ghost_name }
     ensures turns { Turns S.Store tx.old.conn.now tx.new.conn.now
         (PutsPromise first ballot) result }
+    ensures spares { SparesStarts S.Store tx.old.conn.now tx.new.conn.now result }
     ensures puts { Does S.Store tx.old.conn.now tx.new.conn.now result
         (λ old new _. BallotPut first ballot old new) }
     ensures kept { Keeps S.Store tx.old.conn.now tx.new.conn.now }

@@ -1,17 +1,23 @@
 //! The last round, in the table `meta`.
 
 ghost use Rattle.std.specs.Prelude.{◌≡◌, IfSome};
+ghost use Rattle.sqlite.specs.State.{Survives};
+ghost use Rattle.sqlite.specs.Held.{state};
 ghost use Rattle.sqlite.specs.Order.{column};
 ghost use Rattle.sqlite.specs.Value.{owned};
 ghost use Rattle.press_acceptor.specs.StoreMap.{with_round};
 ghost use Rattle.press_store.specs.Attempt.{Answers, Doubts, Looks, Opens, Saves, StaysReady};
+ghost use Rattle.press_store.specs.Counting.{SparesStarts};
+ghost use Rattle.press_store.specs.Steps.{GoesOn, Keeps, Turns, WasUp};
 ghost use Rattle.press_store.specs.Shown.{most_rounds, number_in, IsRoundRow};
 
 use crate::rows::round_value;
 use crate::statement::{read, write};
 use press_wire::{GREATEST_ROUND, Round};
 use sqlite::types::ValueRef;
-use sqlite::{Alter, Connection, Error, Row as Shown};
+use sqlite::{Alter, Connection, Error, Row as Shown, Transaction};
+
+const SAVE: &str = "UPDATE meta SET n = ?1 WHERE name = 'last_round'";
 
 pub fn put_round<S: Alter>(conn: &mut Connection<S>, round: Round) -> Result<usize, Error>
     ensures saves { Saves S.Store conn.old conn.new (λ store. with_round store round) result }
@@ -19,11 +25,23 @@ pub fn put_round<S: Alter>(conn: &mut Connection<S>, round: Round) -> Result<usi
     ensures clean { Doubts S.Store conn.old conn.new }
 {
     let params = [round_value(round)];
-    write(
-        conn,
-        "UPDATE meta SET n = ?1 WHERE name = 'last_round'",
-        &params,
-    )
+    write(conn, SAVE, &params)
+}
+
+/// The same within a transaction.
+pub fn set_round<S: Alter>(tx: &mut Transaction<'_, S>, round: Round) -> Result<usize, Error>
+    ensures same_reference { tx.new.conn.ghost_name ≡ tx.old.conn.ghost_name }
+    ensures turns { Turns S.Store tx.old.conn.now tx.new.conn.now
+        (λ old new. new ≡ with_round old round) result }
+    ensures spares { SparesStarts S.Store tx.old.conn.now tx.new.conn.now result }
+    ensures kept { Keeps S.Store tx.old.conn.now tx.new.conn.now }
+    ensures goes_on { GoesOn S.Store tx.old.conn.now tx.new.conn.now result }
+    ensures up { WasUp S.Store tx.old.conn.now tx.new.conn.now result }
+    ensures survives { Survives (state S.Store tx.old.conn.now) (state S.Store tx.new.conn.now)
+        (λ _. ⊥) }
+{
+    let params = [round_value(round)];
+    tx.execute(SAVE, &params)
 }
 
 fn find_round<S: Alter>(conn: &mut Connection<S>) -> Result<Vec<Shown>, Error>

@@ -2,8 +2,11 @@
 
 ghost use Rattle.std.specs.Prelude.{◌≡◌, [], ◌∷◌, codes, IsTrue};
 ghost use Rattle.press_store.specs.Tables.{column_of, promise_columns, block_columns, vote_columns};
+ghost use Rattle.press_store.specs.Tables.{start_columns, mark_columns, note_columns};
 ghost use Rattle.press_store.specs.Tables.{promise, block_on, vote_on, meta_on, meta_key_on};
-ghost use Rattle.press_store.specs.Tables.{IsBareTable, IsKeyed, Fresh, Moved, schema_of, no_schema, old_schema};
+ghost use Rattle.press_store.specs.Tables.{start_on, mark_on, note_on, IsBareTable, IsKeyed};
+ghost use Rattle.press_store.specs.Tables.{Fresh, Moved, FreshStarts, MovedStarts, schema_of};
+ghost use Rattle.press_store.specs.Tables.{no_schema, old_schema};
 ghost use Rattle.press_store.specs.Adopted.{has_table, is_half, IsOurs};
 
 use sqlite_schema::schema::{Column, Index, Kind, Schema, Table};
@@ -82,6 +85,47 @@ fn is_meta_table(columns: &[Column]) -> bool
     match columns {
         [name, n] => {
             is_column(name, b"name", Kind::Text, true) && is_column(n, b"n", Kind::Integer, true)
+        }
+        _ => false,
+    }
+}
+
+fn is_start_table(columns: &[Column]) -> bool
+    ensures tells { IsTrue result → columns.now ≡ start_columns }
+    ensures same { columns.now ≡ start_columns → IsTrue result }
+{
+    match columns {
+        [name, saves] => {
+            is_column(name, b"name", Kind::Integer, false)
+                && is_column(saves, b"saves", Kind::Integer, true)
+        }
+        _ => false,
+    }
+}
+
+fn is_mark_table(columns: &[Column]) -> bool
+    ensures tells { IsTrue result → columns.now ≡ mark_columns }
+    ensures same { columns.now ≡ mark_columns → IsTrue result }
+{
+    match columns {
+        [member, start, saves] => {
+            is_column(member, b"member", Kind::Integer, false)
+                && is_column(start, b"start", Kind::Integer, true)
+                && is_column(saves, b"saves", Kind::Integer, true)
+        }
+        _ => false,
+    }
+}
+
+fn is_note_table(columns: &[Column]) -> bool
+    ensures tells { IsTrue result → columns.now ≡ note_columns }
+    ensures same { columns.now ≡ note_columns → IsTrue result }
+{
+    match columns {
+        [id, name, value] => {
+            is_column(id, b"id", Kind::Integer, false)
+                && is_column(name, b"name", Kind::Text, true)
+                && is_column(value, b"value", Kind::Blob, true)
         }
         _ => false,
     }
@@ -182,6 +226,36 @@ fn is_meta_key(index: &Index, tree: u32, table: u32) -> bool
         && index.is_unique
 }
 
+fn is_start(table: &Table, tree: u32) -> bool
+    ensures tells { IsTrue result → table.now ≡ start_on tree }
+    ensures same { table.now ≡ start_on tree → IsTrue result }
+{
+    is_named(&table.name, b"start")
+        && table.tree == tree
+        && is_start_table(table.columns.as_slice())
+        && is_keyed(table)
+}
+
+fn is_mark(table: &Table, tree: u32) -> bool
+    ensures tells { IsTrue result → table.now ≡ mark_on tree }
+    ensures same { table.now ≡ mark_on tree → IsTrue result }
+{
+    is_named(&table.name, b"mark")
+        && table.tree == tree
+        && is_mark_table(table.columns.as_slice())
+        && is_keyed(table)
+}
+
+fn is_note(table: &Table, tree: u32) -> bool
+    ensures tells { IsTrue result → table.now ≡ note_on tree }
+    ensures same { table.now ≡ note_on tree → IsTrue result }
+{
+    is_named(&table.name, b"note")
+        && table.tree == tree
+        && is_note_table(table.columns.as_slice())
+        && is_keyed(table)
+}
+
 // Whether the tables are those of a new store, with nothing else.
 fn is_fresh(schema: &Schema) -> bool
     ensures tells { IsTrue result → schema.now ≡ schema_of Fresh }
@@ -217,12 +291,71 @@ fn is_moved(schema: &Schema) -> bool
     }
 }
 
+// The tables of a new store, with those of starts behind them.
+fn is_fresh_starts(schema: &Schema) -> bool
+    ensures tells { IsTrue result → schema.now ≡ schema_of FreshStarts }
+    ensures same { schema.now ≡ schema_of FreshStarts → IsTrue result }
+{
+    match (schema.tables.as_slice(), schema.indexes.as_slice()) {
+        ([block, vote, meta, start, mark, note], [key]) => {
+            is_block(block, 0)
+                && is_vote(vote, 1)
+                && is_meta(meta, 2)
+                && is_start(start, 4)
+                && is_mark(mark, 5)
+                && is_note(note, 6)
+                && is_meta_key(key, 3, 2)
+                && schema.views.is_empty()
+        }
+        _ => false,
+    }
+}
+
+// The same behind the table of version 1.
+fn is_moved_starts(schema: &Schema) -> bool
+    ensures tells { IsTrue result → schema.now ≡ schema_of MovedStarts }
+    ensures same { schema.now ≡ schema_of MovedStarts → IsTrue result }
+{
+    match (schema.tables.as_slice(), schema.indexes.as_slice()) {
+        ([promise, meta, block, vote, start, mark, note], [key]) => {
+            is_promise(promise)
+                && is_meta(meta, 1)
+                && is_block(block, 3)
+                && is_vote(vote, 4)
+                && is_start(start, 5)
+                && is_mark(mark, 6)
+                && is_note(note, 7)
+                && is_meta_key(key, 2, 1)
+                && schema.views.is_empty()
+        }
+        _ => false,
+    }
+}
+
+// Without the tables of starts.
+fn is_plain(schema: &Schema) -> bool
+    ensures tells { IsTrue result → IsOurs schema.now }
+    ensures fresh { schema.now ≡ schema_of Fresh → IsTrue result }
+    ensures moved { schema.now ≡ schema_of Moved → IsTrue result }
+{
+    is_fresh(schema) || is_moved(schema)
+}
+
+// With them.
+fn is_counted(schema: &Schema) -> bool
+    ensures tells { IsTrue result → IsOurs schema.now }
+    ensures fresh { schema.now ≡ schema_of FreshStarts → IsTrue result }
+    ensures moved { schema.now ≡ schema_of MovedStarts → IsTrue result }
+{
+    is_fresh_starts(schema) || is_moved_starts(schema)
+}
+
 /// Whether the tables are those of a store, with nothing else.
 pub fn is_ours(schema: &Schema) -> bool
     ensures tells { IsTrue result → IsOurs schema.now }
     ensures same { IsOurs schema.now → IsTrue result }
 {
-    is_fresh(schema) || is_moved(schema)
+    is_plain(schema) || is_counted(schema)
 }
 
 /// Whether the tables are those of version 1, with nothing else.
@@ -260,6 +393,13 @@ pub fn is_half(schema: &Schema) -> bool
     let has_all = has_block && has_vote && has_meta;
     let is_unmoved = has_old && has_meta && !(has_block || has_vote);
     has_any && !(has_all || is_unmoved)
+}
+
+/// Whether the tables of starts are there.
+pub fn has_starts(schema: &Schema) -> bool
+    ensures { result ≡ has_table schema.now (codes "start") }
+{
+    has_table(schema, b"start")
 }
 
 /// Whether there is a table of blocks.

@@ -4,6 +4,7 @@ ghost use Rattle.std.specs.Prelude.{◌≡◌, ◌<◌, ◌≤◌, ◌^◌, pos}
 ghost use Rattle.sqlite.specs.Value.{owned};
 ghost use Rattle.sqlite.specs.declared.types.Value.TheVariants.{Int, Blob};
 ghost use Rattle.press_store.specs.Owned as spec;
+ghost use Rattle.press_store.specs.Starts.{bits_in};
 ghost use Rattle.press_store.specs.Shown.{ballot_in, most_rounds, number_in};
 ghost use Rattle.press_wire.specs.Ranges.{last_slot, most_members};
 
@@ -64,6 +65,16 @@ pub fn unsigned_number(n: i64) -> u64
     } else {
         n as u64
     }
+}
+
+/// The number of 64 bits that a value gives; None where it is damaged.
+pub fn bits(value: ValueRef<'_>) -> Option<u64>
+    ensures { result ≡ bits_in (owned value.entry) }
+{
+    let ValueRef::Int(n) = value else {
+        return None;
+    };
+    Some(unsigned_number(n))
 }
 
 pub fn digest_value<'a>(digest: u64) -> ValueRef<'a>

@@ -7,6 +7,7 @@ ghost use Rattle.press_wire.specs.Reading.{read_command};
 ghost use Rattle.press_wire.specs.Spelling.{spelled_command};
 ghost use Rattle.press_acceptor.specs.StoreMap.{with_vote};
 ghost use Rattle.press_store.specs.Attempt.{Doubts, Saves, StaysReady};
+ghost use Rattle.press_store.specs.Counting.{SparesStarts};
 ghost use Rattle.press_store.specs.Steps.{Commits, GoesOn, IsTurned, Keeps, Turns, Undone, WasOpen, WasUp};
 
 use crate::block::raise_promise;
@@ -14,8 +15,8 @@ use crate::vote::add_vote;
 use press_wire::{Slot, Vote};
 use sqlite::{Alter, Connection, Error, Transaction};
 
-// The promise first: a vote is added where its block has promised.
-fn put_both<S: Alter>(
+/// The promise first: a vote is added where its block has promised.
+pub fn put_both<S: Alter>(
     tx: &mut Transaction<'_, S>,
     slot: Slot,
     vote: &Vote,
@@ -26,6 +27,7 @@ fn put_both<S: Alter>(
     ensures same_reference { tx.new.conn.ghost_name ≡ tx.old.conn.ghost_name }
     ensures turns { Turns S.Store tx.old.conn.now tx.new.conn.now
         (λ old new. new ≡ with_vote old slot vote.now) result }
+    ensures spares { SparesStarts S.Store tx.old.conn.now tx.new.conn.now result }
     ensures kept { Keeps S.Store tx.old.conn.now tx.new.conn.now }
     ensures goes_on { GoesOn S.Store tx.old.conn.now tx.new.conn.now result }
     ensures up { WasUp S.Store tx.old.conn.now tx.new.conn.now result }

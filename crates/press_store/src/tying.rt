@@ -89,9 +89,9 @@ fn owner_by(
     }
 }
 
-// Reads whose file it is; None where its rows are damaged.
+/// Reads whose file it is; None where its rows are damaged.
 #[tactic(auto, unfolding(crate::specs::Owned::owner_in))]
-fn read_owner<S: Alter>(conn: &mut Connection<S>) -> Result<Option<Option<Owner>>, Error>
+pub fn read_owner<S: Alter>(conn: &mut Connection<S>) -> Result<Option<Option<Owner>>, Error>
     ensures opened { Opens S.Store conn.old conn.new result }
     ensures looks { Looks S.Store conn.old conn.new }
     ensures spares { Spares S.Store conn.old conn.new }

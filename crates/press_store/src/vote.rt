@@ -11,6 +11,7 @@ ghost use Rattle.press_wire.specs.Reading.{read_command};
 ghost use Rattle.press_wire.specs.Spelling.{spelled_command};
 ghost use Rattle.press_acceptor.specs.StoreMap.{block_votes};
 ghost use Rattle.press_store.specs.Attempt.{Answers, Doubts, Looks, Opens, StaysReady};
+ghost use Rattle.press_store.specs.Counting.{SparesStarts};
 ghost use Rattle.press_store.specs.Moving.{Does, VotePut};
 ghost use Rattle.press_store.specs.Saving.{AddsVote};
 ghost use Rattle.press_store.specs.Shown.{vote_in, shown_vote, shown_votes};
@@ -34,6 +35,7 @@ pub fn add_vote<S: Alter>(
     requires reads { read_command bytes.now ≡ Ok vote.now.value }
     ensures same_reference { tx.new.conn.ghost_name ≡ tx.old.conn.ghost_name }
     ensures turns { Turns S.Store tx.old.conn.now tx.new.conn.now (AddsVote slot vote.now) result }
+    ensures spares { SparesStarts S.Store tx.old.conn.now tx.new.conn.now result }
     ensures puts { Does S.Store tx.old.conn.now tx.new.conn.now result
         (λ old new _. VotePut slot vote.now old new) }
     ensures kept { Keeps S.Store tx.old.conn.now tx.new.conn.now }

@@ -199,7 +199,10 @@ impl Read for Endless {
 const HEAD_END: &[u8] = b"\r\n\r\n";
 
 // The bytes of a report.
-const REPORT: usize = 34;
+const REPORT: usize = 98;
+
+// Where the two marks of a recall stand behind that.
+const MARKS: usize = 123;
 
 // What a request brings: nothing, where it isn't whole.
 fn body_of(request: &[u8]) -> &[u8] {
@@ -209,15 +212,52 @@ fn body_of(request: &[u8]) -> &[u8] {
     }
 }
 
-// The reply of member 2 with this report, which is of member 1.
-fn reply_with(alloc: Global, report: &[u8]) -> io::Result<Vec<u8>> {
-    let mut reply: Vec<u8> = Vec::new(alloc);
-    reply.extend_from_slice(b"HTTP/1.1 200 OK\r\nContent-Length: 34\r\n\r\n\x01\x02")?;
-    reply.extend_from_slice(&report[report.len().min(2)..])?;
+// How many bytes a mark has there.
+fn mark_len(body: &[u8], at: usize) -> usize {
+    match body.get(at) {
+        Some(1) => 17,
+        _ => 1,
+    }
+}
+
+// How many bytes stand before the messages of a batch.
+fn head_len(body: &[u8]) -> usize {
+    if body.get(REPORT) != Some(&1) {
+        return REPORT.saturating_add(1);
+    }
+    let answered = MARKS.saturating_add(mark_len(body, MARKS));
+    answered.saturating_add(mark_len(body, answered))
+}
+
+// The reply of member 2 with this head, which is of member 1.
+fn reply_with(alloc: Global, head: &[u8]) -> io::Result<Vec<u8>> {
+    let count = head.len();
+    let line = format!(in alloc; "HTTP/1.1 200 OK\r\nContent-Length: {count}\r\n\r\n")?;
+    let mut reply = line.into_bytes();
+    reply.extend_from_slice(b"\x02\x02")?;
+    reply.extend_from_slice(&head[head.len().min(2)..])?;
     Ok(reply)
 }
 
-/// The other one of two members, which says of itself what member 1 says, and nothing more. It
+/// The request of a member that has heard of no mark of the other: what it brings otherwise is as
+/// in this one.
+pub fn without_marks(alloc: Global, request: &[u8]) -> io::Result<Vec<u8>> {
+    let body = body_of(request);
+    let front = &body[..body.len().min(MARKS)];
+    let messages = &body[body.len().min(head_len(body))..];
+    let count = front.len().saturating_add(2).saturating_add(messages.len());
+    let line = format!(in alloc;
+        "POST /members HTTP/1.1\r\nHost: a\r\nContent-Length: {count}\r\n\r\n"
+    )?;
+    let mut told = line.into_bytes();
+    told.extend_from_slice(front)?;
+    told.extend_from_slice(b"\x00\x00")?;
+    told.extend_from_slice(messages)?;
+    Ok(told)
+}
+
+/// The other one of two members, which says of itself what member 1 says, its start among it, and
+/// nothing more. It
 /// stands behind the lines of that one's server: at each line of a request it replies to what has
 /// come, and the next client asks a while later.
 #[derive(Drop)]
@@ -277,12 +317,12 @@ impl<'a> Mirror<'a> {
             }
             let request = &piece[..count];
             let body = body_of(request);
-            if body.len() > REPORT {
+            let len = body.len().min(head_len(body));
+            if body.len() > len {
                 self.brought.clear();
                 self.brought.extend_from_slice(request)?;
             }
-            let report = &body[..body.len().min(REPORT)];
-            stream.write_all(&reply_with(self.rt.alloc(), report)?)?;
+            stream.write_all(&reply_with(self.rt.alloc(), &body[..len])?)?;
         }
         Ok(())
     }

@@ -1,7 +1,8 @@
-use crate::tests::fakes::{Client, Flush, Mirror, Narrow};
+use crate::tests::fakes::{Client, Flush, Mirror, Narrow, without_marks};
 use crate::tests::fixtures::{holds, run_words, words_of};
 use press_program::run;
 use std::fs;
+use std::fs::File;
 use std::net::{SocketAddr, TcpListener};
 use std::test::Fail;
 
@@ -96,6 +97,26 @@ fn refuses(
     Ok(reply.starts_with(b"HTTP/1.1 400 ") && told.ends_with(line.as_bytes()))
 }
 
+// The store of a member of these is made.
+fn make(rt: &HostRuntime, number: &str, peers: &str, file: &str) -> Result<(), Fail> {
+    let words = [
+        "serve", "--id", number, "--peers", peers, "--store", file, "--new",
+    ];
+    let line = format!(in rt.alloc(); "made the store of member {number} of {peers}\n")?;
+    if !run_words(rt, &words)?.left(0, &line, "") {
+        return Err(Fail::from("no store"));
+    }
+    Ok(())
+}
+
+// The file of a store and its log go.
+fn remove(rt: &HostRuntime, file: &str) -> Result<(), Fail> {
+    let log = format!(in rt.alloc(); "{file}-wal")?;
+    fs::remove_file(rt, file)?;
+    let _ = fs::remove_file(rt, &log);
+    Ok(())
+}
+
 // What the first of these members, which is new, replies where these words stand behind the others.
 fn replied_by_member(
     rt: &HostRuntime,
@@ -109,9 +130,9 @@ fn replied_by_member(
         "serve", "--id", "1", "--peers", peers, "--store", "member", "--turns", "1",
     ])?;
     words.extend_from_slice(more)?;
+    make(rt, "1", peers, "member")?;
     let reply = reply_to(rt, &words, addr, request)?;
-    fs::remove_file(rt, "member")?;
-    fs::remove_file(rt, "member-wal")?;
+    remove(rt, "member")?;
     Ok(reply)
 }
 
@@ -168,17 +189,31 @@ fn who_is_closed_without_a_reply_has_had_a_turn(rt: HostRuntime) -> Result<(), F
     Ok(())
 }
 
+// A batch of member 2 that counts no members, runs no kit and recalls nothing.
+fn foreign_batch(rt: &HostRuntime) -> Result<Vec<u8>, Fail> {
+    let mut request: Vec<u8> = Vec::new(rt.alloc());
+    request.extend_from_slice(
+        b"POST /members HTTP/1.1\r\nHost: a\r\nContent-Length: 99\r\n\r\n\x02\x02",
+    )?;
+    for _ in 0..97 {
+        request.push(0)?;
+    }
+    Ok(request)
+}
+
 // A client of this machine has the address 127.0.0.1. The other member, in whose name it asks, is
-// at that of the server.
+// at that of the server. A single message, which says nothing of a start, is none for a member.
 #[test]
-fn a_message_of_a_stranger_is_not_taken(rt: HostRuntime) -> Result<(), Fail> {
-    for (ip, status) in [
-        ("127.0.0.1", "HTTP/1.1 200 "),
-        ("127.0.0.2", "HTTP/1.1 404 "),
+fn what_a_stranger_brings_is_not_taken(rt: HostRuntime) -> Result<(), Fail> {
+    let batch = foreign_batch(&rt)?;
+    for (ip, request, status) in [
+        ("127.0.0.1", batch.as_slice(), "HTTP/1.1 200 "),
+        ("127.0.0.2", batch.as_slice(), "HTTP/1.1 404 "),
+        ("127.0.0.1", QUESTION, "HTTP/1.1 404 "),
     ] {
         let addr = free_addr(&rt, ip)?;
         let peers = format!(in rt.alloc(); "{addr},{ip}:1")?;
-        let reply = replied_by_member(&rt, addr, &peers, &[], QUESTION)?;
+        let reply = replied_by_member(&rt, addr, &peers, &[], request)?;
         assert!(rt; reply.starts_with(status.as_bytes()), "at {ip}");
     }
     Ok(())
@@ -189,19 +224,13 @@ fn a_message_of_a_stranger_is_not_taken(rt: HostRuntime) -> Result<(), Fail> {
 fn a_member_of_another_cluster_has_a_line(rt: HostRuntime) -> Result<(), Fail> {
     let addr = free_addr(&rt, "127.0.0.1")?;
     let peers = format!(in rt.alloc(); "{addr},127.0.0.1:1")?;
-    let mut request: Vec<u8> = Vec::new(rt.alloc());
-    request.extend_from_slice(
-        b"POST /members HTTP/1.1\r\nHost: a\r\nContent-Length: 34\r\n\r\n\x01\x02",
-    )?;
-    for _ in 0..32 {
-        request.push(0)?;
-    }
+    let request = foreign_batch(&rt)?;
     let words = [
         "serve", "--id", "1", "--peers", &peers, "--store", "member", "--turns", "1",
     ];
+    make(&rt, "1", &peers, "member")?;
     let Served { told, .. } = ask(&rt, &words, addr, &request)?;
-    fs::remove_file(&rt, "member")?;
-    fs::remove_file(&rt, "member-wal")?;
+    remove(&rt, "member")?;
     assert!(rt;
         holds(
             &told,
@@ -211,21 +240,119 @@ fn a_member_of_another_cluster_has_a_line(rt: HostRuntime) -> Result<(), Fail> {
     Ok(())
 }
 
-// A member's store is not one of a node by itself.
+// What is told of the store of member 1 of 2 where it is asked for in another's name.
+fn foreign(rt: &HostRuntime, lines: &[&str]) -> Result<String, Fail> {
+    let mut told = String::from_str(rt.alloc(), "press: the store is another member's\n")?;
+    for line in lines {
+        let line = format!(in rt.alloc(); "press: the store tied {line}\n")?;
+        told.push_str(&line)?;
+    }
+    Ok(told)
+}
+
+// A line says what differs, the number of the member, how many there are, or the list of them; and
+// whose it is where a node by itself asks for it.
 #[test]
 fn a_store_of_another_is_not_served(rt: HostRuntime) -> Result<(), Fail> {
+    let (addr, other) = (free_addr(&rt, "127.0.0.1")?, free_addr(&rt, "127.0.0.1")?);
+    let peers = format!(in rt.alloc(); "{addr},{other}")?;
+    let fewer = format!(in rt.alloc(); "{addr}")?;
+    let list = format!(in rt.alloc(); "has another list of peers than {fewer}")?;
+    let port = format!(in rt.alloc(); "{}", addr.port())?;
+    make(&rt, "1", &peers, "tied")?;
+    for (place, lines) in [
+        (
+            &["--id", "2", "--peers", &peers][..],
+            &["is that of member 1, not 2"][..],
+        ),
+        (
+            &["--id", "1", "--peers", &fewer][..],
+            &["is that of one of 2 members, not 1", &list][..],
+        ),
+        (&["--port", &port][..], &["is that of member 1 of 2"][..]),
+    ] {
+        let mut words: Vec<&str> = Vec::new(rt.alloc());
+        words.push("serve")?;
+        words.extend_from_slice(place)?;
+        words.extend_from_slice(&["--store", "tied", "--turns", "0"])?;
+        let told = foreign(&rt, lines)?;
+        assert!(rt;
+            run_words(&rt, &words)?.left(2, "", &told),
+            "at {}",
+            place[1]
+        );
+    }
+    remove(&rt, "tied")?;
+    Ok(())
+}
+
+// What a member says that has no store, or a log of one alone.
+const NO_STORE: &str =
+    "press: fault 40\npress: the store lost is not there, or empty: --new makes that of a new member\n";
+
+#[test]
+fn a_member_makes_no_store_without_being_told(rt: HostRuntime) -> Result<(), Fail> {
     let addr = free_addr(&rt, "127.0.0.1")?;
     let peers = format!(in rt.alloc(); "{addr}")?;
-    let port = format!(in rt.alloc(); "{}", addr.port())?;
-    let member = [
-        "serve", "--id", "1", "--peers", &peers, "--store", "tied", "--turns", "0",
+    let words = [
+        "serve", "--id", "1", "--peers", &peers, "--store", "lost", "--turns", "0",
     ];
-    assert_eq!(rt; run_words(&rt, &member)?.status, 0);
-    let alone = ["serve", "--port", &port, "--store", "tied", "--turns", "0"];
-    let told = "press: the store is another member's\n";
-    assert!(rt; run_words(&rt, &alone)?.left(2, "", told));
-    fs::remove_file(&rt, "tied")?;
-    let _ = fs::remove_file(&rt, "tied-wal");
+    assert!(rt; run_words(&rt, &words)?.left(2, "", NO_STORE));
+    assert!(rt; File::open(&rt, "lost").is_err());
+    fs::write(&rt, "lost-wal", b"x")?;
+    assert!(rt; run_words(&rt, &words)?.left(2, "", NO_STORE));
+    assert!(rt; File::open(&rt, "lost").is_err());
+    fs::remove_file(&rt, "lost-wal")?;
+    make(&rt, "1", &peers, "lost")?;
+    let line = format!(in rt.alloc(); "listening as 1 of {peers}\n")?;
+    assert!(rt; run_words(&rt, &words)?.left(0, &line, KIT));
+    remove(&rt, "lost")?;
+    Ok(())
+}
+
+// It is left as it is, and so is the log of one that is gone.
+#[test]
+fn no_store_is_made_where_something_is(rt: HostRuntime) -> Result<(), Fail> {
+    let addr = free_addr(&rt, "127.0.0.1")?;
+    let peers = format!(in rt.alloc(); "{addr}")?;
+    let words = [
+        "serve", "--id", "1", "--peers", &peers, "--store", "there", "--new",
+    ];
+    let told = "press: fault 40\npress: the store there is there already, and is left as it is\n";
+    for (file, left) in [("there", "there-wal"), ("there-wal", "there")] {
+        fs::write(&rt, file, b"x")?;
+        assert!(rt; run_words(&rt, &words)?.left(2, "", told), "at {file}");
+        assert_eq!(rt; fs::read(&rt, file)?.as_slice(), b"x".as_slice());
+        assert!(rt; File::open(&rt, left).is_err());
+        fs::remove_file(&rt, file)?;
+    }
+    Ok(())
+}
+
+// An address that is none of this machine, and one that is taken, at a start and where a store is to
+// be made.
+#[test]
+fn where_it_cannot_listen_there_is_no_new_store(rt: HostRuntime) -> Result<(), Fail> {
+    let listener = TcpListener::bind(&rt, ("127.0.0.1", 0))?;
+    let taken = format!(in rt.alloc(); "{}", listener.local_addr()?)?;
+    for (peers, why) in [
+        ("192.0.2.1:7000", "is none of this machine"),
+        (taken.as_str(), "is taken"),
+    ] {
+        let words = [
+            "serve", "--id", "1", "--peers", peers, "--store", "none", "--new",
+        ];
+        let told = format!(in rt.alloc();
+            "press: fault 40\npress: the address of member 1 of {peers} {why}\n"
+        )?;
+        assert!(rt; run_words(&rt, &words)?.left(2, "", &told), "at {why}");
+        assert!(rt; File::open(&rt, "none").is_err());
+        fs::write(&rt, "none", b"x")?;
+        assert!(rt; run_words(&rt, &words[..7])?.left(2, "", &told), "at {why}");
+        assert_eq!(rt; fs::read(&rt, "none")?.as_slice(), b"x".as_slice());
+        fs::remove_file(&rt, "none")?;
+    }
+    drop(listener);
     Ok(())
 }
 
@@ -398,9 +525,9 @@ fn a_member_tells_why_a_form_is_refused(rt: HostRuntime) -> Result<(), Fail> {
             "serve", "--id", "1", "--peers", &peers, "--store", "member", "--turns", "1",
             "--ahead", "60",
         ];
+        make(&rt, "1", &peers, "member")?;
         let refuses = refuses(&rt, &words, addr, (form, why))?;
-        fs::remove_file(&rt, "member")?;
-        fs::remove_file(&rt, "member-wal")?;
+        remove(&rt, "member")?;
         assert!(rt; refuses, "at {why}");
     }
     Ok(())
@@ -435,6 +562,7 @@ fn first_command<'a>(
             "serve", "--id", "1", "--peers", &peers, "--store", "member", "--turns", "8",
         ],
     )?;
+    make(rt, "1", &peers, "member")?;
     let listener = TcpListener::bind(rt, other)?;
     let mut mirror = Mirror::new(rt, listener, addr, &REQUESTS)?;
     let client = Client::new(rt, addr, READY);
@@ -443,8 +571,7 @@ fn first_command<'a>(
     if run(rt, &words, &mut input, &mut out, &mut mirror) != 0 {
         return Err(Fail::from("no server"));
     }
-    fs::remove_file(rt, "member")?;
-    fs::remove_file(rt, "member-wal")?;
+    remove(rt, "member")?;
     Ok(mirror)
 }
 
@@ -468,9 +595,9 @@ fn members_hear_each_other(rt: HostRuntime) -> Result<(), Fail> {
     let words = [
         "serve", "--id", "2", "--peers", &peers, "--store", "member", "--turns", "1",
     ];
-    let reply = reply_to(&rt, &words, other, &brought)?;
-    fs::remove_file(&rt, "member")?;
-    fs::remove_file(&rt, "member-wal")?;
+    make(&rt, "2", &peers, "member")?;
+    let reply = reply_to(&rt, &words, other, &without_marks(rt.alloc(), &brought)?)?;
+    remove(&rt, "member")?;
     assert!(rt; reply.starts_with(b"HTTP/1.1 200 "));
     assert!(rt; holds(&reply, PROMISE));
     Ok(())

@@ -1,11 +1,12 @@
 use Rattle.std.proofs.Common.{Ok, Err, Result, ℕ}
 use Rattle.std.specs.Prelude.{OnOk}
 use Rattle.sqlite.specs.declared.error.Error.{Error}
+use Rattle.sqlite.specs.Held.{state}
 use Rattle.press_store.specs.Tables.{owner_text}
 use Rattle.press_store.proofs.OwnerRows.{IsMember, OwnerPut, owner_params, owner_put}
 use Rattle.press_store.proofs.Saved.{saves}
 use Rattle.press_store.proofs.Texts.{owner_insert, owner_means}
-use Rattle.press_store.proofs.Ties.{wrote, tied, version_kept, as_looked}
+use Rattle.press_store.proofs.Ties.{wrote, tied, version_kept, starts_kept, as_looked}
 use Rattle.press_store.proofs.tying.put_owner.Goals as goal
 
 is_up : (P Q : Type 0) (result : Result ℕ Error) → OnOk result (P × Q) → OnOk result P
@@ -21,6 +22,11 @@ returns-clause-looks g c clean ready =
     (λ l a b text count ran. ran) (λ l e. absurd (cc)) (λ l name e. absurd (cc)) (λ store. store)
     (λ l limit mode now after tally text has does. let it = owner_put l owner m limit mode now after tally text has does in (it.0, it.1.stands))
     c.args.conn.now c.write.new.conn c.write.result clean ready (rw (c.node_value.ensures.value, c.small_value.ensures.value, c.digest_value.ensures.value) at (c.write.ensures.ran clean)))
+    (starts_kept owner (state g.S.Store c.args.conn.now) (state g.S.Store c.write.new.conn) c.write.result
+    (wrote g.S.Store owner_text (owner_params owner) owner_insert owner_means
+    (λ l a b text count ran. ran) (λ l e. absurd (cc)) (λ l name e. absurd (cc)) (OwnerPut owner)
+    (λ l limit mode now after tally text has does. (owner_put l owner m limit mode now after tally text has does).1)
+    c.args.conn.now c.write.new.conn c.write.result clean ready (rw (c.node_value.ensures.value, c.small_value.ensures.value, c.digest_value.ensures.value) at (c.write.ensures.ran clean))))
 
 pub returns-clause-ties : goal.returns-clause-ties
 returns-clause-ties g c clean ready free =

@@ -10,7 +10,7 @@ use Rattle.press_member.proofs.member.Member.ask.Goals as goal
 
 pub loop-place-init : goal.loop-place-init
 loop-place-init g c = record {
-  same = record { id = refl; members = refl; digests = refl; kit = refl };
+  same = record { id = refl; members = refl; digests = refl; chain = refl; differing = refl; kit = refl };
   turned = at_rest (λ a b. node_move g.S.PromiseStore.seen a b) (length c.args.self.now.peers.all.items) c.args.self.now.player.id AreQuestions _ (moment_of c.args.self.now.player) c.args.out.now.items tt;
   time = refl;
 }

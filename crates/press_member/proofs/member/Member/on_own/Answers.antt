@@ -16,8 +16,8 @@ returns-in_err-hear_own g c =
     let id = c.args.self.now.player.id in
     let own = c.args.self.now.player.own.items in
     rw (p.1) (record {
-      acts = turns (λ a b. node_move g.S.PromiseStore.seen a b) input.HearOwn _ _ _ None c.new-messages.result.items c.hear_own.new.out.items (record { id = h.id; members = refl; digests = refl; kit = h.kit }) c.new-messages.ensures.items
-          (other_kind (λ a b. node_move g.S.PromiseStore.seen a b) n id (HearsAll id (IsTrue false) own) (HearsFirst id (IsTrue false) own) (IsTrue false) (moment_of c.args.self.now.player) (moment_of c.hear_own.new.self) c.new-messages.result.items c.hear_own.new.out.items (hears_only id (IsTrue false) own) (h.turned n)) tt tt tt;
+      acts = turns (λ a b. node_move g.S.PromiseStore.seen a b) input.HearOwn _ _ _ None c.new-messages.result.items c.hear_own.new.out.items (record { id = h.id; members = refl; digests = refl; chain = refl; differing = refl; kit = h.kit }) c.new-messages.ensures.items
+          (other_kind (λ a b. node_move g.S.PromiseStore.seen a b) n id (HearsAll id (IsTrue false) own) (HearsFirst id (IsTrue false) own) (IsTrue false) (moment_of c.args.self.now.player) (moment_of c.hear_own.new.self) c.new-messages.result.items c.hear_own.new.out.items (hears_only id (IsTrue false) own) (h.turned n)) tt tt tt refl;
     })
 
 pub returns-in_err-follow : goal.returns-in_err-follow
@@ -29,9 +29,9 @@ returns-in_err-follow g c =
     let id = c.args.self.now.player.id in
     let own = c.args.self.now.player.own.items in
     rw (p.1) (record {
-      acts = turns (λ a b. node_move g.S.PromiseStore.seen a b) input.HearOwn _ _ _ None c.new-messages.result.items c.follow.new.out.items (record { id = f.id ∙ h.id; members = refl; digests = refl; kit = f.kit ∙ h.kit }) c.new-messages.ensures.items
+      acts = turns (λ a b. node_move g.S.PromiseStore.seen a b) input.HearOwn _ _ _ None c.new-messages.result.items c.follow.new.out.items (record { id = f.id ∙ h.id; members = refl; digests = refl; chain = refl; differing = refl; kit = f.kit ∙ h.kit }) c.new-messages.ensures.items
           (turns_on (λ a b. node_move g.S.PromiseStore.seen a b) n id (HearsAll id (IsTrue true) own) MayWake (HearsFirst id (IsTrue false) own) (IsTrue true) (IsTrue false) (IsTrue false) (moment_of c.args.self.now.player) (moment_of c.hear_own.new.self) (moment_of c.follow.new.self) c.new-messages.result.items c.hear_own.new.out.items c.follow.new.out.items
-          (h.turned n) c.hear_own.new.self.id h.id (f.turned n) (hears_first id (IsTrue true) (IsTrue false) own (λ w. refl)) (λ w. refl) (λ w. w)) tt tt tt;
+          (h.turned n) c.hear_own.new.self.id h.id (f.turned n) (hears_first id (IsTrue true) (IsTrue false) own (λ w. refl)) (λ w. refl) (λ w. w)) tt tt tt refl;
     })
 
 pub returns : goal.returns
@@ -43,8 +43,8 @@ returns g c =
     let id = c.args.self.now.player.id in
     let own = c.args.self.now.player.own.items in
     record {
-      acts = turns (λ a b. node_move g.S.PromiseStore.seen a b) input.HearOwn _ _ _ None c.new-messages.result.items c.follow.new.out.items (record { id = f.id ∙ h.id; members = a.count; digests = a.digests; kit = f.kit ∙ h.kit }) c.new-messages.ensures.items
+      acts = turns (λ a b. node_move g.S.PromiseStore.seen a b) input.HearOwn _ _ _ None c.new-messages.result.items c.follow.new.out.items (record { id = f.id ∙ h.id; members = a.count; digests = a.digests; chain = refl; differing = a.differing; kit = f.kit ∙ h.kit }) c.new-messages.ensures.items
           (turns_on (λ a b. node_move g.S.PromiseStore.seen a b) n id (HearsAll id (IsTrue true) own) MayWake (HearsFirst id (IsTrue true) own) (IsTrue true) (IsTrue true) (IsTrue true) (moment_of c.args.self.now.player) (moment_of c.hear_own.new.self) (moment_of c.follow.new.self) c.new-messages.result.items c.hear_own.new.out.items c.follow.new.out.items
           (h.turned n) c.hear_own.new.self.id h.id (f.turned n) (hears_first id (IsTrue true) (IsTrue true) own (λ w. w)) (λ w. w) (λ w. w))
-          (ap (λ v. v.items) c.with.ensures.messages) c.with.ensures.answer tt;
+          (ap (λ v. v.items) c.with.ensures.messages) c.with.ensures.answer tt a.differing;
     }

@@ -9,6 +9,6 @@ pub returns : goal.returns
 returns g c =
     record {
       acts = subst (λ v. Acts (λ a b. node_move g.S.PromiseStore.seen a b) (input.Page c.args.target.now) (view_of c.args.self.now) v (Ok c.only.result)) (sym c.answer_to-answer.ensures.same)
-          (rests (λ a b. node_move g.S.PromiseStore.seen a b) (input.Page c.args.target.now) _ (view_of c.args.self.now) c.only.result (record { id = refl; members = refl; digests = refl; kit = refl }) refl c.only.ensures.messages refl
-          (subst (Shows c.args.self.now.player.pace.is_open (kit_of c.args.self.now.player.node) (state_of c.args.self.now.player.node).up c.args.target.now) (sym c.only.ensures.answer) c.answer_to-answer.ensures.shows));
+          (rests (λ a b. node_move g.S.PromiseStore.seen a b) (input.Page c.args.target.now) _ (view_of c.args.self.now) c.only.result (record { id = refl; members = refl; digests = refl; chain = refl; differing = refl; kit = refl }) refl c.only.ensures.messages refl
+          (subst (Shows c.args.self.now.player.pace.is_open (kit_of c.args.self.now.player.node) (state_of c.args.self.now.player.node).up c.args.target.now) (sym c.only.ensures.answer) c.answer_to-answer.ensures.shows) refl);
     }

@@ -1,10 +1,12 @@
-use Rattle.std.proofs.Common.{rules, ◌<◌, length}
+use Rattle.std.proofs.Common.{rules, ◌≡◌, ◌+◌, ◌-◌, ◌<◌, length, subst, sym}
 use Rattle.press_server.proofs.Owing.{given_up}
-use Rattle.press_server.specs.Going.{GoOut, owed_at}
+use Rattle.press_server.specs.Going.{AreKept, GoOut, owed_at}
 use Rattle.press_server.proofs.clustered.Clustered.outgoing_batch.Goals as goal
 
 pub returns-clause-asks : goal.returns-clause-asks
 returns-clause-asks g c =
-    let out : GoOut c.in_ok-batch.field-0.asked (owed_at c.args.self.now.lanes c.args.place) (owed_at c.pack.new.self c.args.place) = search rules in
-    let there : c.args.place < length c.pack.new.self.all.items = search rules in
-    given_up _ _ _ _ out (c.give_up.ensures.kept there)
+    let is : c.place_of-place.result ≡ c.args.to - 1 = c.place_of-place.ensures in
+    let out : GoOut c.in_ok-batch.field-0.asked (owed_at c.args.self.now.lanes (c.args.to - 1)) (owed_at c.parcel_to.new.self.lanes (c.args.to - 1)) = search rules in
+    let there : c.args.to - 1 < length c.parcel_to.new.self.lanes.all.items = search rules in
+    let kept = c.give_up.ensures.kept (subst (λ p. p < length c.parcel_to.new.self.lanes.all.items) (sym is) there) in
+    given_up _ _ _ _ out (subst (λ p. AreKept (owed_at c.parcel_to.new.self.lanes p + c.in_ok-batch.field-0.asked) (owed_at c.give_up.new.self p)) is kept)

@@ -12,6 +12,7 @@ loop-message-init g c = (
   record { result = c.on.result; acts = c.on.ensures.acts; moves = c.on.ensures.moves },
   λ place. refl,
   refl,
+  refl,
 )
 
 pub returns-clause-compares : goal.returns-clause-compares

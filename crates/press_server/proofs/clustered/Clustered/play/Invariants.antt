@@ -9,6 +9,7 @@ invariant-loop-message g l =
     × MemberTakes g.S.PromiseStore.seen l.fn.input l.fn.self.member l.self.member
     × HasSameWays l.self.lanes l.fn.self.lanes
     × (l.self.peers ≡ l.fn.self.peers)
+    × (l.self.recollection ≡ l.fn.self.recollection)
 
 abbrev pub invariant-loop-to : goal.invariant-loop-to
 invariant-loop-to g l =
@@ -16,3 +17,4 @@ invariant-loop-to g l =
     × MemberTakes g.S.PromiseStore.seen l.fn.input l.fn.self.member l.self.member
     × HasSameWays l.self.lanes l.fn.self.lanes
     × (l.self.peers ≡ l.fn.self.peers)
+    × (l.self.recollection ≡ l.fn.self.recollection)

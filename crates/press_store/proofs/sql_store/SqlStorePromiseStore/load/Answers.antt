@@ -7,18 +7,18 @@ use Rattle.press_store.proofs.sql_store.SqlStorePromiseStore.load.Goals as goal
 
 pub returns-in-Ok-Some-clause-looks : goal.returns-in-Ok-Some-clause-looks
 returns-in-Ok-Some-clause-looks g c honest =
-    looked_told g.D.Store c.args.self.now (record { conn = c.read_block.new.conn; faults = c.self.inside.faults; is_ours = c.self.inside.is_ours })
-    (subst (λ (k : Kept _). Looked (state g.D.Store k.conn) (state g.D.Store c.read_block.new.conn)) c.self.view_is (c.read_block.ensures.looks honest.0 (c.self.invariant honest.1)))
+    looked_told g.D.Store c.args.self.now (record { conn = c.read_block.new.conn; faults = c.self.inside.faults; is_ours = c.self.inside.is_ours; mark = c.self.inside.mark })
+    (subst (λ (k : Kept _). Looked (state g.D.Store k.conn) (state g.D.Store c.read_block.new.conn)) c.self.view_is (c.read_block.ensures.looks honest.0 (c.self.invariant.1 honest.1).0))
 
 pub returns-in-Ok-None-clause-looks : goal.returns-in-Ok-None-clause-looks
 returns-in-Ok-None-clause-looks g c honest =
-    looked_told g.D.Store c.args.self.now (record { conn = c.read_block.new.conn; faults = c.self.inside.faults; is_ours = c.self.inside.is_ours })
-    (subst (λ (k : Kept _). Looked (state g.D.Store k.conn) (state g.D.Store c.read_block.new.conn)) c.self.view_is (c.read_block.ensures.looks honest.0 (c.self.invariant honest.1)))
+    looked_told g.D.Store c.args.self.now (record { conn = c.read_block.new.conn; faults = c.self.inside.faults; is_ours = c.self.inside.is_ours; mark = c.self.inside.mark })
+    (subst (λ (k : Kept _). Looked (state g.D.Store k.conn) (state g.D.Store c.read_block.new.conn)) c.self.view_is (c.read_block.ensures.looks honest.0 (c.self.invariant.1 honest.1).0))
 
 pub returns-in-Err-clause-looks : goal.returns-in-Err-clause-looks
 returns-in-Err-clause-looks g c honest =
-    looked_told g.D.Store c.args.self.now (record { conn = c.read_block.new.conn; faults = c.count_fault.new.faults; is_ours = c.self.inside.is_ours })
-    (subst (λ (k : Kept _). Looked (state g.D.Store k.conn) (state g.D.Store c.read_block.new.conn)) c.self.view_is (c.read_block.ensures.looks honest.0 (c.self.invariant honest.1)))
+    looked_told g.D.Store c.args.self.now (record { conn = c.read_block.new.conn; faults = c.count_fault.new.faults; is_ours = c.self.inside.is_ours; mark = c.self.inside.mark })
+    (subst (λ (k : Kept _). Looked (state g.D.Store k.conn) (state g.D.Store c.read_block.new.conn)) c.self.view_is (c.read_block.ensures.looks honest.0 (c.self.invariant.1 honest.1).0))
 
 pub returns-in-Ok-Some-clause-opened : goal.returns-in-Ok-Some-clause-opened
-returns-in-Ok-Some-clause-opened g c honest = c.in-Ok-Some.ensures.opened honest.0 (c.self.invariant honest.1)
+returns-in-Ok-Some-clause-opened g c honest = c.in-Ok-Some.ensures.opened honest.0 (c.self.invariant.1 honest.1).0

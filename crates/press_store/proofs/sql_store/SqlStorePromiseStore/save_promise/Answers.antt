@@ -1,12 +1,50 @@
-use Rattle.std.proofs.Common.{ℕ, Err, subst}
+use Rattle.std.proofs.Common.{ℕ, Some, Ok, Err, subst, arith}
+use Rattle.std.specs.Prelude.{IfSome}
+use Rattle.sqlite.specs.declared.error.Error.{Error}
 use Rattle.sqlite.specs.Held.{state}
+use Rattle.press_acceptor.specs.declared.fault.StoreFault.{StoreFault}
 use Rattle.press_acceptor.specs.StoreMap.{with_promise}
 use Rattle.press_store.specs.Attempt.{Saved}
 use Rattle.press_store.specs.Kept.{Kept}
-use Rattle.press_store.proofs.Told.{failed_told}
+use Rattle.press_store.specs.Counting.{SavesCounted}
+use Rattle.press_store.proofs.Running.{count_goes_on, count_saved, count_stays, count_told, told_err, told_ok}
+use Rattle.press_store.proofs.Told.{failed_told, saved_told}
 use Rattle.press_store.proofs.sql_store.SqlStorePromiseStore.save_promise.Goals as goal
 
 pub returns-in-Err-clause-saves : goal.returns-in-Err-clause-saves
 returns-in-Err-clause-saves g c honest =
-    failed_told g.D.Store c.args.self.now (record { conn = c.put_promise.new.conn; faults = c.count_fault.new.faults; is_ours = c.self.inside.is_ours }) (λ store. with_promise store c.args.first c.args.ballot) c.in-Err.error
-    (subst (λ (k : Kept _). Saved {A = ℕ} (λ store. with_promise store c.args.first c.args.ballot) (state g.D.Store k.conn) (state g.D.Store c.put_promise.new.conn) (Err c.in-Err.error)) c.self.view_is (c.in-Err.ensures.saves honest.0 (c.self.invariant honest.1)))
+    failed_told g.D.Store c.args.self.now (record { conn = c.put_promise.new.conn; faults = c.count_fault.new.faults; is_ours = c.self.inside.is_ours; mark = c.self.inside.mark }) (λ store. with_promise store c.args.first c.args.ballot) c.in-Err.error
+    (subst (λ (k : Kept _). Saved {A = ℕ} (λ store. with_promise store c.args.first c.args.ballot) (state g.D.Store k.conn) (state g.D.Store c.put_promise.new.conn) (Err c.in-Err.error)) c.self.view_is (c.in-Err.ensures.saves honest.0 (c.self.invariant.1 honest.1).0))
+
+pub returns-in-Err-next_count-clause-calls : goal.returns-in-Err-next_count-clause-calls
+returns-in-Err-next_count-clause-calls g c = record { honest = λ is. is; counts = (omega arith, λ disk. absurd (c.in-Err-next_count.ensures.fault disk)); ends = tt }
+
+pub invariant_of-self-in-Ok-count_promise : goal.invariant_of-self-in-Ok-count_promise
+invariant_of-self-in-Ok-count_promise g c = count_goes_on g.D.Store c.self.inside.conn c.count_promise.new.conn c.self.inside.mark c.in-Some.mark c.in-Ok-next_count.count.mark (λ store. with_promise store c.args.first c.args.ballot) c.in-Ok-next_count.count.heard.items c.in-Some.is c.in-Ok-next_count.ensures.next c.self.invariant.0 c.count_promise.ensures.clean c.in-Ok-count_promise.field-0 c.in-Ok-count_promise.ensures.counts c.self.invariant.1
+
+pub returns-in-Ok-count_promise-clause-saves : goal.returns-in-Ok-count_promise-clause-saves
+returns-in-Ok-count_promise-clause-saves g c honest =
+    saved_told g.D.Store c.args.self.now (record { conn = c.count_promise.new.conn; faults = c.self.inside.faults; is_ours = c.self.inside.is_ours; mark = Some c.in-Ok-next_count.count.mark }) (λ store. with_promise store c.args.first c.args.ballot) c.in-Ok-count_promise.field-0
+    (subst (λ (k : Kept _). Saved {A = Unit {0}} (λ store. with_promise store c.args.first c.args.ballot) (state g.D.Store k.conn) (state g.D.Store c.count_promise.new.conn) (Ok c.in-Ok-count_promise.field-0)) c.self.view_is
+    (count_saved g.D.Store c.self.inside.conn c.count_promise.new.conn c.self.inside.mark c.in-Some.mark c.in-Ok-next_count.count.mark (λ store. with_promise store c.args.first c.args.ballot) c.in-Ok-next_count.count.heard.items c.in-Some.is c.in-Ok-next_count.ensures.next c.self.invariant.0 c.count_promise.ensures.clean (Ok c.in-Ok-count_promise.field-0) c.in-Ok-count_promise.ensures.counts (c.self.invariant.1 honest.1).0 (c.self.invariant.1 honest.1).1 honest.0))
+
+pub returns-in-Ok-count_promise-clause-counted : goal.returns-in-Ok-count_promise-clause-counted
+returns-in-Ok-count_promise-clause-counted g c honest =
+    subst (λ (k : Kept _). IfSome k.mark (λ mark. SavesCounted g.D.Store k.conn c.count_promise.new.conn {A = Unit {0}} {F = StoreFault} (λ store. with_promise store c.args.first c.args.ballot) mark (Ok tt))) c.self.view_is
+    (told_ok (Unit {0}) (Unit {0}) Error StoreFault (state g.D.Store c.self.inside.conn) (state g.D.Store c.count_promise.new.conn) (λ store. with_promise store c.args.first c.args.ballot) c.self.inside.mark c.in-Ok-count_promise.field-0 tt
+    (count_told g.D.Store c.self.inside.conn c.count_promise.new.conn c.self.inside.mark c.in-Some.mark c.in-Ok-next_count.count.mark (λ store. with_promise store c.args.first c.args.ballot) c.in-Ok-next_count.count.heard.items c.in-Some.is c.in-Ok-next_count.ensures.next c.self.invariant.0 c.count_promise.ensures.clean (Ok c.in-Ok-count_promise.field-0) c.in-Ok-count_promise.ensures.counts (c.self.invariant.1 honest.1).0 (c.self.invariant.1 honest.1).1 honest.0))
+
+pub invariant_of-self-in-Err-count_promise : goal.invariant_of-self-in-Err-count_promise
+invariant_of-self-in-Err-count_promise g c = count_stays g.D.Store c.self.inside.conn c.count_promise.new.conn c.self.inside.mark c.in-Some.mark c.in-Ok-next_count.count.mark (λ store. with_promise store c.args.first c.args.ballot) c.in-Ok-next_count.count.heard.items c.in-Some.is c.in-Ok-next_count.ensures.next c.self.invariant.0 c.count_promise.ensures.clean c.in-Err-count_promise.error c.in-Err-count_promise.ensures.counts c.self.invariant.1
+
+pub returns-clause-saves : goal.returns-clause-saves
+returns-clause-saves g c honest =
+    failed_told g.D.Store c.args.self.now (record { conn = c.count_promise.new.conn; faults = c.count_fault-in-Err-count_promise.new.faults; is_ours = c.self.inside.is_ours; mark = c.self.inside.mark }) (λ store. with_promise store c.args.first c.args.ballot) c.in-Err-count_promise.error
+    (subst (λ (k : Kept _). Saved {A = Unit {0}} (λ store. with_promise store c.args.first c.args.ballot) (state g.D.Store k.conn) (state g.D.Store c.count_promise.new.conn) (Err c.in-Err-count_promise.error)) c.self.view_is
+    (count_saved g.D.Store c.self.inside.conn c.count_promise.new.conn c.self.inside.mark c.in-Some.mark c.in-Ok-next_count.count.mark (λ store. with_promise store c.args.first c.args.ballot) c.in-Ok-next_count.count.heard.items c.in-Some.is c.in-Ok-next_count.ensures.next c.self.invariant.0 c.count_promise.ensures.clean (Err c.in-Err-count_promise.error) c.in-Err-count_promise.ensures.counts (c.self.invariant.1 honest.1).0 (c.self.invariant.1 honest.1).1 honest.0))
+
+pub returns-clause-counted : goal.returns-clause-counted
+returns-clause-counted g c honest =
+    subst (λ (k : Kept _). IfSome k.mark (λ mark. SavesCounted g.D.Store k.conn c.count_promise.new.conn {A = Unit {0}} {F = StoreFault} (λ store. with_promise store c.args.first c.args.ballot) mark (Err c.count_fault-in-Err-count_promise.result))) c.self.view_is
+    (told_err (Unit {0}) (Unit {0}) Error StoreFault (state g.D.Store c.self.inside.conn) (state g.D.Store c.count_promise.new.conn) (λ store. with_promise store c.args.first c.args.ballot) c.self.inside.mark c.in-Err-count_promise.error c.count_fault-in-Err-count_promise.result
+    (count_told g.D.Store c.self.inside.conn c.count_promise.new.conn c.self.inside.mark c.in-Some.mark c.in-Ok-next_count.count.mark (λ store. with_promise store c.args.first c.args.ballot) c.in-Ok-next_count.count.heard.items c.in-Some.is c.in-Ok-next_count.ensures.next c.self.invariant.0 c.count_promise.ensures.clean (Err c.in-Err-count_promise.error) c.in-Err-count_promise.ensures.counts (c.self.invariant.1 honest.1).0 (c.self.invariant.1 honest.1).1 honest.0))

@@ -1,0 +1,4 @@
+mod Fronts
+pub mod Keeping
+mod Pieces
+mod Telling

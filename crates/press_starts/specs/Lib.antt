@@ -1,0 +1,5 @@
+pub mod Files
+pub mod Hearings
+pub mod Histories
+pub mod Peers
+pub mod Witnesses
