@@ -260,27 +260,29 @@ fn a_store_of_another_is_not_served(rt: HostRuntime) -> Result<(), Fail> {
     let list = format!(in rt.alloc(); "has another list of peers than {fewer}")?;
     let port = format!(in rt.alloc(); "{}", addr.port())?;
     make(&rt, "1", &peers, "tied")?;
-    for (place, lines) in [
+    for (who, place, lines) in [
         (
+            "member 2",
             &["--id", "2", "--peers", &peers][..],
             &["is that of member 1, not 2"][..],
         ),
         (
+            "one of fewer",
             &["--id", "1", "--peers", &fewer][..],
             &["is that of one of 2 members, not 1", &list][..],
         ),
-        (&["--port", &port][..], &["is that of member 1 of 2"][..]),
+        (
+            "a node by itself",
+            &["--port", &port][..],
+            &["is that of member 1 of 2"][..],
+        ),
     ] {
         let mut words: Vec<&str> = Vec::new(rt.alloc());
         words.push("serve")?;
         words.extend_from_slice(place)?;
         words.extend_from_slice(&["--store", "tied", "--turns", "0"])?;
         let told = foreign(&rt, lines)?;
-        assert!(rt;
-            run_words(&rt, &words)?.left(2, "", &told),
-            "at {}",
-            place[1]
-        );
+        assert!(rt; run_words(&rt, &words)?.left(2, "", &told), "at {who}");
     }
     remove(&rt, "tied")?;
     Ok(())
