@@ -250,6 +250,15 @@ fn foreign(rt: &HostRuntime, lines: &[&str]) -> Result<String, Fail> {
     Ok(told)
 }
 
+// Whether a server in this place is refused the store, which is told of it in these lines.
+fn is_refused(rt: &HostRuntime, place: &[&str], lines: &[&str]) -> Result<bool, Fail> {
+    let mut words: Vec<&str> = Vec::new(rt.alloc());
+    words.extend_from_slice(&["serve", "--store", "tied", "--turns", "0"])?;
+    words.extend_from_slice(place)?;
+    let told = foreign(rt, lines)?;
+    Ok(run_words(rt, &words)?.left(2, "", &told))
+}
+
 // A line says what differs, the number of the member, how many there are, or the list of them; and
 // whose it is where a node by itself asks for it.
 #[test]
@@ -260,30 +269,13 @@ fn a_store_of_another_is_not_served(rt: HostRuntime) -> Result<(), Fail> {
     let list = format!(in rt.alloc(); "has another list of peers than {fewer}")?;
     let port = format!(in rt.alloc(); "{}", addr.port())?;
     make(&rt, "1", &peers, "tied")?;
-    for (who, place, lines) in [
-        (
-            "member 2",
-            &["--id", "2", "--peers", &peers][..],
-            &["is that of member 1, not 2"][..],
-        ),
-        (
-            "one of fewer",
-            &["--id", "1", "--peers", &fewer][..],
-            &["is that of one of 2 members, not 1", &list][..],
-        ),
-        (
-            "a node by itself",
-            &["--port", &port][..],
-            &["is that of member 1 of 2"][..],
-        ),
-    ] {
-        let mut words: Vec<&str> = Vec::new(rt.alloc());
-        words.push("serve")?;
-        words.extend_from_slice(place)?;
-        words.extend_from_slice(&["--store", "tied", "--turns", "0"])?;
-        let told = foreign(&rt, lines)?;
-        assert!(rt; run_words(&rt, &words)?.left(2, "", &told), "at {who}");
-    }
+    let place = ["--id", "2", "--peers", &peers];
+    assert!(rt; is_refused(&rt, &place, &["is that of member 1, not 2"])?);
+    let place = ["--id", "1", "--peers", &fewer];
+    let lines = ["is that of one of 2 members, not 1", &list];
+    assert!(rt; is_refused(&rt, &place, &lines)?);
+    let lines = ["is that of member 1 of 2"];
+    assert!(rt; is_refused(&rt, &["--port", &port], &lines)?);
     remove(&rt, "tied")?;
     Ok(())
 }
