@@ -7,6 +7,7 @@ pub mod KitRuns
 pub mod Kits
 pub mod Mails
 pub mod Named
+pub mod Nexts
 pub mod Pushes
 pub mod Told
 pub mod Wanting

@@ -10,8 +10,8 @@ use Rattle.press_server.specs.declared.serve_fault.ServeFault.TheVariants as fau
 use Rattle.press_demonstration.specs.Demonstration.{demonstration}
 use Rattle.press_program.specs.Endings.{known_of, Does, Runs, RunsOver, ServeRelation}
 use Rattle.press_program.specs.KitFiles.{fault_line}
-use Rattle.press_program.specs.declared.kitting.KitSourceFault.TheVariants as kit
-use Rattle.press_program.specs.Words.{Arguments, Job, export, of_file, of_files, send, serve}
+use Rattle.press_program.specs.declared.kitting.KitSourceFault.TheVariants as source
+use Rattle.press_program.specs.Words.{Arguments, Job, export, next, of_file, of_files, send, serve}
 use Rattle.press_program.proofs.Ends.{outside_task}
 use Rattle.press_program.proofs.Behind.{outside}
 
@@ -24,11 +24,12 @@ no_memory_for served kit (of_files files) remaining status out err err' is kept 
 no_memory_for served kit (serve server) remaining status out err err' is kept told = (Err fault.NoMemory, inl (refl, kept), is)
 no_memory_for served kit (send mail) remaining status out err err' is kept told = inl (is, kept, inr told)
 no_memory_for served kit (export it) remaining status out err err' is kept told = inl (is, kept, inr told)
+no_memory_for served kit (next it) remaining status out err err' is kept told = inl (is, kept, [], source.NoMemory, tt, told)
 
 no_memory_over : (served : ServeRelation) (names : List (List ℕ)) (job : Job) (remaining : Option (List ℕ)) (status : ℕ) (out err err' : Option (List ℕ))
     → status ≡ 2 → Keeps out out → AppendsFront err err' (fault_line NoMemory) → RunsOver served names job remaining status out out err err'
 no_memory_over served [] job remaining status out err err' is kept told = no_memory_for served demonstration job remaining status out err err' is kept told
-no_memory_over served (name ∷ names) job remaining status out err err' is kept told = inl (is, kept, [], kit.NoMemory, tt, told)
+no_memory_over served (name ∷ names) job remaining status out err err' is kept told = inl (is, kept, [], source.NoMemory, tt, told)
 
 pub no_memory : (served : ServeRelation) (asked : Option Arguments) (remaining : Option (List ℕ)) (status : ℕ) (out err err' : Option (List ℕ))
     → status ≡ 2 → Keeps out out → AppendsFront err err' (fault_line NoMemory) → Runs served asked remaining status out out err err'

@@ -27,7 +27,8 @@ use Rattle.press_server.specs.declared.serve_fault.ServeFault.{ServeFault}
 use Rattle.press_server.specs.declared.serve_fault.ServeFault.TheVariants as fault
 use Rattle.press_loop.specs.Loops.{Loops}
 use Rattle.press_program.specs.Exports.{Makes, TellsUnmade}
-use Rattle.press_program.specs.Words.{Arguments, Export, Job, OfFile, OfFiles, Server, export, of_file, of_files, send, serve, is_input}
+use Rattle.press_program.specs.Nexts.{Nexts}
+use Rattle.press_program.specs.Words.{Arguments, Export, Job, OfFile, OfFiles, Server, export, next, of_file, of_files, send, serve, is_input}
 use Rattle.press_program.specs.declared.task.Task.{Task}
 use Rattle.press_program.specs.declared.task.Task.TheVariants.{Page, Replay, Loop}
 use Rattle.press_text.specs.Streams.{AppendsFront}
@@ -137,6 +138,7 @@ ReadsFor (of_files files) input input' = is_input files.first ≡ false → Keep
 ReadsFor (serve server) input input' = Keeps input input'
 ReadsFor (send mail) input input' = is_input mail.0 ≡ false → Keeps input input'
 ReadsFor (export it) input input' = Keeps input input'
+ReadsFor (next it) input input' = Keeps input input'
 
 abbrev pub ReadsAsked : Option Arguments → Option (List ℕ) → Option (List ℕ) → Type 0
 ReadsAsked None input input' = Keeps input input'
@@ -251,6 +253,7 @@ Does served kit (of_file wanted) remaining result out out' err err' = Shows kit 
 Does served kit (of_files files) remaining result out out' err err' = ShowsFiles kit files remaining result out out' err err'
 Does served kit (serve server) remaining result out out' err err' = Listens served kit server result out out'
 Does served kit (export it) remaining result out out' err err' = Exports it result out out' err err'
+Does served kit (next it) remaining result out out' err err' = Nexts it result out out' err err'
 Does served kit (send mail) remaining result out out' err err' = Mails (known_of mail.0 remaining) result out out' err err'
 
 -- Over the demonstration kit, or over that of kit files, whose slips are reported before anything

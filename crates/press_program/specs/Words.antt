@@ -1,7 +1,7 @@
 -- What the words after the program's name ask for: `page FILE TARGET`, with further files or
 -- without, `replay FILE`, `loop FILE`, or `serve` with words by their names, each of them with kit
 -- files or without; or `send FILE MEMBERS`; or `export MEMBER`, with the name of a file or without;
--- as `clap` reads words; without any, post 1 of the standard input (own).
+-- as `clap` reads words; or `kit --next OLD NEW`; without any, post 1 of the standard input (own).
 use Rattle.std.specs.Prelude.{ℕ, List, [], ◌∷◌, ◌&&◌, Bool, true, false, bytes_eq, nat_le, if◌then◌else◌, Option, Some, None, map, option_and_then, option_map, unwrap_or, codes}
 use Rattle.clap.specs.Kinds.{Kinds}
 use Rattle.clap.specs.declared.builder.action.ArgAction.TheVariants.{SetTrue, Append}
@@ -21,6 +21,7 @@ use Rattle.press_server.specs.declared.setup.Role.{Role}
 use Rattle.press_server.specs.declared.setup.Setup.{Setup}
 use Rattle.press_program.specs.declared.wanted.Exporting.{Exporting}
 use Rattle.press_program.specs.declared.wanted.Mailing.{Mailing}
+use Rattle.press_program.specs.declared.wanted.Nexting.{Nexting}
 use Rattle.press_program.specs.declared.wanted.SeveralFiles.{SeveralFiles}
 use Rattle.press_program.specs.declared.wanted.Wanted.{Wanted}
 use Rattle.press_program.specs.declared.task.Task.{Task}
@@ -88,6 +89,9 @@ send_words = with_rule (with_rule (helpless_app (codes "send")) (needed_rule (co
 abbrev pub export_words : App
 export_words = with_rule (with_rule (helpless_app (codes "export")) (needed_rule (codes "MEMBER"))) (new_rule (codes "FILE"))
 
+abbrev pub kit_words : App
+kit_words = with_rule (with_rule (helpless_app (codes "kit")) (named_rule (codes "next"))) (needed_rule (codes "NEW"))
+
 abbrev pub bare_app : App
 bare_app = record {
   top = record (new_app (codes "press")).top { no_binary_name = true; disable_help_flag = true; disable_help_subcommand = true; subcommand_required = true };
@@ -96,8 +100,8 @@ bare_app = record {
 
 unfoldable pub program : App
 program =
-    with_subcommand (with_subcommand (with_subcommand (with_subcommand (with_subcommand (with_subcommand bare_app page_words.top) (file_words (codes "replay")).top)
-    (file_words (codes "loop")).top) serve_words.top) send_words.top) export_words.top
+    with_subcommand (with_subcommand (with_subcommand (with_subcommand (with_subcommand (with_subcommand (with_subcommand bare_app page_words.top) (file_words (codes "replay")).top)
+    (file_words (codes "loop")).top) serve_words.top) send_words.top) export_words.top) kit_words.top
 
 -- ---- what is asked for
 
@@ -133,12 +137,17 @@ Mail = List ℕ × List ℕ
 abbrev pub Export : Type 0
 Export = List ℕ × List ℕ
 
+-- a kit file, and one behind which the next kit is made
+abbrev pub Next : Type 0
+Next = List ℕ × List ℕ
+
 pub data Job : Type 0 where
   of_file : OfFile → Job
   of_files : OfFiles → Job
   serve : Server → Job
   send : Mail → Job
   export : Export → Job
+  next : Next → Job
 
 -- over the kit of files in this order, or else the demonstration kit
 pub record Arguments : Type 0 where
@@ -254,6 +263,12 @@ export_in rows = do
   member ← first_of (codes "MEMBER") rows
   Some (member, unwrap_or (first_of (codes "FILE") rows) site_name)
 
+abbrev pub next_in : List Row → Option Next
+next_in rows = do
+  old ← first_of (codes "next") rows
+  new ← first_of (codes "NEW") rows
+  Some (old, new)
+
 -- by the name of the subcommand
 abbrev pub job_in : Text → List Row → Option Job
 job_in name rows =
@@ -262,7 +277,8 @@ job_in name rows =
     (if bytes_eq name (codes "loop") then option_map of_file (file_in Loop rows) else
     (if bytes_eq name (codes "serve") then option_map serve (server_in rows) else
     (if bytes_eq name (codes "send") then option_map send (mailing_in rows) else
-    (if bytes_eq name (codes "export") then option_map export (export_in rows) else None)))))
+    (if bytes_eq name (codes "export") then option_map export (export_in rows) else
+    (if bytes_eq name (codes "kit") then option_map next (next_in rows) else None))))))
 
 abbrev pub arguments_in : Text → List Row → Option Arguments
 arguments_in name rows = option_map (λ job. record { kits = names_in (codes "kit") rows; job = job }) (job_in name rows)
@@ -312,12 +328,16 @@ mailing_of m = (m.file.now, m.members.now)
 abbrev pub export_of : Exporting → Export
 export_of e = (e.member.now, e.file.now)
 
+abbrev pub next_of : Nexting → Next
+next_of n = (n.old.now, n.new.now)
+
 abbrev pub job_of : declared.Job → Job
 job_of (told.OfFile w) = of_file (wanted_of w)
 job_of (told.OfFiles f) = of_files (several_of f)
 job_of (told.Serve s) = serve (server_of s)
 job_of (told.Send m) = send (mailing_of m)
 job_of (told.Export e) = export (export_of e)
+job_of (told.Next n) = next (next_of n)
 
 abbrev pub arguments_of : asked.Arguments → Arguments
 arguments_of a = record { kits = map (λ kit. kit.now) a.kits.items; job = job_of a.job }

@@ -177,6 +177,7 @@ impl<S: Serves> Hosting<'_, '_, S> {
             Job::Serve(setup) => self.serve(setup, writer, error),
             Job::Send(mailing) => mailing.send(self.over.rt, reader, writer, error),
             Job::Export(exporting) => exporting.export(self.over.rt, writer, error),
+            Job::Next(nexting) => nexting.print(self.over.rt, writer, error),
         }
     }
 }

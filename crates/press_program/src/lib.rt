@@ -9,6 +9,7 @@ mod exporting;
 mod hosting;
 mod kitting;
 mod mailing;
+mod nexting;
 mod over;
 mod reasons;
 mod running;

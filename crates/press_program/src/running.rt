@@ -130,7 +130,8 @@ impl<S: Serves> Program<'_, S> {
 /// With `--status` a server tells how it stands. `send FILE MEMBERS` sends the commands of a site
 /// file to members, and prints what became of them; `export MEMBER [FILE]` makes site files of the
 /// log of a member, of which the first is `site.json` where no FILE is named, and prints a line for
-/// each. With `--kit FILE` each of the others plays the callbacks and plugins of a kit file in
+/// each. `kit --next OLD NEW` prints a kit file that extends OLD and has the plugins of NEW, and on
+/// standard error which plugins to deactivate and to activate. With `--kit FILE` each of the others plays the callbacks and plugins of a kit file in
 /// place of the demonstration kit, and with several of these those of all the files together; what
 /// is wrong is reported with the file and the place in it, and what is surely a slip is a line
 /// `press: warning in FILE: ..` before anything else. A fault is a line `press: fault N` on

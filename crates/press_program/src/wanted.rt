@@ -38,6 +38,15 @@ pub struct Exporting<'a> {
     pub file: &'a str,
 }
 
+/// A kit file, and what is to become of it.
+#[derive(Debug, Drop)]
+pub struct Nexting<'a> {
+    /// The file of the kit that there is.
+    pub old: &'a str,
+    /// The file whose plugins the next kit has.
+    pub new: &'a str,
+}
+
 /// What is to be done.
 #[derive(Debug, Drop)]
 pub enum Job<'a> {
@@ -46,6 +55,7 @@ pub enum Job<'a> {
     Serve(Setup<'a>),
     Send(Mailing<'a>),
     Export(Exporting<'a>),
+    Next(Nexting<'a>),
 }
 
 /// What the arguments after the program's name ask for.

@@ -8,7 +8,7 @@ ghost use Rattle.press_program.specs.Words as spec;
 ghost use Rattle.press_wire.specs.Ranges.{most_members};
 
 use crate::task::Task;
-use crate::wanted::{Arguments, Exporting, Job, Mailing, SeveralFiles, Wanted};
+use crate::wanted::{Arguments, Exporting, Job, Mailing, Nexting, SeveralFiles, Wanted};
 use clap::error::ErrorKind;
 use clap::{Arg, ArgAction, ArgMatches, Command, Error};
 use press_page::Target;
@@ -147,6 +147,19 @@ fn export_words<'a>(alloc: Global) -> Result<Command<'a>, AllocError>
     Ok(export)
 }
 
+fn kit_words<'a>(alloc: Global) -> Result<Command<'a>, AllocError>
+    ensures app { IfOk result (λ c. app_of c ≡ spec.kit_words) }
+    ensures local { IfOk result (λ c. (out-Command c).has_globals ≡ false) }
+{
+    let old = Arg::new(alloc, "next").long("next");
+    let new = Arg::new(alloc, "NEW").required(true);
+    let kit = Command::new(alloc, "kit")
+        .disable_help_flag(true)
+        .arg(old)?
+        .arg(new)?;
+    Ok(kit)
+}
+
 // The program without its commands.
 fn bare_words<'a>(alloc: Global) -> Command<'a>
     ensures { app_of result ≡ spec.bare_app }
@@ -176,7 +189,9 @@ fn parse<'a>(alloc: Global, words: &'a [String]) -> Result<ArgMatches<'a>, Error
     let send = send_words(alloc)?;
     let five = four.subcommand(send)?;
     let export = export_words(alloc)?;
-    let program = five.subcommand(export)?;
+    let six = five.subcommand(export)?;
+    let kit = kit_words(alloc)?;
+    let program = six.subcommand(kit)?;
     program.try_get_matches_from(words)
 }
 
@@ -380,6 +395,16 @@ fn export_in<'a>(inside: &ArgMatches<'a>) -> Option<Exporting<'a>>
     Some(Exporting { member, file })
 }
 
+#[tactic(auto, using(crate::proofs::FirstValue::first_is))]
+fn next_in<'a>(inside: &ArgMatches<'a>) -> Option<Nexting<'a>>
+    ensures { option_map (λ n. spec.next_of n) result
+        ≡ spec.next_in (rows_of (found_of inside.now)) }
+{
+    let old = inside.get_str("next")?;
+    let new = inside.get_str("NEW")?;
+    Some(Nexting { old, new })
+}
+
 fn job_in<'a>(
     alloc: Global,
     name: &str,
@@ -400,6 +425,8 @@ fn job_in<'a>(
         Ok(mailing_in(inside).map(Job::Send))
     } else if name == "export" {
         Ok(export_in(inside).map(Job::Export))
+    } else if name == "kit" {
+        Ok(next_in(inside).map(Job::Next))
     } else {
         Ok(None)
     }

@@ -234,3 +234,29 @@ fn words_ask_for_a_log_as_files(rt: HostRuntime) -> Result<(), Fail> {
     assert!(rt; File::open(&rt, "site.json").is_err());
     Ok(())
 }
+
+const NEXT: &str = r#"{
+  "callbacks": [],
+  "plugins": [
+    {
+      "load": [],
+      "name": "tags"
+    }
+  ]
+}
+"#;
+
+#[test]
+fn a_next_kit_is_printed_and_its_plugins_told(rt: HostRuntime) -> Result<(), Fail> {
+    let old = r#"{"callbacks":[],"plugins":[]}"#;
+    fs::write(&rt, "old.json", old.as_bytes())?;
+    let new = r#"{"callbacks":[],"plugins":[{"name":"tags","load":[]}]}"#;
+    fs::write(&rt, "new.json", new.as_bytes())?;
+    let next = run_words(&rt, &["kit", "--next", "old.json", "new.json"])?;
+    assert!(rt; next.left(0, NEXT, "press: activate tags\n"));
+    let bad = run_words(&rt, &["kit", "--next", "new.json", "no/such/file"])?;
+    assert!(rt; bad.left(2, "", "press: fault 40 in no/such/file\n"));
+    let words = run_words(&rt, &["kit", "new.json"])?;
+    assert!(rt; words.is_refused());
+    Ok(())
+}

@@ -23,7 +23,8 @@ program_is c =
     let three = c.in_ok-three.ensures.shape c.in_ok-looped.ensures.local ∙ ap₂ with_subcommand two (ap (λ (a : App). a.top) c.in_ok-looped.ensures.app) in
     let four = c.in_ok-four.ensures.shape c.in_ok-serve.ensures.local ∙ ap₂ with_subcommand three (ap (λ (a : App). a.top) c.in_ok-serve.ensures.app) in
     let five = c.in_ok-five.ensures.shape c.in_ok-send.ensures.local ∙ ap₂ with_subcommand four (ap (λ (a : App). a.top) c.in_ok-send.ensures.app) in
-    c.in_ok-program.ensures.shape c.in_ok-export.ensures.local ∙ ap₂ with_subcommand five (ap (λ (a : App). a.top) c.in_ok-export.ensures.app)
+    let six = c.in_ok-six.ensures.shape c.in_ok-export.ensures.local ∙ ap₂ with_subcommand five (ap (λ (a : App). a.top) c.in_ok-export.ensures.app) in
+    c.in_ok-program.ensures.shape c.in_ok-kit.ensures.local ∙ ap₂ with_subcommand six (ap (λ (a : App). a.top) c.in_ok-kit.ensures.app)
 
 pub returns-clause-kinds : goal.returns-clause-kinds
 returns-clause-kinds c =
