@@ -1,8 +1,6 @@
--- The limits of a process, as Linux writes them (proc(5)), and digests by FNV-1a, as its authors'
--- test vectors have them.
+-- The limits of a process, as Linux writes them (proc(5)).
 use Rattle.std.proofs.Common.{◌≡◌, refl, List, ℕ, ◌++◌, Some, None}
 use Rattle.std.specs.Prelude.{codes}
-use Rattle.press_server.specs.Digests.{digest_of}
 use Rattle.press_server.specs.Files.{connections_by, open_files}
 
 abbrev limits : List ℕ → List ℕ
@@ -34,12 +32,3 @@ most = refl
 
 none_more : connections_by (Some 524288) ≡ Some 1024
 none_more = refl
-
-of_nothing : digest_of (codes "") ≡ 14695981039346656037
-of_nothing = refl
-
-of_one : digest_of (codes "a") ≡ 12638187200555641996
-of_one = refl
-
-of_six : digest_of (codes "foobar") ≡ 9625390261332436968
-of_six = refl

@@ -1,15 +1,4 @@
-pub mod Counting
-pub mod Desk
-pub mod Digests
 pub mod Files
-pub mod Going
 pub mod Listening
-pub mod Living
-pub mod Members
-pub mod Metrics
-pub mod Paths
-pub mod Reasons
-pub mod Recalling
 pub mod Stores
 pub mod Turns
-pub mod Screening

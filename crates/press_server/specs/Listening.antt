@@ -1,5 +1,5 @@
 -- What a server prints: that it listens, or that the store of a new member is made (own).
-use Rattle.std.specs.Prelude.{ℕ, List, ◌++◌, codes, decimal}
+use Rattle.std.specs.Prelude.{ℕ, List, ◌++◌, codes, decimal, Option, None, Some}
 use Rattle.press_server.specs.declared.setup.Role.{Role}
 use Rattle.press_server.specs.declared.setup.Role.TheVariants.{Alone, Member, NewMember}
 
@@ -20,3 +20,9 @@ abbrev pub where_of : Role → Where
 where_of (Alone port) = alone_at port
 where_of (Member id peers tick) = member_of id peers.now
 where_of (NewMember id peers) = new_member_of id peers.now
+
+-- the number of a member in its cluster, if the place is in one
+abbrev pub number_of : Role → Option ℕ
+number_of (Alone port) = None
+number_of (Member id peers tick) = Some id
+number_of (NewMember id peers) = Some id

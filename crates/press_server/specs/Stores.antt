@@ -1,6 +1,8 @@
 -- Who may use the file of a store that is there, and who one that isn't (own): a member makes none
 -- without being told.
-use Rattle.std.specs.Prelude.{ℕ, ◌==◌, ◌&&◌, if◌then◌else◌, Option, None, Some, unwrap_or}
+use Rattle.std.specs.Prelude.{ℕ, ◌≡◌, ◌-◌, ◌==◌, ◌&&◌, if◌then◌else◌, Option, None, Some, option_map, unwrap_or}
+use Rattle.press_acceptor.specs.StoreMap.{StoreMap}
+use Rattle.press_store.specs.Voted.{IsLastVote}
 use Rattle.press_store.specs.declared.owner.Owner.{Owner}
 use Rattle.press_server.specs.declared.serve_fault.ServeFault.{ServeFault}
 use Rattle.press_server.specs.declared.serve_fault.ServeFault.TheVariants as fault
@@ -39,3 +41,8 @@ store_refusal (NewMember id peers) presence = refusal_to_new_member presence
 abbrev pub refusal_to_another : (owner asked : Option Owner) → ServeFault
 refusal_to_another (Some owner) asked = fault.Foreign (record { owner = owner; asked = asked })
 refusal_to_another None asked = fault.Damaged
+
+-- so many slots stand before the last one with a vote; none where no slot has one
+abbrev pub IsBeforeLast : StoreMap → ℕ → Type 0
+IsBeforeLast store chosen =
+    (last : Option ℕ) × IsLastVote store last × (chosen ≡ unwrap_or (option_map (λ slot. slot - 1) last) 0)

@@ -1,15 +1,17 @@
 -- A turn of a server: what a connection, and behind a command that was taken a wake with the node's
 -- own messages, make of a node (own). A fault of any event ends it there.
 use Rattle.std.specs.Prelude.{◌≡◌, ◌≢◌, ◌⊎◌, ◌<◌, ◌≤◌, ℕ, zero, suc, false, List, [], ◌∷◌, ◌++◌, Option, None, Some, Result, Ok, Err}
+use Rattle.press_acceptor.specs.Seen.{Seen}
 use Rattle.press_acceptor.specs.declared.fault.StoreFault.{StoreFault}
 use Rattle.press_http.specs.declared.fault.HttpFault.{HttpFault}
 use Rattle.press_wire.specs.declared.message.Message.{Message}
 use Rattle.press_node.specs.declared.event.Event.TheVariants.{Wake, Deliver}
 use Rattle.press_node.specs.declared.fault.NodeFault.{NodeFault}
 use Rattle.press_node.specs.declared.fault.NodeFault.TheVariants.{NoMemory}
+use Rattle.press_node.specs.declared.node.Node.{Node}
 use Rattle.press_node.specs.declared.serve.Served.{Served}
 use Rattle.press_node.specs.Faults.{of_store, stops}
-use Rattle.press_node.specs.Nodes.{NodeMove}
+use Rattle.press_node.specs.Nodes.{NodeMove, node_move}
 use Rattle.press_node.specs.Serving.{Serves}
 
 -- so many deliveries at most follow a wake
@@ -66,3 +68,35 @@ module _ {N : Type 0} (moved : N → N → NodeMove) where
   abbrev pub ServesTurn : N → N → Option (List ℕ) → Option (List ℕ) → Option (List ℕ) → Option (List ℕ) → Result ℕ HttpFault → Type 0
   ServesTurn node after ahead left old new result =
       (served : Result Served HttpFault) × (next : N) × Serves (moved node next) ahead left old new served × Ends next after served result
+
+-- any number of steps
+pub data Chain {T : Type 0} (Step : T → T → Type 0) : T → T → Type 0 where
+  rests : (only : T) → Chain Step only only
+  goes_on : (old next new : T) → Step old next → Chain Step next new → Chain Step old new
+
+-- none
+pub stays : {T : Type 0} {Step : T → T → Type 0} (only : T) → Chain Step only only
+stays only = rests only
+
+-- one
+pub single : {T : Type 0} {Step : T → T → Type 0} (old new : T) → Step old new → Chain Step old new
+single old new step = goes_on old new new step (rests new)
+
+-- some, and then some
+pub joined_chain : {T : Type 0} {Step : T → T → Type 0} (old next new : T) → Chain Step old next → Chain Step next new → Chain Step old new
+joined_chain old next new (rests only) rest = rest
+joined_chain old next new (goes_on first second last step chain) rest = goes_on first second new step (joined_chain second last new chain rest)
+
+-- a connection is served to these bytes, by a node over the same kit
+pub record HasTurn {N : Type 0} (moved : N → N → NodeMove) (old new : N) : Type 0 where
+  pub kit : (moved new new).kit ≡ (moved old old).kit
+  pub request : List ℕ
+  pub left : List ℕ
+  pub before : List ℕ
+  pub told : List ℕ
+  pub result : Result ℕ HttpFault
+  pub turn : ServesTurn moved old new (Some request) (Some left) (Some before) (Some told) result
+
+-- what becomes of a node by itself: turns
+abbrev pub NodeLives : {S : Type 0} {t : _} {F : _} {g : _} → (S → Seen) → Node S t F g → Node S t F g → Type 0
+NodeLives seen = Chain (HasTurn (λ a b. node_move seen a b))

@@ -3,22 +3,18 @@
 ghost use Rattle.std.specs.Prelude.{◌≡◌, not};
 ghost use Rattle.press_node.specs.Nodes.{state_of};
 ghost use Rattle.press_node.specs.States.{is_down};
-ghost use Rattle.press_server.specs.Living.{NodeLives};
+ghost use Rattle.press_server.specs.Turns.{NodeLives};
 
-use crate::counts::Counts;
-use crate::metrics::{Among, Metrics, show_metrics};
-use crate::operator_options::{
-    OperatorOptions, Sort, Standing, is_of_desk, refuse_form, refuse_path, refuse_without_memory,
-    show_ready,
-};
-use crate::paths::{Own, Paths};
-use crate::reasons::{REFUSED, line_about};
-use crate::replies::{refuse, tell_desk};
 use crate::turn::serve_turn;
 use press_acceptor::PromiseStore;
 use press_http::{HttpFault, Request, read_request};
 use press_net::{Answers, Errand, Outgoing, Time, Traffic, method_and_target_of};
 use press_node::Node;
+use press_operator::{
+    Among, Counts, Metrics, OperatorOptions, Own, Paths, REFUSED, Sort, Standing, is_of_desk,
+    line_about, refuse, refuse_form, refuse_path, refuse_without_memory, show_metrics, show_ready,
+    tell_desk,
+};
 use std::alloc::{AllocError, Global};
 use std::net::{IpAddr, SocketAddr};
 
@@ -159,7 +155,7 @@ impl<S: PromiseStore> Alone<'_, S> {
     }
 
     // A path of a site: a command that is too far ahead is refused.
-    #[tactic(auto, using(crate::specs::Living::stays))]
+    #[tactic(auto, using(crate::specs::Turns::stays))]
     fn reply_to_site(
         &mut self,
         method: &str,
@@ -191,7 +187,7 @@ impl<S: PromiseStore> Alone<'_, S> {
         }
     }
 
-    #[tactic(auto, using(crate::specs::Living::stays))]
+    #[tactic(auto, using(crate::specs::Turns::stays))]
     fn reply(&mut self, request: &[u8], told: &mut Vec<u8>) -> Result<u16, HttpFault>
         requires always { Unit {0} }
         ensures { NodeLives S.seen self.old.node self.new.node }
@@ -208,7 +204,7 @@ impl<S: PromiseStore> Alone<'_, S> {
 }
 
 impl<S: PromiseStore> Answers for Alone<'_, S> {
-    ghost use Rattle.press_server.specs.Living.{NodeLives, joined_chain, stays};
+    ghost use Rattle.press_server.specs.Turns.{NodeLives, joined_chain, stays};
 
     ghost answers = { λ _ _ _. Unit {0} };
 
@@ -224,7 +220,7 @@ impl<S: PromiseStore> Answers for Alone<'_, S> {
         false
     }
 
-    #[tactic(auto, using(crate::specs::Living::stays))]
+    #[tactic(auto, using(crate::specs::Turns::stays))]
     fn answer(
         &mut self,
         _from: IpAddr,
@@ -242,7 +238,7 @@ impl<S: PromiseStore> Answers for Alone<'_, S> {
         replied
     }
 
-    #[tactic(auto, using(crate::specs::Living::stays))]
+    #[tactic(auto, using(crate::specs::Turns::stays))]
     fn next_call(&mut self) -> Option<Outgoing> {
         None
     }
@@ -255,27 +251,27 @@ impl<S: PromiseStore> Answers for Alone<'_, S> {
         false
     }
 
-    #[tactic(auto, using(crate::specs::Living::stays))]
+    #[tactic(auto, using(crate::specs::Turns::stays))]
     fn go_on(&mut self)
         requires always { Unit {0} }
         ensures { NodeLives S.seen self.old.node self.new.node }
     {}
 
-    #[tactic(auto, using(crate::specs::Living::stays))]
+    #[tactic(auto, using(crate::specs::Turns::stays))]
     fn end_call(&mut self, _place: usize, _errand: Errand, _reply: &[u8]) {}
 
-    #[tactic(auto, using(crate::specs::Living::stays))]
+    #[tactic(auto, using(crate::specs::Turns::stays))]
     fn next_line(&mut self) -> Option<String> {
         self.line.take()
     }
 
-    #[tactic(auto, using(crate::specs::Living::stays))]
+    #[tactic(auto, using(crate::specs::Turns::stays))]
     fn look_up(&mut self, _net: &HostRuntime)
         requires always { Unit {0} }
         ensures { NodeLives S.seen self.old.node self.new.node }
     {}
 
-    #[tactic(auto, using(crate::specs::Living::stays))]
+    #[tactic(auto, using(crate::specs::Turns::stays))]
     fn pass(&mut self, time: Time)
         requires always { Unit {0} }
         ensures { NodeLives S.seen self.old.node self.new.node }
@@ -283,7 +279,7 @@ impl<S: PromiseStore> Answers for Alone<'_, S> {
         self.time = time;
     }
 
-    #[tactic(auto, using(crate::specs::Living::stays))]
+    #[tactic(auto, using(crate::specs::Turns::stays))]
     fn see(&mut self, traffic: Traffic) {
         self.traffic = traffic;
     }

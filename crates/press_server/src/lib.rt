@@ -3,30 +3,15 @@
 #![tactic(auto)]
 
 mod alone;
-mod carrying;
-mod clustered;
-mod counts;
-mod digest;
 mod files;
 mod joining;
-mod lanes;
-mod member_lines;
-mod metrics;
-mod operator_options;
-mod paths;
-mod peers;
-mod reasons;
-mod recollection;
-mod replies;
 mod serve_fault;
 mod serving;
 mod setup;
 mod start_name;
 mod store_file;
-mod timed;
 mod turn;
 
-pub use digest::{behind_file, digest_of};
 pub use serve_fault::{Foreign, ServeFault};
 pub use serving::begin;
 pub use setup::{Role, Setup};

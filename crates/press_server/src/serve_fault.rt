@@ -1,7 +1,7 @@
 //! Why a server ends before its time.
 
-use crate::peers::PeersFault;
 use press_acceptor::StoreFault;
+use press_cluster::PeersFault;
 use press_store::Owner;
 use press_text::WriteFault;
 use std::alloc::{AllocError, AllocFailed};

@@ -1,5 +1,5 @@
 use Rattle.std.proofs.Common.{◌≡◌, drop}
-use Rattle.press_server.specs.Digests.{behind_files}
+use Rattle.press_cluster.specs.Digests.{behind_files}
 use Rattle.press_program.proofs.Named.{bytes_of}
 use Rattle.press_program.proofs.hosting.behind_kits.Given as goal
 

@@ -1,4 +1,4 @@
-use Rattle.press_server.specs.Living.{single}
+use Rattle.press_server.specs.Turns.{single}
 use Rattle.press_server.proofs.alone.Alone.reply_to_site.Goals as goal
 
 pub returns-in_default : goal.returns-in_default

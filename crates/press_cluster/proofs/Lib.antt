@@ -1,0 +1,4 @@
+mod Hearing
+mod Owing
+mod Samples
+mod Waits

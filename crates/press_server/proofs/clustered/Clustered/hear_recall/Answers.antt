@@ -1,5 +1,0 @@
-use Rattle.press_server.proofs.Hearing.{hears_none}
-use Rattle.press_server.proofs.clustered.Clustered.hear_recall.Goals as goal
-
-pub returns-in-Unanswered-clause-only : goal.returns-in-Unanswered-clause-only
-returns-in-Unanswered-clause-only g c = hears_none g.S.PromiseStore.seen c.args.head.from c.args.self.now.member

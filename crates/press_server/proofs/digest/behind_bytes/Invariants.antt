@@ -1,6 +1,0 @@
-use Rattle.std.proofs.Common.{◌≡◌, drop}
-use Rattle.press_server.specs.Digests.{behind_bytes}
-use Rattle.press_server.proofs.digest.behind_bytes.Given as goal
-
-abbrev pub invariant-loop-byte : goal.invariant-loop-byte
-invariant-loop-byte l = behind_bytes l.digest (drop l.byte-index l.bytes) ≡ behind_bytes l.fn.digest l.bytes
