@@ -186,6 +186,11 @@ abbrev pub RefusesFiles : Result Joint (File × Place) → FilesFault → Type 0
 RefusesFiles found NoMemory = Unit {0}
 RefusesFiles found (Refused file number text) = TellsFiles found file.now number (string_bytes text)
 
+-- none but a file that is bad by itself is refused
+abbrev pub RefusesBad : Result Joint (File × Place) → FilesFault → Type 0
+RefusesBad found NoMemory = Unit {0}
+RefusesBad found (Refused file number text) = (bad : File × Place) × (found ≡ Err bad)
+
 -- the slips of a kit without a mistake
 abbrev pub GivesSlips : List ℕ → Result Joint (File × Place) → List ℕ → Type 0
 GivesSlips before (Err bad) slips = ⊥

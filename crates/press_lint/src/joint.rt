@@ -1,7 +1,7 @@
 //! Several kit files, read one after the other.
 
 ghost use Rattle.std.specs.Prelude.{◌≡◌, IfOk, IfErr, Ok, Err};
-ghost use Rattle.press_lint.specs.Files.{RefusesFiles};
+ghost use Rattle.press_lint.specs.Files.{RefusesBad, RefusesFiles};
 ghost use Rattle.press_lint.specs.Joints as spec;
 
 use crate::files::FilesFault;
@@ -87,6 +87,8 @@ pub fn read_files<'f>(alloc: Global, files: &[NamedFile<'f>]) -> Result<Joint<'f
     ensures joint { IfOk result (λ joint. spec.read_together (spec.files_of files.now)
         ≡ Ok (spec.joint_of joint)) }
     ensures fault { IfErr result (λ f. RefusesFiles
+        (spec.read_together (spec.files_of files.now)) f) }
+    ensures bad { IfErr result (λ f. RefusesBad
         (spec.read_together (spec.files_of files.now)) f) }
 {
     let mut joint = Joint::new(alloc);

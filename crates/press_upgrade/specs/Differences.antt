@@ -35,6 +35,13 @@ Tells (CallbackIsOther name) old new = LosesCallback old new name.now Other
 Tells (PluginIsGone name) old new = LosesPlugin old new name.now Gone
 Tells (PluginIsOther name) old new = LosesPlugin old new name.now Other
 
+-- the name of what differs
+abbrev pub name_in : Difference → List ℕ
+name_in (CallbackIsGone name) = name.now
+name_in (CallbackIsOther name) = name.now
+name_in (PluginIsGone name) = name.now
+name_in (PluginIsOther name) = name.now
+
 -- in words
 abbrev pub difference_text : Difference → List ℕ
 difference_text (CallbackIsGone name) = codes "callback \"" ++ (name.now ++ codes "\" is gone")

@@ -1,7 +1,8 @@
 //! Whether a kit extends another.
 
 ghost use Rattle.std.specs.Prelude.{◌≡◌, ◌↔◌, IfErr, IsOk};
-ghost use Rattle.press_upgrade.specs.Differences.{LosesCallback, LosesPlugin, Tells, kit_given};
+ghost use Rattle.press_text.specs.Names.{IsName};
+ghost use Rattle.press_upgrade.specs.Differences.{LosesCallback, LosesPlugin, Tells, kit_given, name_in};
 ghost use Rattle.press_upgrade.specs.Extends.{Extends};
 
 use crate::difference::Difference;
@@ -15,6 +16,7 @@ use std::str::from_utf8;
 pub fn extends<'k>(old: &'k KitParts, new: &KitParts) -> Result<(), Difference<'k>>
     ensures ok { IsOk result ↔ Extends (kit_given old.now) (kit_given new.now) }
     ensures first { IfErr result (λ d. Tells d old.now new.now) }
+    ensures named { IfErr result (λ d. IsName 32 (name_in d)) }
 {
     if let Some((callback, loss)) = first_loss(old.callbacks.as_slice(), new.callbacks.as_slice()) {
         return Err(callback_difference(text_of(&callback.id), loss));
@@ -27,7 +29,8 @@ pub fn extends<'k>(old: &'k KitParts, new: &KitParts) -> Result<(), Difference<'
 
 // The name as a text: its bytes are ASCII.
 fn text_of(id: &CallbackId) -> &str
-    ensures { result.now ≡ id.now }
+    ensures value { result.now ≡ id.now }
+    ensures class { IsName 32 result.now }
 {
     match from_utf8(id.as_bytes()) {
         Ok(text) => text,
@@ -36,7 +39,9 @@ fn text_of(id: &CallbackId) -> &str
 }
 
 fn callback_difference<'k>(name: &'k str, loss: Loss) -> Difference<'k>
-    ensures { (old new : _) → LosesCallback old new name.now loss → Tells result old new }
+    requires { IsName 32 name.now }
+    ensures named { IsName 32 (name_in result) }
+    ensures tells { (old new : _) → LosesCallback old new name.now loss → Tells result old new }
 {
     match loss {
         Loss::Other => Difference::CallbackIsOther(name),
@@ -45,7 +50,9 @@ fn callback_difference<'k>(name: &'k str, loss: Loss) -> Difference<'k>
 }
 
 fn plugin_difference<'k>(name: &'k str, loss: Loss) -> Difference<'k>
-    ensures { (old new : _) → LosesPlugin old new name.now loss → Tells result old new }
+    requires { IsName 32 name.now }
+    ensures named { IsName 32 (name_in result) }
+    ensures tells { (old new : _) → LosesPlugin old new name.now loss → Tells result old new }
 {
     match loss {
         Loss::Other => Difference::PluginIsOther(name),
