@@ -1,5 +1,5 @@
 -- What a run comes to that prints the next kit of two kit files.
-use Rattle.std.proofs.Common.{ℕ, zero, suc, ◌≡◌, inl, inr, List, [], ◌∷◌, ◌++◌, drop, Some, None, refl, sym, ap, ◌∙◌, append_assoc, append-nil, subst, ◌⊎◌}
+use Rattle.std.proofs.Common.{ℕ, suc, ◌≡◌, inl, inr, List, [], ◌∷◌, ◌++◌, drop, Some, None, sym, ap, ◌∙◌, append_assoc, append-nil, subst, ◌⊎◌}
 use Rattle.std.specs.Prelude.{Option, String, slice_get, string_bytes}
 use Rattle.std.specs.declared.alloc.Global.{Global}
 use Rattle.std.specs.Io.KnownBytes.{Appends, Keeps}

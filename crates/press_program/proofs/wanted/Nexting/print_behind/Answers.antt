@@ -1,0 +1,23 @@
+use Rattle.std.proofs.Common.{rules}
+use Rattle.press_lint.specs.Files.{GivesSlips}
+use Rattle.press_lint.specs.Joints.{files_of, read_together}
+use Rattle.press_program.specs.KitFiles.{slip_front}
+use Rattle.press_program.specs.Nexts.{NextsOf}
+use Rattle.press_program.proofs.Nexts.{is_read, is_unusable}
+use Rattle.press_program.proofs.wanted.Nexting.print_behind.Goals as goal
+
+pub only-requires : goal.only-requires
+only-requires g c = record { one = (_, rw (← c.deref.ensures.value) at c.in-Ok.ensures.names) }
+
+pub returns-in-Ok : goal.returns-in-Ok
+returns-in-Ok g c =
+    let out = g.W.Write.contents c.args.writer.now in
+    let out' = g.W.Write.contents c.print.new.writer in
+    let err' = g.E.Write.contents c.print.new.error in
+    let named = rw (← c.deref.ensures.value) at c.in-Ok.ensures.names in
+    let slips : GivesSlips slip_front (read_together (files_of c.deref.result.now)) c.as_bytes.result.now = search rules in
+    is_read _ _ _ _ _ c.args.self.now.new.now _ c.as_bytes.result.now (λ new later. NextsOf c.args.old.now c.print.result out out' later err') (files_of c.deref.result.now) _ named slips c.tell.ensures
+    (c.only.ensures _ named) c.print.ensures
+
+pub returns-in-Err : goal.returns-in-Err
+returns-in-Err g c = is_unusable _ _ _ _ _ c.args.self.now.new.now _ c.in-Err.field-0.file.now c.in-Err.field-0.fault c.in-Err.ensures.fault c.refuse_kit.ensures.status (search rules) c.refuse_kit.ensures.told
