@@ -1,0 +1,11 @@
+pub mod Blocks
+pub mod Built
+pub mod Courses
+pub mod Demonstrated
+pub mod Looking
+pub mod Named
+pub mod Pieces
+pub mod Sealed
+pub mod Taking
+pub mod Telling
+pub mod Visited

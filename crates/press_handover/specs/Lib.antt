@@ -1,0 +1,5 @@
+pub mod Comparing
+pub mod Handovers
+pub mod Kept
+pub mod Naming
+pub mod Voted
